@@ -1,0 +1,6 @@
+pub mod Walks
+pub mod Lists
+pub mod ArcLaws
+pub mod Schedules
+pub mod FaultLaws
+pub mod Rows

@@ -1,0 +1,68 @@
+-- Schedules: which lists of starts meet the rules, what they use, and which are feasible
+-- (Bartusch, Möhring and Radermacher 1988).
+use Rattle.std.specs.Prelude.{◌≡◌, ℕ, ◌-◌, ◌<◌, ◌≤◌, ℤ, pos, ◌+ℤ◌, ◌≤ℤ◌, int_le, int_lt, ◌&&◌, Bool, List, length, slice_index_or}
+use Rattle.std.specs.List.{All, filter, sum_by}
+use Rattle.network.specs.declared.lag.Lag.{Lag}
+use Rattle.network.specs.declared.lag.Pair.{Pair}
+use Rattle.network.specs.Problem.{Problem, activity_count, activities, resource_count, duration, demand, capacity, rules, pair_arc}
+
+-- when an activity starts
+abbrev pub start : List ℤ → ℕ → ℤ
+start s i = slice_index_or s i (pos 0)
+
+-- the makespan is the last start, that of the end
+abbrev pub makespan : List ℤ → ℤ
+makespan s = start s (length s - 1)
+
+-- the list of starts meets the arc
+abbrev pub Meets : List ℤ → Lag → Type 0
+Meets s arc = (start s arc.from +ℤ arc.weight) ≤ℤ start s arc.to
+
+-- a start for each activity, the first at 0, that meet all rules
+pub record IsSchedule (p : Problem) (s : List ℤ) : Type 0 where
+  pub whole : length s ≡ activity_count p
+  pub from_zero : start s 0 ≡ pos 0
+  pub rules_met : All (Meets s) (rules p)
+
+-- the first activity of the pair ends before the second starts
+abbrev pub Keeps : Problem → List ℤ → Pair → Type 0
+Keeps p s q = Meets s (pair_arc p q)
+
+abbrev pub KeepsAll : Problem → List ℤ → List Pair → Type 0
+KeepsAll p s pairs = All (Keeps p s) pairs
+
+-- the activity runs at the unit of time t
+abbrev pub is_running : Problem → List ℤ → ℤ → ℕ → Bool
+is_running p s t i = int_le (start s i) t && int_lt t (start s i +ℤ duration p i)
+
+-- the activities that run at t, rising
+abbrev pub running : Problem → List ℤ → ℤ → List ℕ
+running p s t = filter (is_running p s t) (activities p)
+
+-- how many units of resource k are in use at the unit of time t
+abbrev pub use_at : Problem → List ℤ → ℕ → ℤ → ℕ
+use_at p s k t = sum_by (demand p k) (running p s t)
+
+-- no resource is in use beyond its capacity at the unit of time t
+abbrev pub IsWithinCapacitiesAt : Problem → List ℤ → ℤ → Type 0
+IsWithinCapacitiesAt p s t = (k : ℕ) → k < resource_count p → use_at p s k t ≤ capacity p k
+
+-- and at no unit of time
+abbrev pub IsWithinCapacities : Problem → List ℤ → Type 0
+IsWithinCapacities p s = (t : ℤ) → IsWithinCapacitiesAt p s t
+
+-- a schedule that overloads no resource at any unit of time
+pub record IsFeasible (p : Problem) (s : List ℤ) : Type 0 where
+  pub schedule : IsSchedule p s
+  pub within : IsWithinCapacities p s
+
+-- the schedule that keeps the pairs and is in every entry at most every other such schedule
+pub record IsLeastSchedule (p : Problem) (pairs : List Pair) (s : List ℤ) : Type 0 where
+  pub schedule : IsSchedule p s
+  pub keeps : KeepsAll p s pairs
+  pub least : (t : List ℤ) → IsSchedule p t → KeepsAll p t pairs → (i : ℕ) → i < activity_count p → start s i ≤ℤ start t i
+
+-- what a `Schedule` is: starts, and the project that they are for
+pub record ScheduleOf : Type 0 where
+  pub project : Problem
+  pub starts : List ℤ

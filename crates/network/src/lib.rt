@@ -1,0 +1,17 @@
+//! Projects with resources and time lags, pairs of activities, and schedules.
+//!
+//! The problem is that of Bartusch, Möhring and Radermacher (1988), named PS|temp|Cmax by Brucker,
+//! Drexl, Möhring, Neumann and Pesch (1999). All times are whole periods.
+#![tactic(auto)]
+
+mod arcs;
+mod faults;
+mod lag;
+mod parts;
+mod project;
+mod schedule;
+
+pub use lag::{Lag, Pair};
+pub use parts::{Parts, ProjectFault, Quantity};
+pub use project::Project;
+pub use schedule::Schedule;

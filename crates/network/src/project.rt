@@ -1,0 +1,145 @@
+ghost use Rattle.std.specs.Prelude.{◌≡◌, ◌<◌, ◌≤◌, length, slice_index_or, [], IfOk, IfErr, OnErr, Some};
+ghost use Rattle.network.specs.Problem.{activity_count, resource_count, duration, demand, capacity, arcs_of, NameActivities};
+ghost use Rattle.network.specs.Limits.{IsAmount, IsProject};
+
+use crate::arcs::{push_end_arcs, push_pair_arcs, push_start_arcs};
+use crate::faults::check;
+use crate::lag::{Lag, Pair};
+use crate::parts::{Parts, ProjectFault};
+use std::alloc::{AllocError, Global};
+use std::marker::Model;
+
+/// A project within the limits: at most 1,000 activities besides the start and the end, 32
+/// resources and 100,000 given arcs; durations, demands and capacities from 0 to 1,000,000, lags
+/// from -1,000,000 to 1,000,000.
+#[derive(Drop, Debug)]
+pub struct Project {
+    parts: Parts,
+}
+
+impl Model for Project {
+    ghost use Rattle.network.specs.Problem.{Problem};
+
+    ghost Value = { Problem };
+
+    ghost use Rattle.network.specs.Parts.{problem_of};
+    ghost use Rattle.network.specs.Limits.{IsProject};
+
+    ghost view = { λ s. problem_of s.parts };
+
+    ghost invariant = { λ s. IsProject (problem_of s.parts) };
+}
+
+impl Project {
+    ghost use Rattle.network.specs.Parts.{problem_of};
+    ghost use Rattle.network.specs.Faults.{first_fault};
+
+    /// The project of the parts, or their first fault. The order of tests: the shape of the lists,
+    /// how many there are of each, the start, the end, the amounts, and the given arcs in order.
+    pub fn new(parts: Parts) -> Result<Self, ProjectFault>
+        ensures project { IfOk result (λ p. p ≡ problem_of parts) }
+        ensures limits { IfOk result (λ p. IsProject p) }
+        ensures fault { IfErr result (λ fault. first_fault (problem_of parts) ≡ Some fault) }
+        ensures refused { OnErr result (¬ IsProject (problem_of parts)) }
+    {
+        check(&parts)?;
+        Ok(Project { parts })
+    }
+
+    /// The durations of all activities.
+    pub fn durations(&self) -> &[i64]
+        ensures value { result.now ≡ self.now.durations }
+        ensures limits { IsProject self.now }
+    {
+        self.parts.durations.as_slice()
+    }
+
+    /// The capacities of all resources.
+    pub fn capacities(&self) -> &[i64]
+        ensures value { result.now ≡ self.now.capacities }
+        ensures limits { IsProject self.now }
+    {
+        self.parts.capacities.as_slice()
+    }
+
+    /// The given arcs, in order.
+    pub fn lags(&self) -> &[Lag]
+        ensures value { result.now ≡ self.now.lags }
+        ensures limits { IsProject self.now }
+    {
+        self.parts.lags.as_slice()
+    }
+
+    /// The demands of an activity, for each resource.
+    pub fn demands(&self, activity: usize) -> &[i64]
+        requires { activity < activity_count self.now }
+        ensures value { result.now ≡ slice_index_or self.now.demands activity [] }
+        ensures count { length result.now ≡ resource_count self.now }
+        ensures limits { IsProject self.now }
+    {
+        self.parts.demands[activity].as_slice()
+    }
+
+    /// How many activities there are, the start and the end among them.
+    pub fn activity_count(&self) -> usize
+        ensures value { result ≡ activity_count self.now }
+        ensures limits { IsProject self.now }
+    {
+        self.parts.durations.len()
+    }
+
+    /// How many resources there are.
+    pub fn resource_count(&self) -> usize
+        ensures value { result ≡ resource_count self.now }
+        ensures limits { IsProject self.now }
+    {
+        self.parts.capacities.len()
+    }
+
+    /// How long an activity takes.
+    pub fn duration(&self, activity: usize) -> i64
+        requires { activity < activity_count self.now }
+        ensures value { result ≡ duration self.now activity }
+        ensures amount { IsAmount result }
+        ensures limits { IsProject self.now }
+    {
+        self.parts.durations[activity]
+    }
+
+    /// How many units of a resource an activity uses while it runs.
+    pub fn demand(&self, resource: usize, activity: usize) -> u64
+        requires resource { resource < resource_count self.now }
+        requires activity { activity < activity_count self.now }
+        ensures value { result ≡ demand self.now resource activity }
+        ensures amount { result ≤ 1000000 }
+        ensures limits { IsProject self.now }
+    {
+        self.demands(activity)[resource].unsigned_abs()
+    }
+
+    /// How many units of a resource there are.
+    pub fn capacity(&self, resource: usize) -> u64
+        requires { resource < resource_count self.now }
+        ensures value { result ≡ capacity self.now resource }
+        ensures amount { result ≤ 1000000 }
+        ensures limits { IsProject self.now }
+    {
+        self.parts.capacities[resource].unsigned_abs()
+    }
+
+    /// The rules, which are the given arcs and then the arcs from the start and to the end, and
+    /// after them an arc for each pair.
+    pub fn arcs(&self, alloc: Global, pairs: &[Pair]) -> Result<Vec<Lag>, AllocError>
+        requires { NameActivities self.now pairs.now }
+        ensures value { IfOk result (λ v. v.items ≡ arcs_of self.now pairs.now) }
+        ensures limits { IsProject self.now }
+    {
+        let durations = self.durations();
+        let end = durations.len() - 1;
+        let mut arcs = Vec::from_slice(alloc, self.lags())?;
+        push_start_arcs(&mut arcs, end)?;
+        push_end_arcs(&mut arcs, durations, end)?;
+        push_pair_arcs(&mut arcs, durations, pairs)?;
+        Ok(arcs)
+    }
+}
