@@ -4,3 +4,5 @@ pub mod ArcLaws
 pub mod Schedules
 pub mod FaultLaws
 pub mod Rows
+pub mod Equal
+pub mod Worked

@@ -6,3 +6,4 @@ pub mod Walk
 pub mod Forbidden
 pub mod Parts
 pub mod Faults
+pub mod Equality

@@ -5,11 +5,14 @@
 #![tactic(auto)]
 
 mod arcs;
+mod equality;
 mod faults;
 mod lag;
 mod parts;
 mod project;
 mod schedule;
+#[cfg(test)]
+mod tests;
 
 pub use lag::{Lag, Pair};
 pub use parts::{Parts, ProjectFault, Quantity};

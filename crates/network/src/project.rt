@@ -3,6 +3,7 @@ ghost use Rattle.network.specs.Problem.{activity_count, resource_count, duration
 ghost use Rattle.network.specs.Limits.{IsAmount, IsProject};
 
 use crate::arcs::{push_end_arcs, push_pair_arcs, push_start_arcs};
+use crate::equality::parts_equal;
 use crate::faults::check;
 use crate::lag::{Lag, Pair};
 use crate::parts::{Parts, ProjectFault};
@@ -142,4 +143,24 @@ impl Project {
         push_pair_arcs(&mut arcs, durations, pairs)?;
         Ok(arcs)
     }
+}
+
+/// Projects are equal where their four lists are.
+impl PartialEq for Project {
+    ghost use Rattle.std.specs.Cmp.{partial_equiv_from_equiv};
+    ghost use Rattle.network.specs.Equality.{problem_eq, problem_eq_equiv};
+
+    ghost eq = { problem_eq };
+
+    ghost laws = { partial_equiv_from_equiv problem_eq_equiv };
+
+    fn eq(&self, other: &Project) -> bool {
+        parts_equal(&self.parts, &other.parts)
+    }
+}
+
+impl Eq for Project {
+    ghost use Rattle.network.specs.Equality.{problem_eq_equiv};
+
+    ghost laws = { problem_eq_equiv };
 }
