@@ -1,0 +1,15 @@
+pub mod DigitLaws
+pub mod WordLaws
+pub mod Layouts
+pub mod Readings
+pub mod Loops
+pub mod Numbers
+pub mod Flat
+pub mod NetworkRows
+pub mod NetworkRowAgain
+pub mod NetworkRowsAgain
+pub mod RequestRows
+pub mod RequestRowsAgain
+pub mod Whole
+pub mod WholeAgain
+pub mod Exact

@@ -1,0 +1,99 @@
+-- Which texts spell a project, and the first fault of those that don't.
+use Rattle.std.specs.Prelude.{◌≡◌, ℕ, zero, suc, ◌+◌, ◌-◌, ◌<◌, ◌≤◌, ◌==◌, List, [], ◌∷◌, ◌++◌, length, map, ℤ, pos, Option, Some, None, ◌⊎◌, ◌≢◌}
+use Rattle.std.specs.List.{filter}
+use Rattle.sch_reader.specs.declared.fault.SchFault.{SchFault}
+use Rattle.sch_reader.specs.declared.fault.SchFault.TheVariants as faults
+use Rattle.sch_reader.specs.declared.place.Place.{Place}
+use Rattle.network.specs.declared.lag.Lag.{Lag}
+use Rattle.sch_reader.specs.Words.{words, token}
+use Rattle.network.specs.Problem.{Problem}
+use Rattle.network.specs.Limits.{IsProject}
+use Rattle.sch_reader.specs.Layout.{Layout, done, place, misfit, project_text}
+
+-- the given arcs from an activity
+abbrev pub lags_from : ℕ → List Lag → List Lag
+lags_from i lags = filter (λ a. a.from == i) lags
+
+-- the network rows of so many activities, from this one on: the activity, 1, the count of its given arcs, their ends, their lags
+abbrev pub network_numbers : ℕ → ℕ → List Lag → List ℤ
+network_numbers zero i lags = []
+network_numbers (suc rows) i lags =
+    pos i ∷ pos 1 ∷ pos (length (lags_from i lags)) ∷ (map (λ a. pos a.to) (lags_from i lags) ++ (map (λ a. a.weight) (lags_from i lags) ++ network_numbers rows (i + 1) lags))
+
+-- the request rows, from this activity on: the activity, 1, its duration, its demands
+abbrev pub request_numbers : ℕ → List ℤ → List (List ℤ) → List ℤ
+request_numbers i [] demands = []
+request_numbers i (duration ∷ durations) [] = []
+request_numbers i (duration ∷ durations) (row ∷ demands) = pos i ∷ pos 1 ∷ duration ∷ (row ++ request_numbers (i + 1) durations demands)
+
+-- the list of whole numbers that spells a project
+unfoldable pub flat : Problem → List ℤ
+flat p = pos (length p.durations - 2) ∷ pos (length p.capacities) ∷ pos 0 ∷ pos 0
+    ∷ (network_numbers (length p.durations) 0 p.lags ++ (request_numbers 0 p.durations p.demands ++ p.capacities))
+
+-- these words are tokens of these numbers
+abbrev pub Spell : List (List ℕ) → List ℤ → Type 0
+Spell text numbers = map token text ≡ map Some numbers
+
+-- the text spells the project
+pub record Spells (text : List ℕ) (p : Problem) : Type 0 where
+  pub size : length text ≤ 16777216
+  pub spelled : Spell (words text) (flat p)
+
+-- the numbers begin the list of some project
+abbrev pub BeginsProject : List ℤ → Type 0
+BeginsProject numbers = (p : Problem) × (rest : List ℤ) × IsProject p × (flat p ≡ numbers ++ rest)
+
+-- they are the whole list of one
+abbrev pub IsWholeProject : List ℤ → Type 0
+IsWholeProject numbers = (p : Problem) × IsProject p × (flat p ≡ numbers)
+
+-- the place that comes after these numbers
+abbrev pub place_after : {A : Type 0} → Layout A → List ℤ → Option Place
+place_after (done x) numbers = None
+place_after (place p next) [] = Some p
+place_after (place p next) (z ∷ zs) = place_after (next z) zs
+
+-- The text ends before a project does.
+pub record EndsShort (text : List (List ℕ)) (fault : SchFault) : Type 0 where
+  pub numbers : List ℤ
+  pub spelled : Spell text numbers
+  pub begins : BeginsProject numbers
+  pub more : IsWholeProject numbers → ⊥
+  pub fault_is : fault ≡ faults.Short (length text)
+
+-- A word comes after a whole project.
+pub record GoesOn (text : List (List ℕ)) (fault : SchFault) : Type 0 where
+  pub front : List (List ℕ)
+  pub word : List ℕ
+  pub rest : List (List ℕ)
+  pub numbers : List ℤ
+  pub parts : text ≡ front ++ (word ∷ rest)
+  pub spelled : Spell front numbers
+  pub whole : IsWholeProject numbers
+  pub fault_is : fault ≡ faults.Trailing (length front)
+
+-- a word that is no token
+abbrev pub misfit_of : Place → ℕ → Option ℤ → SchFault
+misfit_of p index None = faults.Token index
+misfit_of p index (Some z) = misfit p index z
+
+-- The words before this one begin a project, and with it they don't: the fault is that of its place.
+pub record HasMisfit (text : List (List ℕ)) (fault : SchFault) : Type 0 where
+  pub front : List (List ℕ)
+  pub word : List ℕ
+  pub rest : List (List ℕ)
+  pub numbers : List ℤ
+  pub here : Place
+  pub parts : text ≡ front ++ (word ∷ rest)
+  pub spelled : Spell front numbers
+  pub begins : BeginsProject numbers
+  pub ends : (z : ℤ) → token word ≡ Some z → BeginsProject (numbers ++ z ∷ []) → ⊥
+  pub here_is : place_after project_text numbers ≡ Some here
+  pub fault_is : fault ≡ misfit_of here (length front) (token word)
+
+-- the first fault of a text that spells no project
+abbrev pub IsFirstFault : List ℕ → SchFault → Type 0
+IsFirstFault text fault =
+    ((16777216 < length text) × (fault ≡ faults.TooLong))
+    ⊎ ((length text ≤ 16777216) × (EndsShort (words text) fault ⊎ (GoesOn (words text) fault ⊎ HasMisfit (words text) fault)))

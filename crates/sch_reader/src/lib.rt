@@ -1,0 +1,11 @@
+//! Reads projects from their text.
+#![tactic(auto)]
+
+mod fault;
+mod place;
+mod reader;
+mod text;
+mod word;
+
+pub use fault::SchFault;
+pub use place::Place;

@@ -1,0 +1,69 @@
+//! The places of a project text.
+
+ghost use Rattle.std.specs.Prelude.{◌≡◌};
+ghost use Rattle.sch_reader.specs.Layout.{fits, misfit};
+
+use crate::fault::SchFault;
+
+/// A place of a project text.
+#[derive(Clone, Copy, Debug)]
+pub enum Place {
+    /// The number of activities between the dummies.
+    Activities,
+    /// The number of resources.
+    Resources,
+    /// The number of resources of another kind.
+    OtherResources,
+    /// The number of a row: its activity.
+    Id { row: usize, id: usize },
+    /// The number of modes, or a mode.
+    Mode { row: usize },
+    /// How many arcs a row gives, where so many may still come.
+    Count { left: usize },
+    /// The end of an arc, an activity up to the last.
+    Successor { row: usize, last: usize },
+    /// The lag of an arc.
+    Lag,
+    /// A duration or a demand of a dummy.
+    Nothing { row: usize },
+    /// A duration, a demand or a capacity.
+    Amount,
+}
+
+impl Place {
+    /// Whether a number fits here.
+    pub fn fits(self, value: i64) -> bool
+        ensures { result ≡ fits self value }
+    {
+        let (low, high) = match self {
+            Place::Activities => (0, 1_000),
+            Place::Resources => (0, 32),
+            Place::OtherResources | Place::Nothing { .. } => (0, 0),
+            Place::Id { id, .. } => return usize::try_from(value).is_ok_and(|v| v == id),
+            Place::Mode { .. } => (1, 1),
+            Place::Count { left } => return usize::try_from(value).is_ok_and(|v| v <= left),
+            Place::Successor { last, .. } => return usize::try_from(value).is_ok_and(|v| v <= last),
+            Place::Lag => (-1_000_000, 1_000_000),
+            Place::Amount => (0, 1_000_000),
+        };
+        low <= value && value <= high
+    }
+
+    /// The fault of a number that does not fit here, the word at this index.
+    pub fn misfit(self, index: usize, value: i64) -> SchFault
+        ensures { result ≡ misfit self index value }
+    {
+        match self {
+            Place::Activities
+            | Place::Resources
+            | Place::Count { .. }
+            | Place::Lag
+            | Place::Amount => SchFault::Range { index },
+            Place::OtherResources => SchFault::NotRenewable,
+            Place::Id { row, .. } => SchFault::RowNumber { row, found: value },
+            Place::Mode { row } => SchFault::Modes { row },
+            Place::Successor { row, .. } => SchFault::Activity { row, found: value },
+            Place::Nothing { row } => SchFault::Dummy { row },
+        }
+    }
+}

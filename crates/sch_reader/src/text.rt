@@ -1,0 +1,155 @@
+//! The project text.
+
+ghost use Rattle.std.specs.Prelude.{◌≡◌, ◌≤◌, ◌<◌, ◌+◌, nat_abs, pos, IfOk, length, map, ℕ};
+ghost use Rattle.sch_reader.specs.Layout.{row_of, lags_to, network_row, network_rows, request_row, request_rows, amount_place, header, project_text};
+ghost use Rattle.sch_reader.specs.Reading.{Reads, Gives, reading, whole_reading};
+ghost use Rattle.network.specs.Parts.{problem_of};
+ghost use Rattle.sch_reader.specs.Words.{words};
+
+use crate::fault::SchFault;
+use crate::place::Place;
+use network::{Lag, Parts};
+use crate::reader::Reader;
+use std::alloc::Global;
+
+/// How many arcs a project may have.
+const MAX_LAGS: usize = 100_000;
+
+/// The number of activities between the dummies, and of resources.
+#[tactic(auto, unfolding(crate::specs::Layout::header))]
+fn header(reader: &mut Reader<'_>) -> Result<(usize, usize), SchFault>
+    ensures reads { Reads (λ h. (h.0, h.1)) result reader.new (reading header reader.old) }
+    ensures few { IfOk result (λ h. (h.0 ≤ 1000) × (h.1 ≤ 32)) }
+{
+    let activities = reader.number(Place::Activities)?;
+    let resources = reader.number(Place::Resources)?;
+    reader.number(Place::OtherResources)?;
+    reader.number(Place::OtherResources)?;
+    Ok((activities.unsigned_abs() as usize, resources.unsigned_abs() as usize))
+}
+
+/// So many numbers, each at such a place.
+#[tactic(auto, unfolding(crate::specs::Layout::row_of))]
+fn numbers(alloc: Global, reader: &mut Reader<'_>, count: usize, place: Place) -> Result<Vec<i64>, SchFault>
+    ensures { Reads (λ v. v.items) result reader.new (reading (row_of count place) reader.old) }
+{
+    let mut numbers = Vec::new(alloc);
+    for _ in 0..count {
+        let number = reader.number(place)?;
+        numbers.push(number)?;
+    }
+    Ok(numbers)
+}
+
+/// The lags of the arcs from an activity to these ends.
+fn lags_to(alloc: Global, reader: &mut Reader<'_>, from: usize, ends: &[i64]) -> Result<Vec<Lag>, SchFault>
+    ensures { Reads (λ v. v.items) result reader.new (reading (lags_to from ends.now) reader.old) }
+{
+    let mut lags = Vec::new(alloc);
+    for end in ends {
+        let weight = reader.number(Place::Lag)?;
+        let to = end.unsigned_abs() as usize;
+        lags.push(Lag { from, to, weight })?;
+    }
+    Ok(lags)
+}
+
+/// The arcs from an activity.
+#[tactic(auto, using(crate::proofs::Readings::reading_bind), unfolding(crate::specs::Layout::network_row))]
+fn network_row(alloc: Global, reader: &mut Reader<'_>, last: usize, left: usize, row: usize) -> Result<Vec<Lag>, SchFault>
+    ensures { Reads (λ v. v.items) result reader.new (reading (network_row last left row) reader.old) }
+{
+    reader.number(Place::Id { row, id: row })?;
+    reader.number(Place::Mode { row })?;
+    let count = reader.number(Place::Count { left })?;
+    let count = count.unsigned_abs() as usize;
+    let ends = numbers(alloc, reader, count, Place::Successor { row, last })?;
+    let lags = lags_to(alloc, reader, row, &ends)?;
+    Ok(lags)
+}
+
+/// The given arcs.
+fn network_rows(alloc: Global, reader: &mut Reader<'_>, activities: usize) -> Result<Vec<Lag>, SchFault>
+    requires { activities ≤ 1000 }
+    ensures { Reads (λ v. v.items) result reader.new (reading (network_rows (activities + 2) (activities + 1) 100000 0) reader.old) }
+{
+    let mut lags = Vec::new(alloc);
+    for row in 0..activities + 2 {
+        let left = MAX_LAGS.saturating_sub(lags.len());
+        let of_row = network_row(alloc, reader, activities + 1, left, row)?;
+        lags.extend_from_slice(&of_row)?;
+    }
+    Ok(lags)
+}
+
+/// The place of a duration or a demand.
+fn amount_place(last: usize, id: usize) -> Place
+    requires last { last ≤ 1001 }
+    requires id { id ≤ last }
+    ensures { result ≡ amount_place last id }
+{
+    if id == 0 || id == last {
+        Place::Nothing { row: last + 1 + id }
+    } else {
+        Place::Amount
+    }
+}
+
+/// A duration, and the demands.
+#[tactic(auto, using(crate::proofs::Readings::reading_bind), unfolding(crate::specs::Layout::request_row))]
+fn request_row(alloc: Global, reader: &mut Reader<'_>, last: usize, resources: usize, id: usize) -> Result<(i64, Vec<i64>), SchFault>
+    requires last { last ≤ 1001 }
+    requires id { id ≤ last }
+    ensures { Reads (λ r. (r.0, r.1.items)) result reader.new (reading (request_row last resources id) reader.old) }
+{
+    let row = last + 1 + id;
+    reader.number(Place::Id { row, id })?;
+    reader.number(Place::Mode { row })?;
+    let place = amount_place(last, id);
+    let duration = reader.number(place)?;
+    let demands = numbers(alloc, reader, resources, place)?;
+    Ok((duration, demands))
+}
+
+/// The durations and the rows of demands.
+fn request_rows(alloc: Global, reader: &mut Reader<'_>, activities: usize, resources: usize) -> Result<(Vec<i64>, Vec<Vec<i64>>), SchFault>
+    requires { activities ≤ 1000 }
+    ensures { Reads (λ r. record { durations = r.0.items; demands = map (λ v. v.items) r.1.items }) result reader.new
+        (reading (request_rows (activities + 2) (activities + 1) resources 0) reader.old) }
+{
+    let mut durations = Vec::new(alloc);
+    let mut demands = Vec::new(alloc);
+    for id in 0..activities + 2 {
+        let (duration, row) = request_row(alloc, reader, activities + 1, resources, id)?;
+        durations.push(duration)?;
+        demands.push(row)?;
+    }
+    Ok((durations, demands))
+}
+
+/// A whole project.
+#[tactic(auto, using(crate::proofs::Readings::reading_bind), unfolding(crate::specs::Layout::project_text))]
+fn project_text(alloc: Global, reader: &mut Reader<'_>) -> Result<Parts, SchFault>
+    ensures { Reads problem_of result reader.new (reading project_text reader.old) }
+{
+    let (activities, resources) = header(reader)?;
+    let lags = network_rows(alloc, reader, activities)?;
+    let (durations, demands) = request_rows(alloc, reader, activities, resources)?;
+    let capacities = numbers(alloc, reader, resources, Place::Amount)?;
+    Ok(Parts { durations, demands, capacities, lags })
+}
+
+/// The whole text, and nothing after it.
+#[tactic(auto, unfolding(crate::specs::Reading::whole_reading))]
+fn whole_text(alloc: Global, text: &[u8]) -> Result<Parts, SchFault>
+    requires { length text.now ≤ 16777216 }
+    ensures { Gives problem_of result (whole_reading (words text.now)) }
+{
+    let mut reader = Reader::new(text);
+    let parts = project_text(alloc, &mut reader)?;
+    let index = reader.index();
+    if reader.word().is_some() {
+        return Err(SchFault::Trailing { index });
+    }
+    Ok(parts)
+}
