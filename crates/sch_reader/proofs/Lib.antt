@@ -13,3 +13,6 @@ pub mod RequestRowsAgain
 pub mod Whole
 pub mod WholeAgain
 pub mod Exact
+pub mod Lags
+pub mod Amounts
+pub mod Projects
