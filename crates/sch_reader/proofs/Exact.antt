@@ -59,7 +59,7 @@ after_all law text e p c (w ∷ more) is r h =
     let e_is : e ≡ faults.Trailing c.index = cc in
     inr (inl (record { front = r.front; word = w; rest = more; numbers = r.numbers; parts = r.parts ∙ ap (λ (q : List (List ℕ)). r.front ++ q) is; spelled = r.spelled; whole = (p, f.0, f.1); fault_is = e_is ∙ ap (λ (i : ℕ). faults.Trailing i) len }))
 
-abbrev start : List (List ℕ) → Cursor
+abbrev pub start : List (List ℕ) → Cursor
 start text = record { index = 0; rest = text }
 
 by_reading : IsExact → (text : List (List ℕ)) (e : SchFault) (r : Result (Problem × Cursor) SchFault) → reading project_text (start text) ≡ r → (r >>= λ x. ended x.0 x.1.index x.1.rest) ≡ Err e → FirstFault text e

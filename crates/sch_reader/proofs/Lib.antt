@@ -16,3 +16,4 @@ pub mod Exact
 pub mod Lags
 pub mod Amounts
 pub mod Projects
+pub mod Spelled

@@ -9,3 +9,4 @@ mod word;
 
 pub use fault::SchFault;
 pub use place::Place;
+pub use text::read_sch;

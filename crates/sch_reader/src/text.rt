@@ -1,6 +1,10 @@
 //! The project text.
 
-ghost use Rattle.std.specs.Prelude.{◌≡◌, ◌≤◌, ◌<◌, ◌+◌, nat_abs, pos, IfOk, length, map, ℕ};
+ghost use Rattle.std.specs.Prelude.{◌≡◌, ◌≢◌, ◌≤◌, ◌<◌, ◌+◌, ◌↔◌, nat_abs, pos, IfOk, IfErr, MatchResult, length, map, ℕ};
+ghost use Rattle.network.specs.Problem.{Problem};
+ghost use Rattle.network.specs.Limits.{IsProject};
+ghost use Rattle.sch_reader.specs.declared.fault.SchFault.{SchFault};
+ghost use Rattle.sch_reader.specs.Text.{Spells, IsFirstFault};
 ghost use Rattle.sch_reader.specs.Layout.{row_of, lags_to, network_row, network_rows, request_row, request_rows, amount_place, header, project_text};
 ghost use Rattle.sch_reader.specs.Reading.{Reads, Gives, reading, whole_reading};
 ghost use Rattle.network.specs.Parts.{problem_of};
@@ -8,9 +12,12 @@ ghost use Rattle.sch_reader.specs.Words.{words};
 
 use crate::fault::SchFault;
 use crate::place::Place;
-use network::{Lag, Parts};
+use network::{Lag, Parts, Project};
 use crate::reader::Reader;
 use std::alloc::Global;
+
+/// How many bytes a text may have.
+const MAX_TEXT: usize = 16_777_216;
 
 /// How many arcs a project may have.
 const MAX_LAGS: usize = 100_000;
@@ -143,7 +150,7 @@ fn project_text(alloc: Global, reader: &mut Reader<'_>) -> Result<Parts, SchFaul
 #[tactic(auto, unfolding(crate::specs::Reading::whole_reading))]
 fn whole_text(alloc: Global, text: &[u8]) -> Result<Parts, SchFault>
     requires { length text.now ≤ 16777216 }
-    ensures { Gives problem_of result (whole_reading (words text.now)) }
+    ensures reads { Gives problem_of result (whole_reading (words text.now)) }
 {
     let mut reader = Reader::new(text);
     let parts = project_text(alloc, &mut reader)?;
@@ -152,4 +159,24 @@ fn whole_text(alloc: Global, text: &[u8]) -> Result<Parts, SchFault>
         return Err(SchFault::Trailing { index });
     }
     Ok(parts)
+}
+
+/// The project that a text spells, or the first fault of a text that spells none.
+///
+/// A fault is the first in the order of the words, but for [`SchFault::TooLong`], which is tested
+/// first, and [`SchFault::Memory`], which comes where memory runs out.
+pub fn read_sch(alloc: Global, text: &[u8]) -> Result<Project, SchFault>
+    ensures found { IfOk result (λ p. IsProject p × Spells text.now p) }
+    ensures only { (p : Problem) → IsProject p → Spells text.now p →
+        MatchResult result (λ q. q ≡ p) (λ e. e ≡ SchFault.Memory) }
+    ensures fault { IfErr result (λ e. e ≢ SchFault.Memory → IsFirstFault text.now e) }
+    ensures too_long { (result ≡ Err SchFault.TooLong) ↔ (16777216 < length text.now) }
+    ensures unique { (p q : Problem) → IsProject p → IsProject q → Spells text.now p → Spells text.now q → p ≡ q }
+{
+    if text.len() > MAX_TEXT {
+        return Err(SchFault::TooLong);
+    }
+    let parts = whole_text(alloc, text)?;
+    let project = Project::new(parts).unwrap();
+    Ok(project)
 }
