@@ -29,11 +29,14 @@ requests_from last resources id [] [] e each = tt
 requests_from last resources id [] (row ∷ demands) e each = absurd (omega (arith, e))
 requests_from last resources id (d ∷ durations) [] e each = absurd (omega (arith, e))
 requests_from last resources id (d ∷ durations) (row ∷ demands) e each =
-    let here : IsRequestAt last resources id d row = subst (λ (k : ℕ). IsRequestAt last resources k d row) (add-zero id) (each 0 (omega arith)) in
-    (here.count, here.duration, here.demands,
-    requests_from last resources (id + 1) durations demands (omega (arith, e)) (λ i lt.
-      let next : id + suc i ≡ (id + 1) + i = omega arith in
-      subst (λ (k : ℕ). IsRequestAt last resources k (get_or durations i (pos 0)) (get_or demands i [])) next (each (suc i) (omega arith))))
+    let here : IsRequestAt last resources id d row = subst (λ (k : ℕ). IsRequestAt last resources k d row) (add-zero id) (each 0 (omega arith)) in (
+      here.count,
+      here.duration,
+      here.demands,
+      requests_from last resources (id + 1) durations demands (omega (arith, e)) (λ i lt.
+          let next : id + suc i ≡ (id + 1) + i = omega arith in
+          subst (λ (k : ℕ). IsRequestAt last resources k (get_or durations i (pos 0)) (get_or demands i [])) next (each (suc i) (omega arith))),
+    )
 
 pub requests_count : (last resources id : ℕ) (durations : List ℤ) (demands : List (List ℤ)) → AreRequests last resources id durations demands → length demands ≡ length durations
 requests_count last resources id [] [] h = refl

@@ -8,7 +8,7 @@ use Rattle.sch_reader.specs.Words.{words, token}
 use Rattle.network.specs.Problem.{Problem}
 use Rattle.network.specs.Limits.{IsProject}
 use Rattle.sch_reader.specs.Layout.{Layout, done, place, fits, project_text}
-use Rattle.sch_reader.specs.Text.{flat, Spell, Spells, BeginsProject, IsWholeProject, EndsShort, GoesOn, HasMisfit, IsFirstFault}
+use Rattle.sch_reader.specs.Text.{text_limit, flat, Spell, Spells, BeginsProject, IsWholeProject, IsFirstWordFault, IsFirstFault}
 use Rattle.sch_reader.specs.Reading.{Cursor, ◌>>=◌, reading, ended, whole_reading}
 use Rattle.sch_reader.proofs.Layouts.{Reaches, Reaches-trans, Reaches-rest, completed, place_after_is}
 use Rattle.sch_reader.proofs.Readings.{WasRead, reading_was, Stopped, StopsAt, ends, stops, reading_stops, reading_again}
@@ -37,21 +37,28 @@ fits_there law zs here next z h b =
     let g : Reaches project_text (zs ++ (z ∷ b.1)) (done b.0) = subst (λ (v : List ℤ). Reaches project_text v (done b.0)) (b.3 ∙ append_assoc zs (z ∷ []) b.1) (law.again b.0 b.2) in
     (Reaches-rest project_text (place here next) (done b.0) zs (z ∷ b.1) h g).0
 
-abbrev FirstFault : List (List ℕ) → SchFault → Type 0
-FirstFault text e = EndsShort text e ⊎ (GoesOn text e ⊎ HasMisfit text e)
-
-stopped_is : IsExact → (text : List (List ℕ)) (e : SchFault) (s : Stopped project_text 0 text e) → StopsAt s.here (0 + length s.front) s.back e → FirstFault text e
+stopped_is : IsExact → (text : List (List ℕ)) (e : SchFault) (s : Stopped project_text 0 text e) → StopsAt s.here (0 + length s.front) s.back e → IsFirstWordFault text e
 stopped_is law text e s (ends none is) =
     let all : text ≡ s.front = s.parts ∙ ap (λ (r : List (List ℕ)). s.front ++ r) none ∙ append-nil s.front in
     let len : 0 + length s.front ≡ length text = omega (arith, ap length all) in
     inl (record { numbers = s.numbers; spelled = subst (λ (t : List (List ℕ)). Spell t s.numbers) (sym all) s.spelled; begins = begins_at law s.numbers s.here s.next s.reached; more = not_whole law s.numbers s.here s.next s.reached; fault_is = is ∙ ap (λ (i : ℕ). faults.Short i) len })
 stopped_is law text e s (stops w more back refuses is) =
     let len : 0 + length s.front ≡ length s.front = omega arith in
-    inr (inr (record { front = s.front; word = w; rest = more; numbers = s.numbers; here = s.here; parts = s.parts ∙ ap (λ (r : List (List ℕ)). s.front ++ r) back; spelled = s.spelled; begins = begins_at law s.numbers s.here s.next s.reached;
+    inr (inr (record {
+      front = s.front;
+      word = w;
+      rest = more;
+      numbers = s.numbers;
+      here = s.here;
+      parts = s.parts ∙ ap (λ (r : List (List ℕ)). s.front ++ r) back;
+      spelled = s.spelled;
+      begins = begins_at law s.numbers s.here s.next s.reached;
       ends = λ z t b. let f = refuses z t in let g = fits_there law s.numbers s.here s.next z s.reached b in absurd cc;
-      here_is = place_after_is project_text s.here s.next s.numbers s.reached; fault_is = rw len at is }))
+      here_is = place_after_is project_text s.here s.next s.numbers s.reached;
+      fault_is = rw len at is;
+    }))
 
-after_all : IsExact → (text : List (List ℕ)) (e : SchFault) (p : Problem) (c : Cursor) (rest : List (List ℕ)) → c.rest ≡ rest → WasRead project_text 0 text p c → ended p c.index rest ≡ Err e → FirstFault text e
+after_all : IsExact → (text : List (List ℕ)) (e : SchFault) (p : Problem) (c : Cursor) (rest : List (List ℕ)) → c.rest ≡ rest → WasRead project_text 0 text p c → ended p c.index rest ≡ Err e → IsFirstWordFault text e
 after_all law text e p c [] is r h = absurd cc
 after_all law text e p c (w ∷ more) is r h =
     let f = law.found r.numbers p r.reached in
@@ -62,7 +69,7 @@ after_all law text e p c (w ∷ more) is r h =
 abbrev pub start : List (List ℕ) → Cursor
 start text = record { index = 0; rest = text }
 
-by_reading : IsExact → (text : List (List ℕ)) (e : SchFault) (r : Result (Problem × Cursor) SchFault) → reading project_text (start text) ≡ r → (r >>= λ x. ended x.0 x.1.index x.1.rest) ≡ Err e → FirstFault text e
+by_reading : IsExact → (text : List (List ℕ)) (e : SchFault) (r : Result (Problem × Cursor) SchFault) → reading project_text (start text) ≡ r → (r >>= λ x. ended x.0 x.1.index x.1.rest) ≡ Err e → IsFirstWordFault text e
 by_reading law text e (Ok x) is h = after_all law text e x.0 x.1 x.1.rest refl (reading_was project_text 0 text x.0 x.1 is) h
 by_reading law text e (Err d) is h =
     let same : d ≡ e = cc in
@@ -70,7 +77,7 @@ by_reading law text e (Err d) is h =
     stopped_is law text e s s.why
 
 -- each fault is the first one
-pub fault_is_first : IsExact → (text : List ℕ) (e : SchFault) → length text ≤ 16777216 → whole_reading (words text) ≡ Err e → IsFirstFault text e
+pub fault_is_first : IsExact → (text : List ℕ) (e : SchFault) → length text ≤ text_limit → whole_reading (words text) ≡ Err e → IsFirstFault text e
 unfolding whole_reading
 fault_is_first law text e size h = inr (size, by_reading law (words text) e (reading project_text (start (words text))) refl h)
 

@@ -44,5 +44,8 @@ row_found (suc n) p zs xs h =
 pub row_again : (p : Place) (xs : List ℤ) → AllByRecursion (λ z. fits p z ≡ true) xs → Reaches (row_of (length xs) p) xs (done xs)
 unfolding row_of
 row_again p [] h = refl
-row_again p (x ∷ xs) h = (h.0, subst (λ (r : List ℤ). Reaches (row_of (length xs) p >>= λ others. done (x ∷ others)) r (done (x ∷ xs))) (append-nil xs)
-    (Reaches-bind (row_of (length xs) p) (λ others. done (x ∷ others)) (done (x ∷ xs)) xs xs [] (row_again p xs h.1) refl))
+row_again p (x ∷ xs) h = (
+  h.0,
+  subst (λ (r : List ℤ). Reaches (row_of (length xs) p >>= λ others. done (x ∷ others)) r (done (x ∷ xs))) (append-nil xs)
+      (Reaches-bind (row_of (length xs) p) (λ others. done (x ∷ others)) (done (x ∷ xs)) xs xs [] (row_again p xs h.1) refl),
+)

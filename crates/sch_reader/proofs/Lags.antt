@@ -13,9 +13,10 @@ starts_rise a b = a.from ≤ b.from
 
 pub order_from : (from : ℕ) (lags : List Lag) → All (λ a. from ≤ a.from) lags → AllPairs (λ a b. a.from ≤ b.from) lags → AreInOrder from lags
 order_from from [] low rise = tt
-order_from from (a ∷ lags) low rise =
-    (All-head (λ b. from ≤ b.from) a lags low,
-    order_from a.from lags (λ j d lt. rise 0 (suc j) d (omega arith) (omega arith)) (λ i j d less inside. rise (suc i) (suc j) d (omega arith) (omega arith)))
+order_from from (a ∷ lags) low rise = (
+  All-head (λ b. from ≤ b.from) a lags low,
+  order_from a.from lags (λ j d lt. rise 0 (suc j) d (omega arith) (omega arith)) (λ i j d less inside. rise (suc i) (suc j) d (omega arith) (omega arith)),
+)
 
 -- no arc starts below the first, and none below one before it
 pub record InOrder (from : ℕ) (lags : List Lag) : Type 0 where

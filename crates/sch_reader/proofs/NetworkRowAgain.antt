@@ -21,10 +21,11 @@ same_lag row last a h = ap (λ (i : ℕ). record { from = i; to = a.to; weight =
 lags_again : (row last : ℕ) (lags : List Lag) → AllByRecursion (RowLag row last) lags → Reaches (lags_to row (map (λ a. pos a.to) lags)) (map (λ a. a.weight) lags) (done lags)
 unfolding lags_to
 lags_again row last [] h = refl
-lags_again row last (a ∷ lags) h =
-    (is_within_from (negsuc 999999) (pos 1000000) a.weight h.0.low h.0.high,
-    subst (λ (b : Lag). Reaches (lags_to row (map (λ a. pos a.to) lags) >>= λ others. done (lag_of row (pos a.to) a.weight ∷ others)) (map (λ a. a.weight) lags) (done (b ∷ lags))) (same_lag row last a h.0)
-    (Reaches-made (lags_to row (map (λ a. pos a.to) lags)) (λ others. lag_of row (pos a.to) a.weight ∷ others) lags (map (λ a. a.weight) lags) (lags_again row last lags h.1)))
+lags_again row last (a ∷ lags) h = (
+  is_within_from (negsuc 999999) (pos 1000000) a.weight h.0.low h.0.high,
+  subst (λ (b : Lag). Reaches (lags_to row (map (λ a. pos a.to) lags) >>= λ others. done (lag_of row (pos a.to) a.weight ∷ others)) (map (λ a. a.weight) lags) (done (b ∷ lags))) (same_lag row last a h.0)
+      (Reaches-made (lags_to row (map (λ a. pos a.to) lags)) (λ others. lag_of row (pos a.to) a.weight ∷ others) lags (map (λ a. a.weight) lags) (lags_again row last lags h.1)),
+)
 
 ends_fit : (row last : ℕ) (lags : List Lag) → AllByRecursion (RowLag row last) lags → AllByRecursion (λ z. fits (places.Successor row last) z ≡ true) (map (λ a. pos a.to) lags)
 ends_fit row last [] h = tt
@@ -35,8 +36,13 @@ unfolding network_row
 network_row_again last left row own few each =
     let ends = map (λ (a : Lag). pos a.to) own in
     let len : length ends ≡ length own = length-map own (λ a. pos a.to) in
-    let row_there : Reaches (row_of (length own) (places.Successor row last)) ends (done ends) = subst (λ (n : ℕ). Reaches (row_of n (places.Successor row last)) ends (done ends)) len (row_again (places.Successor row last) ends (ends_fit row last own each)) in
-    (is_within_from (pos row) (pos row) (pos row) (omega (arith, ints)) (omega (arith, ints)),
-    (is_within_from (pos 1) (pos 1) (pos 1) (omega (arith, ints)) (omega (arith, ints)),
-    (is_within_from (pos 0) (pos left) (pos (length own)) (omega (arith, ints)) (omega (arith, ints)),
-    Reaches-bind (row_of (length own) (places.Successor row last)) (λ e. lags_to row e) (done own) ends ends (map (λ a. a.weight) own) row_there (lags_again row last own each))))
+    let row_there : Reaches (row_of (length own) (places.Successor row last)) ends (done ends) = subst (λ (n : ℕ). Reaches (row_of n (places.Successor row last)) ends (done ends)) len (row_again (places.Successor row last) ends (ends_fit row last own each)) in (
+      is_within_from (pos row) (pos row) (pos row) (omega (arith, ints)) (omega (arith, ints)),
+      (
+        is_within_from (pos 1) (pos 1) (pos 1) (omega (arith, ints)) (omega (arith, ints)),
+        (
+          is_within_from (pos 0) (pos left) (pos (length own)) (omega (arith, ints)) (omega (arith, ints)),
+          Reaches-bind (row_of (length own) (places.Successor row last)) (λ e. lags_to row e) (done own) ends ends (map (λ a. a.weight) own) row_there (lags_again row last own each),
+        ),
+      ),
+    )

@@ -58,6 +58,6 @@ network_rows_again (suc rows) last left row below lags e few order ends =
     let first = network_row_again last left row s.own (omega (arith, sizes, few)) s.own_row in
     let rest = network_rows_again rows last (left - length s.own) (row + 1) below s.later (omega (arith, e)) (omega (arith, sizes, few)) s.order s.ends in
     let both = Reaches-bind (network_row last left row) (λ own. network_rows rows last (left - length own) (row + 1) >>= λ others. done (own ++ others)) (done (s.own ++ s.later)) s.own (row_numbers row s.own) (network_numbers rows (row + 1) s.later) first
-      (Reaches-made (network_rows rows last (left - length s.own) (row + 1)) (λ others. s.own ++ others) s.later (network_numbers rows (row + 1) s.later) rest) in
+    (Reaches-made (network_rows rows last (left - length s.own) (row + 1)) (λ others. s.own ++ others) s.later (network_numbers rows (row + 1) s.later) rest) in
     let whole : Reaches (network_rows (suc rows) last left row) (network_numbers (suc rows) row (s.own ++ s.later)) (done (s.own ++ s.later)) = subst (λ (zs : List ℤ). Reaches (network_rows (suc rows) last left row) zs (done (s.own ++ s.later))) (sym (numbers_split rows row last s.own s.later s.own_row s.order)) both in
     subst (λ (v : List Lag). Reaches (network_rows (suc rows) last left row) (network_numbers (suc rows) row v) (done v)) (sym s.parts) whole

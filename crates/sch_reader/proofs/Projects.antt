@@ -66,8 +66,8 @@ project_from p a =
 dummy_if : (p : Problem) → IsProject p → (last i : ℕ) → last ≡ end_of p → (eqb i 0 || eqb i last) ≡ true → IsDummy p i
 dummy_if p is last i e dummy =
     elim (or_cases (eqb i 0) (eqb i last) dummy) [
-      inl first ↦ subst (λ (k : ℕ). IsDummy p k) (sym (eqb-true i 0 first)) is.start_is_dummy
-    | inr there ↦ subst (λ (k : ℕ). IsDummy p k) (sym (eqb-true i last there ∙ e)) is.end_is_dummy
+      | inl first ↦ subst (λ (k : ℕ). IsDummy p k) (sym (eqb-true i 0 first)) is.start_is_dummy
+      | inr there ↦ subst (λ (k : ℕ). IsDummy p k) (sym (eqb-true i last there ∙ e)) is.end_is_dummy
     ]
 
 request_from : (p : Problem) → IsProject p → (last i : ℕ) → last ≡ end_of p → i < activity_count p → IsRequestAt last (resource_count p) i (duration p i) (get_or p.demands i [])
@@ -77,7 +77,7 @@ request_from p is last i e lt =
     let row = get_or p.demands i [] in
     let amounts : All IsAmount row = All-get_or (λ (r : List ℤ). All IsAmount r) p.demands i [] inside is.demands_fit in
     let each : All (λ z. fits (amount_place last i) z ≡ true) row = All-from_get_or (λ z. fits (amount_place last i) z ≡ true) row (pos 0) (λ k less.
-      fits_there last i (get_or row k (pos 0)) (λ d. All-get_or (λ z. z ≡ pos 0) row k (pos 0) less (dummy d).no_demand) (All-get_or IsAmount row k (pos 0) less amounts)) in
+    fits_there last i (get_or row k (pos 0)) (λ d. All-get_or (λ z. z ≡ pos 0) row k (pos 0) less (dummy d).no_demand) (All-get_or IsAmount row k (pos 0) less amounts)) in
     record {
       count = All-get_or (λ (r : List ℤ). length r ≡ resource_count p) p.demands i [] inside is.demand_columns;
       duration = fits_there last i (duration p i) (λ d. (dummy d).no_time) (All-get_or IsAmount p.durations i (pos 0) lt is.durations_fit);
@@ -98,8 +98,8 @@ accepted_from p is =
       count = count;
       resources = is.resource_limit;
       requests = requests_from (n + 1) (resource_count p) 0 p.durations p.demands same_count (λ i lt.
-        let zero_first : i ≡ 0 + i = omega arith in
-        subst (λ (k : ℕ). IsRequestAt (n + 1) (resource_count p) k (duration p i) (get_or p.demands i [])) zero_first (request_from p is (n + 1) i last lt));
+          let zero_first : i ≡ 0 + i = omega arith in
+          subst (λ (k : ℕ). IsRequestAt (n + 1) (resource_count p) k (duration p i) (get_or p.demands i [])) zero_first (request_from p is (n + 1) i last lt));
       capacities = recursion_from_All (λ z. fits places.Amount z ≡ true) p.capacities (All-weaker IsAmount (λ z. fits places.Amount z ≡ true) amount_fits p.capacities is.capacities_fit);
       few_lags = is.lag_limit;
       order = order_from 0 p.lags (λ i d lt. omega arith) is.lags_rise;

@@ -15,10 +15,13 @@ pub request_row_again : (last resources id : ℕ) (d : ℤ) (row : List ℤ) →
     → Reaches (request_row last resources id) (pos id ∷ pos 1 ∷ d ∷ row) (done (d, row))
 unfolding request_row
 request_row_again last resources id d row len fit all =
-    let there : Reaches (row_of resources (amount_place last id)) row (done row) = subst (λ (n : ℕ). Reaches (row_of n (amount_place last id)) row (done row)) len (row_again (amount_place last id) row all) in
-    (is_within_from (pos id) (pos id) (pos id) (omega (arith, ints)) (omega (arith, ints)),
-    (is_within_from (pos 1) (pos 1) (pos 1) (omega (arith, ints)) (omega (arith, ints)),
-    (fit, Reaches-made (row_of resources (amount_place last id)) (λ demands. (d, demands)) row row there)))
+    let there : Reaches (row_of resources (amount_place last id)) row (done row) = subst (λ (n : ℕ). Reaches (row_of n (amount_place last id)) row (done row)) len (row_again (amount_place last id) row all) in (
+      is_within_from (pos id) (pos id) (pos id) (omega (arith, ints)) (omega (arith, ints)),
+      (
+        is_within_from (pos 1) (pos 1) (pos 1) (omega (arith, ints)) (omega (arith, ints)),
+        (fit, Reaches-made (row_of resources (amount_place last id)) (λ demands. (d, demands)) row row there),
+      ),
+    )
 
 abbrev requests : List ℤ → List (List ℤ) → Requests
 requests durations demands = record { durations = durations; demands = demands }

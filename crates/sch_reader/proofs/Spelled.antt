@@ -10,7 +10,7 @@ use Rattle.sch_reader.specs.declared.place.Place.{Place}
 use Rattle.sch_reader.specs.declared.place.Place.TheVariants as places
 use Rattle.sch_reader.specs.Words.{words, token}
 use Rattle.sch_reader.specs.Layout.{project_text, misfit}
-use Rattle.sch_reader.specs.Text.{flat, Spell, Spells, EndsShort, GoesOn, HasMisfit, IsFirstFault, misfit_of}
+use Rattle.sch_reader.specs.Text.{text_limit, flat, Spell, Spells, IsFirstWordFault, IsFirstFault, misfit_of}
 use Rattle.sch_reader.specs.Reading.{Cursor, ◌>>=◌, reading, ended, whole_reading}
 use Rattle.sch_reader.proofs.Readings.{WasRead, reading_was}
 use Rattle.sch_reader.proofs.Exact.{start, fault_is_first, spelled_is_read}
@@ -21,7 +21,7 @@ answer p = Ok p
 
 -- ---- a project that was read
 
-after_all : (text : List ℕ) (q p : Problem) (c : Cursor) (rest : List (List ℕ)) → length text ≤ 16777216 → c.rest ≡ rest → WasRead project_text 0 (words text) q c → ended q c.index rest ≡ Ok p → IsProject p × Spells text p
+after_all : (text : List ℕ) (q p : Problem) (c : Cursor) (rest : List (List ℕ)) → length text ≤ text_limit → c.rest ≡ rest → WasRead project_text 0 (words text) q c → ended q c.index rest ≡ Ok p → IsProject p × Spells text p
 after_all text q p c (w ∷ more) size is was e = absurd cc
 after_all text q p c [] size is was e =
     let f = exact.found was.numbers q was.reached in
@@ -30,12 +30,12 @@ after_all text q p c [] size is was e =
     let same : q ≡ p = cc in
     subst (λ (r : Problem). IsProject r × Spells text r) same (f.0, record { size = size; spelled = spelled })
 
-by_reading : (text : List ℕ) (p : Problem) (r : Result (Problem × Cursor) SchFault) → length text ≤ 16777216 → reading project_text (start (words text)) ≡ r → (r >>= λ x. ended x.0 x.1.index x.1.rest) ≡ Ok p → IsProject p × Spells text p
+by_reading : (text : List ℕ) (p : Problem) (r : Result (Problem × Cursor) SchFault) → length text ≤ text_limit → reading project_text (start (words text)) ≡ r → (r >>= λ x. ended x.0 x.1.index x.1.rest) ≡ Ok p → IsProject p × Spells text p
 by_reading text p (Ok x) size is h = after_all text x.0 p x.1 x.1.rest size refl (reading_was project_text 0 (words text) x.0 x.1 is) h
 by_reading text p (Err d) size is h = absurd cc
 
 -- what is read is spelled
-pub read_is_spelled : (text : List ℕ) (p : Problem) → length text ≤ 16777216 → whole_reading (words text) ≡ Ok p → IsProject p × Spells text p
+pub read_is_spelled : (text : List ℕ) (p : Problem) → length text ≤ text_limit → whole_reading (words text) ≡ Ok p → IsProject p × Spells text p
 unfolding whole_reading
 read_is_spelled text p size h = by_reading text p (reading project_text (start (words text))) size refl h
 
@@ -70,7 +70,7 @@ memory_alone faults.Memory h = refl
 pub fault_of_spelled : (text : List ℕ) (p : Problem) (e : SchFault) → IsProject p → Spells text p → (e ≢ faults.Memory → whole_reading (words text) ≡ Err e) → e ≡ faults.Memory
 fault_of_spelled text p e fit s h = memory_alone e (λ other. let a = spelled_is_read exact text p fit s in let b = h other in absurd cc)
 
-pub first_fault : (text : List ℕ) (e : SchFault) → length text ≤ 16777216 → whole_reading (words text) ≡ Err e → IsFirstFault text e
+pub first_fault : (text : List ℕ) (e : SchFault) → length text ≤ text_limit → whole_reading (words text) ≡ Err e → IsFirstFault text e
 first_fault text e size h = fault_is_first exact text e size h
 
 misfit_short : (p : Place) (index : ℕ) (z : ℤ) → misfit p index z ≢ faults.TooLong
@@ -90,17 +90,17 @@ misfit_of_short p index None e = absurd cc
 misfit_of_short p index (Some z) e = misfit_short p index z e
 
 -- a word's fault is not TooLong
-word_fault : (text : List (List ℕ)) (e : SchFault) → EndsShort text e ⊎ (GoesOn text e ⊎ HasMisfit text e) → e ≢ faults.TooLong
+word_fault : (text : List (List ℕ)) (e : SchFault) → IsFirstWordFault text e → e ≢ faults.TooLong
 word_fault text e (inl s) is = let k = s.fault_is in absurd cc
 word_fault text e (inr (inl g)) is = let k = g.fault_is in absurd cc
 word_fault text e (inr (inr m)) is = misfit_of_short m.here (length m.front) (token m.word) (sym m.fault_is ∙ is)
 
 -- only a long text is too long
-long_from_fault : (text : List ℕ) (e : SchFault) → IsFirstFault text e → e ≡ faults.TooLong → 16777216 < length text
-long_from_fault text e (inl long) is = long.0
+long_from_fault : (text : List ℕ) (e : SchFault) → IsFirstFault text e → e ≡ faults.TooLong → text_limit < length text
+long_from_fault text e (inl long) is = long.long
 long_from_fault text e (inr other) is = absurd (word_fault (words text) e other.1 is)
 
-pub not_long : (text : List ℕ) (e : SchFault) → length text ≤ 16777216 → (e ≢ faults.Memory → whole_reading (words text) ≡ Err e) → e ≢ faults.TooLong
+pub not_long : (text : List ℕ) (e : SchFault) → length text ≤ text_limit → (e ≢ faults.Memory → whole_reading (words text) ≡ Err e) → e ≢ faults.TooLong
 not_long text e size h is =
     let other : e ≢ faults.Memory = λ memory. absurd cc in
     let long = long_from_fault text e (first_fault text e size (h other)) is in

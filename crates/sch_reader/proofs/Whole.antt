@@ -30,7 +30,7 @@ header_found zs h r =
     let uk = up_to 32 k.number k.fit in
     let same : zs ≡ pos (nat_abs n.number) ∷ pos (nat_abs k.number) ∷ pos 0 ∷ pos 0 ∷ [] =
     n.parts ∙ ap (λ (x : ℤ). x ∷ n.rest) un.0 ∙ ap (λ (x : List ℤ). pos (nat_abs n.number) ∷ x) (k.parts ∙ ap (λ (x : ℤ). x ∷ k.rest) uk.0 ∙ ap (λ (x : List ℤ). pos (nat_abs k.number) ∷ x)
-      (third.parts ∙ ap (λ (x : ℤ). x ∷ third.rest) (exactly 0 third.number third.fit) ∙ ap (λ (x : List ℤ). pos 0 ∷ x) (fourth.parts ∙ ap (λ (x : ℤ). x ∷ fourth.rest) (exactly 0 fourth.number fourth.fit) ∙ ap (λ (x : List ℤ). pos 0 ∷ x) f.0))) in
+    (third.parts ∙ ap (λ (x : ℤ). x ∷ third.rest) (exactly 0 third.number third.fit) ∙ ap (λ (x : List ℤ). pos 0 ∷ x) (fourth.parts ∙ ap (λ (x : ℤ). x ∷ fourth.rest) (exactly 0 fourth.number fourth.fit) ∙ ap (λ (x : List ℤ). pos 0 ∷ x) f.0))) in
     subst (λ (v : ℕ × ℕ). IsHeader zs v) f.1 (record { same = same; few = un.1; resources = uk.1 })
 
 -- a project, as its rows are read
@@ -44,7 +44,6 @@ pub record IsAccepted (p : Problem) : Type 0 where
   pub few_lags : length p.lags ≤ 100000
   pub order : AreInOrder 0 p.lags
   pub ends : AllByRecursion (IsEnd (n + 1) (0 + (n + 2))) p.lags
-
 
 abbrev pub rows_of : ℕ × ℕ → Layout Problem
 rows_of h = network_rows (h.0 + 2) (h.0 + 1) 100000 0 >>= λ lags. request_rows (h.0 + 2) (h.0 + 1) h.1 0 >>= λ requests. row_of h.1 places.Amount >>= λ capacities.

@@ -15,9 +15,10 @@ use Rattle.sch_reader.proofs.Whole.{IsAccepted, rows_of}
 
 header_again : (n k : ℕ) → n ≤ 1000 → k ≤ 32 → Reaches header (pos n ∷ pos k ∷ pos 0 ∷ pos 0 ∷ []) (done (n, k))
 unfolding header
-header_again n k few small =
-    (is_within_from (pos 0) (pos 1000) (pos n) (omega (arith, ints)) (omega (arith, ints)),
-    (is_within_from (pos 0) (pos 32) (pos k) (omega (arith, ints)) (omega (arith, ints)), (refl, (refl, refl))))
+header_again n k few small = (
+  is_within_from (pos 0) (pos 1000) (pos n) (omega (arith, ints)) (omega (arith, ints)),
+  (is_within_from (pos 0) (pos 32) (pos k) (omega (arith, ints)) (omega (arith, ints)), (refl, (refl, refl))),
+)
 
 abbrev pair_of : ℕ → ℕ → ℕ × ℕ
 pair_of n k = (n, k)
@@ -32,8 +33,8 @@ accepted_again p a =
     let n_is : length p.durations - 2 ≡ a.n = omega (arith, a.count) in
     let last = Reaches-made (row_of k places.Amount) (λ capacities. record { durations = p.durations; demands = p.demands; capacities = capacities; lags = p.lags }) p.capacities p.capacities (row_again places.Amount p.capacities a.capacities) in
     let requests = Reaches-bind (request_rows (length p.durations) (a.n + 1) k 0) (λ requests. row_of k places.Amount >>= λ capacities. done (record { durations = requests.durations; demands = requests.demands; capacities = capacities; lags = p.lags })) (done p) (requests_of p)
-      (request_numbers 0 p.durations p.demands) p.capacities (request_rows_again (a.n + 1) k 0 p.durations p.demands a.requests) last in
+    (request_numbers 0 p.durations p.demands) p.capacities (request_rows_again (a.n + 1) k 0 p.durations p.demands a.requests) last in
     let rows = Reaches-bind (network_rows (a.n + 2) (a.n + 1) 100000 0) (λ lags. request_rows (a.n + 2) (a.n + 1) k 0 >>= λ requests. row_of k places.Amount >>= λ capacities. done (record { durations = requests.durations; demands = requests.demands; capacities = capacities; lags = lags })) (done p) p.lags
-      (network_numbers (a.n + 2) 0 p.lags) (request_numbers 0 p.durations p.demands ++ p.capacities) (network_rows_again (a.n + 2) (a.n + 1) 100000 0 (0 + (a.n + 2)) p.lags refl a.few_lags a.order a.ends) (rw a.count at requests) in
+    (network_numbers (a.n + 2) 0 p.lags) (request_numbers 0 p.durations p.demands ++ p.capacities) (network_rows_again (a.n + 2) (a.n + 1) 100000 0 (0 + (a.n + 2)) p.lags refl a.few_lags a.order a.ends) (rw a.count at requests) in
     let whole = Reaches-bind header (λ h. rows_of h) (done p) (pair_of a.n k) (pos a.n ∷ pos k ∷ pos 0 ∷ pos 0 ∷ []) (network_numbers (a.n + 2) 0 p.lags ++ (request_numbers 0 p.durations p.demands ++ p.capacities)) (header_again a.n k a.few a.resources) rows in
     rw (n_is, a.count) whole

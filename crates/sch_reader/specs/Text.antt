@@ -10,6 +10,10 @@ use Rattle.network.specs.Problem.{Problem}
 use Rattle.network.specs.Limits.{IsProject}
 use Rattle.sch_reader.specs.Layout.{Layout, done, place, misfit, project_text}
 
+-- how many bytes a text may have
+abbrev pub text_limit : ℕ
+text_limit = 16777216
+
 -- the given arcs from an activity
 abbrev pub lags_from : ℕ → List Lag → List Lag
 lags_from i lags = filter (λ a. a.from == i) lags
@@ -37,7 +41,7 @@ Spell text numbers = map token text ≡ map Some numbers
 
 -- the text spells the project
 pub record Spells (text : List ℕ) (p : Problem) : Type 0 where
-  pub size : length text ≤ 16777216
+  pub size : length text ≤ text_limit
   pub spelled : Spell (words text) (flat p)
 
 -- the numbers begin the list of some project
@@ -59,7 +63,7 @@ pub record EndsShort (text : List (List ℕ)) (fault : SchFault) : Type 0 where
   pub numbers : List ℤ
   pub spelled : Spell text numbers
   pub begins : BeginsProject numbers
-  pub more : IsWholeProject numbers → ⊥
+  pub more : ¬ IsWholeProject numbers
   pub fault_is : fault ≡ faults.Short (length text)
 
 -- A word comes after a whole project.
@@ -88,12 +92,19 @@ pub record HasMisfit (text : List (List ℕ)) (fault : SchFault) : Type 0 where
   pub parts : text ≡ front ++ (word ∷ rest)
   pub spelled : Spell front numbers
   pub begins : BeginsProject numbers
-  pub ends : (z : ℤ) → token word ≡ Some z → BeginsProject (numbers ++ z ∷ []) → ⊥
+  pub ends : (z : ℤ) → token word ≡ Some z → ¬ BeginsProject (numbers ++ z ∷ [])
   pub here_is : place_after project_text numbers ≡ Some here
   pub fault_is : fault ≡ misfit_of here (length front) (token word)
 
+-- The text has too many bytes.
+pub record IsTooLong (text : List ℕ) (fault : SchFault) : Type 0 where
+  pub long : text_limit < length text
+  pub fault_is : fault ≡ faults.TooLong
+
+-- the first fault of words that spell no project
+abbrev pub IsFirstWordFault : List (List ℕ) → SchFault → Type 0
+IsFirstWordFault text fault = EndsShort text fault ⊎ (GoesOn text fault ⊎ HasMisfit text fault)
+
 -- the first fault of a text that spells no project
 abbrev pub IsFirstFault : List ℕ → SchFault → Type 0
-IsFirstFault text fault =
-    ((16777216 < length text) × (fault ≡ faults.TooLong))
-    ⊎ ((length text ≤ 16777216) × (EndsShort (words text) fault ⊎ (GoesOn (words text) fault ⊎ HasMisfit (words text) fault)))
+IsFirstFault text fault = IsTooLong text fault ⊎ ((length text ≤ text_limit) × IsFirstWordFault (words text) fault)

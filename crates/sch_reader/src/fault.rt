@@ -1,32 +1,31 @@
-//! Why a text could not be read.
-
 ghost use Rattle.std.specs.Prelude.{◌≡◌};
 ghost use Rattle.sch_reader.specs.declared.fault.SchFault.TheVariants.{Memory};
 
 use std::alloc::{AllocError, AllocFailed};
 
-/// What is wrong with a text: the first fault in the order of its words.
-#[derive(Clone, Copy, Debug, PartialEq, Eq)]
+/// Why a text could not be read: the first fault in the order of its words. Words and rows count
+/// from 0; a network row has the number of its activity, and request rows go on from there.
+#[derive(Clone, Copy, PartialEq, Eq, Debug)]
 pub enum SchFault {
-    /// More bytes than a text may have.
+    /// The text has more than 16,777,216 bytes, whatever it holds.
     TooLong,
-    /// This word is not a number.
+    /// This word is no token: a minus or nothing, and then 1 to 9 digits.
     Token { index: usize },
     /// The text ends before this word.
     Short { index: usize },
-    /// This word is one too many.
+    /// This word comes after a whole project.
     Trailing { index: usize },
-    /// The header names resources that are not renewable.
+    /// The header tells of resources that are not renewable.
     NotRenewable,
-    /// This row has more than one mode.
+    /// The activity of this row has several modes, or another than mode 1.
     Modes { row: usize },
-    /// This row has another number.
+    /// This row begins with another number than that of its activity.
     RowNumber { row: usize, found: i64 },
-    /// This row names no activity.
+    /// This network row names an end that is no activity.
     Activity { row: usize, found: i64 },
-    /// This word is out of its range.
+    /// This word's number is out of its range.
     Range { index: usize },
-    /// This row gives a dummy a duration or a demand.
+    /// This request row gives the start or the end a duration or a demand.
     Dummy { row: usize },
     /// Memory ran out.
     Memory,

@@ -1,4 +1,16 @@
-//! Reads projects from their text.
+//! Reads projects from their text, a layout made after PSPLIB's single-mode ProGen/max files.
+//!
+//! Space, tab, CR, LF, `[` and `]` are blanks, and a word is a longest run of other bytes; words are
+//! counted from 0. Each word has to be a token: a minus or nothing, and then 1 to 9 digits. With n
+//! activities between the start and the end, and K resources, the words are, in this order:
+//!
+//! 1. the header: n, K, 0, 0;
+//! 2. for each activity a network row: the activity, 1, how many given arcs lead from it, their ends,
+//!    their lags;
+//! 3. for each activity a request row: the activity, 1, its duration, its K demands;
+//! 4. K capacities.
+//!
+//! Rows are numbered through: network rows from 0 to n + 1, request rows from n + 2 to 2n + 3.
 #![tactic(auto)]
 
 mod fault;
@@ -8,5 +20,7 @@ mod text;
 mod word;
 
 pub use fault::SchFault;
-pub use place::Place;
 pub use text::read_sch;
+
+#[cfg(test)]
+mod tests;

@@ -1,38 +1,36 @@
-//! The places of a project text.
-
 ghost use Rattle.std.specs.Prelude.{◌≡◌};
 ghost use Rattle.sch_reader.specs.Layout.{fits, misfit};
 
 use crate::fault::SchFault;
 
-/// A place of a project text.
-#[derive(Clone, Copy, Debug)]
-pub enum Place {
-    /// The number of activities between the dummies.
+/// A place of a project text: what a number there stands for.
+#[derive(Clone, Copy)]
+pub(crate) enum Place {
+    /// How many activities there are between the start and the end.
     Activities,
-    /// The number of resources.
+    /// How many resources there are.
     Resources,
-    /// The number of resources of another kind.
+    /// How many resources of another kind there are.
     OtherResources,
-    /// The number of a row: its activity.
+    /// The activity `id`, with which this row begins.
     Id { row: usize, id: usize },
-    /// The number of modes, or a mode.
+    /// How many modes an activity has, or which one a row is about.
     Mode { row: usize },
-    /// How many arcs a row gives, where so many may still come.
+    /// How many given arcs a row has, where at most `left` may still come.
     Count { left: usize },
-    /// The end of an arc, an activity up to the last.
+    /// The end of an arc, an activity up to `last`.
     Successor { row: usize, last: usize },
-    /// The lag of an arc.
+    /// The lag of an arc, in periods.
     Lag,
-    /// A duration or a demand of a dummy.
+    /// A duration or a demand of the start or the end.
     Nothing { row: usize },
-    /// A duration, a demand or a capacity.
+    /// A duration, in periods, or a demand or a capacity.
     Amount,
 }
 
 impl Place {
     /// Whether a number fits here.
-    pub fn fits(self, value: i64) -> bool
+    pub(crate) fn fits(self, value: i64) -> bool
         ensures { result ≡ fits self value }
     {
         let (low, high) = match self {
@@ -49,8 +47,8 @@ impl Place {
         low <= value && value <= high
     }
 
-    /// The fault of a number that does not fit here, the word at this index.
-    pub fn misfit(self, index: usize, value: i64) -> SchFault
+    /// The fault of a number that does not fit here, where the word at this index gives it.
+    pub(crate) fn misfit(self, index: usize, value: i64) -> SchFault
         ensures { result ≡ misfit self index value }
     {
         match self {

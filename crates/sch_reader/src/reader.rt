@@ -1,5 +1,3 @@
-//! Reads a text word by word.
-
 ghost use Rattle.std.specs.Prelude.{◌≡◌, ◌≤◌, ◌+◌, ◌∷◌, [], length, MatchOption, ℕ, List, IfOk, true};
 ghost use Rattle.sch_reader.specs.Words.{words};
 ghost use Rattle.sch_reader.specs.Layout.{fits};
@@ -26,6 +24,7 @@ impl<'a> Model for Reader<'a> {
 }
 
 impl<'a> Reader<'a> {
+    /// A reader before the first word.
     pub(crate) fn new(text: &'a [u8]) -> Self
         requires { length text.now ≤ 16777216 }
         ensures index { result.index ≡ 0 }
@@ -35,6 +34,13 @@ impl<'a> Reader<'a> {
             rest: text,
             index: 0,
         }
+    }
+
+    /// How many bytes are left, and so at least how many words.
+    pub(crate) fn bytes_left(&self) -> usize
+        ensures { self.now.index + result ≤ 16777216 }
+    {
+        self.rest.len()
     }
 
     /// How many words came before.

@@ -1,10 +1,8 @@
-//! The project text.
-
 ghost use Rattle.std.specs.Prelude.{◌≡◌, ◌≢◌, ◌≤◌, ◌<◌, ◌+◌, ◌↔◌, nat_abs, pos, IfOk, IfErr, MatchResult, length, map, ℕ};
 ghost use Rattle.network.specs.Problem.{Problem};
 ghost use Rattle.network.specs.Limits.{IsProject};
 ghost use Rattle.sch_reader.specs.declared.fault.SchFault.{SchFault};
-ghost use Rattle.sch_reader.specs.Text.{Spells, IsFirstFault};
+ghost use Rattle.sch_reader.specs.Text.{Spells, IsFirstFault, text_limit};
 ghost use Rattle.sch_reader.specs.Layout.{row_of, lags_to, network_row, network_rows, request_row, request_rows, amount_place, header, project_text};
 ghost use Rattle.sch_reader.specs.Reading.{Reads, Gives, reading, whole_reading};
 ghost use Rattle.network.specs.Parts.{problem_of};
@@ -12,17 +10,17 @@ ghost use Rattle.sch_reader.specs.Words.{words};
 
 use crate::fault::SchFault;
 use crate::place::Place;
-use network::{Lag, Parts, Project};
 use crate::reader::Reader;
+use network::{Lag, Parts, Project};
 use std::alloc::Global;
 
 /// How many bytes a text may have.
-const MAX_TEXT: usize = 16_777_216;
+const MAX_BYTES: usize = 16_777_216;
 
 /// How many arcs a project may have.
 const MAX_LAGS: usize = 100_000;
 
-/// The number of activities between the dummies, and of resources.
+/// The header: how many activities there are between the start and the end, and how many resources.
 #[tactic(auto, unfolding(crate::specs::Layout::header))]
 fn header(reader: &mut Reader<'_>) -> Result<(usize, usize), SchFault>
     ensures reads { Reads (λ h. (h.0, h.1)) result reader.new (reading header reader.old) }
@@ -32,15 +30,24 @@ fn header(reader: &mut Reader<'_>) -> Result<(usize, usize), SchFault>
     let resources = reader.number(Place::Resources)?;
     reader.number(Place::OtherResources)?;
     reader.number(Place::OtherResources)?;
-    Ok((activities.unsigned_abs() as usize, resources.unsigned_abs() as usize))
+    Ok((
+        activities.unsigned_abs() as usize,
+        resources.unsigned_abs() as usize,
+    ))
 }
 
-/// So many numbers, each at such a place.
+/// So many numbers, each at such a place. However many are asked for, room is made for no more than
+/// the text has bytes left.
 #[tactic(auto, unfolding(crate::specs::Layout::row_of))]
-fn numbers(alloc: Global, reader: &mut Reader<'_>, count: usize, place: Place) -> Result<Vec<i64>, SchFault>
+fn numbers(
+    alloc: Global,
+    reader: &mut Reader<'_>,
+    count: usize,
+    place: Place,
+) -> Result<Vec<i64>, SchFault>
     ensures { Reads (λ v. v.items) result reader.new (reading (row_of count place) reader.old) }
 {
-    let mut numbers = Vec::new(alloc);
+    let mut numbers = Vec::with_capacity(alloc, count.min(reader.bytes_left()))?;
     for _ in 0..count {
         let number = reader.number(place)?;
         numbers.push(number)?;
@@ -49,10 +56,15 @@ fn numbers(alloc: Global, reader: &mut Reader<'_>, count: usize, place: Place) -
 }
 
 /// The lags of the arcs from an activity to these ends.
-fn lags_to(alloc: Global, reader: &mut Reader<'_>, from: usize, ends: &[i64]) -> Result<Vec<Lag>, SchFault>
+fn lags_to(
+    alloc: Global,
+    reader: &mut Reader<'_>,
+    from: usize,
+    ends: &[i64],
+) -> Result<Vec<Lag>, SchFault>
     ensures { Reads (λ v. v.items) result reader.new (reading (lags_to from ends.now) reader.old) }
 {
-    let mut lags = Vec::new(alloc);
+    let mut lags = Vec::with_capacity(alloc, ends.len())?;
     for end in ends {
         let weight = reader.number(Place::Lag)?;
         let to = end.unsigned_abs() as usize;
@@ -61,9 +73,15 @@ fn lags_to(alloc: Global, reader: &mut Reader<'_>, from: usize, ends: &[i64]) ->
     Ok(lags)
 }
 
-/// The arcs from an activity.
+/// A network row: the given arcs from an activity, of which at most `left` may come.
 #[tactic(auto, using(crate::proofs::Readings::reading_bind), unfolding(crate::specs::Layout::network_row))]
-fn network_row(alloc: Global, reader: &mut Reader<'_>, last: usize, left: usize, row: usize) -> Result<Vec<Lag>, SchFault>
+fn network_row(
+    alloc: Global,
+    reader: &mut Reader<'_>,
+    last: usize,
+    left: usize,
+    row: usize,
+) -> Result<Vec<Lag>, SchFault>
     ensures { Reads (λ v. v.items) result reader.new (reading (network_row last left row) reader.old) }
 {
     reader.number(Place::Id { row, id: row })?;
@@ -75,8 +93,12 @@ fn network_row(alloc: Global, reader: &mut Reader<'_>, last: usize, left: usize,
     Ok(lags)
 }
 
-/// The given arcs.
-fn network_rows(alloc: Global, reader: &mut Reader<'_>, activities: usize) -> Result<Vec<Lag>, SchFault>
+/// The network rows: all given arcs, in order.
+fn network_rows(
+    alloc: Global,
+    reader: &mut Reader<'_>,
+    activities: usize,
+) -> Result<Vec<Lag>, SchFault>
     requires { activities ≤ 1000 }
     ensures { Reads (λ v. v.items) result reader.new (reading (network_rows (activities + 2) (activities + 1) 100000 0) reader.old) }
 {
@@ -89,7 +111,7 @@ fn network_rows(alloc: Global, reader: &mut Reader<'_>, activities: usize) -> Re
     Ok(lags)
 }
 
-/// The place of a duration or a demand.
+/// The place of a duration or a demand of an activity.
 fn amount_place(last: usize, id: usize) -> Place
     requires last { last ≤ 1001 }
     requires id { id ≤ last }
@@ -102,9 +124,15 @@ fn amount_place(last: usize, id: usize) -> Place
     }
 }
 
-/// A duration, and the demands.
+/// A request row: the duration and the demands of an activity.
 #[tactic(auto, using(crate::proofs::Readings::reading_bind), unfolding(crate::specs::Layout::request_row))]
-fn request_row(alloc: Global, reader: &mut Reader<'_>, last: usize, resources: usize, id: usize) -> Result<(i64, Vec<i64>), SchFault>
+fn request_row(
+    alloc: Global,
+    reader: &mut Reader<'_>,
+    last: usize,
+    resources: usize,
+    id: usize,
+) -> Result<(i64, Vec<i64>), SchFault>
     requires last { last ≤ 1001 }
     requires id { id ≤ last }
     ensures { Reads (λ r. (r.0, r.1.items)) result reader.new (reading (request_row last resources id) reader.old) }
@@ -118,14 +146,19 @@ fn request_row(alloc: Global, reader: &mut Reader<'_>, last: usize, resources: u
     Ok((duration, demands))
 }
 
-/// The durations and the rows of demands.
-fn request_rows(alloc: Global, reader: &mut Reader<'_>, activities: usize, resources: usize) -> Result<(Vec<i64>, Vec<Vec<i64>>), SchFault>
+/// The request rows: the durations and the demands of all activities.
+fn request_rows(
+    alloc: Global,
+    reader: &mut Reader<'_>,
+    activities: usize,
+    resources: usize,
+) -> Result<(Vec<i64>, Vec<Vec<i64>>), SchFault>
     requires { activities ≤ 1000 }
     ensures { Reads (λ r. record { durations = r.0.items; demands = map (λ v. v.items) r.1.items }) result reader.new
         (reading (request_rows (activities + 2) (activities + 1) resources 0) reader.old) }
 {
-    let mut durations = Vec::new(alloc);
-    let mut demands = Vec::new(alloc);
+    let mut durations = Vec::with_capacity(alloc, activities + 2)?;
+    let mut demands = Vec::with_capacity(alloc, activities + 2)?;
     for id in 0..activities + 2 {
         let (duration, row) = request_row(alloc, reader, activities + 1, resources, id)?;
         durations.push(duration)?;
@@ -134,7 +167,7 @@ fn request_rows(alloc: Global, reader: &mut Reader<'_>, activities: usize, resou
     Ok((durations, demands))
 }
 
-/// A whole project.
+/// What the text of a project holds.
 #[tactic(auto, using(crate::proofs::Readings::reading_bind), unfolding(crate::specs::Layout::project_text))]
 fn project_text(alloc: Global, reader: &mut Reader<'_>) -> Result<Parts, SchFault>
     ensures { Reads problem_of result reader.new (reading project_text reader.old) }
@@ -143,14 +176,19 @@ fn project_text(alloc: Global, reader: &mut Reader<'_>) -> Result<Parts, SchFaul
     let lags = network_rows(alloc, reader, activities)?;
     let (durations, demands) = request_rows(alloc, reader, activities, resources)?;
     let capacities = numbers(alloc, reader, resources, Place::Amount)?;
-    Ok(Parts { durations, demands, capacities, lags })
+    Ok(Parts {
+        durations,
+        demands,
+        capacities,
+        lags,
+    })
 }
 
 /// The whole text, and nothing after it.
 #[tactic(auto, unfolding(crate::specs::Reading::whole_reading))]
 fn whole_text(alloc: Global, text: &[u8]) -> Result<Parts, SchFault>
     requires { length text.now ≤ 16777216 }
-    ensures reads { Gives problem_of result (whole_reading (words text.now)) }
+    ensures { Gives problem_of result (whole_reading (words text.now)) }
 {
     let mut reader = Reader::new(text);
     let parts = project_text(alloc, &mut reader)?;
@@ -163,20 +201,22 @@ fn whole_text(alloc: Global, text: &[u8]) -> Result<Parts, SchFault>
 
 /// The project that a text spells, or the first fault of a text that spells none.
 ///
-/// A fault is the first in the order of the words, but for [`SchFault::TooLong`], which is tested
-/// first, and [`SchFault::Memory`], which comes where memory runs out.
+/// A text of more than 16,777,216 bytes is [`SchFault::TooLong`]; else the fault is the first one in
+/// the order of words. [`SchFault::Memory`] comes only where memory ran out. The time is linear in
+/// the text, and what is kept besides the project is one row.
 pub fn read_sch(alloc: Global, text: &[u8]) -> Result<Project, SchFault>
     ensures found { IfOk result (λ p. IsProject p × Spells text.now p) }
     ensures only { (p : Problem) → IsProject p → Spells text.now p →
         MatchResult result (λ q. q ≡ p) (λ e. e ≡ SchFault.Memory) }
     ensures fault { IfErr result (λ e. e ≢ SchFault.Memory → IsFirstFault text.now e) }
-    ensures too_long { (result ≡ Err SchFault.TooLong) ↔ (16777216 < length text.now) }
+    ensures too_long { (result ≡ Err SchFault.TooLong) ↔ (text_limit < length text.now) }
     ensures unique { (p q : Problem) → IsProject p → IsProject q → Spells text.now p → Spells text.now q → p ≡ q }
 {
-    if text.len() > MAX_TEXT {
+    if text.len() > MAX_BYTES {
         return Err(SchFault::TooLong);
     }
     let parts = whole_text(alloc, text)?;
+    // The text spells these parts, so they are those of a project.
     let project = Project::new(parts).unwrap();
     Ok(project)
 }

@@ -1,11 +1,10 @@
-//! The words of a text, and the numbers that they spell.
-
 ghost use Rattle.std.specs.Prelude.{◌≡◌, ◌<◌, ◌≤◌, ◌∷◌, [], length, MatchOption, not, ℕ, true};
 ghost use Rattle.std.specs.List.{position, list_all};
 ghost use Rattle.std.specs.Char.{is_ascii_digit};
 ghost use Rattle.std.specs.Str.Parse.{digits_value};
 ghost use Rattle.sch_reader.specs.Words.{is_blank, words, natural, token};
 
+/// Whether a byte separates words.
 fn is_blank(byte: u8) -> bool
     ensures { result ≡ is_blank byte }
 {
@@ -37,6 +36,7 @@ pub(crate) fn split_word(text: &[u8]) -> Option<(&[u8], &[u8])>
     Some(text.split_at(end))
 }
 
+/// Whether each byte is a digit.
 fn all_digits(word: &[u8]) -> bool
     ensures { result ≡ list_all is_ascii_digit word.now }
 {

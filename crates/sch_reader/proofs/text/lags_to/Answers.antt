@@ -10,7 +10,7 @@ use Rattle.sch_reader.proofs.text.lags_to.Goals as goal
 
 pub returns-in_err-weight : goal.returns-in_err-weight
 returns-in_err-weight c =
-    let p = err_from_is_err_and c.from_residual.result c.from_residual.ensures.1 in
+    let p = err_from_is_err_and c.from_residual-in_err-weight.result c.from_residual-in_err-weight.ensures.1 in
     rw (p.1, p.2) (λ h. lags_fail c.args.from c.args.ends.now c.loop-end.end-index (pos 0) c.loop-end.lags.items c.loop-end.reader c.in_err-weight.field-0.0 (reading (lags_to c.args.from c.args.ends.now) c.args.reader.now) c.loop-end-test.true (c.in_err-weight.ensures.reads h) c.loop-end.invariant)
 
 pub loop-end-preserved : goal.loop-end-preserved

@@ -11,7 +11,7 @@ use Rattle.sch_reader.proofs.text.request_rows.Goals as goal
 
 pub returns-in_err-duration : goal.returns-in_err-duration
 returns-in_err-duration c =
-    let p = err_from_is_err_and c.from_residual.result c.from_residual.ensures.1 in
+    let p = err_from_is_err_and c.from_residual-in_err-duration.result c.from_residual-in_err-duration.ensures.1 in
     let so_far : Requests = record { durations = c.loop-id.durations.items; demands = map (λ v. v.items) c.loop-id.demands.items } in
     rw (p.1, p.2) (λ h. requests_fail (c.args.activities + 2) (c.args.activities + 1) c.args.resources c.loop-id.id so_far c.loop-id.reader c.in_err-duration.field-0.0 (reading (request_rows (c.args.activities + 2) (c.args.activities + 1) c.args.resources 0) c.args.reader.now) c.loop-id-test.true (c.in_err-duration.ensures h) c.loop-id.invariant)
 
