@@ -1,0 +1,11 @@
+pub mod Cells
+pub mod Reach
+pub mod Closure
+pub mod Passes
+pub mod Finish
+pub mod Span
+pub mod Weights
+pub mod OneArc
+pub mod Bound
+pub mod Over
+pub mod Inserted

@@ -1,0 +1,45 @@
+use Rattle.std.proofs.Common.{refl, ◌≡◌, ◌≤◌, ◌<◌, length, arith, sym, ◌∙◌, ap, w64, ℤ, ℕ, Option, Some, None, List}
+use Rattle.std.proofs.lemmas.Int.{to_z-of_z}
+use Rattle.network.specs.Walk.{entry, IsMatrixOf, AreInside}
+use Rattle.longest_path.specs.Relax.{joined}
+use Rattle.longest_path.specs.Insert.{arc_of, IsOver}
+use Rattle.longest_path.specs.Rows.{Rows, IsSquare}
+use Rattle.longest_path.proofs.Over.{transitive, room_kept}
+use Rattle.longest_path.proofs.Inserted.{GainsNothing, adds, still_matrix, closes}
+use Rattle.longest_path.proofs.matrix.Matrix.insert.Goals as goal
+
+pub returns-then-is_positive-clause-cycle : goal.returns-then-is_positive-clause-cycle
+returns-then-is_positive-clause-cycle c = λ arcs m.
+    let size : length c.args.self.now ≡ (length c.self.inside.grid) = ap length (sym c.self.view_is) in
+    let lf : c.args.i < (length c.self.inside.grid) = rw size at c.requires.from_activity in
+    let lt : c.args.j < (length c.self.inside.grid) = rw size at c.requires.to_activity in
+    let sum_is : c.sum.result ≡ joined (entry c.self.inside.grid c.args.j c.args.i) (Some c.args.w) = rw (to_z-of_z w64 c.args.w c.ranges.w, c.get-way_back.ensures) at c.sum.ensures in
+    let old : IsMatrixOf (length c.self.inside.grid) arcs c.self.inside.grid = rw (size, sym c.self.view_is) at m in
+    closes (length c.self.inside.grid) (arc_of c.args.i c.args.j c.args.w) c.self.inside.grid lf lt (rw sum_is at c.if-is_positive.ensures) arcs old
+
+pub go_over-requires-clause-transitive : goal.go_over-requires-clause-transitive
+go_over-requires-clause-transitive c = transitive (length c.self.inside.grid) c.self.invariant.matrix.arcs c.self.inside.grid c.self.invariant.matrix.matrix
+
+pub invariant_of-self : goal.invariant_of-self
+invariant_of-self c =
+    let size : length c.args.self.now ≡ (length c.self.inside.grid) = ap length (sym c.self.view_is) in
+    let lf : c.args.i < (length c.self.inside.grid) = rw size at c.requires.from_activity in
+    let lt : c.args.j < (length c.self.inside.grid) = rw size at c.requires.to_activity in
+    let sum_is : c.sum.result ≡ joined (entry c.self.inside.grid c.args.j c.args.i) (Some c.args.w) = rw (to_z-of_z w64 c.args.w c.ranges.w, c.get-way_back.ensures) at c.sum.ensures in
+    let gains : GainsNothing (arc_of c.args.i c.args.j c.args.w) c.self.inside.grid = λ x h. c.if-is_positive.ensures x (sum_is ∙ h) in
+    let over : (a b : ℕ) → IsOver (arc_of c.args.i c.args.j c.args.w) c.self.inside.grid a b (entry c.go_over.new.grid a b) = rw (to_z-of_z w64 c.args.w c.ranges.w) at c.go_over.ensures.over in
+    let kept : length c.go_over.new.via ≡ c.self.inside.via.len = c.go_over.auto.via ∙ c.as_mut_slice.ensures.len in
+    let room : length c.go_over.new.via ≡ length c.go_over.new.grid = kept ∙ c.self.inside.via.ok.0 ∙ c.self.invariant.room ∙ sym c.go_over.ensures.square.rows_long in
+    let still = still_matrix (length c.self.inside.grid) (arc_of c.args.i c.args.j c.args.w) c.self.inside.grid c.go_over.new.grid refl c.self.invariant.matrix lf lt c.requires.limit gains c.go_over.ensures.square over in
+    record { matrix = still; room = room_kept c.self.inside.via c.go_over.new.via c.go_over.new.grid kept room }
+
+pub returns-clause-ok : goal.returns-clause-ok
+returns-clause-ok c = λ arcs m.
+    let size : length c.args.self.now ≡ (length c.self.inside.grid) = ap length (sym c.self.view_is) in
+    let lf : c.args.i < (length c.self.inside.grid) = rw size at c.requires.from_activity in
+    let lt : c.args.j < (length c.self.inside.grid) = rw size at c.requires.to_activity in
+    let sum_is : c.sum.result ≡ joined (entry c.self.inside.grid c.args.j c.args.i) (Some c.args.w) = rw (to_z-of_z w64 c.args.w c.ranges.w, c.get-way_back.ensures) at c.sum.ensures in
+    let gains : GainsNothing (arc_of c.args.i c.args.j c.args.w) c.self.inside.grid = λ x h. c.if-is_positive.ensures x (sum_is ∙ h) in
+    let over : (a b : ℕ) → IsOver (arc_of c.args.i c.args.j c.args.w) c.self.inside.grid a b (entry c.go_over.new.grid a b) = rw (to_z-of_z w64 c.args.w c.ranges.w) at c.go_over.ensures.over in
+    let old : IsMatrixOf (length c.self.inside.grid) arcs c.self.inside.grid = rw (size, sym c.self.view_is) at m in
+    rw size (adds (length c.self.inside.grid) (arc_of c.args.i c.args.j c.args.w) c.self.inside.grid c.go_over.new.grid lf lt gains c.go_over.ensures.square over arcs old)

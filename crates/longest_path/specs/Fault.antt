@@ -1,0 +1,12 @@
+-- When there is no matrix.
+use Rattle.std.specs.Prelude.{List}
+use Rattle.network.specs.declared.lag.Lag.{Lag}
+use Rattle.network.specs.Walk.{IsLeastCycleTop}
+use Rattle.longest_path.specs.declared.fault.PathFault.{PathFault}
+use Rattle.longest_path.specs.declared.fault.PathFault.TheVariants.{PositiveCycle, Memory}
+
+-- a positive cycle names the least activity such that a closed walk of positive weight visits only
+-- the activities up to it
+abbrev pub Explains : List Lag → PathFault → Type 0
+Explains arcs (PositiveCycle at) = IsLeastCycleTop arcs at
+Explains arcs Memory = Unit {0}

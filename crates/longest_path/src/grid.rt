@@ -1,0 +1,207 @@
+ghost use Rattle.std.specs.Prelude.{◌≡◌, ◌+◌, ◌*◌, ◌+ℤ◌, ◌<◌, ◌≤◌, ℕ, length, take, drop, None, Some, IfOk, IfSome};
+ghost use Rattle.network.specs.Walk.{entry, IsWithin};
+ghost use Rattle.longest_path.specs.Relax.{greater, joined};
+ghost use Rattle.longest_path.specs.Rows.{IsSquare, IsWithoutArcs, IsRaised};
+ghost use Rattle.longest_path.specs.Grid.{weight_of, weight_at, IsRelaxed, IsRow, IsRowRelaxed, HasSmallSums};
+
+use network::Lag;
+use std::alloc::{AllocError, Global};
+use std::marker::Model;
+
+/// The cell of an entry that isn't there.
+const NOTHING: i32 = i32::MIN;
+
+/// What a cell says.
+fn weight(cell: i32) -> Option<i64>
+    ensures { result ≡ weight_of cell }
+{
+    if NOTHING < cell { Some(cell as i64) } else { None }
+}
+
+/// The greater of two cells.
+fn better(x: i32, y: i32) -> i32
+    ensures { weight_of result ≡ greater (weight_of x) (weight_of y) }
+{
+    if x < y { y } else { x }
+}
+
+/// The cell of the way whose first part weighs `first`.
+fn sum(first: i32, last: i32) -> i32
+    requires { IfSome (weight_of last) (λ y. IsWithin 2010000000 (first +ℤ y)) }
+    ensures { weight_of result ≡ joined (Some first) (weight_of last) }
+{
+    if NOTHING < last { first + last } else { NOTHING }
+}
+
+/// Takes for each cell of a row the way that begins with a walk of weight `first` and goes on by
+/// `via`, where that is greater.
+///
+/// Two slices of one length, an index, and a store for every cell: in this form the loop is compiled
+/// to vector code.
+fn relax(row: &mut [i32], first: i32, via: &[i32])
+    requires wide { length row.old ≡ length via.now }
+    requires fits { HasSmallSums first via.now }
+    ensures wide { length row.new ≡ length row.old }
+    ensures through { (k : ℕ) → weight_at row.new k ≡ greater (weight_at row.old k) (joined (Some first) (weight_at via.now k)) }
+{
+    for b in 0..row.len() {
+        row[b] = better(row[b], sum(first, via[b]));
+    }
+}
+
+/// The place of a cell.
+fn place(size: usize, a: usize, b: usize) -> usize
+    requires few { size ≤ 1002 }
+    requires row { a < size }
+    requires column { b < size }
+    ensures value { result ≡ a * size + b }
+    ensures low { result < size * size }
+{
+    a * size + b
+}
+
+/// Where a row begins.
+fn row_start(size: usize, a: usize) -> usize
+    requires few { size ≤ 1002 }
+    requires row { a < size }
+    ensures value { result ≡ a * size }
+    ensures end { result + size ≤ size * size }
+    ensures small { size * size ≤ 1004004 }
+{
+    a * size
+}
+
+/// The cells of a row.
+fn row_cells(cells: &[i32], size: usize, a: usize) -> &[i32]
+    requires few { size ≤ 1002 }
+    requires row { a < size }
+    requires whole { length cells.now ≡ size * size }
+    ensures { result.now ≡ take size (drop (a * size) cells.now) }
+{
+    let start = row_start(size, a);
+    &cells[start..start + size]
+}
+
+/// Row `a` takes the way that begins with a walk of weight `first` and goes on by `via`.
+fn relax_part(cells: &mut [i32], size: usize, a: usize, first: i32, via: &[i32])
+    requires few { size ≤ 1002 }
+    requires row { a < size }
+    requires whole { length cells.old ≡ size * size }
+    requires wide { length via.now ≡ size }
+    requires fits { HasSmallSums first via.now }
+    ensures long { length cells.new ≡ length cells.old }
+    ensures relaxed { IsRowRelaxed size a first via.now cells.old cells.new }
+{
+    let start = row_start(size, a);
+    relax(&mut cells[start..start + size], first, via);
+}
+
+/// A square of weights, row after row in one list of cells. Four bytes a cell, since the weights of
+/// walks that visit no activity twice, and the sums of two, are within i32.
+#[derive(Drop, Debug)]
+pub(crate) struct Grid {
+    size: usize,
+    cells: Vec<i32>,
+}
+
+impl Model for Grid {
+    ghost use Rattle.longest_path.specs.Rows.{Rows};
+    ghost use Rattle.longest_path.specs.Grid.{rows_of, IsGrid};
+
+    ghost Value = { Rows };
+
+    ghost view = { λ s. rows_of s.size s.cells.items };
+
+    ghost invariant = { λ s. IsGrid s.size s.cells.items };
+}
+
+impl Grid {
+    /// No entry is there.
+    fn empty(alloc: Global, size: usize) -> Result<Grid, AllocError>
+        requires { size ≤ 1002 }
+        ensures square { IfOk result (λ grid. IsSquare size grid) }
+        ensures none { IfOk result (λ grid. (a b : ℕ) → entry grid a b ≡ None) }
+    {
+        let cells = vec![in alloc; NOTHING; size * size]?;
+        Ok(Grid { size, cells })
+    }
+
+    /// No arc: a walk of weight 0 from each vertex to itself, and no other.
+    pub(crate) fn without_arcs(alloc: Global, size: usize) -> Result<Grid, AllocError>
+        requires { size ≤ 1002 }
+        ensures { IfOk result (λ grid. IsWithoutArcs size grid) }
+    {
+        let mut grid = Grid::empty(alloc, size)?;
+        for a in 0..size {
+            grid.raise(Lag {
+                from: a,
+                to: a,
+                weight: 0,
+            });
+        }
+        Ok(grid)
+    }
+
+    /// How many rows there are.
+    pub(crate) fn size(&self) -> usize
+        ensures value { result ≡ length self.now }
+        ensures square { IsSquare (length self.now) self.now }
+        ensures few { length self.now ≤ 1002 }
+    {
+        self.size
+    }
+
+    /// The entry of row `a` and column `b`.
+    pub(crate) fn get(&self, a: usize, b: usize) -> Option<i64>
+        requires row { a < length self.now }
+        requires column { b < length self.now }
+        ensures { result ≡ entry self.now a b }
+    {
+        weight(self.cells[place(self.size, a, b)])
+    }
+
+    /// Takes an arc for the entry of its ends, where it is greater.
+    pub(crate) fn raise(&mut self, arc: Lag)
+        requires from_vertex { arc.from < length self.old }
+        requires to_vertex { arc.to < length self.old }
+        requires light { IsWithin 1000000 arc.weight }
+        ensures square { IsSquare (length self.old) self.new }
+        ensures raised { IsRaised arc self.old self.new }
+    {
+        let at = place(self.size, arc.from, arc.to);
+        self.cells[at] = better(self.cells[at], arc.weight as i32);
+    }
+
+    /// Copies a row.
+    pub(crate) fn copy_row(&self, a: usize, row: &mut [i32])
+        requires row { a < length self.now }
+        requires long { length row.old ≡ length self.now }
+        ensures { IsRow a self.now row.new }
+    {
+        row.copy_from_slice(row_cells(self.cells.as_slice(), self.size, a));
+    }
+
+    /// Row `a` takes the way that begins with a walk of weight `first` and goes on by `via`.
+    pub(crate) fn relax_row(&mut self, a: usize, first: i64, via: &[i32])
+        requires row { a < length self.old }
+        requires wide { length via.now ≡ length self.old }
+        requires small { IsWithin 1004000000 first }
+        requires fits { HasSmallSums first via.now }
+        ensures square { IsSquare (length self.old) self.new }
+        ensures relaxed { IsRelaxed a first via.now self.old self.new }
+    {
+        let size = self.size;
+        relax_part(self.cells.as_mut_slice(), size, a, first as i32, via);
+    }
+
+    /// A copy with cells of its own.
+    pub(crate) fn try_copy(&self, alloc: Global) -> Result<Grid, AllocError>
+        ensures { IfOk result (λ grid. grid ≡ self.now) }
+    {
+        let cells = Vec::from_slice(alloc, self.cells.as_slice())?;
+        Ok(Grid {
+            size: self.size,
+            cells,
+        })
+    }
+}

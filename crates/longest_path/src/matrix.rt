@@ -1,0 +1,89 @@
+ghost use Rattle.std.specs.Prelude.{◌≡◌, ◌<◌, ◌≤◌, length, IfSome, IfOk, IfErr, OnOk, OnErr};
+ghost use Rattle.network.specs.Walk.{entry, IsWithin};
+ghost use Rattle.longest_path.specs.Insert.{arc_of, AddsArc, ClosesCycle};
+
+use crate::fault::PathFault;
+use crate::grid::Grid;
+use crate::insert::{go_over, sum};
+use crate::recurrence::is_positive;
+use network::Lag;
+use std::alloc::{AllocError, Global};
+use std::marker::Model;
+
+/// The greatest weights of walks between activities, over arcs of which no closed walk has positive
+/// weight. Its value is the list of rows.
+#[derive(Drop, Debug)]
+pub struct Matrix {
+    pub(crate) grid: Grid,
+    /// Room for a row.
+    pub(crate) via: Vec<i32>,
+}
+
+impl Model for Matrix {
+    ghost use Rattle.longest_path.specs.Rows.{Rows};
+    ghost use Rattle.longest_path.specs.Matrix.{IsMatrixWithRoom};
+
+    ghost Value = { Rows };
+
+    ghost view = { λ s. s.grid };
+
+    ghost invariant = { λ s. IsMatrixWithRoom s.grid s.via.items };
+}
+
+impl Matrix {
+    /// How many activities there are.
+    pub fn activity_count(&self) -> usize
+        ensures value { result ≡ length self.now }
+        ensures limit { length self.now ≤ 1002 }
+    {
+        self.grid.size()
+    }
+
+    /// The greatest weight of a walk from activity `a` to activity `b` in periods, none where there
+    /// is no walk.
+    pub fn get(&self, a: usize, b: usize) -> Option<i64>
+        requires from_activity { a < length self.now }
+        requires to_activity { b < length self.now }
+        ensures value { result ≡ entry self.now a b }
+        ensures fits { IfSome result (λ w. IsWithin 1003000000 w) }
+    {
+        self.grid.get(a, b)
+    }
+
+    /// An equal matrix.
+    pub fn try_copy(&self, alloc: Global) -> Result<Self, AllocError>
+        ensures { IfOk result (λ matrix. matrix ≡ self.now) }
+    {
+        let grid = self.grid.try_copy(alloc)?;
+        let via = Vec::from_slice(alloc, self.via.as_slice())?;
+        Ok(Matrix { grid, via })
+    }
+
+    /// Adds the arc of weight `w` from activity `i` to activity `j`: an entry is then the greater of
+    /// what it was and the way over the arc. Takes no memory.
+    ///
+    /// [`PathFault::PositiveCycle`] comes where the arc closes a walk of positive weight, and names
+    /// `i`. It is the only fault, and leaves the matrix as it was.
+    pub fn insert(&mut self, i: usize, j: usize, w: i64) -> Result<(), PathFault>
+        requires from_activity { i < length self.old }
+        requires to_activity { j < length self.old }
+        requires limit { IsWithin 1000000 w }
+        ensures size { length self.new ≡ length self.old }
+        ensures ok { OnOk result (AddsArc (arc_of i j w) self.old self.new) }
+        ensures cycle { OnErr result (ClosesCycle (arc_of i j w) self.old) }
+        ensures fault { IfErr result (λ fault. fault ≡ PathFault.PositiveCycle i) }
+        ensures unchanged { OnErr result (self.new ≡ self.old) }
+    {
+        let arc = Lag {
+            from: i,
+            to: j,
+            weight: w,
+        };
+        let way_back = self.grid.get(j, i);
+        if is_positive(sum(way_back, Some(w))) {
+            return Err(PathFault::PositiveCycle { at: i });
+        }
+        go_over(&mut self.grid, self.via.as_mut_slice(), arc);
+        Ok(())
+    }
+}
