@@ -1,5 +1,5 @@
 -- The laws of rows that stand one after another in one list of cells.
-use Rattle.std.proofs.Common.{◌≡◌, ◌≢◌, refl, sym, ◌∙◌, ap, subst, ℕ, ◌+◌, ◌*◌, ◌-◌, ◌<◌, ◌≤◌, Option, None, Some, Bool, true, false, ◌⊎◌, inl, inr, arith, ℤ, pos, negsuc, ◌+ℤ◌, ◌≤ℤ◌, ◌<ℤ◌, List, [], ◌∷◌, ◌++◌, length, map, get_or, set, take, drop, length-set, get_or-set_same, get_or-set_other, suc, ◌/◌, replicate, length-append, length-drop}
+use Rattle.std.proofs.Common.{◌≡◌, ◌≢◌, refl, sym, ◌∙◌, ap, subst, ℕ, ◌+◌, ◌*◌, ◌-◌, ◌<◌, ◌≤◌, Option, None, Some, true, ◌⊎◌, inl, inr, arith, ℤ, pos, ◌+ℤ◌, ◌≤ℤ◌, ◌<ℤ◌, List, [], ◌++◌, length, get_or, set, take, drop, get_or-set_same, get_or-set_other, suc, ◌/◌, replicate, length-drop}
 use Rattle.std.proofs.Math.Nat.{mul-le-mul_right, suc-mul}
 use Rattle.std.proofs.lemmas.Nat.{div-mul-add}
 use Rattle.std.proofs.Math.ListN.{get_or-eq_default}
@@ -8,14 +8,13 @@ use borrow.Rule.Slice.PartMut.{put_mid}
 use Rattle.std.proofs.lemmas.List.Elements.{All-from_get_or}
 use Rattle.std.specs.Prelude.{int_lt, if◌then◌else◌, IfSome, FitsSigned}
 use Rattle.std.specs.Int.{w32}
-use Rattle.std.specs.List.{All, range_with_len}
 use Rattle.std.proofs.lemmas.Bool.{cases_eq, cases_lt}
 use Rattle.std.proofs.lemmas.Int.{ints}
 use Rattle.std.proofs.lemmas.List.FromFn.{get_or-map-range_with_len, length-map-range_with_len}
 use Rattle.network.specs.declared.lag.Lag.{Lag}
 use Rattle.network.specs.Walk.{entry, IsWithin}
 use Rattle.longest_path.specs.Relax.{greater, joined}
-use Rattle.longest_path.specs.Rows.{Rows, IsSquare, IsRaised, IsWithoutArcs}
+use Rattle.longest_path.specs.Rows.{Rows, IsSquare, IsRaised}
 use Rattle.longest_path.specs.Grid.{IsRelaxed, IsRow, IsRowRelaxed, HasSmallSums, nothing, weight_of, weight_at, row_of, rows_of}
 
 pub length-rows_of : (n : ℕ) (cells : List ℤ) → length (rows_of n cells) ≡ n
@@ -37,9 +36,6 @@ row_low n a la =
 pub place_row : (n a b c d : ℕ) → b < n → d < n → a * n + b ≡ c * n + d → a ≡ c
 place_row n a b c d lb ld e = sym (div-mul-add a n b lb) ∙ ap (λ k. k / n) e ∙ div-mul-add c n d ld
 
-pub row_apart : (n a b c d : ℕ) → b < n → d < n → a ≢ c → a * n + b ≢ c * n + d
-row_apart n a b c d lb ld ne = λ e. ne (place_row n a b c d lb ld e)
-
 pub place_apart : (n a b c d : ℕ) → b < n → d < n → ((a ≡ c) → (b ≡ d) → ⊥) → c * n + d ≢ a * n + b
 place_apart n a b c d lb ld ne = λ e.
     let p : a ≡ c = place_row n a b c d lb ld (sym e) in
@@ -48,12 +44,12 @@ place_apart n a b c d lb ld ne = λ e.
 
 pub IsSquare-rows_of : (n : ℕ) (cells : List ℤ) → IsSquare n (rows_of n cells)
 IsSquare-rows_of n cells = record {
-    rows_long = length-rows_of n cells;
-    columns_long = All-from_get_or (λ (r : List (Option ℤ)). length r ≡ n) (rows_of n cells) [] (λ i lt.
+  rows_long = length-rows_of n cells;
+  columns_long = All-from_get_or (λ (r : List (Option ℤ)). length r ≡ n) (rows_of n cells) [] (λ i lt.
       let low : i < n = rw (length-rows_of n cells) at lt in
       let at : get_or (rows_of n cells) i [] ≡ row_of n cells i = get_or-map-range_with_len (row_of n cells) 0 n i i [] low (omega arith) in
-      rw at (length-map-range_with_len (λ k. weight_at cells (i * n + k)) 0 n))
-  }
+      rw at (length-map-range_with_len (λ k. weight_at cells (i * n + k)) 0 n));
+}
 
 pub entry-rows_of : (n a b : ℕ) (cells : List ℤ) → a < n → b < n → entry (rows_of n cells) a b ≡ weight_at cells (a * n + b)
 entry-rows_of n a b cells la lb =
@@ -68,13 +64,13 @@ entry_far_row n a b cells far =
 
 pub entry_far_column : (n a b : ℕ) (cells : List ℤ) → n ≤ b → entry (rows_of n cells) a b ≡ None
 entry_far_column n a b cells far = elim (cases_lt a n) [
-    inl la ↦
+  | inl la ↦
       let at : get_or (rows_of n cells) a [] ≡ row_of n cells a = get_or-map-range_with_len (row_of n cells) 0 n a a [] la (omega arith) in
       let long : length (row_of n cells a) ≡ n = length-map-range_with_len (λ k. weight_at cells (a * n + k)) 0 n in
       let le : length (row_of n cells a) ≤ b = omega arith in
       ap (λ (r : List (Option ℤ)). get_or r b None) at ∙ get_or-eq_default (row_of n cells a) None le
   | inr ga ↦ entry_far_row n a b cells ga
-  ]
+]
 
 pub weight_at_far : (cells : List ℤ) (k : ℕ) → length cells ≤ k → weight_at cells k ≡ None
 weight_at_far cells k far = ap weight_of (get_or-eq_default cells nothing far)
@@ -82,29 +78,29 @@ weight_at_far cells k far = ap weight_of (get_or-eq_default cells nothing far)
 -- two lists of cells that agree at the places of an entry
 same_entry : (n a b : ℕ) (old new : List ℤ) → (a < n → b < n → get_or new (a * n + b) nothing ≡ get_or old (a * n + b) nothing) → entry (rows_of n new) a b ≡ entry (rows_of n old) a b
 same_entry n a b old new same = elim (cases_lt a n) [
-    inl la ↦ elim (cases_lt b n) [
-        inl lb ↦ entry-rows_of n a b new la lb ∙ ap weight_of (same la lb) ∙ sym (entry-rows_of n a b old la lb)
-      | inr gb ↦ entry_far_column n a b new gb ∙ sym (entry_far_column n a b old gb)
-      ]
-  | inr ga ↦ entry_far_row n a b new ga ∙ sym (entry_far_row n a b old ga)
+  | inl la ↦ elim (cases_lt b n) [
+    | inl lb ↦ entry-rows_of n a b new la lb ∙ ap weight_of (same la lb) ∙ sym (entry-rows_of n a b old la lb)
+    | inr gb ↦ entry_far_column n a b new gb ∙ sym (entry_far_column n a b old gb)
   ]
+  | inr ga ↦ entry_far_row n a b new ga ∙ sym (entry_far_row n a b old ga)
+]
 
 pub raised_cell : (n : ℕ) (e : Lag) (w : ℤ) (cells : List ℤ) → length cells ≡ n * n → e.from < n → e.to < n →
-  weight_of w ≡ greater (weight_at cells (e.from * n + e.to)) (Some e.weight) → IsRaised e (rows_of n cells) (rows_of n (set cells (e.from * n + e.to) w))
+    weight_of w ≡ greater (weight_at cells (e.from * n + e.to)) (Some e.weight) → IsRaised e (rows_of n cells) (rows_of n (set cells (e.from * n + e.to) w))
 raised_cell n e w cells whole lf lt new =
     let low : e.from * n + e.to < n * n = place_low n e.from e.to lf lt in
     let inside : e.from * n + e.to < length cells = omega arith in
     record {
       at = entry-rows_of n e.from e.to (set cells (e.from * n + e.to) w) lf lt
-        ∙ ap weight_of (get_or-set_same cells (e.from * n + e.to) w nothing inside) ∙ new
-        ∙ ap (λ (o : Option ℤ). greater o (Some e.weight)) (sym (entry-rows_of n e.from e.to cells lf lt));
+          ∙ ap weight_of (get_or-set_same cells (e.from * n + e.to) w nothing inside) ∙ new
+          ∙ ap (λ (o : Option ℤ). greater o (Some e.weight)) (sym (entry-rows_of n e.from e.to cells lf lt));
       others = λ a b ne. same_entry n a b cells (set cells (e.from * n + e.to) w)
-        (λ la lb. get_or-set_other cells (e.from * n + e.to) (a * n + b) w nothing (place_apart n e.from e.to a b lt lb ne))
+          (λ la lb. get_or-set_other cells (e.from * n + e.to) (a * n + b) w nothing (place_apart n e.from e.to a b lt lb ne));
     }
 
 outside_row : (n a x b : ℕ) → b < n → x ≢ a → (x * n + b < a * n) ⊎ (a * n + n ≤ x * n + b)
 outside_row n a x b lb ne = elim (cases_lt x a) [
-    inl less ↦
+  | inl less ↦
       let up : suc x * n ≤ a * n = mul-le-mul_right n less in
       let more : suc x * n ≡ x * n + n = suc-mul x n in
       inl (omega arith)
@@ -113,55 +109,52 @@ outside_row n a x b lb ne = elim (cases_lt x a) [
       let up : suc a * n ≤ x * n = mul-le-mul_right n less in
       let more : suc a * n ≡ a * n + n = suc-mul a n in
       inr (omega arith)
-  ]
+]
 
 pub relaxed_rows : (n a : ℕ) (first : ℤ) (via old new : List ℤ) → a < n → length via ≡ n → IsRowRelaxed n a first via old new → IsRelaxed a first via (rows_of n old) (rows_of n new)
 relaxed_rows n a first via old new la wide r = record {
-    at = λ b. elim (cases_lt b n) [
-        inl lb ↦ entry-rows_of n a b new la lb ∙ r.inside b lb ∙ ap (λ (o : Option ℤ). greater o (joined (Some first) (weight_at via b))) (sym (entry-rows_of n a b old la lb))
-      | inr gb ↦
-          let far : length via ≤ b = omega arith in
-          rw (entry_far_column n a b new gb, entry_far_column n a b old gb, weight_at_far via b far) refl
-      ];
-    others = λ x b ne. same_entry n x b old new (λ lx lb. elim (outside_row n a x b lb ne) [ inl p ↦ r.before (x * n + b) p | inr p ↦ r.after (x * n + b) p ])
-  }
+  at = λ b. elim (cases_lt b n) [
+    | inl lb ↦ entry-rows_of n a b new la lb ∙ r.inside b lb ∙ ap (λ (o : Option ℤ). greater o (joined (Some first) (weight_at via b))) (sym (entry-rows_of n a b old la lb))
+    | inr gb ↦
+        let far : length via ≤ b = omega arith in
+        rw (entry_far_column n a b new gb, entry_far_column n a b old gb, weight_at_far via b far) refl
+  ];
+  others = λ x b ne. same_entry n x b old new (λ lx lb. elim (outside_row n a x b lb ne) [ inl p ↦ r.before (x * n + b) p | inr p ↦ r.after (x * n + b) p ]);
+}
 
 -- a part of a list written anew
 pub spliced_row : (n a : ℕ) (first : ℤ) (via old row new : List ℤ) → a * n + n ≤ length old → length row ≡ n →
-  ((k : ℕ) → weight_at row k ≡ greater (weight_at (take n (drop (a * n) old)) k) (joined (Some first) (weight_at via k))) →
-  new ≡ take (a * n) old ++ (row ++ drop (a * n + n) old) → IsRowRelaxed n a first via old new
+    ((k : ℕ) → weight_at row k ≡ greater (weight_at (take n (drop (a * n) old)) k) (joined (Some first) (weight_at via k))) →
+    new ≡ take (a * n) old ++ (row ++ drop (a * n + n) old) → IsRowRelaxed n a first via old new
 spliced_row n a first via old row new low long through is = record {
-    inside = λ k lk.
+  inside = λ k lk.
       let read : get_or new (a * n + k) nothing ≡ get_or row k nothing =
-        ap (λ (l : List ℤ). get_or l (a * n + k) nothing) is
-        ∙ get_or-append_right (take (a * n) old) (row ++ drop (a * n + n) old) (a * n) (a * n + k) nothing front (omega arith)
-        ∙ ap (λ i. get_or (row ++ drop (a * n + n) old) i nothing) (gone k)
-        ∙ get_or_append_left row (drop (a * n + n) old) nothing k (omega arith) in
+      ap (λ (l : List ℤ). get_or l (a * n + k) nothing) is
+      ∙ get_or-append_right (take (a * n) old) (row ++ drop (a * n + n) old) (a * n) (a * n + k) nothing front (omega arith)
+      ∙ ap (λ i. get_or (row ++ drop (a * n + n) old) i nothing) (gone k)
+      ∙ get_or_append_left row (drop (a * n + n) old) nothing k (omega arith) in
       let was : get_or (take n (drop (a * n) old)) k nothing ≡ get_or old (a * n + k) nothing =
-        get_or-take n (drop (a * n) old) k nothing lk ∙ get_or-drop (a * n) old k nothing in
+      get_or-take n (drop (a * n) old) k nothing lk ∙ get_or-drop (a * n) old k nothing in
       ap weight_of read ∙ through k ∙ ap (λ (z : ℤ). greater (weight_of z) (joined (Some first) (weight_at via k))) was;
-    before = λ k lk.
+  before = λ k lk.
       let here : k < length (take (a * n) old) = omega (arith, front) in
       ap (λ (l : List ℤ). get_or l k nothing) is
       ∙ get_or_append_left (take (a * n) old) (row ++ drop (a * n + n) old) nothing k here
       ∙ get_or-take (a * n) old k nothing lk;
-    after = λ k lk.
+  after = λ k lk.
       let past : n ≤ k - a * n = omega arith in
       let back : a * n + n + (k - a * n - n) ≡ k = omega arith in
       ap (λ (l : List ℤ). get_or l k nothing) is
       ∙ get_or-append_right (take (a * n) old) (row ++ drop (a * n + n) old) (a * n) k nothing front (omega arith)
       ∙ get_or-append_right row (drop (a * n + n) old) n (k - a * n) nothing long past
-      ∙ get_or-drop (a * n + n) old (k - a * n - n) nothing ∙ ap (λ i. get_or old i nothing) back
-  }
+      ∙ get_or-drop (a * n + n) old (k - a * n - n) nothing ∙ ap (λ i. get_or old i nothing) back;
+}
   where
     front : length (take (a * n) old) ≡ a * n
     front = length-take-le (a * n) old (omega arith)
+
     gone : (k : ℕ) → a * n + k - a * n ≡ k
     gone k = omega arith
-
-pub length-spliced : (n a : ℕ) (old row new : List ℤ) → a * n + n ≤ length old → length row ≡ n → new ≡ take (a * n) old ++ (row ++ drop (a * n + n) old) → length new ≡ length old
-length-spliced n a old row new low long is =
-    ap length is ∙ simp (length-append, length-drop, length-take-le (a * n) old (omega arith)) (omega arith)
 
 pub copied_row : (n a : ℕ) (cells row : List ℤ) → length cells ≡ n * n → a < n → row ≡ take n (drop (a * n) cells) → IsRow a (rows_of n cells) row
 copied_row n a cells row whole la is =
@@ -171,9 +164,9 @@ copied_row n a cells row whole la is =
     record {
       long = wide ∙ sym (length-rows_of n cells);
       says = λ b. elim (cases_lt b n) [
-          inl lb ↦ ap (λ (l : List ℤ). weight_at l b) is ∙ ap weight_of (get_or-take n (drop (a * n) cells) b nothing lb ∙ get_or-drop (a * n) cells b nothing) ∙ sym (entry-rows_of n a b cells la lb)
+        | inl lb ↦ ap (λ (l : List ℤ). weight_at l b) is ∙ ap weight_of (get_or-take n (drop (a * n) cells) b nothing lb ∙ get_or-drop (a * n) cells b nothing) ∙ sym (entry-rows_of n a b cells la lb)
         | inr gb ↦ let far : length row ≤ b = omega arith in weight_at_far row b far ∙ sym (entry_far_column n a b cells gb)
-        ]
+      ];
     }
 
 pub size_of : (n : ℕ) (cells : List ℤ) (rows : Rows) → rows_of n cells ≡ rows → n ≡ length rows
@@ -207,31 +200,20 @@ pub record IsPartlyRelaxed (b : ℕ) (first : ℤ) (via old row : List ℤ) : Ty
   pub rest : (k : ℕ) → b ≤ k → weight_at row k ≡ weight_at old k
 
 pub partly_more : (b : ℕ) (first z : ℤ) (via old row : List ℤ) → IsPartlyRelaxed b first via old row → b < length row → b < length via →
-  weight_of z ≡ greater (weight_of (get_or row b (pos 0))) (joined (Some first) (weight_of (get_or via b (pos 0)))) → IsPartlyRelaxed (b + 1) first via old (set row b z)
+    weight_of z ≡ greater (weight_of (get_or row b (pos 0))) (joined (Some first) (weight_of (get_or via b (pos 0)))) → IsPartlyRelaxed (b + 1) first via old (set row b z)
 partly_more b first z via old row h low wide new = record {
-    done = λ k less. elim (cases_eq k b) [
-        inl e ↦ rw e (ap weight_of (get_or-set_same row b z nothing low) ∙ new
-          ∙ ap (λ (y : ℤ). greater (weight_of y) (joined (Some first) (weight_of (get_or via b (pos 0))))) (get_or_default row b (pos 0) nothing low)
-          ∙ ap (λ (y : ℤ). greater (weight_at row b) (joined (Some first) (weight_of y))) (get_or_default via b (pos 0) nothing wide)
-          ∙ ap (λ (o : Option ℤ). greater o (joined (Some first) (weight_at via b))) (h.rest b (omega arith)))
-      | inr ne ↦ ap weight_of (get_or-set_other row b k z nothing ne) ∙ h.done k (omega arith)
-      ];
-    rest = λ k more. let ne : k ≢ b = omega arith in ap weight_of (get_or-set_other row b k z nothing ne) ∙ h.rest k (omega arith)
-  }
-
-pub partly_all : (b : ℕ) (first : ℤ) (via old row : List ℤ) → IsPartlyRelaxed b first via old row → length old ≤ b → length row ≡ length old → length via ≡ length old →
-  (k : ℕ) → weight_at row k ≡ greater (weight_at old k) (joined (Some first) (weight_at via k))
-partly_all b first via old row h all same wide k = elim (cases_lt k b) [
-    inl lt ↦ h.done k lt
-  | inr ge ↦
-      let p : length old ≤ k = omega arith in
-      let q : length via ≤ k = omega arith in
-      let r : length row ≤ k = omega arith in
-      rw (weight_at_far row k r, weight_at_far old k p, weight_at_far via k q) refl
-  ]
+  done = λ k less. elim (cases_eq k b) [
+    | inl e ↦ rw e (ap weight_of (get_or-set_same row b z nothing low) ∙ new
+        ∙ ap (λ (y : ℤ). greater (weight_of y) (joined (Some first) (weight_of (get_or via b (pos 0))))) (get_or_default row b (pos 0) nothing low)
+        ∙ ap (λ (y : ℤ). greater (weight_at row b) (joined (Some first) (weight_of y))) (get_or_default via b (pos 0) nothing wide)
+        ∙ ap (λ (o : Option ℤ). greater o (joined (Some first) (weight_at via b))) (h.rest b (omega arith)))
+    | inr ne ↦ ap weight_of (get_or-set_other row b k z nothing ne) ∙ h.done k (omega arith)
+  ];
+  rest = λ k more. let ne : k ≢ b = omega arith in ap weight_of (get_or-set_other row b k z nothing ne) ∙ h.rest k (omega arith);
+}
 
 pub relaxed_part : (n a start count : ℕ) (first : ℤ) (via old row : List ℤ) → start ≡ a * n → count ≡ n → a * n + n ≤ length old → length row ≡ n →
-  ((k : ℕ) → weight_at row k ≡ greater (weight_at (take count (drop start old)) k) (joined (Some first) (weight_at via k))) → IsRowRelaxed n a first via old (put_mid start count old row)
+    ((k : ℕ) → weight_at row k ≡ greater (weight_at (take count (drop start old)) k) (joined (Some first) (weight_at via k))) → IsRowRelaxed n a first via old (put_mid start count old row)
 relaxed_part n a start count first via old row at all low long through =
     let same : (k : ℕ) → weight_at row k ≡ greater (weight_at (take n (drop (a * n) old)) k) (joined (Some first) (weight_at via k)) = rw (at, all) at through in
     let is : put_mid (a * n) n old row ≡ take (a * n) old ++ (row ++ drop (a * n + n) old) = ap (λ t. take (a * n) old ++ (row ++ t)) (drop-drop n (a * n) old) in
@@ -253,7 +235,7 @@ some_light w light =
     int_lt-yes x y lt = grind (arith, ints)
 
 pub raised_view : (n p : ℕ) (e : Lag) (w z : ℤ) (cells : List ℤ) (rows : Rows) → rows_of n cells ≡ rows → length cells ≡ n * n → e.from < n → e.to < n → p ≡ e.from * n + e.to → IsWithin 1000000 e.weight →
-  z ≡ get_or cells p z → weight_of w ≡ greater (weight_of z) (weight_of e.weight) → IsRaised e rows (rows_of n (set cells p w))
+    z ≡ get_or cells p z → weight_of w ≡ greater (weight_of z) (weight_of e.weight) → IsRaised e rows (rows_of n (set cells p w))
 raised_view n p e w z cells rows view whole lf lt at light read new =
     let low : e.from * n + e.to < n * n = place_low n e.from e.to lf lt in
     let inside : p < length cells = omega arith in
@@ -264,20 +246,20 @@ raised_view n p e w z cells rows view whole lf lt at light read new =
 
 pub nothing_there : (n count : ℕ) (cells : List ℤ) → cells ≡ replicate count nothing → (a b : ℕ) → entry (rows_of n cells) a b ≡ None
 nothing_there n count cells is a b = elim (cases_lt a n) [
-    inl la ↦ elim (cases_lt b n) [
-        inl lb ↦ entry-rows_of n a b cells la lb ∙ ap weight_of (each (a * n + b))
-      | inr gb ↦ entry_far_column n a b cells gb
-      ]
-  | inr ga ↦ entry_far_row n a b cells ga
+  | inl la ↦ elim (cases_lt b n) [
+    | inl lb ↦ entry-rows_of n a b cells la lb ∙ ap weight_of (each (a * n + b))
+    | inr gb ↦ entry_far_column n a b cells gb
   ]
+  | inr ga ↦ entry_far_row n a b cells ga
+]
   where
     each : (k : ℕ) → get_or cells k nothing ≡ nothing
     each k = elim (cases_lt k count) [
-        inl lt ↦ ap (λ (l : List ℤ). get_or l k nothing) is ∙ get_or-replicate count k nothing nothing lt
+      | inl lt ↦ ap (λ (l : List ℤ). get_or l k nothing) is ∙ get_or-replicate count k nothing nothing lt
       | inr ge ↦
           let long : length cells ≡ count = ap length is ∙ length-replicate count nothing in
           get_or-eq_default cells nothing (omega arith)
-      ]
+    ]
 
 -- the entries (k, k) below a are 0, and no other entry is there
 pub record IsPartlyWithoutArcs (n a : ℕ) (rows : Rows) : Type 0 where
@@ -285,20 +267,6 @@ pub record IsPartlyWithoutArcs (n a : ℕ) (rows : Rows) : Type 0 where
   pub done : (k : ℕ) → k < a → entry rows k k ≡ Some (pos 0)
   pub rest : (k : ℕ) → a ≤ k → entry rows k k ≡ None
   pub apart : (j k : ℕ) → j ≢ k → entry rows j k ≡ None
-
-pub without_more : (n a : ℕ) (old new : Rows) → IsPartlyWithoutArcs n a old → IsSquare n new → IsRaised (record { from = a; to = a; weight = pos 0 }) old new → IsPartlyWithoutArcs n (a + 1) new
-without_more n a old new h square r = record {
-    square = square;
-    done = λ k less. elim (cases_eq k a) [
-        inl e ↦ rw e (r.at ∙ ap (λ (o : Option ℤ). greater o (Some (pos 0))) (h.rest a (omega arith)))
-      | inr ne ↦ r.others k k (λ p q. ne (sym p)) ∙ h.done k (omega arith)
-      ];
-    rest = λ k more. let ne : k ≢ a = omega arith in r.others k k (λ p q. ne (sym p)) ∙ h.rest k (omega arith);
-    apart = λ j k ne. r.others j k (λ p q. ne (sym p ∙ q)) ∙ h.apart j k ne
-  }
-
-pub without_all : (n a : ℕ) (rows : Rows) → IsPartlyWithoutArcs n a rows → n ≤ a → IsWithoutArcs n rows
-without_all n a rows h all = record { square = h.square; stays = λ k lt. h.done k (omega arith); apart = h.apart }
 
 pub light_fits : (w : ℤ) → IsWithin 1000000 w → FitsSigned w32 w
 light_fits w light =

@@ -1,12 +1,12 @@
 -- A row that takes the way over one arc, entry by entry.
-use Rattle.std.proofs.Common.{◌≡◌, ◌≢◌, refl, sym, ◌∙◌, ap, subst, ℕ, ◌+◌, ◌<◌, ◌≤◌, Option, None, Some, ◌⊎◌, inl, inr, arith, ℤ, pos, ◌+ℤ◌, List, [], ◌∷◌, ◌++◌, length, get_or}
-use Rattle.std.proofs.lemmas.Bool.{cases_eq, cases_lt}
+use Rattle.std.proofs.Common.{◌≡◌, ◌≢◌, refl, sym, ◌∙◌, ap, ℕ, ◌+◌, ◌<◌, ◌≤◌, Option, None, Some, inl, inr, arith, ℤ, pos, ◌+ℤ◌, List, ◌++◌, length}
+use Rattle.std.proofs.lemmas.Bool.{cases_eq}
 use Rattle.network.specs.declared.lag.Lag.{Lag}
 use Rattle.network.specs.Walk.{entry, IsWithin, IsMatrixOf, weight}
 use Rattle.longest_path.specs.Relax.{greater, joined, Reaches}
-use Rattle.longest_path.specs.Rows.{Rows, IsSquare, IsRaised}
+use Rattle.longest_path.specs.Rows.{Rows, IsSquare}
 use Rattle.longest_path.specs.Grid.{IsRow, IsRelaxed, HasSmallSums, weight_at}
-use Rattle.longest_path.specs.Passes.{IsRowOver, IsThrough}
+use Rattle.longest_path.specs.Passes.{IsRowOver}
 use Rattle.longest_path.specs.Insert.{IsOver, IsTransitive}
 use Rattle.longest_path.specs.Matrix.{HasEntriesWithin}
 use Rattle.network.proofs.Walks.{IsWalk-append, weight-append}
@@ -18,15 +18,11 @@ use Rattle.std.specs.declared.alloc.Global.{Global}
 use Rattle.std.specs.Vec.{with_items}
 use Rattle.std.proofs.lemmas.List.{with_items_is}
 use Rattle.longest_path.proofs.Reach.{at_Reaches, Reaches-weaker, greater_same}
-use Rattle.longest_path.proofs.Span.{IsSquare-outside, IsSquare-inside}
+use Rattle.longest_path.proofs.Span.{IsSquare-inside}
 
 greater_none : (x : Option ℤ) → greater x None ≡ x
 greater_none None = refl
 greater_none (Some x) = refl
-
--- a row with no way there stays
-pub no_way : (a : ℕ) (via : List ℤ) (rows : Rows) → IsRowOver a None via rows rows
-no_way a via rows = record { at = λ b. sym (greater_none (entry rows a b)); others = λ x b ne. refl }
 
 kept_by : (w : ℤ) (o p : Option ℤ) → ((y : ℤ) → p ≡ Some y → Reaches (w +ℤ y) o) → o ≡ greater o (joined (Some w) p)
 kept_by w o None h = sym (greater_none o)
@@ -35,13 +31,13 @@ kept_by w (Some x) (Some y) h = let le : (w +ℤ y) ≤ℤ x = at_Reaches (w +�
 
 -- a row that the way's end gains nothing for stays
 pub no_gain : (a to : ℕ) (w : ℤ) (via : List ℤ) (rows : Rows) → Reaches w (entry rows a to) →
-  ((b : ℕ) (x y : ℤ) → entry rows a to ≡ Some x → weight_at via b ≡ Some y → Reaches (x +ℤ y) (entry rows a b)) → IsRowOver a (Some w) via rows rows
+    ((b : ℕ) (x y : ℤ) → entry rows a to ≡ Some x → weight_at via b ≡ Some y → Reaches (x +ℤ y) (entry rows a b)) → IsRowOver a (Some w) via rows rows
 no_gain a to w via rows r closed = record {
-    at = λ b. kept_by w (entry rows a b) (weight_at via b) (λ y e.
+  at = λ b. kept_by w (entry rows a b) (weight_at via b) (λ y e.
       let le : w ≤ℤ r.0 = r.2 in
       Reaches-weaker (w +ℤ y) (r.0 +ℤ y) (entry rows a b) (omega (arith, ints)) (closed b r.0 y r.1 e));
-    others = λ x b ne. refl
-  }
+  others = λ x b ne. refl;
+}
 
 pub row_over : (a : ℕ) (first : ℤ) (via : List ℤ) (old new : Rows) → IsRelaxed a first via old new → IsRowOver a (Some first) via old new
 row_over a first via old new r = record { at = r.at; others = r.others }
@@ -53,18 +49,18 @@ pub record IsHalfOver (n : ℕ) (e : Lag) (a : ℕ) (old rows : Rows) : Type 0 w
   pub rest : (x b : ℕ) → a ≤ x → entry rows x b ≡ entry old x b
 
 pub half_more : (n : ℕ) (e : Lag) (a : ℕ) (via : List ℤ) (old rows new : Rows) → IsHalfOver n e a old rows → IsRow e.to old via →
-  IsSquare n new → IsRowOver a (joined (entry rows a e.from) (Some e.weight)) via rows new → IsHalfOver n e (a + 1) old new
+    IsSquare n new → IsRowOver a (joined (entry rows a e.from) (Some e.weight)) via rows new → IsHalfOver n e (a + 1) old new
 half_more n e a via old rows new h is square r = record {
-    square = square;
-    done = λ x b less. elim (cases_eq x a) [
-        inl p ↦ let le : a ≤ a = omega arith in
-          let whole : entry new a b ≡ greater (entry old a b) (joined (joined (entry old a e.from) (Some e.weight)) (entry old e.to b)) =
-            rw (h.rest a e.from le, h.rest a b le, is.says b) at (r.at b) in
-          rw p whole
-      | inr ne ↦ let lt : x < a = omega arith in r.others x b ne ∙ h.done x b lt
-      ];
-    rest = λ x b more. let ne : x ≢ a = omega arith in let le : a ≤ x = omega arith in r.others x b ne ∙ h.rest x b le
-  }
+  square = square;
+  done = λ x b less. elim (cases_eq x a) [
+    | inl p ↦ let le : a ≤ a = omega arith in
+        let whole : entry new a b ≡ greater (entry old a b) (joined (joined (entry old a e.from) (Some e.weight)) (entry old e.to b)) =
+        rw (h.rest a e.from le, h.rest a b le, is.says b) at (r.at b) in
+        rw p whole
+    | inr ne ↦ let lt : x < a = omega arith in r.others x b ne ∙ h.done x b lt
+  ];
+  rest = λ x b more. let ne : x ≢ a = omega arith in let le : a ≤ x = omega arith in r.others x b ne ∙ h.rest x b le;
+}
 
 -- the rows below a went through m, and the others are as they were
 pub record IsHalfThrough (n m a : ℕ) (old rows : Rows) : Type 0 where
@@ -74,15 +70,15 @@ pub record IsHalfThrough (n m a : ℕ) (old rows : Rows) : Type 0 where
 
 pub through_more : (n m a : ℕ) (via : List ℤ) (old rows new : Rows) → IsHalfThrough n m a old rows → IsRow m old via → IsSquare n new → IsRowOver a (entry rows a m) via rows new → IsHalfThrough n m (a + 1) old new
 through_more n m a via old rows new h is square r = record {
-    square = square;
-    done = λ x b less. elim (cases_eq x a) [
-        inl p ↦ let le : a ≤ a = omega arith in
-          let whole : entry new a b ≡ greater (entry old a b) (joined (entry old a m) (entry old m b)) = rw (h.rest a m le, h.rest a b le, is.says b) at (r.at b) in
-          rw p whole
-      | inr ne ↦ let lt : x < a = omega arith in r.others x b ne ∙ h.done x b lt
-      ];
-    rest = λ x b more. let ne : x ≢ a = omega arith in let le : a ≤ x = omega arith in r.others x b ne ∙ h.rest x b le
-  }
+  square = square;
+  done = λ x b less. elim (cases_eq x a) [
+    | inl p ↦ let le : a ≤ a = omega arith in
+        let whole : entry new a b ≡ greater (entry old a b) (joined (entry old a m) (entry old m b)) = rw (h.rest a m le, h.rest a b le, is.says b) at (r.at b) in
+        rw p whole
+    | inr ne ↦ let lt : x < a = omega arith in r.others x b ne ∙ h.done x b lt
+  ];
+  rest = λ x b more. let ne : x ≢ a = omega arith in let le : a ≤ x = omega arith in r.others x b ne ∙ h.rest x b le;
+}
 
 entry_below : (n a b : ℕ) (rows : Rows) → IsSquare n rows → n ≤ a → entry rows a b ≡ None
 entry_below n a b rows s ge = none_by (entry rows a b) refl
@@ -91,32 +87,9 @@ entry_below n a b rows s ge = none_by (entry rows a b) refl
     none_by None e = e
     none_by (Some w) e = let lt : a < n = (IsSquare-inside n a b w rows s e).0 in absurd (omega arith)
 
-pub half_all : (n : ℕ) (e : Lag) (old rows : Rows) → IsSquare n old → IsHalfOver n e n old rows → (a b : ℕ) → IsOver e old a b (entry rows a b)
-half_all n e old rows s h a b = elim (cases_lt a n) [
-    inl lt ↦ h.done a b lt
-  | inr ge ↦ rw (h.rest a b ge, entry_below n a b old s ge, entry_below n a e.from old s ge) refl
-  ]
-
-pub first_sum_fits : (w : ℤ) (o : Option ℤ) → IsWithin 1000000 w → ((x : ℤ) → o ≡ Some x → IsWithin 1003000000 x) → IfSome o (λ x. IfSome (Some w) (λ y. FitsSigned w64 (x +ℤ y)))
-first_sum_fits w None light h = tt
-first_sum_fits w (Some x) light h =
-    let k : IsWithin 1003000000 x = h x refl in
-    let a : x ≤ℤ pos 1003000000 = k.above in
-    let b : pos 0 ≤ℤ (x +ℤ pos 1003000000) = k.below in
-    let c : w ≤ℤ pos 1000000 = light.above in
-    let d : pos 0 ≤ℤ (w +ℤ pos 1000000) = light.below in
-    omega (arith, ints)
-
-
-pub through_all : (n m : ℕ) (old rows : Rows) → IsSquare n old → IsHalfThrough n m n old rows → IsThrough m old rows
-through_all n m old rows s h a b = elim (cases_lt a n) [
-    inl lt ↦ h.done a b lt
-  | inr ge ↦ rw (h.rest a b ge, entry_below n a b old s ge, entry_below n a m old s ge) refl
-  ]
-
 -- sums of entries are small
 pub small_through : (m a : ℕ) (first : ℤ) (via : List ℤ) (old : Rows) → IsRow m old via → entry old a m ≡ Some first →
-  ((a b : ℕ) (x y : ℤ) → entry old a m ≡ Some x → entry old m b ≡ Some y → IsWithin 2010000000 (x +ℤ y)) → HasSmallSums first via
+    ((a b : ℕ) (x y : ℤ) → entry old a m ≡ Some x → entry old m b ≡ Some y → IsWithin 2010000000 (x +ℤ y)) → HasSmallSums first via
 small_through m a first via old is at h = λ k y e. h a k first y at (sym (is.says k) ∙ e)
 
 pub small_over : (to : ℕ) (x w : ℤ) (via : List ℤ) (old : Rows) → IsRow to old via → IsWithin 1003000000 x → IsWithin 1000000 w → HasEntriesWithin 1003000000 old → HasSmallSums (x +ℤ w) via

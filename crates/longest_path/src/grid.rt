@@ -15,7 +15,11 @@ const NOTHING: i32 = i32::MIN;
 fn weight(cell: i32) -> Option<i64>
     ensures { result ≡ weight_of cell }
 {
-    if NOTHING < cell { Some(cell as i64) } else { None }
+    if NOTHING < cell {
+        Some(cell as i64)
+    } else {
+        None
+    }
 }
 
 /// The greater of two cells.
@@ -30,7 +34,11 @@ fn sum(first: i32, last: i32) -> i32
     requires { IfSome (weight_of last) (λ y. IsWithin 2010000000 (first +ℤ y)) }
     ensures { weight_of result ≡ joined (Some first) (weight_of last) }
 {
-    if NOTHING < last { first + last } else { NOTHING }
+    if NOTHING < last {
+        first + last
+    } else {
+        NOTHING
+    }
 }
 
 /// Takes for each cell of a row the way that begins with a walk of weight `first` and goes on by

@@ -13,3 +13,6 @@ mod recurrence;
 pub use fault::PathFault;
 pub use matrix::Matrix;
 pub use recurrence::longest;
+
+#[cfg(test)]
+mod tests;

@@ -1,12 +1,9 @@
-use Rattle.std.proofs.Common.{rules, ◌≡◌, ◌+◌, ◌*◌, ◌+ℤ◌, ◌<◌, ◌≤◌, ◌≤ℤ◌, ◌-◌, ℕ, ℤ, pos, length, None, Some, Option, List, [], ◌∷◌, ◌++◌, sym, ◌∙◌, ap, arith, w64, get_or, set, take, drop, to_z, of_z, refl}
+use Rattle.std.proofs.Common.{rules, ◌≡◌, ◌+ℤ◌, Some, sym, ◌∙◌, w64}
 use Rattle.std.proofs.lemmas.Int.{to_z-of_z}
 use mir.Val.{SFits}
-use Rattle.network.specs.Walk.{entry, IsWithin, IsMatrixOf, AreInside}
-use Rattle.longest_path.specs.Relax.{joined, Reaches}
-use Rattle.longest_path.specs.Rows.{Rows, IsSquare}
-use Rattle.longest_path.specs.Grid.{IsRelaxed, HasSmallSums}
-use Rattle.longest_path.specs.Passes.{IsRowOver}
-use Rattle.longest_path.specs.Insert.{IsOver}
+use Rattle.network.specs.Walk.{entry, IsWithin}
+use Rattle.longest_path.specs.Relax.{Reaches}
+use Rattle.longest_path.specs.Grid.{IsRelaxed}
 use Rattle.longest_path.proofs.Over.{no_gain, row_over, one_sum_fits, sum_within}
 use Rattle.longest_path.proofs.insert.go_over_row.Goals as goal
 

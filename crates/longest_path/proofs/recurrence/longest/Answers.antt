@@ -1,6 +1,4 @@
-use Rattle.std.proofs.Common.{◌≡◌, length, sym, ◌∙◌, ap, ◌≤◌, ◌<◌, ℕ}
-use Rattle.network.specs.Problem.{activity_count, arcs_of}
-use Rattle.network.specs.Walk.{AreInside, AreLight, IsMatrixOf}
+use Rattle.std.proofs.Common.{◌≡◌, length, sym, ◌∙◌}
 use Rattle.network.proofs.ArcLaws.{AreInside-arcs_of, AreLight-arcs_of}
 use Rattle.longest_path.proofs.Over.{room_kept}
 use Rattle.longest_path.proofs.Weights.{known_matrix}
@@ -20,8 +18,8 @@ invariant_of-result c =
     let room : length c.greatest_weights.new.via ≡ length c.in_ok-grid.grid = kept ∙ c.in_ok-via.ensures.len ∙ sym c.in_ok-grid.ensures.matrix.square.0 in
     record {
       matrix = known_matrix c.activity_count-size.result c.as_slice.result.now c.in_ok-grid.grid
-      (rw (c.as_slice.ensures.value, c.in_ok-arcs.ensures.value) (AreLight-arcs_of c.args.project.now c.args.pairs.now c.activity_count-size.ensures.limits c.requires))
-      (rw c.activity_count-size.ensures.value c.activity_count-size.ensures.limits.activity_limit)
-      c.in_ok-grid.ensures.matrix c.in_ok-grid.ensures.fits;
-      room = room_kept c.in_ok-via.via c.greatest_weights.new.via c.in_ok-grid.grid kept room
+          (rw (c.as_slice.ensures.value, c.in_ok-arcs.ensures.value) (AreLight-arcs_of c.args.project.now c.args.pairs.now c.activity_count-size.ensures.limits c.requires))
+          (rw c.activity_count-size.ensures.value c.activity_count-size.ensures.limits.activity_limit)
+          c.in_ok-grid.ensures.matrix c.in_ok-grid.ensures.fits;
+      room = room_kept c.in_ok-via.via c.greatest_weights.new.via c.in_ok-grid.grid kept room;
     }

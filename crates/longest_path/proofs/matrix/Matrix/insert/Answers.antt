@@ -1,9 +1,8 @@
-use Rattle.std.proofs.Common.{refl, ◌≡◌, ◌≤◌, ◌<◌, length, arith, sym, ◌∙◌, ap, w64, ℤ, ℕ, Option, Some, None, List}
+use Rattle.std.proofs.Common.{refl, ◌≡◌, ◌<◌, length, sym, ◌∙◌, ap, w64, ℕ, Some}
 use Rattle.std.proofs.lemmas.Int.{to_z-of_z}
-use Rattle.network.specs.Walk.{entry, IsMatrixOf, AreInside}
+use Rattle.network.specs.Walk.{entry, IsMatrixOf}
 use Rattle.longest_path.specs.Relax.{joined}
 use Rattle.longest_path.specs.Insert.{arc_of, IsOver}
-use Rattle.longest_path.specs.Rows.{Rows, IsSquare}
 use Rattle.longest_path.proofs.Over.{transitive, room_kept}
 use Rattle.longest_path.proofs.Inserted.{GainsNothing, adds, still_matrix, closes}
 use Rattle.longest_path.proofs.matrix.Matrix.insert.Goals as goal
