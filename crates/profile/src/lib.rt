@@ -5,7 +5,9 @@
 //! times alone are looked at.
 #![tactic(auto)]
 
+mod moment;
 mod overload;
+mod tally;
 mod usage;
 
 pub use overload::{Excess, Overload};
