@@ -8,6 +8,7 @@
 mod moment;
 mod overload;
 mod tally;
+mod times;
 mod usage;
 
 pub use overload::{Excess, Overload};
