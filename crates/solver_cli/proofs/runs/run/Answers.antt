@@ -1,0 +1,12 @@
+use Rattle.std.proofs.Common.{◌≡◌, ◌≢◌, ◌∙◌, sym, ap, rules}
+use Rattle.std.specs.Prelude.{string_bytes}
+use Rattle.solver_cli.specs.Devices.{HoldsFront}
+use Rattle.solver_cli.proofs.runs.run.Goals as goal
+
+pub returns-in-Ok-clause-cut_short : goal.returns-in-Ok-clause-cut_short
+returns-in-Ok-clause-cut_short g c = λ _ text more told told_more. record {
+  exit = c.in-Ok.answer.exit;
+  written = string_bytes c.in-Ok.answer.text;
+  answer = c.in-Ok.ensures.said text more told told_more;
+  front = rw c.as_bytes.ensures.value at c.in-Err-write_all.ensures.front;
+}

@@ -1,0 +1,36 @@
+-- The faults of the program, and how it ends with each.
+use Rattle.std.specs.Prelude.{ℕ}
+use Rattle.sch_reader.specs.declared.fault.SchFault.{SchFault}
+use Rattle.sch_reader.specs.declared.fault.SchFault.TheVariants as texts
+use Rattle.solver_cli.specs.declared.fault.Fault.{Fault}
+use Rattle.solver_cli.specs.declared.fault.Fault.TheVariants as faults
+
+-- the fault of a project text
+abbrev pub fault_of : SchFault → Fault
+fault_of texts.TooLong = faults.TooLong
+fault_of (texts.Token index) = faults.Token index
+fault_of (texts.Short index) = faults.Short index
+fault_of (texts.Trailing index) = faults.Trailing index
+fault_of texts.NotRenewable = faults.NotRenewable
+fault_of (texts.Modes row) = faults.Modes row
+fault_of (texts.RowNumber row found) = faults.RowNumber row found
+fault_of (texts.Activity row found) = faults.Activity row found
+fault_of (texts.Range index) = faults.Range index
+fault_of (texts.Dummy row) = faults.Dummy row
+fault_of texts.Memory = faults.Memory
+
+-- the exit status: 1 for memory and devices, 2 for a text that isn't what it should be
+abbrev pub exit_of : Fault → ℕ
+exit_of faults.Memory = 1
+exit_of faults.ReadFailed = 1
+exit_of faults.WriteFailed = 1
+exit_of faults.TooLong = 2
+exit_of (faults.Token index) = 2
+exit_of (faults.Short index) = 2
+exit_of (faults.Trailing index) = 2
+exit_of faults.NotRenewable = 2
+exit_of (faults.Modes row) = 2
+exit_of (faults.RowNumber row found) = 2
+exit_of (faults.Activity row found) = 2
+exit_of (faults.Range index) = 2
+exit_of (faults.Dummy row) = 2

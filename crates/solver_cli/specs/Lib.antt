@@ -1,0 +1,5 @@
+pub mod Devices
+pub mod Answers
+pub mod Faults
+pub mod Calls
+pub mod Outcome

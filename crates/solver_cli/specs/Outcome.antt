@@ -1,0 +1,56 @@
+-- What a run writes for the texts that it reads, and how it ends.
+use Rattle.std.specs.Prelude.{◌≡◌, ◌≢◌, ℕ, List, Option, Some}
+use Rattle.network.specs.Problem.{Problem}
+use Rattle.network.specs.Limits.{IsProject}
+use Rattle.sch_reader.specs.declared.fault.SchFault.{SchFault}
+use Rattle.sch_reader.specs.Text.{Spells, IsFirstFault}
+use Rattle.solver_cli.specs.declared.call.Job.{Job}
+use Rattle.solver_cli.specs.declared.call.Job.TheVariants as jobs
+use Rattle.solver_cli.specs.declared.fault.Fault.{Fault}
+use Rattle.solver_cli.specs.Answers.{IsEarliestText}
+use Rattle.solver_cli.specs.Devices.{Holds, HoldsFront}
+use Rattle.solver_cli.specs.Faults.{fault_of}
+
+-- the text spells a project, which has this property
+pub record SpellsOne (text : List ℕ) (P : Problem → Type 0) : Type 0 where
+  pub project : Problem
+  pub is_project : IsProject project
+  pub spells : Spells text project
+  pub has : P project
+
+-- the text spells no project, and this is its first fault
+pub record HasFault (text : List ℕ) (fault : Fault) : Type 0 where
+  pub none : (p : Problem) → IsProject p → ¬ Spells text p
+  pub cause : SchFault
+  pub first : IsFirstFault text cause
+  pub told : fault ≡ fault_of cause
+
+-- what `earliest` writes for a text, and the exit status
+pub record IsEarliestAnswer (text : List ℕ) (exit : ℕ) (written : List ℕ) : Type 0 where
+  pub answers : SpellsOne text (λ p. IsEarliestText p written)
+  pub status : exit ≡ 0
+
+-- what a job writes for its two texts, and the exit status
+abbrev pub IsAnswer : Job → List ℕ → List ℕ → ℕ → List ℕ → Type 0
+IsAnswer jobs.Earliest text second exit written = IsEarliestAnswer text exit written
+
+-- why a job has no answer to its two texts
+abbrev pub IsRefusal : Job → List ℕ → List ℕ → Fault → Type 0
+IsRefusal jobs.Earliest text second fault = HasFault text fault
+
+-- a job's answer to its two texts was written whole
+pub record IsAnswered (job : Job) (text second : List ℕ) (exit : ℕ) (before after : Option (List ℕ)) : Type 0 where
+  pub written : List ℕ
+  pub answer : IsAnswer job text second exit written
+  pub held : Holds before after written
+
+-- a beginning of it was written
+pub record IsCutShort (job : Job) (text second : List ℕ) (before after : Option (List ℕ)) : Type 0 where
+  pub exit : ℕ
+  pub written : List ℕ
+  pub answer : IsAnswer job text second exit written
+  pub front : HoldsFront before after written
+
+-- what two inputs tell has this property
+abbrev pub Told : Option (List ℕ) → Option (List ℕ) → (List ℕ → List ℕ → Type 0) → Type 0
+Told left second P = (text more : List ℕ) → left ≡ Some text → second ≡ Some more → P text more

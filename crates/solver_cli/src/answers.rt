@@ -1,0 +1,56 @@
+ghost use Rattle.std.specs.Prelude.{◌≡◌, ◌++◌, ◌∷◌, [], ◌<◌, length, OnOk, IfOk, string_bytes, codes};
+ghost use Rattle.std.specs.Fmt.{decimal};
+ghost use Rattle.network.specs.Limits.{IsProject};
+ghost use Rattle.network.specs.Schedule.{makespan};
+ghost use Rattle.solver_cli.specs.Answers.{starts_text, start_lines, IsEarliestText};
+
+use earliest::least_starts;
+use longest_path::{PathFault, longest};
+use network::Project;
+use std::alloc::{AllocError, Global};
+
+fn put_start(out: &mut String, activity: usize, start: i64) -> Result<(), AllocError>
+    ensures { OnOk result (string_bytes out.new ≡ string_bytes out.old ++ start_lines activity (start ∷ [])) }
+{
+    writeln!(out, "{activity} {start}")
+}
+
+/// A word with a makespan, and a line for each activity: its number and its start.
+fn starts_text(
+    alloc: Global,
+    word: &str,
+    makespan: i64,
+    starts: &[i64],
+) -> Result<String, AllocError>
+    ensures { IfOk result (λ t. string_bytes t ≡ starts_text word.now makespan starts.now) }
+{
+    let mut out = String::new(alloc);
+    writeln!(out, "{word} {makespan}")?;
+    for (activity, start) in starts.iter().enumerate() {
+        put_start(&mut out, activity, *start)?;
+    }
+    Ok(out)
+}
+
+fn cycle_text(alloc: Global, top: usize) -> Result<String, AllocError>
+    ensures { IfOk result (λ t. string_bytes t ≡ codes "positive cycle " ++ (decimal top ++ codes "\n")) }
+{
+    let mut out = String::new(alloc);
+    writeln!(out, "positive cycle {top}")?;
+    Ok(out)
+}
+
+/// The least schedule of a project, or the least activity that tops a positive cycle.
+pub(crate) fn earliest_text(alloc: Global, project: &Project) -> Result<String, AllocError>
+    ensures { IfOk result (λ t. IsEarliestText project.now (string_bytes t)) }
+{
+    let matrix = match longest(alloc, project, &[]) {
+        Ok(matrix) => matrix,
+        Err(PathFault::PositiveCycle { at }) => return cycle_text(alloc, at),
+        Err(PathFault::Memory) => return Err(AllocError),
+    };
+    let starts = least_starts(alloc, &matrix)?;
+    let end = project.activity_count() - 1;
+    let text = starts_text(alloc, "earliest", starts[end], &starts)?;
+    Ok(text)
+}

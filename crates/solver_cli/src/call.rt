@@ -1,0 +1,100 @@
+ghost use Rattle.std.specs.Prelude.{◌≡◌, IfOk, IfSome};
+ghost use Rattle.solver_cli.specs.Calls.{IsCall};
+
+use clap::error::ErrorKind;
+use clap::{ArgMatches, Command};
+use std::alloc::{AllocError, Global};
+use thiserror::Error;
+
+/// What the program is to do.
+#[derive(Clone, Copy, Debug, PartialEq, Eq)]
+pub enum Job {
+    /// Print the least schedule of the time lags of a project, or the positive cycle.
+    Earliest,
+}
+
+/// A job, and the names of the files that it uses.
+#[derive(Debug, Drop)]
+pub struct Call {
+    pub job: Job,
+    pub second: Option<String>,
+    pub record_file: Option<String>,
+}
+
+/// Why words are no call. The texts are those of `clap`, and are printed as they are.
+#[derive(Debug, Drop, Error)]
+pub enum WordsFault {
+    /// The help that was asked for: to standard output, exit status 0.
+    #[error("{text}")]
+    Help { text: String },
+    /// Words that the program doesn't know: to standard error, exit status 2.
+    #[error("{text}")]
+    Bad { text: String },
+    #[error("out of memory")]
+    Memory,
+}
+
+impl From<AllocError> for WordsFault {
+    fn from(_error: AllocError) -> WordsFault {
+        WordsFault::Memory
+    }
+}
+
+/// The fault of an error of `clap`.
+fn words_fault(alloc: Global, error: &clap::Error) -> WordsFault {
+    if error.kind() == ErrorKind::OutOfMemory {
+        return WordsFault::Memory;
+    }
+    let Ok(text) = error.to_string(alloc) else {
+        return WordsFault::Memory;
+    };
+    if error.exit_code() == 0 {
+        WordsFault::Help { text }
+    } else {
+        WordsFault::Bad { text }
+    }
+}
+
+fn earliest_command<'a>(alloc: Global) -> Command<'a> {
+    Command::new(alloc, "earliest").about(
+        "Print the least schedule of the time lags of a project on standard input",
+    )
+}
+
+fn command<'a>(alloc: Global) -> Result<Command<'a>, AllocError> {
+    Command::new(alloc, "psmax")
+        .about("Solve projects with resources and time lags, with every answer proved")
+        .subcommand_required(true)
+        .subcommand(earliest_command(alloc))
+}
+
+/// The call that the matches make; none where `clap` lets words pass that make none, which it
+/// doesn't.
+fn found_call(matches: &ArgMatches<'_>) -> Option<Call>
+    ensures { IfSome result IsCall }
+{
+    match matches.subcommand() {
+        Some(("earliest", _)) => Some(Call {
+            job: Job::Earliest,
+            second: None,
+            record_file: None,
+        }),
+        _ => None,
+    }
+}
+
+/// The call that words make; the first word is the program's name.
+pub fn call_of(alloc: Global, words: &[String]) -> Result<Call, WordsFault>
+    ensures { IfOk result IsCall }
+{
+    let matches = match command(alloc)?.try_get_matches_from(words) {
+        Ok(matches) => matches,
+        Err(error) => return Err(words_fault(alloc, &error)),
+    };
+    match found_call(&matches) {
+        Some(call) => Ok(call),
+        None => Err(WordsFault::Bad {
+            text: String::new(alloc),
+        }),
+    }
+}

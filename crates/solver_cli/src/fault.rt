@@ -1,0 +1,86 @@
+ghost use Rattle.std.specs.Prelude.{◌≡◌};
+
+use sch_reader::SchFault;
+use std::alloc::AllocError;
+use thiserror::Error;
+
+/// Why a run has no answer, with the text that is printed after `psmax: `. Words and rows are counted
+/// from 0.
+#[derive(Clone, Copy, Debug, PartialEq, Eq, Error)]
+pub enum Fault {
+    #[error("out of memory")]
+    Memory,
+    #[error("cannot read")]
+    ReadFailed,
+    #[error("cannot write")]
+    WriteFailed,
+    #[error("too long")]
+    TooLong,
+    #[error("word {index}: not a number")]
+    Token { index: usize },
+    #[error("ends before word {index}")]
+    Short { index: usize },
+    #[error("word {index}: one too many")]
+    Trailing { index: usize },
+    #[error("resources other than renewable")]
+    NotRenewable,
+    #[error("row {row}: more than one mode")]
+    Modes { row: usize },
+    #[error("row {row}: numbered {found}")]
+    RowNumber { row: usize, found: i64 },
+    #[error("row {row}: no activity {found}")]
+    Activity { row: usize, found: i64 },
+    #[error("word {index}: out of range")]
+    Range { index: usize },
+    #[error("row {row}: a dummy with duration or demand")]
+    Dummy { row: usize },
+}
+
+impl Fault {
+    ghost use Rattle.std.specs.Prelude.{◌≡◌};
+    ghost use Rattle.solver_cli.specs.Faults.{exit_of};
+
+    /// The exit status: 1 for memory and devices, 2 for a text that isn't what it should be.
+    pub fn exit(self) -> u8
+        ensures { result ≡ exit_of self }
+    {
+        match self {
+            Fault::Memory | Fault::ReadFailed | Fault::WriteFailed => 1,
+            _ => 2,
+        }
+    }
+}
+
+impl From<AllocError> for Fault {
+    ghost use Rattle.std.specs.Prelude.{◌≡◌};
+    ghost use Rattle.solver_cli.specs.declared.fault.Fault.TheVariants as faults;
+
+    ghost from_gives = { λ _ fault. fault ≡ faults.Memory };
+
+    fn from(_error: AllocError) -> Fault {
+        Fault::Memory
+    }
+}
+
+impl From<SchFault> for Fault {
+    ghost use Rattle.std.specs.Prelude.{◌≡◌};
+    ghost use Rattle.solver_cli.specs.Faults.{fault_of};
+
+    ghost from_gives = { λ cause fault. fault ≡ fault_of cause };
+
+    fn from(cause: SchFault) -> Fault {
+        match cause {
+            SchFault::TooLong => Fault::TooLong,
+            SchFault::Token { index } => Fault::Token { index },
+            SchFault::Short { index } => Fault::Short { index },
+            SchFault::Trailing { index } => Fault::Trailing { index },
+            SchFault::NotRenewable => Fault::NotRenewable,
+            SchFault::Modes { row } => Fault::Modes { row },
+            SchFault::RowNumber { row, found } => Fault::RowNumber { row, found },
+            SchFault::Activity { row, found } => Fault::Activity { row, found },
+            SchFault::Range { index } => Fault::Range { index },
+            SchFault::Dummy { row } => Fault::Dummy { row },
+            SchFault::Memory => Fault::Memory,
+        }
+    }
+}

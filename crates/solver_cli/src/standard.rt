@@ -1,0 +1,94 @@
+ghost use Rattle.std.specs.Prelude.{◌≡◌, None};
+
+use crate::device::{Failed, Input, Output};
+use std::io::{Read, Write};
+
+/// An input over a reader, as a file. It tells no bytes.
+#[derive(Drop)]
+pub(crate) struct Reader<R> {
+    inner: R,
+    failures: u64,
+}
+
+impl<R> Reader<R> {
+    pub(crate) fn new(inner: R) -> Reader<R>
+        ensures { result.failures ≡ 0 }
+    {
+        Reader { inner, failures: 0 }
+    }
+}
+
+impl<R: Read> Input for Reader<R> {
+    ghost left = { λ _. None };
+
+    ghost failed = { λ device. device.failures };
+
+    fn pull(&mut self, buffer: &mut [u8]) -> Result<usize, Failed> {
+        match self.inner.read(buffer) {
+            Ok(n) => Ok(n),
+            Err(_) => {
+                self.failures += 1;
+                Err(Failed)
+            }
+        }
+    }
+
+    fn failures(&self) -> u64 {
+        self.failures
+    }
+}
+
+/// An output over a writer, as a file. A write that takes nothing counts as a failure.
+#[derive(Drop)]
+pub(crate) struct Writer<W> {
+    inner: W,
+    failures: u64,
+}
+
+impl<W> Writer<W> {
+    pub(crate) fn new(inner: W) -> Writer<W>
+        ensures { result.failures ≡ 0 }
+    {
+        Writer { inner, failures: 0 }
+    }
+}
+
+impl<W: Write> Output for Writer<W> {
+    ghost held = { λ _. None };
+
+    ghost failed = { λ device. device.failures };
+
+    fn push(&mut self, bytes: &[u8]) -> Result<usize, Failed> {
+        match self.inner.write(bytes) {
+            Ok(n) if n > 0 => Ok(n),
+            _ => {
+                self.failures += 1;
+                Err(Failed)
+            }
+        }
+    }
+
+    fn failures(&self) -> u64 {
+        self.failures
+    }
+}
+
+/// An input with nothing in it, for a job that reads none.
+#[derive(Drop)]
+pub(crate) struct NoInput;
+
+impl Input for NoInput {
+    ghost use Rattle.std.specs.Prelude.{Some, []};
+
+    ghost left = { λ _. Some [] };
+
+    ghost failed = { λ _. 0 };
+
+    fn pull(&mut self, _buffer: &mut [u8]) -> Result<usize, Failed> {
+        Ok(0)
+    }
+
+    fn failures(&self) -> u64 {
+        0
+    }
+}
