@@ -1,10 +1,9 @@
 -- The durations and demands of a project are those that the request rows take: nothing at a dummy, an amount elsewhere.
-use Rattle.std.proofs.Common.{◌≡◌, ℕ, zero, suc, ◌+◌, ◌≤◌, ◌<◌, Bool, true, false, cond, eqb, List, [], ◌∷◌, length, ℤ, pos, get_or, refl, ap, subst, add-zero, arith, ◌⊎◌, inl, inr}
+use Rattle.std.proofs.Common.{◌≡◌, ℕ, zero, suc, ◌+◌, ◌<◌, Bool, true, false, cond, eqb, List, [], ◌∷◌, length, ℤ, pos, get_or, refl, ap, subst, add-zero, arith}
 use Rattle.std.specs.Prelude.{◌||◌}
-use Rattle.std.specs.List.{All, AllByRecursion}
-use Rattle.std.proofs.lemmas.Bool.{eqb-true, eqb-false, eq-eqb, or_cases, or_parts, or_left, or_right}
+use Rattle.std.specs.List.{AllByRecursion}
+use Rattle.std.proofs.lemmas.Bool.{eq-eqb, or_left, or_right}
 use Rattle.std.proofs.lemmas.Int.{ints}
-use Rattle.std.proofs.lemmas.List.Elements.{All-weaker, All-get_or, All-from_recursion, recursion_from_All}
 use Rattle.network.specs.Limits.{IsAmount}
 use Rattle.sch_reader.specs.declared.place.Place.TheVariants as places
 use Rattle.sch_reader.specs.Layout.{fits, amount_place}

@@ -1,10 +1,10 @@
 -- The exact faults of the reader, from the law that the layout leads to flat lists of projects alone.
-use Rattle.std.proofs.Common.{◌≡◌, ◌≢◌, ℕ, zero, suc, ◌+◌, ◌≤◌, true, false, List, [], ◌∷◌, ◌++◌, length, ℤ, Option, Some, None, Result, Ok, Err, refl, sym, ap, subst, ◌∙◌, append_assoc, inl, inr, ◌⊎◌, arith}
+use Rattle.std.proofs.Common.{◌≡◌, ℕ, ◌+◌, ◌≤◌, true, List, [], ◌∷◌, ◌++◌, length, ℤ, Result, Ok, Err, refl, sym, ap, subst, ◌∙◌, append_assoc, inl, inr, arith}
 use Rattle.std.proofs.lemmas.List.{append-nil}
 use Rattle.sch_reader.specs.declared.fault.SchFault.{SchFault}
 use Rattle.sch_reader.specs.declared.fault.SchFault.TheVariants as faults
 use Rattle.sch_reader.specs.declared.place.Place.{Place}
-use Rattle.sch_reader.specs.Words.{words, token}
+use Rattle.sch_reader.specs.Words.{words}
 use Rattle.network.specs.Problem.{Problem}
 use Rattle.network.specs.Limits.{IsProject}
 use Rattle.sch_reader.specs.Layout.{Layout, done, place, fits, project_text}

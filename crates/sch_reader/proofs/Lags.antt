@@ -1,10 +1,10 @@
 -- The given arcs of a project are those that the network rows take, in their order.
-use Rattle.std.proofs.Common.{◌≡◌, ℕ, suc, ◌+◌, ◌≤◌, ◌<◌, List, [], ◌∷◌, ℤ, pos, neg_ℤ, get_or, arith}
+use Rattle.std.proofs.Common.{◌≡◌, ℕ, suc, ◌+◌, ◌≤◌, ◌<◌, List, [], ◌∷◌, arith}
 use Rattle.std.specs.List.{All, AllPairs, AllByRecursion}
-use Rattle.std.proofs.lemmas.List.Elements.{All-nil, All-cons, All-head, All-tail, All-weaker, All-from_recursion, recursion_from_All}
+use Rattle.std.proofs.lemmas.List.Elements.{All-nil, All-cons, All-head, All-weaker, All-from_recursion, recursion_from_All}
 use Rattle.std.proofs.lemmas.List.Kept.{AllPairs-cons}
 use Rattle.network.specs.declared.lag.Lag.{Lag}
-use Rattle.network.specs.Limits.{IsBetween, IsLag}
+use Rattle.network.specs.Limits.{IsLag}
 use Rattle.sch_reader.proofs.NetworkRows.{AreInOrder}
 use Rattle.sch_reader.proofs.NetworkRowsAgain.{IsEnd}
 

@@ -1,16 +1,9 @@
 -- What numbers lead a layout to, and what reading a layout gives.
-use Rattle.std.proofs.Common.{◌≡◌, ℕ, zero, suc, ◌+◌, ◌≤◌, ◌<◌, Bool, true, false, cond, List, [], ◌∷◌, ◌++◌, length, map, ℤ, pos, negsuc, Option, Some, None, Result, Ok, Err, refl, sym, ap, subst, ◌∙◌, append_assoc, arith, inl, inr, ◌⊎◌, leb}
-use Rattle.std.specs.Prelude.{int_le, ◌&&◌}
-use Rattle.std.proofs.lemmas.List.{append-nil, length-append}
-use Rattle.std.proofs.lemmas.Bool.{le-leb}
-use Rattle.sch_reader.specs.declared.fault.SchFault.{SchFault}
-use Rattle.sch_reader.specs.declared.fault.SchFault.TheVariants as faults
+use Rattle.std.proofs.Common.{◌≡◌, true, List, [], ◌∷◌, ◌++◌, ℤ, pos, Some, refl, sym, ap, subst, arith}
 use Rattle.sch_reader.specs.declared.place.Place.{Place}
 use Rattle.sch_reader.specs.declared.place.Place.TheVariants as places
-use Rattle.sch_reader.specs.Words.{token}
-use Rattle.sch_reader.specs.Layout.{Layout, done, place, fits, misfit, ◌>>=◌}
-use Rattle.sch_reader.specs.Text.{Spell, place_after, misfit_of}
-use Rattle.sch_reader.specs.Reading.{Cursor, ◌>>=◌ as ◌>>>◌, fitted, number_of, number_at, reading}
+use Rattle.sch_reader.specs.Layout.{Layout, done, place, fits, ◌>>=◌}
+use Rattle.sch_reader.specs.Text.{place_after}
 
 -- the numbers lead from the first layout to the second
 abbrev pub Reaches : {A : Type 0} → Layout A → List ℤ → Layout A → Type 0

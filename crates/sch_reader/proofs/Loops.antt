@@ -1,5 +1,5 @@
 -- Reading one layout after another, as a loop does.
-use Rattle.std.proofs.Common.{◌≡◌, ℕ, zero, suc, ◌-◌, ◌+◌, ◌≤◌, ◌<◌, List, [], ◌∷◌, ◌++◌, length, map, get_or, drop, ℤ, nat_abs, Result, Ok, Err, refl, sym, ap, subst, ◌∙◌, append_assoc, arith, add-one}
+use Rattle.std.proofs.Common.{◌≡◌, ℕ, suc, ◌-◌, ◌+◌, ◌≤◌, ◌<◌, List, [], ◌∷◌, ◌++◌, length, get_or, drop, ℤ, nat_abs, Result, Ok, Err, refl, sym, ap, ◌∙◌, append_assoc, arith}
 use Rattle.std.proofs.Math.Seq.{drop-cons}
 use Rattle.std.proofs.lemmas.List.{append-nil, length-append}
 use Rattle.std.proofs.Math.ListN.{drop_of_length-le}
@@ -7,7 +7,7 @@ use Rattle.sch_reader.specs.declared.fault.SchFault.{SchFault}
 use Rattle.sch_reader.specs.declared.place.Place.{Place}
 use Rattle.sch_reader.specs.declared.place.Place.TheVariants as places
 use Rattle.network.specs.declared.lag.Lag.{Lag}
-use Rattle.sch_reader.specs.Layout.{Layout, done, place, at, row_of, lags_to, network_row, network_rows, request_row, request_rows, Requests, both, no_requests, ◌>>=◌ as ◌then◌}
+use Rattle.sch_reader.specs.Layout.{Layout, done, at, row_of, lags_to, network_row, network_rows, request_row, request_rows, Requests, both, no_requests, ◌>>=◌ as ◌then◌}
 use Rattle.sch_reader.specs.Reading.{Cursor, ◌>>=◌, reading, number_at}
 use Rattle.sch_reader.proofs.Readings.{reading_bind}
 

@@ -1,11 +1,11 @@
 -- The numbers of the network rows lead the layout to their end.
-use Rattle.std.proofs.Common.{◌≡◌, ℕ, zero, suc, ◌+◌, ◌-◌, ◌≤◌, ◌<◌, Bool, true, false, cond, eqb, List, [], ◌∷◌, ◌++◌, length, map, ℤ, pos, negsuc, nat_abs, ◌≤ℤ◌, refl, sym, ap, subst, ◌∙◌, append_assoc, arith}
+use Rattle.std.proofs.Common.{◌≡◌, ℕ, ◌≤◌, true, List, [], ◌∷◌, length, map, ℤ, pos, negsuc, refl, sym, ap, subst, arith}
 use Rattle.std.specs.List.{AllByRecursion}
-use Rattle.std.proofs.lemmas.List.{append-nil, length-append, length-map}
+use Rattle.std.proofs.lemmas.List.{append-nil, length-map}
 use Rattle.std.proofs.lemmas.Int.{ints}
 use Rattle.network.specs.declared.lag.Lag.{Lag}
 use Rattle.sch_reader.specs.declared.place.Place.TheVariants as places
-use Rattle.sch_reader.specs.Layout.{Layout, done, place, fits, at, row_of, lags_to, network_row, ◌>>=◌}
+use Rattle.sch_reader.specs.Layout.{Layout, done, fits, row_of, lags_to, network_row, ◌>>=◌}
 use Rattle.sch_reader.proofs.Layouts.{Reaches, Reaches-bind}
 use Rattle.sch_reader.proofs.Numbers.{is_within_from}
 use Rattle.sch_reader.proofs.Flat.{row_again}

@@ -1,13 +1,12 @@
 -- What the layout of the network rows leads to.
-use Rattle.std.proofs.Common.{◌≡◌, ℕ, zero, suc, ◌+◌, ◌-◌, ◌≤◌, ◌<◌, Bool, true, false, cond, eqb, List, [], ◌∷◌, ◌++◌, length, map, ℤ, pos, negsuc, nat_abs, ◌≤ℤ◌, refl, sym, ap, subst, ◌∙◌, append_assoc, arith}
-use Rattle.std.specs.List.{AllByRecursion, filter}
-use Rattle.std.proofs.lemmas.List.{append-nil, length-append, length-map, map-append}
+use Rattle.std.proofs.Common.{◌≡◌, ℕ, zero, suc, ◌+◌, ◌-◌, ◌≤◌, ◌<◌, true, eqb, List, [], ◌∷◌, ◌++◌, length, map, ℤ, pos, negsuc, nat_abs, ◌≤ℤ◌, refl, sym, ap, subst, ◌∙◌, append_assoc, arith}
+use Rattle.std.specs.List.{AllByRecursion}
+use Rattle.std.proofs.lemmas.List.{append-nil, length-append, length-map}
 use Rattle.std.proofs.lemmas.List.Elements.{filter-append}
 use Rattle.std.proofs.lemmas.Bool.{eq-eqb, ne_eqb}
 use Rattle.network.specs.declared.lag.Lag.{Lag}
-use Rattle.sch_reader.specs.declared.place.Place.{Place}
 use Rattle.sch_reader.specs.declared.place.Place.TheVariants as places
-use Rattle.sch_reader.specs.Layout.{Layout, done, place, fits, at, row_of, lags_to, network_row, network_rows, ◌>>=◌}
+use Rattle.sch_reader.specs.Layout.{done, fits, row_of, lags_to, network_row, network_rows, ◌>>=◌}
 use Rattle.sch_reader.specs.Text.{lags_from, network_numbers}
 use Rattle.sch_reader.proofs.Layouts.{Reaches, through}
 use Rattle.sch_reader.proofs.Numbers.{within, exactly, up_to}

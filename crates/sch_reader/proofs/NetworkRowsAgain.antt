@@ -1,11 +1,11 @@
 -- The numbers of all the network rows lead the layout to their end.
-use Rattle.std.proofs.Common.{◌≡◌, ℕ, zero, suc, ◌+◌, ◌-◌, ◌≤◌, ◌<◌, Bool, true, false, cond, eqb, List, [], ◌∷◌, ◌++◌, length, map, ℤ, pos, negsuc, nat_abs, ◌≤ℤ◌, refl, sym, ap, subst, ◌∙◌, append_assoc, arith}
+use Rattle.std.proofs.Common.{◌≡◌, ℕ, zero, suc, ◌+◌, ◌-◌, ◌≤◌, ◌<◌, Bool, true, false, eqb, List, [], ◌∷◌, ◌++◌, length, map, ℤ, pos, negsuc, ◌≤ℤ◌, refl, sym, ap, subst, ◌∙◌, append_assoc, arith}
 use Rattle.std.specs.List.{AllByRecursion}
 use Rattle.std.proofs.lemmas.List.{append-nil, length-append}
 use Rattle.std.proofs.lemmas.List.Elements.{filter-append}
-use Rattle.std.proofs.lemmas.Bool.{eqb-true, ne_eqb, eq-eqb}
+use Rattle.std.proofs.lemmas.Bool.{eqb-true, eq-eqb}
 use Rattle.network.specs.declared.lag.Lag.{Lag}
-use Rattle.sch_reader.specs.Layout.{Layout, done, network_row, network_rows, ◌>>=◌}
+use Rattle.sch_reader.specs.Layout.{done, network_row, network_rows, ◌>>=◌}
 use Rattle.sch_reader.specs.Text.{lags_from, network_numbers}
 use Rattle.sch_reader.proofs.Layouts.{Reaches, Reaches-bind}
 use Rattle.sch_reader.proofs.NetworkRows.{AreInOrder, RowLag, row_numbers, kept, later_gone, skipped}

@@ -1,13 +1,13 @@
 -- The layout leads to just the flat lists of the projects within the limits.
-use Rattle.std.proofs.Common.{◌≡◌, ℕ, suc, ◌+◌, ◌-◌, ◌≤◌, ◌<◌, Bool, true, false, eqb, List, [], ◌∷◌, length, ℤ, pos, get_or, refl, sym, ap, subst, ◌∙◌, arith, ◌⊎◌, inl, inr}
+use Rattle.std.proofs.Common.{◌≡◌, ℕ, ◌+◌, ◌-◌, ◌≤◌, ◌<◌, true, eqb, List, [], length, ℤ, pos, get_or, refl, sym, subst, ◌∙◌, arith, inl, inr}
 use Rattle.std.specs.Prelude.{◌||◌}
 use Rattle.std.specs.List.{All, AllByRecursion}
 use Rattle.std.proofs.lemmas.Bool.{eqb-true, or_cases}
 use Rattle.std.proofs.lemmas.List.Elements.{All-weaker, All-get_or, All-from_get_or, All-from_recursion, recursion_from_All}
 use Rattle.network.specs.Problem.{Problem, activity_count, end_of, resource_count, duration}
-use Rattle.network.specs.Limits.{IsAmount, IsDummy, IsLag, IsProject}
+use Rattle.network.specs.Limits.{IsAmount, IsDummy, IsProject}
 use Rattle.sch_reader.specs.declared.place.Place.TheVariants as places
-use Rattle.sch_reader.specs.Layout.{Layout, done, fits, amount_place, project_text}
+use Rattle.sch_reader.specs.Layout.{done, fits, amount_place, project_text}
 use Rattle.sch_reader.specs.Text.{flat}
 use Rattle.sch_reader.proofs.Layouts.{Reaches}
 use Rattle.sch_reader.proofs.Amounts.{IsRequestAt, amount_from, amount_fits, amount_there, nothing_there, fits_there, is_first, is_last, requests_from, requests_count, request_at}

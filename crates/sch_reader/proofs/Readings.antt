@@ -1,13 +1,12 @@
 -- What reading a layout says of the words that it went through.
-use Rattle.std.proofs.Common.{◌≡◌, ℕ, zero, suc, ◌+◌, ◌≤◌, ◌<◌, Bool, true, false, cond, List, [], ◌∷◌, ◌++◌, length, map, ℤ, pos, negsuc, Option, Some, None, Result, Ok, Err, refl, sym, ap, subst, ◌∙◌, append_assoc, arith, inl, inr, ◌⊎◌, leb, add-zero}
-use Rattle.std.proofs.lemmas.List.{append-nil, length-append}
+use Rattle.std.proofs.Common.{◌≡◌, ℕ, ◌+◌, Bool, true, false, List, [], ◌∷◌, ◌++◌, length, ℤ, Option, Some, None, Result, Ok, Err, refl, sym, ap, subst, ◌∙◌, arith, add-zero}
 use Rattle.sch_reader.specs.declared.fault.SchFault.{SchFault}
 use Rattle.sch_reader.specs.declared.fault.SchFault.TheVariants as faults
 use Rattle.sch_reader.specs.declared.place.Place.{Place}
 use Rattle.sch_reader.specs.Words.{token}
 use Rattle.sch_reader.specs.Layout.{Layout, done, place, fits, misfit, ◌>>=◌ as ◌then◌}
 use Rattle.sch_reader.specs.Text.{Spell, misfit_of}
-use Rattle.sch_reader.specs.Reading.{Cursor, ◌>>=◌, fitted, if_fits, number_of, number_at, reading}
+use Rattle.sch_reader.specs.Reading.{Cursor, ◌>>=◌, fitted, if_fits, number_at, reading}
 use Rattle.sch_reader.proofs.Layouts.{Reaches}
 
 -- the words that a value was read from

@@ -1,9 +1,9 @@
 -- What the layout of the request rows leads to.
-use Rattle.std.proofs.Common.{◌≡◌, ℕ, zero, suc, ◌+◌, ◌≤◌, ◌<◌, Bool, true, false, cond, eqb, List, [], ◌∷◌, ◌++◌, length, map, ℤ, pos, refl, sym, ap, subst, ◌∙◌, append_assoc, arith}
+use Rattle.std.proofs.Common.{◌≡◌, ℕ, zero, suc, ◌+◌, true, List, [], ◌∷◌, ◌++◌, length, ℤ, pos, refl, ap, subst, ◌∙◌}
 use Rattle.std.specs.List.{AllByRecursion}
 use Rattle.std.proofs.lemmas.List.{append-nil}
 use Rattle.sch_reader.specs.declared.place.Place.TheVariants as places
-use Rattle.sch_reader.specs.Layout.{Layout, done, place, fits, row_of, request_row, request_rows, Requests, both, no_requests, amount_place, ◌>>=◌}
+use Rattle.sch_reader.specs.Layout.{done, fits, row_of, request_row, request_rows, Requests, both, no_requests, amount_place, ◌>>=◌}
 use Rattle.sch_reader.specs.Text.{request_numbers}
 use Rattle.sch_reader.proofs.Layouts.{Reaches, through}
 use Rattle.sch_reader.proofs.Numbers.{exactly}

@@ -1,9 +1,8 @@
 -- The numbers of the request rows lead the layout to their end.
-use Rattle.std.proofs.Common.{◌≡◌, ℕ, zero, suc, ◌+◌, ◌≤◌, ◌<◌, true, List, [], ◌∷◌, ◌++◌, length, ℤ, pos, refl, sym, ap, subst, ◌∙◌, arith}
+use Rattle.std.proofs.Common.{◌≡◌, ℕ, ◌+◌, true, List, [], ◌∷◌, length, ℤ, pos, refl, subst, arith}
 use Rattle.std.specs.List.{AllByRecursion}
 use Rattle.std.proofs.lemmas.Int.{ints}
-use Rattle.sch_reader.specs.declared.place.Place.TheVariants as places
-use Rattle.sch_reader.specs.Layout.{Layout, done, fits, row_of, request_row, request_rows, Requests, both, no_requests, amount_place, ◌>>=◌}
+use Rattle.sch_reader.specs.Layout.{done, fits, row_of, request_row, request_rows, Requests, both, amount_place, ◌>>=◌}
 use Rattle.sch_reader.specs.Text.{request_numbers}
 use Rattle.sch_reader.proofs.Layouts.{Reaches, Reaches-bind}
 use Rattle.sch_reader.proofs.Numbers.{is_within_from}

@@ -1,10 +1,10 @@
 -- What the layout of a project text leads to.
-use Rattle.std.proofs.Common.{◌≡◌, ℕ, zero, suc, ◌+◌, ◌-◌, ◌≤◌, ◌<◌, true, List, [], ◌∷◌, ◌++◌, length, ℤ, pos, nat_abs, refl, sym, ap, subst, ◌∙◌, append_assoc, arith}
+use Rattle.std.proofs.Common.{◌≡◌, ℕ, ◌+◌, ◌-◌, ◌≤◌, true, List, [], ◌∷◌, ◌++◌, length, ℤ, pos, nat_abs, sym, ap, subst, ◌∙◌, arith}
 use Rattle.std.specs.List.{AllByRecursion}
 use Rattle.std.proofs.lemmas.List.{append-nil}
 use Rattle.sch_reader.specs.declared.place.Place.TheVariants as places
 use Rattle.network.specs.Problem.{Problem}
-use Rattle.sch_reader.specs.Layout.{Layout, done, fits, row_of, header, network_rows, request_rows, Requests, project_text, ◌>>=◌}
+use Rattle.sch_reader.specs.Layout.{Layout, done, fits, row_of, header, network_rows, request_rows, project_text, ◌>>=◌}
 use Rattle.sch_reader.specs.Text.{flat, network_numbers, request_numbers}
 use Rattle.sch_reader.proofs.Layouts.{Reaches, through}
 use Rattle.sch_reader.proofs.Numbers.{exactly, up_to}

@@ -1,9 +1,9 @@
 -- The flat list of a project leads the layout to its end.
-use Rattle.std.proofs.Common.{◌≡◌, ℕ, suc, ◌+◌, ◌-◌, ◌≤◌, true, List, [], ◌∷◌, ◌++◌, length, ℤ, pos, refl, sym, ap, subst, ◌∙◌, arith}
+use Rattle.std.proofs.Common.{◌≡◌, ℕ, ◌+◌, ◌-◌, ◌≤◌, [], ◌∷◌, ◌++◌, length, pos, refl, arith}
 use Rattle.std.proofs.lemmas.Int.{ints}
 use Rattle.sch_reader.specs.declared.place.Place.TheVariants as places
 use Rattle.network.specs.Problem.{Problem}
-use Rattle.sch_reader.specs.Layout.{Layout, done, fits, row_of, header, network_rows, request_rows, Requests, project_text, ◌>>=◌}
+use Rattle.sch_reader.specs.Layout.{done, row_of, header, network_rows, request_rows, Requests, project_text, ◌>>=◌}
 use Rattle.sch_reader.specs.Text.{flat, network_numbers, request_numbers}
 use Rattle.sch_reader.proofs.Layouts.{Reaches, Reaches-bind}
 use Rattle.sch_reader.proofs.Numbers.{is_within_from}

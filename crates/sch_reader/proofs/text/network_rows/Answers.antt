@@ -1,7 +1,7 @@
-use Rattle.std.proofs.Common.{rules, arith, ◌≡◌, ◌++◌, ◌∷◌, [], sym, ◌+◌, ◌-◌, length, subst, ℕ}
+use Rattle.std.proofs.Common.{rules, arith, ◌≡◌, ◌++◌, ◌+◌, ◌-◌, length}
 use Rattle.std.proofs.lemmas.Result.{err_from_is_err_and}
-use Rattle.sch_reader.specs.Layout.{network_rows, network_row}
-use Rattle.sch_reader.specs.Reading.{Reads, reading}
+use Rattle.sch_reader.specs.Layout.{network_rows}
+use Rattle.sch_reader.specs.Reading.{reading}
 use Rattle.sch_reader.proofs.Loops.{networks_turn, networks_fail, networks_end}
 use Rattle.sch_reader.proofs.text.network_rows.Goals as goal
 

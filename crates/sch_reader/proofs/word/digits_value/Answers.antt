@@ -1,4 +1,4 @@
-use Rattle.std.proofs.Common.{arith, get_or}
+use Rattle.std.proofs.Common.{arith}
 use Rattle.sch_reader.proofs.DigitLaws.{value-step, value-small}
 use Rattle.sch_reader.proofs.word.digits_value.Goals as goal
 
