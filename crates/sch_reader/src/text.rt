@@ -82,7 +82,8 @@ fn network_row(
     left: usize,
     row: usize,
 ) -> Result<Vec<Lag>, SchFault>
-    ensures { Reads (λ v. v.items) result reader.new (reading (network_row last left row) reader.old) }
+    ensures { Reads (λ v. v.items) result reader.new
+        (reading (network_row last left row) reader.old) }
 {
     reader.number(Place::Id { row, id: row })?;
     reader.number(Place::Mode { row })?;
@@ -100,7 +101,8 @@ fn network_rows(
     activities: usize,
 ) -> Result<Vec<Lag>, SchFault>
     requires { activities ≤ 1000 }
-    ensures { Reads (λ v. v.items) result reader.new (reading (network_rows (activities + 2) (activities + 1) 100000 0) reader.old) }
+    ensures { Reads (λ v. v.items) result reader.new
+        (reading (network_rows (activities + 2) (activities + 1) 100000 0) reader.old) }
 {
     let mut lags = Vec::new(alloc);
     for row in 0..activities + 2 {
@@ -135,7 +137,8 @@ fn request_row(
 ) -> Result<(i64, Vec<i64>), SchFault>
     requires last { last ≤ 1001 }
     requires id { id ≤ last }
-    ensures { Reads (λ r. (r.0, r.1.items)) result reader.new (reading (request_row last resources id) reader.old) }
+    ensures { Reads (λ r. (r.0, r.1.items)) result reader.new
+        (reading (request_row last resources id) reader.old) }
 {
     let row = last + 1 + id;
     reader.number(Place::Id { row, id })?;
@@ -154,7 +157,9 @@ fn request_rows(
     resources: usize,
 ) -> Result<(Vec<i64>, Vec<Vec<i64>>), SchFault>
     requires { activities ≤ 1000 }
-    ensures { Reads (λ r. record { durations = r.0.items; demands = map (λ v. v.items) r.1.items }) result reader.new
+    ensures { Reads
+        (λ r. record { durations = r.0.items; demands = map (λ v. v.items) r.1.items })
+        result reader.new
         (reading (request_rows (activities + 2) (activities + 1) resources 0) reader.old) }
 {
     let mut durations = Vec::with_capacity(alloc, activities + 2)?;
@@ -210,7 +215,9 @@ pub fn read_sch(alloc: Global, text: &[u8]) -> Result<Project, SchFault>
         MatchResult result (λ q. q ≡ p) (λ e. e ≡ SchFault.Memory) }
     ensures fault { IfErr result (λ e. e ≢ SchFault.Memory → IsFirstFault text.now e) }
     ensures too_long { (result ≡ Err SchFault.TooLong) ↔ (text_limit < length text.now) }
-    ensures unique { (p q : Problem) → IsProject p → IsProject q → Spells text.now p → Spells text.now q → p ≡ q }
+    // A law of the layout: no text spells two projects.
+    ensures unique { (p q : Problem) →
+        IsProject p → IsProject q → Spells text.now p → Spells text.now q → p ≡ q }
 {
     if text.len() > MAX_BYTES {
         return Err(SchFault::TooLong);
