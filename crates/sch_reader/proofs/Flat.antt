@@ -22,6 +22,18 @@ pub finished : {A : Type 0} (x y : A) (zs : List ℤ) → Reaches (done x) zs (d
 finished x y [] h = (refl, cc)
 finished x y (z ∷ zs) h = absurd h
 
+-- a number and what follows it, each by another name
+pub next_is : (zs xs ys : List ℤ) (x y : ℤ) → zs ≡ x ∷ xs → x ≡ y → xs ≡ ys → zs ≡ y ∷ ys
+next_is zs xs ys x y e f g = cc
+
+-- one list and then another, each by another name
+pub joined_is : (zs xs ys us vs : List ℤ) → zs ≡ xs ++ ys → xs ≡ us → ys ≡ vs → zs ≡ us ++ vs
+joined_is zs xs ys us vs e f g = cc
+
+-- a list with nothing after it, by another name
+pub alone_is : (zs xs ys us : List ℤ) → zs ≡ xs ++ ys → ys ≡ [] → xs ≡ us → zs ≡ us
+alone_is zs xs ys us e none f = let n = append-nil xs in cc
+
 -- a row of numbers is those numbers
 pub record RowFound (n : ℕ) (p : Place) (zs xs : List ℤ) : Type 0 where
   pub same : zs ≡ xs
@@ -38,7 +50,7 @@ row_found (suc n) p zs xs h =
     let b = through (row_of n p) (λ others. done (a.number ∷ others)) a.rest xs a.after in
     let ih = row_found n p b.first b.value b.to_value in
     let e = finished (a.number ∷ b.value) xs b.second b.after in
-    let same : zs ≡ a.number ∷ b.value = a.parts ∙ ap (λ (r : List ℤ). a.number ∷ r) (b.parts ∙ ap (λ (r : List ℤ). b.first ++ r) e.0 ∙ append-nil b.first ∙ ih.same) in
+    let same : zs ≡ a.number ∷ b.value = next_is zs a.rest b.value a.number a.number a.parts refl (alone_is a.rest b.first b.second b.value b.parts e.0 ih.same) in
     subst (λ (v : List ℤ). RowFound (suc n) p zs v) e.1 (record { same = same; len = ap suc ih.len; fit = (a.fit, ih.fit) })
 
 pub row_again : (p : Place) (xs : List ℤ) → AllByRecursion (λ z. fits p z ≡ true) xs → Reaches (row_of (length xs) p) xs (done xs)

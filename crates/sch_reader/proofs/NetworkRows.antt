@@ -10,7 +10,7 @@ use Rattle.sch_reader.specs.Layout.{done, fits, row_of, lags_to, network_row, ne
 use Rattle.sch_reader.specs.Text.{lags_from, network_numbers}
 use Rattle.sch_reader.proofs.Layouts.{Reaches, through}
 use Rattle.sch_reader.proofs.Numbers.{within, exactly, up_to}
-use Rattle.sch_reader.proofs.Flat.{first, finished, row_found}
+use Rattle.sch_reader.proofs.Flat.{first, finished, next_is, joined_is, alone_is, row_found}
 
 -- no arc's start is below that of the arc before
 abbrev pub AreInOrder : ℕ → List Lag → Type 0
@@ -42,12 +42,12 @@ lags_found row last (e ∷ ends) zs lags fit h =
     let b = through (lags_to row ends) (λ others. done (lag_of row e a.number ∷ others)) a.rest lags a.after in
     let ih = lags_found row last ends b.first b.value fit.1 b.to_value in
     let f = finished (lag_of row e a.number ∷ b.value) lags b.second b.after in
-    let rest : a.rest ≡ map (λ a. a.weight) b.value = b.parts ∙ ap (λ (r : List ℤ). b.first ++ r) f.0 ∙ append-nil b.first ∙ ih.weights in
+    let rest : a.rest ≡ map (λ a. a.weight) b.value = alone_is a.rest b.first b.second (map (λ a. a.weight) b.value) b.parts f.0 ih.weights in
     let n = up_to last e fit.0 in
     let w = within (negsuc 999999) (pos 1000000) a.number a.fit in
     let to_ends : pos (nat_abs e) ∷ map (λ a. pos a.to) b.value ≡ e ∷ ends = ap (λ (r : List ℤ). pos (nat_abs e) ∷ r) ih.to_ends ∙ ap (λ (x : ℤ). x ∷ ends) (sym n.0) in
     subst (λ (v : List Lag). LagsFound row last (e ∷ ends) zs v) f.1
-    (record { weights = a.parts ∙ ap (λ (r : List ℤ). a.number ∷ r) rest; to_ends = to_ends; each = (record { from = refl; to = n.1; low = w.0; high = w.1 }, ih.each) })
+    (record { weights = next_is zs a.rest (map (λ a. a.weight) b.value) a.number a.number a.parts refl rest; to_ends = to_ends; each = (record { from = refl; to = n.1; low = w.0; high = w.1 }, ih.each) })
 
 abbrev pub row_numbers : ℕ → List Lag → List ℤ
 row_numbers row own = pos row ∷ pos 1 ∷ pos (length own) ∷ (map (λ a. pos a.to) own ++ map (λ a. a.weight) own)
@@ -69,9 +69,11 @@ network_row_found last left row zs lags h =
     let c = up_to left count.number count.fit in
     let len : length lags ≡ nat_abs count.number = sym (length-map lags (λ a. pos a.to)) ∙ ap length l.to_ends ∙ r.len in
     let numbers : count.number ≡ pos (length lags) = c.0 ∙ ap pos (sym len) in
-    let rest : count.rest ≡ map (λ a. pos a.to) lags ++ map (λ a. a.weight) lags = ends.parts ∙ ap (λ (x : List ℤ). x ++ ends.second) (r.same ∙ sym l.to_ends) ∙ ap (λ (x : List ℤ). map (λ a. pos a.to) lags ++ x) l.weights in
+    let rest : count.rest ≡ map (λ a. pos a.to) lags ++ map (λ a. a.weight) lags =
+    joined_is count.rest ends.first ends.second (map (λ a. pos a.to) lags) (map (λ a. a.weight) lags) ends.parts (r.same ∙ sym l.to_ends) l.weights in
+    let from_count : mode.rest ≡ pos (length lags) ∷ (map (λ a. pos a.to) lags ++ map (λ a. a.weight) lags) = next_is mode.rest count.rest _ count.number (pos (length lags)) count.parts numbers rest in
     record {
-      same = id.parts ∙ ap (λ (x : ℤ). x ∷ id.rest) (exactly row id.number id.fit) ∙ ap (λ (x : List ℤ). pos row ∷ x) (mode.parts ∙ ap (λ (x : ℤ). x ∷ mode.rest) (exactly 1 mode.number mode.fit) ∙ ap (λ (x : List ℤ). pos 1 ∷ x) (count.parts ∙ ap (λ (x : ℤ). x ∷ count.rest) numbers ∙ ap (λ (x : List ℤ). pos (length lags) ∷ x) rest));
+      same = next_is zs id.rest _ id.number (pos row) id.parts (exactly row id.number id.fit) (next_is id.rest mode.rest _ mode.number (pos 1) mode.parts (exactly 1 mode.number mode.fit) from_count);
       few = omega (arith, c.1, len);
       each = l.each;
     }
@@ -124,7 +126,7 @@ network_rows_found (suc rows) last left row zs lags h =
     let own = network_row_found last left row a.first a.value a.to_value in
     let ih = network_rows_found rows last (left - length a.value) (row + 1) b.first b.value b.to_value in
     let f = finished (a.value ++ b.value) lags b.second b.after in
-    let after : a.second ≡ network_numbers rows (row + 1) b.value = b.parts ∙ ap (λ (r : List ℤ). b.first ++ r) f.0 ∙ append-nil b.first ∙ ih.same in
+    let after : a.second ≡ network_numbers rows (row + 1) b.value = alone_is a.second b.first b.second (network_numbers rows (row + 1) b.value) b.parts f.0 ih.same in
     let here : lags_from row (a.value ++ b.value) ≡ a.value = filter-append (λ a. eqb a.from row) a.value b.value ∙ ap (λ (r : List Lag). r ++ lags_from row b.value) (kept row last a.value own.each) ∙ ap (λ (r : List Lag). a.value ++ r) (later_gone row (row + 1) b.value (omega arith) ih.order) ∙ append-nil a.value in
     let rest : network_numbers rows (row + 1) (a.value ++ b.value) ≡ a.second = skipped rows (row + 1) row last a.value b.value (omega arith) own.each ∙ sym after in
     let regroup : row_numbers row a.value ++ a.second ≡ pos row ∷ pos 1 ∷ pos (length a.value) ∷ (map (λ a. pos a.to) a.value ++ (map (λ a. a.weight) a.value ++ a.second)) = ap (λ (r : List ℤ). pos row ∷ pos 1 ∷ pos (length a.value) ∷ r) (append_assoc (map (λ a. pos a.to) a.value) (map (λ a. a.weight) a.value) a.second) in

@@ -7,7 +7,7 @@ use Rattle.sch_reader.specs.Layout.{done, fits, row_of, request_row, request_row
 use Rattle.sch_reader.specs.Text.{request_numbers}
 use Rattle.sch_reader.proofs.Layouts.{Reaches, through}
 use Rattle.sch_reader.proofs.Numbers.{exactly}
-use Rattle.sch_reader.proofs.Flat.{first, finished, row_found}
+use Rattle.sch_reader.proofs.Flat.{first, finished, next_is, joined_is, alone_is, row_found}
 
 -- a duration and demands that fit their place
 pub record IsRequest (last resources id : ℕ) (zs : List ℤ) (r : ℤ × List ℤ) : Type 0 where
@@ -25,8 +25,10 @@ request_row_found last resources id zs r h =
     let b = through (row_of resources (amount_place last id)) (λ demands. done (duration.number, demands)) duration.rest r duration.after in
     let row = row_found resources (amount_place last id) b.first b.value b.to_value in
     let f = finished (duration.number, b.value) r b.second b.after in
-    let rest : duration.rest ≡ b.value = b.parts ∙ ap (λ (x : List ℤ). b.first ++ x) f.0 ∙ append-nil b.first ∙ row.same in
-    let same : zs ≡ pos id ∷ pos 1 ∷ duration.number ∷ b.value = found.parts ∙ ap (λ (x : ℤ). x ∷ found.rest) (exactly id found.number found.fit) ∙ ap (λ (x : List ℤ). pos id ∷ x) (mode.parts ∙ ap (λ (x : ℤ). x ∷ mode.rest) (exactly 1 mode.number mode.fit) ∙ ap (λ (x : List ℤ). pos 1 ∷ x) (duration.parts ∙ ap (λ (x : List ℤ). duration.number ∷ x) rest)) in
+    let rest : duration.rest ≡ b.value = alone_is duration.rest b.first b.second b.value b.parts f.0 row.same in
+    let from_duration : mode.rest ≡ duration.number ∷ b.value = next_is mode.rest duration.rest b.value duration.number duration.number duration.parts refl rest in
+    let same : zs ≡ pos id ∷ pos 1 ∷ duration.number ∷ b.value =
+    next_is zs found.rest _ found.number (pos id) found.parts (exactly id found.number found.fit) (next_is found.rest mode.rest _ mode.number (pos 1) mode.parts (exactly 1 mode.number mode.fit) from_duration) in
     subst (λ (v : ℤ × List ℤ). IsRequest last resources id zs v) f.1 (record { same = same; count = row.len; duration = duration.fit; demands = row.fit })
 
 -- .. of each row, from this one on
@@ -56,7 +58,7 @@ request_rows_found (suc rows) last resources id zs r h =
     let here = request_row_found last resources id a.first a.value a.to_value in
     let ih = request_rows_found rows last resources (id + 1) b.first b.value b.to_value in
     let f = finished (both (one a.value) b.value) r b.second b.after in
-    let after : a.second ≡ request_numbers (id + 1) b.value.durations b.value.demands = b.parts ∙ ap (λ (x : List ℤ). b.first ++ x) f.0 ∙ append-nil b.first ∙ ih.same in
-    let same : zs ≡ pos id ∷ pos 1 ∷ a.value.0 ∷ (a.value.1 ++ request_numbers (id + 1) b.value.durations b.value.demands) = a.parts ∙ ap (λ (x : List ℤ). x ++ a.second) here.same ∙ ap (λ (x : List ℤ). pos id ∷ pos 1 ∷ a.value.0 ∷ (a.value.1 ++ x)) after in
+    let after : a.second ≡ request_numbers (id + 1) b.value.durations b.value.demands = alone_is a.second b.first b.second _ b.parts f.0 ih.same in
+    let same : zs ≡ (pos id ∷ pos 1 ∷ a.value.0 ∷ a.value.1) ++ request_numbers (id + 1) b.value.durations b.value.demands = joined_is zs a.first a.second _ _ a.parts here.same after in
     subst (λ (v : Requests). RequestsFound (suc rows) last resources id zs v) f.1
     (record { same = same; count = ap suc ih.count; each = (here.count, here.duration, here.demands, ih.each) })

@@ -8,7 +8,7 @@ use Rattle.sch_reader.specs.Layout.{Layout, done, fits, row_of, header, network_
 use Rattle.sch_reader.specs.Text.{flat, network_numbers, request_numbers}
 use Rattle.sch_reader.proofs.Layouts.{Reaches, through}
 use Rattle.sch_reader.proofs.Numbers.{exactly, up_to}
-use Rattle.sch_reader.proofs.Flat.{first, finished, row_found}
+use Rattle.sch_reader.proofs.Flat.{first, finished, next_is, joined_is, alone_is, row_found}
 use Rattle.sch_reader.proofs.NetworkRows.{AreInOrder, network_rows_found}
 use Rattle.sch_reader.proofs.NetworkRowsAgain.{IsEnd}
 use Rattle.sch_reader.proofs.RequestRows.{AreRequests, request_rows_found}
@@ -28,9 +28,10 @@ header_found zs h r =
     let f = finished (nat_abs n.number, nat_abs k.number) h fourth.rest fourth.after in
     let un = up_to 1000 n.number n.fit in
     let uk = up_to 32 k.number k.fit in
+    let zeros : k.rest ≡ pos 0 ∷ pos 0 ∷ [] =
+    next_is k.rest third.rest _ third.number (pos 0) third.parts (exactly 0 third.number third.fit) (next_is third.rest fourth.rest [] fourth.number (pos 0) fourth.parts (exactly 0 fourth.number fourth.fit) f.0) in
     let same : zs ≡ pos (nat_abs n.number) ∷ pos (nat_abs k.number) ∷ pos 0 ∷ pos 0 ∷ [] =
-    n.parts ∙ ap (λ (x : ℤ). x ∷ n.rest) un.0 ∙ ap (λ (x : List ℤ). pos (nat_abs n.number) ∷ x) (k.parts ∙ ap (λ (x : ℤ). x ∷ k.rest) uk.0 ∙ ap (λ (x : List ℤ). pos (nat_abs k.number) ∷ x)
-    (third.parts ∙ ap (λ (x : ℤ). x ∷ third.rest) (exactly 0 third.number third.fit) ∙ ap (λ (x : List ℤ). pos 0 ∷ x) (fourth.parts ∙ ap (λ (x : ℤ). x ∷ fourth.rest) (exactly 0 fourth.number fourth.fit) ∙ ap (λ (x : List ℤ). pos 0 ∷ x) f.0))) in
+    next_is zs n.rest _ n.number (pos (nat_abs n.number)) n.parts un.0 (next_is n.rest k.rest _ k.number (pos (nat_abs k.number)) k.parts uk.0 zeros) in
     subst (λ (v : ℕ × ℕ). IsHeader zs v) f.1 (record { same = same; few = un.1; resources = uk.1 })
 
 -- a project, as its rows are read
@@ -64,9 +65,12 @@ accepted_found zs p r =
     let made : Problem = record { durations = c.value.durations; demands = c.value.demands; capacities = d.value; lags = b.value } in
     let f = finished made p d.second d.after in
     let n_is : length c.value.durations - 2 ≡ h.0 = omega (arith, requests.count) in
-    let caps : c.second ≡ d.value = d.parts ∙ ap (λ (x : List ℤ). d.first ++ x) f.0 ∙ append-nil d.first ∙ row.same in
+    let requests_on : b.second ≡ request_numbers 0 c.value.durations c.value.demands ++ d.value =
+    joined_is b.second c.first c.second _ _ c.parts requests.same (alone_is c.second d.first d.second d.value d.parts f.0 row.same) in
+    let rows_on : a.second ≡ network_numbers (h.0 + 2) 0 b.value ++ (request_numbers 0 c.value.durations c.value.demands ++ d.value) =
+    joined_is a.second b.first b.second _ _ b.parts lags.same requests_on in
     let whole : zs ≡ (pos h.0 ∷ pos h.1 ∷ pos 0 ∷ pos 0 ∷ []) ++ (network_numbers (h.0 + 2) 0 b.value ++ (request_numbers 0 c.value.durations c.value.demands ++ d.value)) =
-    a.parts ∙ ap (λ (x : List ℤ). x ++ a.second) head.same ∙ ap (λ (x : List ℤ). pos h.0 ∷ pos h.1 ∷ pos 0 ∷ pos 0 ∷ x) (b.parts ∙ ap (λ (x : List ℤ). x ++ b.second) lags.same ∙ ap (λ (x : List ℤ). network_numbers (h.0 + 2) 0 b.value ++ x) (c.parts ∙ ap (λ (x : List ℤ). x ++ c.second) requests.same ∙ ap (λ (x : List ℤ). request_numbers 0 c.value.durations c.value.demands ++ x) caps)) in
+    joined_is zs a.first a.second _ _ a.parts head.same rows_on in
     let is_flat : flat made ≡ zs = rw (n_is, requests.count, row.len) (sym whole) in
     let fit : IsAccepted made = record { n = h.0; few = head.few; count = requests.count; resources = rw row.len head.resources; requests = rw row.len requests.each; capacities = row.fit; few_lags = lags.few; order = lags.order; ends = lags.ends } in
     subst (λ (v : Problem). IsAccepted v × (flat v ≡ zs)) f.1 (fit, is_flat)

@@ -130,4 +130,9 @@ project_text = do
   lags ← network_rows (h.0 + 2) (h.0 + 1) 100000 0
   requests ← request_rows (h.0 + 2) (h.0 + 1) h.1 0
   capacities ← row_of h.1 places.Amount
-  done (record { durations = requests.durations; demands = requests.demands; capacities = capacities; lags = lags })
+  done (record {
+    durations = requests.durations;
+    demands = requests.demands;
+    capacities = capacities;
+    lags = lags;
+  })

@@ -28,7 +28,8 @@ fitted p index (Some z) = if_fits (fits p z) p index z
 
 abbrev pub number_of : Place → ℕ → List (List ℕ) → Result (ℤ × Cursor) SchFault
 number_of p index [] = Err (faults.Short index)
-number_of p index (w ∷ ws) = fitted p index (token w) >>= λ z. Ok (z, record { index = index + 1; rest = ws })
+number_of p index (w ∷ ws) =
+    fitted p index (token w) >>= λ z. Ok (z, record { index = index + 1; rest = ws })
 
 -- the number at a place
 unfoldable pub number_at : Place → Cursor → Result (ℤ × Cursor) SchFault
@@ -45,10 +46,13 @@ ended p index [] = Ok p
 ended p index (w ∷ ws) = Err (faults.Trailing index)
 
 unfoldable pub whole_reading : List (List ℕ) → Result Problem SchFault
-whole_reading words = reading project_text (record { index = 0; rest = words }) >>= λ x. ended x.0 x.1.index x.1.rest
+whole_reading words =
+    reading project_text (record { index = 0; rest = words }) >>= λ x. ended x.0 x.1.index x.1.rest
 
--- What a function returned, seen by view, is what reading gives, unless memory ran out, and it left the reader there.
-abbrev pub Reads : {X Y : Type 0} → (X → Y) → Result X SchFault → Cursor → Result (Y × Cursor) SchFault → Type 0
+-- What a function returned, seen by view, is what reading gives, unless memory ran out, and it left
+-- the reader there.
+abbrev pub Reads :
+    {X Y : Type 0} → (X → Y) → Result X SchFault → Cursor → Result (Y × Cursor) SchFault → Type 0
 Reads view (Ok x) after read = read ≡ Ok (view x, after)
 Reads view (Err e) after read = e ≢ faults.Memory → read ≡ Err e
 

@@ -18,22 +18,29 @@ text_limit = 16777216
 abbrev pub lags_from : ℕ → List Lag → List Lag
 lags_from i lags = filter (λ a. a.from == i) lags
 
--- the network rows of so many activities, from this one on: the activity, 1, the count of its given arcs, their ends, their lags
+-- the network rows of so many activities, from this one on: the activity, 1, the count of its given
+-- arcs, their ends, their lags
 abbrev pub network_numbers : ℕ → ℕ → List Lag → List ℤ
 network_numbers zero i lags = []
 network_numbers (suc rows) i lags =
-    pos i ∷ pos 1 ∷ pos (length (lags_from i lags)) ∷ (map (λ a. pos a.to) (lags_from i lags) ++ (map (λ a. a.weight) (lags_from i lags) ++ network_numbers rows (i + 1) lags))
+    pos i ∷ pos 1 ∷ pos (length (lags_from i lags))
+    ∷ (map (λ a. pos a.to) (lags_from i lags)
+    ++ (map (λ a. a.weight) (lags_from i lags)
+    ++ network_numbers rows (i + 1) lags))
 
 -- the request rows, from this activity on: the activity, 1, its duration, its demands
 abbrev pub request_numbers : ℕ → List ℤ → List (List ℤ) → List ℤ
 request_numbers i [] demands = []
 request_numbers i (duration ∷ durations) [] = []
-request_numbers i (duration ∷ durations) (row ∷ demands) = pos i ∷ pos 1 ∷ duration ∷ (row ++ request_numbers (i + 1) durations demands)
+request_numbers i (duration ∷ durations) (row ∷ demands) =
+    pos i ∷ pos 1 ∷ duration ∷ (row ++ request_numbers (i + 1) durations demands)
 
 -- the list of whole numbers that spells a project
 unfoldable pub flat : Problem → List ℤ
 flat p = pos (length p.durations - 2) ∷ pos (length p.capacities) ∷ pos 0 ∷ pos 0
-    ∷ (network_numbers (length p.durations) 0 p.lags ++ (request_numbers 0 p.durations p.demands ++ p.capacities))
+    ∷ (network_numbers (length p.durations) 0 p.lags
+    ++ (request_numbers 0 p.durations p.demands
+    ++ p.capacities))
 
 -- these words are tokens of these numbers
 abbrev pub Spell : List (List ℕ) → List ℤ → Type 0
@@ -107,4 +114,5 @@ IsFirstWordFault text fault = EndsShort text fault ⊎ (GoesOn text fault ⊎ Ha
 
 -- the first fault of a text that spells no project
 abbrev pub IsFirstFault : List ℕ → SchFault → Type 0
-IsFirstFault text fault = IsTooLong text fault ⊎ ((length text ≤ text_limit) × IsFirstWordFault (words text) fault)
+IsFirstFault text fault =
+    IsTooLong text fault ⊎ ((length text ≤ text_limit) × IsFirstWordFault (words text) fault)
