@@ -43,17 +43,17 @@ from_start p pairs (suc i) lt =
 pub to_end : (p : Problem) (pairs : List Pair) (i : ℕ) → IsProject p → i < activity_count p → Spans (arcs_of p pairs) i (end_of p) (duration p i)
 to_end p pairs i is lt =
     elim (cases_eq i (end_of p)) [
-      inl e ↦
-        let none : duration p (end_of p) ≡ pos 0 = is.end_is_dummy.no_time in
-        let same : duration p i ≡ pos 0 = rw e none in
-        record { walk = []; goes = e; weighs = rw same (omega (arith, ints)) }
-    | inr ne ↦
-        let low : i < end_of p = omega arith in
-        let at : Contains (map (end_arc p) (range_with_len 0 (end_of p))) (end_arc p (0 + i)) = Contains-map-range (end_arc p) 0 (end_of p) i low in
-        let zero_is : 0 + i ≡ i = omega arith in
-        let here : Contains (map (end_arc p) (range_with_len 0 (end_of p))) (end_arc p i) = rw zero_is at at in
-        let there = rule_there p pairs (end_arc p i) (Contains-append_right (map start_arc (range_with_len 1 (end_of p))) (map (end_arc p) (range_with_len 0 (end_of p))) (end_arc p i) here) in
-        record { walk = end_arc p i ∷ []; goes = (there, refl, refl); weighs = omega (arith, ints) }
+      | inl e ↦
+          let none : duration p (end_of p) ≡ pos 0 = is.end_is_dummy.no_time in
+          let same : duration p i ≡ pos 0 = rw e none in
+          record { walk = []; goes = e; weighs = rw same (omega (arith, ints)) }
+      | inr ne ↦
+          let low : i < end_of p = omega arith in
+          let at : Contains (map (end_arc p) (range_with_len 0 (end_of p))) (end_arc p (0 + i)) = Contains-map-range (end_arc p) 0 (end_of p) i low in
+          let zero_is : 0 + i ≡ i = omega arith in
+          let here : Contains (map (end_arc p) (range_with_len 0 (end_of p))) (end_arc p i) = rw zero_is at at in
+          let there = rule_there p pairs (end_arc p i) (Contains-append_right (map start_arc (range_with_len 1 (end_of p))) (map (end_arc p) (range_with_len 0 (end_of p))) (end_arc p i) here) in
+          record { walk = end_arc p i ∷ []; goes = (there, refl, refl); weighs = omega (arith, ints) }
     ]
 
 -- an entry that is there, by a walk of its weight
@@ -74,7 +74,7 @@ reached arcs a b (Some v) w g s =
 
 -- no entry is above the limit of entries
 pub entry_limit : (p : Problem) (pairs : List Pair) (rows : List (List (Option ℤ))) → IsProject p → NameActivities p pairs → IsMatrixOf (activity_count p) (arcs_of p pairs) rows →
-  (a b : ℕ) (w : ℤ) → a < activity_count p → b < activity_count p → entry rows a b ≡ Some w → w ≤ℤ pos 1003000000
+    (a b : ℕ) (w : ℤ) → a < activity_count p → b < activity_count p → entry rows a b ≡ Some w → w ≤ℤ pos 1003000000
 entry_limit p pairs rows is named m a b w la lb e =
     let within : IsWithin (1000000 * (activity_count p + 1)) w = IsMatrixOf-within (arcs_of p pairs) (activity_count p) rows (AreLight-arcs_of p pairs is named) m a b w la lb e in
     let above : w ≤ℤ pos (1000000 * (activity_count p + 1)) = within.above in

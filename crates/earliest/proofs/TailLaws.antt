@@ -29,13 +29,13 @@ difference_fits (Some w) d within amount =
     omega (arith, ints)
 
 weight_to_end : (p : Problem) (pairs : List Pair) (rows : List (List (Option ℤ))) → IsProject p → IsMatrixOf (activity_count p) (arcs_of p pairs) rows → (i : ℕ) → i < activity_count p →
-  IsReachedBy (arcs_of p pairs) i (end_of p) (entry rows i (end_of p)) (duration p i)
+    IsReachedBy (arcs_of p pairs) i (end_of p) (entry rows i (end_of p)) (duration p i)
 weight_to_end p pairs rows is m i lt =
     let last : end_of p < activity_count p = omega arith in
     reached (arcs_of p pairs) i (end_of p) (entry rows i (end_of p)) (duration p i) (m.greatest i (end_of p) lt last) (to_end p pairs i is lt)
 
 tail_range : (p : Problem) (pairs : List Pair) (rows : List (List (Option ℤ))) → IsProject p → NameActivities p pairs → IsMatrixOf (activity_count p) (arcs_of p pairs) rows → (i : ℕ) → i < activity_count p →
-  IsBetween (pos 0) (pos 1003000000) (tail_weight p rows i)
+    IsBetween (pos 0) (pos 1003000000) (tail_weight p rows i)
 tail_range p pairs rows is named m i lt =
     let at = weight_to_end p pairs rows is m i lt in
     let last : end_of p < activity_count p = omega arith in
@@ -49,7 +49,7 @@ tail_at : (p : Problem) (rows : List (List (Option ℤ))) (i : ℕ) → i < acti
 tail_at p rows i lt = get_or-map-range_with_len (tail_weight p rows) 0 (activity_count p) i i (pos 0) lt (omega arith)
 
 tail_lasts : (p : Problem) (pairs : List Pair) (rows : List (List (Option ℤ))) → IsProject p → IsMatrixOf (activity_count p) (arcs_of p pairs) rows →
-  (s : List ℤ) → IsSchedule p s → KeepsAll p s pairs → (i : ℕ) → i < activity_count p → ((start s i +ℤ duration p i) +ℤ tail_weight p rows i) ≤ℤ makespan s
+    (s : List ℤ) → IsSchedule p s → KeepsAll p s pairs → (i : ℕ) → i < activity_count p → ((start s i +ℤ duration p i) +ℤ tail_weight p rows i) ≤ℤ makespan s
 tail_lasts p pairs rows is m s schedule keeps i lt =
     let at = weight_to_end p pairs rows is m i lt in
     let h : (start s i +ℤ weight at.walk) ≤ℤ start s (end_of p) = walk_holds (arcs_of p pairs) s (arcs_met p pairs s schedule keeps) i (end_of p) at.walk at.goes in
@@ -59,9 +59,9 @@ tail_lasts p pairs rows is m s schedule keeps i lt =
 
 pub AreTails-weights : (p : Problem) (pairs : List Pair) (rows : List (List (Option ℤ))) → IsProject p → NameActivities p pairs → IsMatrixOf (activity_count p) (arcs_of p pairs) rows → AreTails p pairs (tail_weights p rows)
 AreTails-weights p pairs rows is named m = record {
-    count = length-map-range_with_len (tail_weight p rows) 0 (activity_count p);
-    range = All-from_get_or (IsBetween (pos 0) (pos 1003000000)) (tail_weights p rows) (pos 0) (λ i lt.
+  count = length-map-range_with_len (tail_weight p rows) 0 (activity_count p);
+  range = All-from_get_or (IsBetween (pos 0) (pos 1003000000)) (tail_weights p rows) (pos 0) (λ i lt.
       let inside : i < activity_count p = rw (length-map-range_with_len (tail_weight p rows) 0 (activity_count p)) at lt in
       rw (tail_at p rows i inside) (tail_range p pairs rows is named m i inside));
-    lasts = λ s schedule keeps i lt. rw (tail_at p rows i lt) (tail_lasts p pairs rows is m s schedule keeps i lt)
-  }
+  lasts = λ s schedule keeps i lt. rw (tail_at p rows i lt) (tail_lasts p pairs rows is m s schedule keeps i lt);
+}

@@ -25,7 +25,7 @@ pub record AreTails (p : Problem) (pairs : List Pair) (tails : List ℤ) : Type 
   pub count : length tails ≡ activity_count p
   pub range : All (IsBetween (pos 0) (pos 1003000000)) tails
   pub lasts : (s : List ℤ) → IsSchedule p s → KeepsAll p s pairs → (i : ℕ) → i < activity_count p →
-    ((start s i +ℤ duration p i) +ℤ tail tails i) ≤ℤ makespan s
+      ((start s i +ℤ duration p i) +ℤ tail tails i) ≤ℤ makespan s
 
 -- the tails are those of all pairs with which this is the project's matrix
 abbrev pub AreTailsFor : Problem → List (List (Option ℤ)) → List ℤ → Type 0

@@ -48,3 +48,6 @@ pub fn tails(alloc: Global, project: &Project, matrix: &Matrix) -> Result<Vec<i6
     }
     Ok(tails)
 }
+
+#[cfg(test)]
+mod tests;
