@@ -1,8 +1,8 @@
-use Rattle.std.proofs.Common.{◌≡◌, ◌-◌, refl, ◌∙◌, ap, arith, pos, rules, w64, length, [], ◌∷◌, ◌++◌, Option, ℤ, ◌-ℤ◌, to_z, of_z}
+use Rattle.std.proofs.Common.{◌≡◌, ◌-◌, refl, ◌∙◌, ap, arith, pos, rules, w64, length, [], Option, ℤ, ◌-ℤ◌, to_z, of_z}
 use Rattle.std.specs.Option.{unwrap_or}
 use Rattle.std.proofs.lemmas.Int.{to_z-of_z}
 use mir.Val.{SFits}
-use Rattle.network.specs.Problem.{end_of, duration}
+use Rattle.network.specs.Problem.{end_of}
 use Rattle.network.specs.Walk.{entry}
 use Rattle.network.proofs.Lists.{appended_more}
 use Rattle.earliest.specs.Tails.{tail_weight, tail_weights}
