@@ -1,3 +1,5 @@
 pub mod Uses
 pub mod Tallies
 pub mod RisingTimes
+pub mod Sweeps
+pub mod Excesses

@@ -20,7 +20,7 @@ use Rattle.profile.specs.declared.tally.Tally.{Tally}
 use Rattle.profile.specs.Moments.{moment, AreMoments, demand_of, IsTally, HasPassed}
 
 -- what holds of each element and of the default holds at each index
-get_or-all : {X : Type 0} (P : X → Type 0) (xs : List X) (d : X) → AllByRecursion P xs → P d → (i : ℕ) → P (get_or xs i d)
+pub get_or-all : {X : Type 0} (P : X → Type 0) (xs : List X) (d : X) → AllByRecursion P xs → P d → (i : ℕ) → P (get_or xs i d)
 get_or-all P [] d all h i = h
 get_or-all P (x ∷ xs) d all h zero = all.0
 get_or-all P (x ∷ xs) d all h (suc i) = get_or-all P xs d all.1 h i
@@ -28,7 +28,7 @@ get_or-all P (x ∷ xs) d all h (suc i) = get_or-all P xs d all.1 h i
 abs_small : (z : ℤ) → IsAmount z → unsigned_abs z ≤ 1000000
 abs_small z h = let above = h.above in let below = h.below in omega (arith, ints)
 
-zero_amount : IsAmount (pos 0)
+pub zero_amount : IsAmount (pos 0)
 zero_amount = record { above = omega (arith, ints); below = omega (arith, ints) }
 
 -- a demand is within the limits

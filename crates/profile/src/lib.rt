@@ -7,9 +7,10 @@
 
 mod moment;
 mod overload;
+mod sweep;
 mod tally;
 mod times;
 mod usage;
 
-pub use overload::{Excess, Overload};
+pub use overload::{first_overload, overloads, Excess, Overload};
 pub use usage::use_at;

@@ -34,7 +34,7 @@ impl Tally {
         project: &Project,
         moments: Vec<Moment>,
     ) -> Result<Tally, AllocError>
-        requires few { length moments.items ≤ 1002 }
+        requires count { length moments.items ≡ activity_count project.now }
         requires activities { All (λ m. m.activity < activity_count project.now) moments.items }
         ensures tally { IfOk result (IsTally project.now) }
         ensures moments { IfOk result (λ tally. tally.moments ≡ moments) }
