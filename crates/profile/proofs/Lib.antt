@@ -3,3 +3,4 @@ pub mod Tallies
 pub mod RisingTimes
 pub mod Sweeps
 pub mod Excesses
+pub mod Firsts

@@ -78,7 +78,7 @@ greatest f p (suc n) = greatest_more f p n (p n) refl (greatest f p n)
         (λ more. inr (n, (omega arith, e, λ j h pj. ⊎_elim (λ l. let at : f j ≤ℤ f i = most.2 j l pj in omega (arith, ints, at, more)) (λ (same : j ≡ n). le_refl_z (f j) (f n) (ap f same)) (last_or_below j n h))))
 
 -- a filter that no element passes
-filter_none : (p : ℕ → Bool) (a n : ℕ) → ((j : ℕ) → j < a + n → p j ≡ false) → filter p (range_with_len a n) ≡ []
+pub filter_none : (p : ℕ → Bool) (a n : ℕ) → ((j : ℕ) → j < a + n → p j ≡ false) → filter p (range_with_len a n) ≡ []
 filter_none p a zero h = refl
 filter_none p a (suc n) h =
     rw (h a (omega arith)) (filter_none p (a + 1) n (λ j l. h j (omega arith)))
