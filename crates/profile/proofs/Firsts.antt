@@ -1,7 +1,7 @@
 -- The start times up to one have no overload, so no earlier unit of time has one.
-use Rattle.std.proofs.Common.{◌≡◌, ℕ, zero, suc, ◌+◌, ◌<◌, ◌≤◌, Bool, true, false, cond, List, [], ◌∷◌, ◌++◌, length, get_or, map, take, ⊎_elim, ◌⊎◌, arith, sym, ap, ◌∙◌, refl, append-nil, SFits, w64, to_z, of_z}
+use Rattle.std.proofs.Common.{◌≡◌, ℕ, zero, suc, ◌+◌, ◌<◌, ◌≤◌, Bool, true, false, cond, List, [], ◌∷◌, ◌++◌, length, get_or, map, take, ⊎_elim, arith, sym, ap, ◌∙◌, refl, append-nil, SFits, w64, to_z, of_z}
 use Rattle.std.specs.Prelude.{ℤ, pos, negsuc, ◌≤ℤ◌, ◌<ℤ◌, nat_lt, ◌↔◌}
-use Rattle.std.specs.List.{All, AllByRecursion, sum_by, filter, flat_map, range_with_len}
+use Rattle.std.specs.List.{AllByRecursion, sum_by, filter, flat_map, range_with_len}
 use Rattle.std.proofs.lemmas.Bool.{cases_lt, le-ltb, ltb-false}
 use Rattle.std.proofs.lemmas.Int.{ints, to_z-of_z}
 use Rattle.std.proofs.lemmas.List.{get_or_default, take_all, take_more}
@@ -67,13 +67,13 @@ NoneBelow p s n = (j : ℕ) → j < n → IsWithinCapacitiesAt p s (get_or (star
 none_before : (p : Problem) (s : List ℤ) (n : ℕ) (u : ℤ) → AreStarts p s → NoneBelow p s n → ((k : ℕ) → n ≤ k → k < length (start_times s) → u <ℤ get_or (start_times s) k (pos 0)) → IsWithinCapacitiesAt p s u
 none_before p s n u are none later =
     none_at p s u (λ j l not_later.
-        let inside : j < length s = omega (arith, are.count) in
-        let there = Contains-start_times s (start s j) (j, inside, get_or_default s j (start s j) (pos 0) inside) in
-        let is : get_or (start_times s) there.0 (pos 0) ≡ start s j = get_or_default (start_times s) there.0 (pos 0) (start s j) there.1 ∙ there.2 in
-        ⊎_elim
-        (λ (below : there.0 < n). rw is at (none there.0 below))
-        (λ (above : n ≤ there.0). let after : u <ℤ start s j = rw is at (later there.0 above there.1) in absurd (omega (arith, ints)))
-        (cases_lt there.0 n))
+    let inside : j < length s = omega (arith, are.count) in
+    let there = Contains-start_times s (start s j) (j, inside, get_or_default s j (start s j) (pos 0) inside) in
+    let is : get_or (start_times s) there.0 (pos 0) ≡ start s j = get_or_default (start_times s) there.0 (pos 0) (start s j) there.1 ∙ there.2 in
+    ⊎_elim
+    (λ (below : there.0 < n). rw is at (none there.0 below))
+    (λ (above : n ≤ there.0). let after : u <ℤ start s j = rw is at (later there.0 above there.1) in absurd (omega (arith, ints)))
+    (cases_lt there.0 n))
 
 pub none_at_all : (p : Problem) (s : List ℤ) (n : ℕ) → AreStarts p s → length (start_times s) ≤ n → NoneBelow p s n → IsWithinCapacities p s
 none_at_all p s n are all none = λ t. none_before p s n t are none (λ k above lt. absurd (omega arith))

@@ -1,8 +1,7 @@
 -- What has started less what has ended is what is in use.
-use Rattle.std.proofs.Common.{◌≡◌, ℕ, ◌+◌, ◌<◌, ◌≤◌, ◌-◌, Bool, true, false, cond, ◌&&◌, List, [], ◌∷◌, length, get_or, take, drop, map, refl, sym, ap, ◌∙◌, subst, arith}
+use Rattle.std.proofs.Common.{◌≡◌, ℕ, ◌+◌, ◌<◌, Bool, true, false, cond, ◌&&◌, List, [], ◌∷◌, length, get_or, take, drop, map, refl, sym, ap, ◌∙◌, subst, arith}
 use Rattle.std.specs.Prelude.{ℤ, pos, ◌+ℤ◌, ◌≤ℤ◌, ◌<ℤ◌, int_le, int_lt}
 use Rattle.std.specs.List.{All, AllByRecursion, sum_by, filter, range_with_len}
-use Rattle.std.specs.List.Sorted.{IsPermutation}
 use Rattle.std.proofs.lemmas.Int.{ints, by_lt_z}
 use Rattle.std.proofs.lemmas.List.{get_or-take, get_or-drop, length-take, length-drop}
 use Rattle.std.proofs.lemmas.List.Elements.{recursion_from_All, All-map}
@@ -10,7 +9,7 @@ use Rattle.std.proofs.lemmas.List.FromFn.{length-range_with_len, get_or-range_wi
 use Rattle.std.proofs.lemmas.List.Sums.{sum_by-cons, sum_by-take-drop}
 use Rattle.std.proofs.lemmas.List.Sorted.{sum_by-IsPermutation, All-permutation, length_permutation}
 use Rattle.network.specs.Problem.{Problem, activity_count, activities, resource_count, duration, demand}
-use Rattle.network.specs.Limits.{IsProject, IsAmount, AreStarts, IsTime}
+use Rattle.network.specs.Limits.{IsProject, IsAmount}
 use Rattle.network.specs.Schedule.{start, is_running, use_at}
 use Rattle.profile.specs.declared.moment.Moment.{Moment}
 use Rattle.profile.specs.declared.tally.Tally.{Tally}
@@ -70,14 +69,14 @@ tally_total p at t tally is passed k in_range =
     let f = demand_of p k in
     let past : AllByRecursion (λ m. come m ≡ true) (take tally.passed moments) =
     recursion_from_All (λ m. come m ≡ true) (take tally.passed moments) (λ j d lt.
-        let below : j < tally.passed = omega (arith, length-take {A = Moment}) in
-        rw (get_or-take tally.passed moments j d below) (has_come (get_or moments j d).time t (passed.past j d below))) in
+    let below : j < tally.passed = omega (arith, length-take {A = Moment}) in
+    rw (get_or-take tally.passed moments j d below) (has_come (get_or moments j d).time t (passed.past j d below))) in
     let future : AllByRecursion (λ m. come m ≡ false) (drop tally.passed moments) =
     recursion_from_All (λ m. come m ≡ false) (drop tally.passed moments) (λ j d lt.
-        let inside : tally.passed + j < length moments = omega (arith, length-drop {A = Moment}) in
-        let next = passed.future d (omega arith) in
-        let later = passed.moments.rising tally.passed (tally.passed + j) d (omega arith) inside in
-        rw (get_or-drop tally.passed moments j d) (will_come (get_or moments (tally.passed + j) d).time t (omega (arith, ints)))) in
+    let inside : tally.passed + j < length moments = omega (arith, length-drop {A = Moment}) in
+    let next = passed.future d (omega arith) in
+    let later = passed.moments.rising tally.passed (tally.passed + j) d (omega arith) inside in
+    rw (get_or-drop tally.passed moments j d) (will_come (get_or moments (tally.passed + j) d).time t (omega (arith, ints)))) in
     let front = sum_by-passing come f (take tally.passed moments) past in
     let back = sum_by-failing come f (drop tally.passed moments) future in
     let whole = sum_by-take-drop (kept come f) moments tally.passed in
@@ -94,14 +93,14 @@ one_activity : (s d t : ℤ) (r : ℕ) → pos 0 ≤ℤ d → cond (int_le s t &
 one_activity s d t r h =
     by_lt_z t (s +ℤ d)
     (λ runs.
-        let ended : int_le (s +ℤ d) t ≡ false = will_come (s +ℤ d) t runs in
-        let on : int_lt t (s +ℤ d) ≡ true = grind (arith, ints) in
-        rw (ended, on) (started (int_le s t) r))
+    let ended : int_le (s +ℤ d) t ≡ false = will_come (s +ℤ d) t runs in
+    let on : int_lt t (s +ℤ d) ≡ true = grind (arith, ints) in
+    rw (ended, on) (started (int_le s t) r))
     (λ over.
-        let ended : int_le (s +ℤ d) t ≡ true = has_come (s +ℤ d) t over in
-        let on : int_lt t (s +ℤ d) ≡ false = grind (arith, ints) in
-        let began : int_le s t ≡ true = has_come s t (omega (arith, ints)) in
-        rw (ended, on, began) (omega arith))
+    let ended : int_le (s +ℤ d) t ≡ true = has_come (s +ℤ d) t over in
+    let on : int_lt t (s +ℤ d) ≡ false = grind (arith, ints) in
+    let began : int_le s t ≡ true = has_come s t (omega (arith, ints)) in
+    rw (ended, on, began) (omega arith))
   where
     started : (b : Bool) (r : ℕ) → cond (b && true) r 0 + 0 ≡ cond b r 0
     started true r = omega arith
@@ -124,9 +123,9 @@ use_and_ended p s t started ended is k in_range =
 moments_all : (P : Moment → Type 0) (at : ℕ → ℤ) (n : ℕ) (ms : List Moment) → AreMoments at n ms → ((i : ℕ) → i < n → P (moment at i)) → All P ms
 moments_all P at n ms are h =
     All-permutation P (map (moment at) (range_with_len 0 n)) ms are.whole (All-map P (moment at) (range_with_len 0 n) (λ j d lt.
-        let below : j < n = omega (arith, length-range_with_len 0 n) in
-        let here : P (moment at (0 + j)) = let e : j ≡ 0 + j = omega arith in subst (λ i. P (moment at i)) e (h j below) in
-        rw (get_or-range_with_len 0 n j d below) here))
+    let below : j < n = omega (arith, length-range_with_len 0 n) in
+    let here : P (moment at (0 + j)) = let e : j ≡ 0 + j = omega arith in subst (λ i. P (moment at i)) e (h j below) in
+    rw (get_or-range_with_len 0 n j d below) here))
 
 pub moments_count : (at : ℕ → ℤ) (n : ℕ) (ms : List Moment) → AreMoments at n ms → length ms ≡ n
 moments_count at n ms are = length_permutation (map (moment at) (range_with_len 0 n)) ms are.whole ∙ length-map-range_with_len (moment at) 0 n

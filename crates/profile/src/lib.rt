@@ -9,8 +9,10 @@ mod moment;
 mod overload;
 mod sweep;
 mod tally;
+#[cfg(test)]
+mod tests;
 mod times;
 mod usage;
 
-pub use overload::{first_overload, overloads, Excess, Overload};
+pub use overload::{Excess, Overload, first_overload, overloads};
 pub use usage::use_at;
