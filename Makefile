@@ -1,0 +1,23 @@
+# make: prove and build the program. make test: everything that must hold. make install PREFIX=..
+PREFIX ?= /usr/local
+SOURCES := crates.txt $(shell find crates -path '*/out' -prune -o \( -name '*.rt' -o -name '*.antt' \) -print)
+
+all: build/psmax
+
+# `rt run` proves the program and what it stands on, and leaves it in the crate's folder.
+build/psmax: $(SOURCES)
+	cd crates/solver_cli && rt run -- --help < /dev/null > /dev/null
+	mkdir -p build
+	cp crates/solver_cli/out/solver_cli build/psmax.new
+	mv build/psmax.new build/psmax
+
+test:
+	sh tests/all
+
+install: build/psmax
+	install -D -m 755 build/psmax $(DESTDIR)$(PREFIX)/bin/psmax
+
+clean:
+	rm -rf build crates/*/out
+
+.PHONY: all test install clean

@@ -1,0 +1,101 @@
+#!/usr/bin/env python3
+"""tests/run.py PROGRAM [--only WORD] [--counted LOG]
+
+Runs the program on every case of tests/cases.jsonl and examples/cases.jsonl, each in a new folder,
+prints each failure, and last 'N passed, M failed'. With --counted, what the last such line of a log
+counts is added.
+
+A case is one line of JSON: name, args, exit, and, where they matter: stdin, files (made before the
+run), stdout, stderr, stdout_to (a device in place of a pipe). An input is one of
+  {"text": TEXT}            this text
+  {"file": NAME}            a file of inputs/ beside the cases, with "cut": its first so many bytes,
+                            with "append": and then this text
+  {"repeat": [TEXT, N]}     the text so many times
+  {"concat": [INPUT, ..]}   these one after another
+  {"path": PATH}            this file or device itself"""
+import argparse
+import json
+import os
+import pathlib
+import re
+import subprocess
+import sys
+import tempfile
+
+TOP = pathlib.Path(__file__).resolve().parent.parent
+TIMEOUT = 60
+
+
+def content(spec, inputs):
+    if spec is None:
+        return b""
+    if "text" in spec:
+        return spec["text"].encode()
+    if "concat" in spec:
+        return b"".join(content(part, inputs) for part in spec["concat"])
+    if "repeat" in spec:
+        text, times = spec["repeat"]
+        return text.encode() * times
+    data = (inputs / spec["file"]).read_bytes()
+    return data[: spec.get("cut", len(data))] + spec.get("append", "").encode()
+
+
+def failures(program, case, inputs):
+    with tempfile.TemporaryDirectory() as folder:
+        folder = pathlib.Path(folder)
+        for name, spec in case.get("files", {}).items():
+            (folder / name).write_bytes(content(spec, inputs))
+        spec = case.get("stdin")
+        if spec and "path" in spec:
+            stdin = os.open(spec["path"], os.O_RDONLY)  # may be a folder, which `open` refuses
+        else:
+            (folder / ".stdin").write_bytes(content(spec, inputs))
+            stdin = os.open(folder / ".stdin", os.O_RDONLY)
+            (folder / ".stdin").unlink()
+        stdout = open(case["stdout_to"], "wb") if "stdout_to" in case else subprocess.PIPE
+        try:
+            ran = subprocess.run([program, *case["args"]], stdin=stdin, stdout=stdout,
+                                 stderr=subprocess.PIPE, cwd=folder, timeout=TIMEOUT)
+        except subprocess.TimeoutExpired:
+            return [f"no answer in {TIMEOUT} s"]
+        finally:
+            os.close(stdin)
+    bad = []
+    if ran.returncode != case["exit"]:
+        bad.append(f"exit {ran.returncode}, not {case['exit']}")
+    for name, got in (("stdout", ran.stdout or b""), ("stderr", ran.stderr)):
+        if name in case and got != case[name].encode():
+            bad.append(f"{name} {got[:300]!r}, not {case[name][:300].encode()!r}")
+    return bad
+
+
+def counted(log):
+    lines = re.findall(r"^(\d+) passed, (\d+) failed", pathlib.Path(log).read_text(), re.M)
+    return tuple(map(int, lines[-1])) if lines else (0, 1)
+
+
+def main():
+    parser = argparse.ArgumentParser()
+    parser.add_argument("program")
+    parser.add_argument("--only", default="")
+    parser.add_argument("--counted")
+    options = parser.parse_args()
+    program = str(pathlib.Path(options.program).resolve())
+    passed, failed = counted(options.counted) if options.counted else (0, 0)
+    for cases in (TOP / "tests" / "cases.jsonl", TOP / "examples" / "cases.jsonl"):
+        inputs = cases.parent if cases.parent.name == "examples" else cases.parent / "inputs"
+        for line in cases.read_text().splitlines():
+            case = json.loads(line)
+            if options.only not in case["name"]:
+                continue
+            bad = failures(program, case, inputs)
+            passed, failed = passed + (not bad), failed + bool(bad)
+            if bad:
+                print(f"FAILED {case['name']}: {' '.join(case['args'])}")
+                for reason in bad:
+                    print("   ", reason)
+    print(f"{passed} passed, {failed} failed")
+    return failed > 0
+
+
+sys.exit(main())
