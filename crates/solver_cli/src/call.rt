@@ -63,6 +63,7 @@ fn earliest_command<'a>(alloc: Global) -> Command<'a> {
 
 fn command<'a>(alloc: Global) -> Result<Command<'a>, AllocError> {
     Command::new(alloc, "psmax")
+        .bin_name("psmax")?
         .about("Solve projects with resources and time lags, with every answer proved")
         .subcommand_required(true)
         .subcommand(earliest_command(alloc))

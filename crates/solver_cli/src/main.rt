@@ -7,6 +7,8 @@ mod device;
 mod fault;
 mod runs;
 mod standard;
+#[cfg(test)]
+mod tests;
 
 use call::{Call, WordsFault, call_of};
 use runs::{Ended, run};
