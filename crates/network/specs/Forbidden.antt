@@ -1,6 +1,6 @@
--- Forbidden sets of activities.
-use Rattle.std.specs.Prelude.{◌≡◌, ℕ, ◌<◌, ◌≤◌, Bool, false, List}
-use Rattle.std.specs.List.{sum_by, filter, Any}
+-- Forbidden sets of activities (Bartusch, Möhring and Radermacher 1988).
+use Rattle.std.specs.Prelude.{◌≡◌, ℕ, ◌<◌, Bool, false, List}
+use Rattle.std.specs.List.{sum_by, filter, Contains}
 use Rattle.network.specs.Problem.{Problem, demand, capacity}
 
 -- the joint demand of the activities for resource k
@@ -11,7 +11,8 @@ joint_demand p k members = sum_by (demand p k) members
 abbrev pub IsForbidden : Problem → ℕ → List ℕ → Type 0
 IsForbidden p k members = capacity p k < joint_demand p k members
 
--- the set is forbidden, and no part of it that lacks a member is
+-- forbidden, and no proper subset is: a subset keeps the members that pass a test, and a proper one
+-- leaves a member out
 pub record IsMinimalForbidden (p : Problem) (k : ℕ) (members : List ℕ) : Type 0 where
   pub forbidden : IsForbidden p k members
-  pub minimal : (kept : ℕ → Bool) → Any (λ i. kept i ≡ false) members → joint_demand p k (filter kept members) ≤ capacity p k
+  pub minimal : (kept : ℕ → Bool) (i : ℕ) → Contains members i → kept i ≡ false → ¬ IsForbidden p k (filter kept members)

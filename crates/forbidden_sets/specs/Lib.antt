@@ -1,0 +1,3 @@
+pub mod Shrunk
+pub mod MinimalSet
+pub mod SetView

@@ -1,0 +1,11 @@
+//! Minimal forbidden sets: activities that together need more of a resource than there is, while
+//! any of them could be spared (Bartusch, Möhring and Radermacher 1988).
+#![tactic(auto)]
+
+mod set;
+mod shrinking;
+#[cfg(test)]
+mod tests;
+
+pub use set::ForbiddenSet;
+pub use shrinking::shrink;

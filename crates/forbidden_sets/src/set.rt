@@ -1,0 +1,76 @@
+ghost use Rattle.std.specs.Prelude.{◌≡◌, ◌<◌, ◌≤◌, ◌+◌, length};
+ghost use Rattle.std.specs.List.{All, sum};
+ghost use Rattle.std.specs.List.Sorted.{IsStrictlyIncreasing};
+
+use smallvec::SmallVec;
+use std::marker::Model;
+
+/// Activities that together need more of a resource than there is, and without any one of them do not.
+#[derive(Drop)]
+pub struct ForbiddenSet {
+    resource: usize,
+    capacity: u64,
+    members: SmallVec<usize, 8>,
+    demands: SmallVec<u64, 8>,
+}
+
+impl Model for ForbiddenSet {
+    ghost use Rattle.forbidden_sets.specs.MinimalSet.{MinimalSet, IsMinimalSet};
+
+    ghost Value = { MinimalSet };
+
+    ghost use Rattle.forbidden_sets.specs.SetView.{minimal_set_of};
+
+    ghost view = { minimal_set_of };
+
+    ghost invariant = { λ set. IsMinimalSet (minimal_set_of set) };
+}
+
+impl ForbiddenSet {
+    ghost use Rattle.forbidden_sets.specs.MinimalSet.{MinimalSet, IsMinimalSet};
+
+    pub(crate) fn new(
+        resource: usize,
+        capacity: u64,
+        members: SmallVec<usize, 8>,
+        demands: SmallVec<u64, 8>,
+    ) -> ForbiddenSet
+        requires { IsMinimalSet (record { resource = resource; capacity = capacity; members = members.items; demands = demands.items }) }
+        ensures { result ≡ record { resource = resource; capacity = capacity; members = members.items; demands = demands.items } }
+    {
+        ForbiddenSet {
+            resource,
+            capacity,
+            members,
+            demands,
+        }
+    }
+
+    pub fn resource(&self) -> usize
+        ensures { result ≡ self.now.resource }
+    {
+        self.resource
+    }
+
+    pub fn capacity(&self) -> u64
+        ensures { result ≡ self.now.capacity }
+    {
+        self.capacity
+    }
+
+    /// The members, rising.
+    pub fn members(&self) -> &[usize]
+        ensures members { result.now ≡ self.now.members }
+        ensures minimal { IsMinimalSet self.now }
+    {
+        self.members.as_slice()
+    }
+
+    /// What each member needs.
+    pub fn demands(&self) -> &[u64]
+        ensures demands { result.now ≡ self.now.demands }
+        ensures minimal { IsMinimalSet self.now }
+    {
+        self.demands.as_slice()
+    }
+}
