@@ -1,12 +1,9 @@
 -- What fits a place, as bounds.
-use Rattle.std.proofs.Common.{◌≡◌, ℕ, ◌≤◌, Bool, true, false, ℤ, pos, negsuc, nat_abs, ◌≤ℤ◌, refl, arith}
-use Rattle.std.specs.Prelude.{int_le, ◌&&◌}
+use Rattle.std.proofs.Common.{◌≡◌, ℕ, ◌≤◌, true, ℤ, pos, negsuc, nat_abs, ◌≤ℤ◌, refl, arith}
+use Rattle.std.specs.Prelude.{int_le}
+use Rattle.std.proofs.lemmas.Bool.{and_parts}
 use Rattle.std.proofs.lemmas.Int.{ints}
 use Rattle.sch_reader.specs.Layout.{is_within}
-
-and_parts : (a b : Bool) → (a && b) ≡ true → (a ≡ true) × (b ≡ true)
-and_parts true b h = (refl, h)
-and_parts false b h = absurd cc
 
 at_most : (a b : ℤ) → int_le a b ≡ true → a ≤ℤ b
 at_most a b h = grind (arith, ints)

@@ -1,10 +1,10 @@
 -- What the layout of a project text leads to.
-use Rattle.std.proofs.Common.{◌≡◌, ℕ, ◌+◌, ◌-◌, ◌≤◌, true, List, [], ◌∷◌, ◌++◌, length, ℤ, pos, nat_abs, sym, ap, subst, ◌∙◌, arith}
+use Rattle.std.proofs.Common.{◌≡◌, ℕ, ◌+◌, ◌-◌, ◌≤◌, true, List, [], ◌∷◌, ◌++◌, length, ℤ, pos, nat_abs, sym, subst, arith}
 use Rattle.std.specs.List.{AllByRecursion}
-use Rattle.std.proofs.lemmas.List.{append-nil}
 use Rattle.sch_reader.specs.declared.place.Place.TheVariants as places
+use Rattle.network.specs.declared.lag.Lag.{Lag}
 use Rattle.network.specs.Problem.{Problem}
-use Rattle.sch_reader.specs.Layout.{Layout, done, fits, row_of, header, network_rows, request_rows, project_text, ◌>>=◌}
+use Rattle.sch_reader.specs.Layout.{Layout, Requests, done, fits, row_of, header, network_rows, request_rows, project_text, ◌>>=◌}
 use Rattle.sch_reader.specs.Text.{flat, network_numbers, request_numbers}
 use Rattle.sch_reader.proofs.Layouts.{Reaches, through}
 use Rattle.sch_reader.proofs.Numbers.{exactly, up_to}
@@ -46,31 +46,53 @@ pub record IsAccepted (p : Problem) : Type 0 where
   pub order : AreInOrder 0 p.lags
   pub ends : AllByRecursion (IsEnd (n + 1) (0 + (n + 2))) p.lags
 
-abbrev pub rows_of : ℕ × ℕ → Layout Problem
-rows_of h = network_rows (h.0 + 2) (h.0 + 1) 100000 0 >>= λ lags. request_rows (h.0 + 2) (h.0 + 1) h.1 0 >>= λ requests. row_of h.1 places.Amount >>= λ capacities.
-    done (record { durations = requests.durations; demands = requests.demands; capacities = capacities; lags = lags })
+-- ---- what comes after the header, after the network rows, and after the request rows
+
+abbrev pub problem_from : List Lag → Requests → List ℤ → Problem
+problem_from lags requests capacities = record { durations = requests.durations; demands = requests.demands; capacities = capacities; lags = lags }
+
+abbrev pub after_requests : ℕ → List Lag → Requests → Layout Problem
+after_requests k lags requests = row_of k places.Amount >>= λ capacities. done (problem_from lags requests capacities)
+
+abbrev pub after_lags : ℕ → ℕ → List Lag → Layout Problem
+after_lags n k lags = request_rows (n + 2) (n + 1) k 0 >>= λ requests. after_requests k lags requests
+
+abbrev pub after_header : ℕ × ℕ → Layout Problem
+after_header h = network_rows (h.0 + 2) (h.0 + 1) 100000 0 >>= λ lags. after_lags h.0 h.1 lags
+
+-- the numbers of the parts are the flat list
+flat_from : (n k : ℕ) (zs : List ℤ) (p : Problem) → length p.durations ≡ n + 2 → length p.capacities ≡ k
+    → zs ≡ (pos n ∷ pos k ∷ pos 0 ∷ pos 0 ∷ []) ++ (network_numbers (n + 2) 0 p.lags ++ (request_numbers 0 p.durations p.demands ++ p.capacities)) → flat p ≡ zs
+unfolding flat
+flat_from n k zs p count row whole =
+    let n_is : length p.durations - 2 ≡ n = omega (arith, count) in
+    rw (n_is, count, row) (sym whole)
+
+accepted_by : (n k : ℕ) (p : Problem) → n ≤ 1000 → k ≤ 32 → length p.durations ≡ n + 2 → length p.capacities ≡ k → AreRequests (n + 1) k 0 p.durations p.demands
+    → AllByRecursion (λ z. fits places.Amount z ≡ true) p.capacities → length p.lags ≤ 100000 → AreInOrder 0 p.lags → AllByRecursion (IsEnd (n + 1) (0 + (n + 2))) p.lags → IsAccepted p
+accepted_by n k p few small count row requests fit few_lags order ends =
+    record { n = n; few = few; count = count; resources = rw row small; requests = rw row requests; capacities = fit; few_lags = few_lags; order = order; ends = ends }
 
 pub accepted_found : (zs : List ℤ) (p : Problem) → Reaches project_text zs (done p) → IsAccepted p × (flat p ≡ zs)
-unfolding project_text flat
+unfolding project_text
 accepted_found zs p r =
-    let a = through header (λ h. rows_of h) zs p r in
-    let h = a.value in
-    let head = header_found a.first h a.to_value in
-    let b = through (network_rows (h.0 + 2) (h.0 + 1) 100000 0) (λ lags. request_rows (h.0 + 2) (h.0 + 1) h.1 0 >>= λ requests. row_of h.1 places.Amount >>= λ capacities. done (record { durations = requests.durations; demands = requests.demands; capacities = capacities; lags = lags })) a.second p a.after in
-    let lags = network_rows_found (h.0 + 2) (h.0 + 1) 100000 0 b.first b.value b.to_value in
-    let c = through (request_rows (h.0 + 2) (h.0 + 1) h.1 0) (λ requests. row_of h.1 places.Amount >>= λ capacities. done (record { durations = requests.durations; demands = requests.demands; capacities = capacities; lags = b.value })) b.second p b.after in
-    let requests = request_rows_found (h.0 + 2) (h.0 + 1) h.1 0 c.first c.value c.to_value in
-    let d = through (row_of h.1 places.Amount) (λ capacities. done (record { durations = c.value.durations; demands = c.value.demands; capacities = capacities; lags = b.value })) c.second p c.after in
-    let row = row_found h.1 places.Amount d.first d.value d.to_value in
-    let made : Problem = record { durations = c.value.durations; demands = c.value.demands; capacities = d.value; lags = b.value } in
+    let a = through header after_header zs p r in
+    let n = a.value.0 in
+    let k = a.value.1 in
+    let head = header_found a.first a.value a.to_value in
+    let b = through (network_rows (n + 2) (n + 1) 100000 0) (after_lags n k) a.second p a.after in
+    let lags = network_rows_found (n + 2) (n + 1) 100000 0 b.first b.value b.to_value in
+    let c = through (request_rows (n + 2) (n + 1) k 0) (after_requests k b.value) b.second p b.after in
+    let requests = request_rows_found (n + 2) (n + 1) k 0 c.first c.value c.to_value in
+    let d = through (row_of k places.Amount) (λ capacities. done (problem_from b.value c.value capacities)) c.second p c.after in
+    let row = row_found k places.Amount d.first d.value d.to_value in
+    let made = problem_from b.value c.value d.value in
     let f = finished made p d.second d.after in
-    let n_is : length c.value.durations - 2 ≡ h.0 = omega (arith, requests.count) in
-    let requests_on : b.second ≡ request_numbers 0 c.value.durations c.value.demands ++ d.value =
-    joined_is b.second c.first c.second _ _ c.parts requests.same (alone_is c.second d.first d.second d.value d.parts f.0 row.same) in
-    let rows_on : a.second ≡ network_numbers (h.0 + 2) 0 b.value ++ (request_numbers 0 c.value.durations c.value.demands ++ d.value) =
-    joined_is a.second b.first b.second _ _ b.parts lags.same requests_on in
-    let whole : zs ≡ (pos h.0 ∷ pos h.1 ∷ pos 0 ∷ pos 0 ∷ []) ++ (network_numbers (h.0 + 2) 0 b.value ++ (request_numbers 0 c.value.durations c.value.demands ++ d.value)) =
-    joined_is zs a.first a.second _ _ a.parts head.same rows_on in
-    let is_flat : flat made ≡ zs = rw (n_is, requests.count, row.len) (sym whole) in
-    let fit : IsAccepted made = record { n = h.0; few = head.few; count = requests.count; resources = rw row.len head.resources; requests = rw row.len requests.each; capacities = row.fit; few_lags = lags.few; order = lags.order; ends = lags.ends } in
-    subst (λ (v : Problem). IsAccepted v × (flat v ≡ zs)) f.1 (fit, is_flat)
+    let capacities_on = alone_is c.second d.first d.second d.value d.parts f.0 row.same in
+    let asked = request_numbers 0 c.value.durations c.value.demands in
+    let rest = network_numbers (n + 2) 0 b.value ++ (asked ++ d.value) in
+    let requests_on = joined_is b.second c.first c.second asked d.value c.parts requests.same capacities_on in
+    let rows_on = joined_is a.second b.first b.second (network_numbers (n + 2) 0 b.value) (asked ++ d.value) b.parts lags.same requests_on in
+    let is_flat = flat_from n k zs made requests.count row.len (joined_is zs a.first a.second (pos n ∷ pos k ∷ pos 0 ∷ pos 0 ∷ []) rest a.parts head.same rows_on) in
+    let fit = accepted_by n k made head.few head.resources requests.count row.len requests.each row.fit lags.few lags.order lags.ends in
+    subst (λ (v : Problem). IsAccepted v × (flat v ≡ zs)) {x = made} f.1 (fit, is_flat)
