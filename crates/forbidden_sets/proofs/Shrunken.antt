@@ -1,5 +1,5 @@
 -- Dropping from a forbidden set until no member can be spared leaves a minimal one.
-use Rattle.std.proofs.Common.{◌≡◌, ℕ, zero, suc, ◌+◌, ◌<◌, ◌≤◌, Bool, true, false, cond, List, [], ◌∷◌, ◌++◌, length, get_or, take, drop, map, refl, sym, ap, ◌∙◌, subst, inl, inr, ⊎_elim, arith, add-one}
+use Rattle.std.proofs.Common.{◌≡◌, ℕ, zero, suc, ◌+◌, ◌<◌, ◌≤◌, Bool, true, false, cond, List, [], ◌∷◌, ◌++◌, length, get_or, take, drop, map, refl, sym, ap, ◌∙◌, arith}
 use Rattle.std.specs.List.{All, Contains, filter, sum_by, sum}
 use Rattle.std.specs.List.Sorted.{IsStrictlyIncreasing, IsNonDecreasing, IsPermutation}
 use Rattle.std.proofs.Common.{◌-◌}
@@ -9,7 +9,7 @@ use Rattle.std.proofs.lemmas.List.Sorted.{All-permutation, sum_by-IsPermutation}
 use Rattle.forbidden_sets.specs.declared.shrinking.Load.{Load}
 use Rattle.network.specs.Forbidden.{IsMinimalForbidden}
 use Rattle.forbidden_sets.specs.Shrunk.{AreShrunk}
-use Rattle.forbidden_sets.specs.MinimalSet.{MinimalSet, IsMinimalSet}
+use Rattle.forbidden_sets.specs.MinimalSet.{IsMinimalSet}
 use Rattle.network.specs.Problem.{Problem, demand, capacity}
 use Rattle.std.proofs.lemmas.List.{length-map}
 use Rattle.forbidden_sets.proofs.Rising.{hit, times_once, rising_from_once}
@@ -55,7 +55,8 @@ drop_one capacity loads i rest kept d l more so_far =
       over = more;
       needed = λ k e h. let old = so_far.needed k e h in omega (arith, old);
       within = so_far.within;
-      part = λ f. omega (arith, so_far.part f, sum_by_more f loads i d l) }
+      part = λ f. omega (arith, so_far.part f, sum_by_more f loads i d l);
+    }
 
 pub keep_one : (capacity : ℕ) (loads : List Load) (i rest : ℕ) (kept : List Load) (d : Load) → i < length loads → rest - (get_or loads i d).demand ≤ capacity → AreNeeded capacity loads i rest kept → AreNeeded capacity loads (i + 1) rest (kept ++ get_or loads i d ∷ [])
 keep_one capacity loads i rest kept d l less so_far =
@@ -66,7 +67,8 @@ keep_one capacity loads i rest kept d l less so_far =
       over = so_far.over;
       needed = All-push (λ (load : Load). rest ≤ capacity + load.demand) kept (get_or loads i d) so_far.needed (omega arith);
       within = All-push (Contains loads) kept (get_or loads i d) so_far.within (Contains-get_or loads i d l);
-      part = λ f. omega (arith, so_far.part f, sum_by_more f loads i d l, sum_by_push f kept (get_or loads i d)) }
+      part = λ f. omega (arith, so_far.part f, sum_by_more f loads i d l, sum_by_push f kept (get_or loads i d));
+    }
 
 sum_by_map : {X : Type 0} (f : ℕ → ℕ) (g : X → ℕ) (xs : List X) → sum_by f (map g xs) ≡ sum_by (λ x. f (g x)) xs
 sum_by_map f g [] = refl
@@ -78,17 +80,17 @@ sum_by_agree f g (x ∷ xs) h =
     omega (arith, All-head (λ y. f y ≡ g y) x xs h, sum_by_agree f g xs (All-tail (λ y. f y ≡ g y) x xs h), sum_by-cons f x xs, sum_by-cons g x xs)
 
 pub shrunk : (r : ℕ → ℕ) (capacity : ℕ) (running : List ℕ) (loads kept : List Load) (members : List ℕ)
-  → IsStrictlyIncreasing running
-  → All (λ load. load.demand ≡ r load.activity) loads
-  → All (λ load. Contains running load.activity) loads
-  → ((f : ℕ → ℕ) → sum_by (λ load. f load.activity) loads ≡ sum_by f running)
-  → capacity < sum_by (λ load. load.demand) kept
-  → All (λ load. sum_by (λ load. load.demand) kept ≤ capacity + load.demand) kept
-  → All (Contains loads) kept
-  → ((f : Load → ℕ) → sum_by f kept ≤ sum_by f loads)
-  → IsPermutation (map (λ load. load.activity) kept) members
-  → IsNonDecreasing members
-  → AreShrunk r capacity running members
+    → IsStrictlyIncreasing running
+    → All (λ load. load.demand ≡ r load.activity) loads
+    → All (λ load. Contains running load.activity) loads
+    → ((f : ℕ → ℕ) → sum_by (λ load. f load.activity) loads ≡ sum_by f running)
+    → capacity < sum_by (λ load. load.demand) kept
+    → All (λ load. sum_by (λ load. load.demand) kept ≤ capacity + load.demand) kept
+    → All (Contains loads) kept
+    → ((f : Load → ℕ) → sum_by f kept ≤ sum_by f loads)
+    → IsPermutation (map (λ load. load.activity) kept) members
+    → IsNonDecreasing members
+    → AreShrunk r capacity running members
 shrunk r capacity running loads kept members rising demands runs sums over needed within part moved up =
     let activity : Load → ℕ = λ load. load.activity in
     let demand : Load → ℕ = λ load. load.demand in
@@ -99,7 +101,8 @@ shrunk r capacity running loads kept members rising demands runs sums over neede
       run = All-permutation (Contains running) (map activity kept) members moved (All-map (Contains running) activity kept (λ k d l. All-contains (λ (load : Load). Contains running load.activity) loads (get_or kept k d) runs (within k d l)));
       rising = rising_from_once members up (λ v. omega (arith, moved_sum (hit v), part (λ load. hit v load.activity), sums (hit v), times_once v running rising));
       forbidden = rw total over;
-      needed = All-permutation (λ i. sum_by r members ≤ capacity + r i) (map activity kept) members moved (All-map (λ i. sum_by r members ≤ capacity + r i) activity kept (λ k d l. omega (arith, total, needed k d l, kept_demands k d l))) }
+      needed = All-permutation (λ i. sum_by r members ≤ capacity + r i) (map activity kept) members moved (All-map (λ i. sum_by r members ≤ capacity + r i) activity kept (λ k d l. omega (arith, total, needed k d l, kept_demands k d l)));
+    }
 
 pub sum_of_demands : (r : ℕ → ℕ) (xs : List ℕ) → sum (map r xs) ≡ sum_by r xs
 sum_of_demands r xs = sum-map r xs
@@ -114,9 +117,11 @@ is_minimal_set resource capacity r R running numbers members demands shrunk em e
   rising = rw em shrunk.rising;
   paired = ap length ed ∙ length-map numbers r ∙ ap length (sym em);
   forbidden = omega (arith, shrunk.forbidden, ap sum ed, sum_of_demands r numbers);
-  minimal = rw (ed, ec) (needed_demands r R running numbers shrunk) }
+  minimal = rw (ed, ec) (needed_demands r R running numbers shrunk);
+}
 
 pub is_minimal_forbidden : (P : Problem) (k : ℕ) (running members : List ℕ) → AreShrunk (demand P k) (capacity P k) running members → IsMinimalForbidden P k members
 is_minimal_forbidden P k running members shrunk = record {
   forbidden = shrunk.forbidden;
-  minimal = minimal_from_needed (demand P k) (capacity P k) members shrunk.needed }
+  minimal = minimal_from_needed (demand P k) (capacity P k) members shrunk.needed;
+}

@@ -6,12 +6,11 @@ ghost use Rattle.network.specs.Problem.{activity_count, resource_count, demand, 
 ghost use Rattle.forbidden_sets.specs.Shrunk.{AreShrunk};
 ghost use Rattle.forbidden_sets.specs.declared.shrinking.Load.{Load};
 
+use crate::set::ForbiddenSet;
 use network::Project;
 use profile::Overload;
 use smallvec::SmallVec;
 use std::alloc::{AllocError, Global};
-
-use crate::set::ForbiddenSet;
 
 /// A running activity, by its demand for the overloaded resource.
 #[derive(Clone, Copy, PartialEq, Eq, PartialOrd, Ord)]
@@ -21,7 +20,12 @@ struct Load {
 }
 
 /// The loads of the running activities, by rising demand, ties by rising number.
-fn by_demand(alloc: Global, project: &Project, resource: usize, running: &[usize]) -> Result<Vec<Load>, AllocError>
+fn by_demand(
+    alloc: Global,
+    project: &Project,
+    resource: usize,
+    running: &[usize],
+) -> Result<Vec<Load>, AllocError>
     requires resource { resource < resource_count project.now }
     requires running { All (λ i. i < activity_count project.now) running.now }
     ensures len { IfOk result (λ loads. length loads.items ≡ length running.now) }
@@ -87,7 +91,11 @@ fn in_order(alloc: Global, loads: &[Load]) -> Result<Vec<usize>, AllocError>
 }
 
 /// The running activities that are left when none of them can be spared, by rising number.
-fn least_needed(alloc: Global, project: &Project, overload: &Overload) -> Result<Vec<usize>, AllocError>
+fn least_needed(
+    alloc: Global,
+    project: &Project,
+    overload: &Overload,
+) -> Result<Vec<usize>, AllocError>
     requires resource { overload.now.resource < resource_count project.now }
     requires running { All (λ i. i < activity_count project.now) overload.now.running.items }
     requires rising { IsStrictlyIncreasing overload.now.running.items }
@@ -101,7 +109,12 @@ fn least_needed(alloc: Global, project: &Project, overload: &Overload) -> Result
 }
 
 /// What each of the members needs.
-fn demands_of(alloc: Global, project: &Project, resource: usize, members: &[usize]) -> Result<SmallVec<u64, 8>, AllocError>
+fn demands_of(
+    alloc: Global,
+    project: &Project,
+    resource: usize,
+    members: &[usize],
+) -> Result<SmallVec<u64, 8>, AllocError>
     requires resource { resource < resource_count project.now }
     requires members { All (λ i. i < activity_count project.now) members.now }
     ensures { IfOk result (λ demands. demands.items ≡ map (demand project.now resource) members.now) }
@@ -116,7 +129,11 @@ fn demands_of(alloc: Global, project: &Project, resource: usize, members: &[usiz
 /// A minimal forbidden set of the activities that run at an overload. They are gone through by rising
 /// demand for the overloaded resource, ties by rising number, and one is dropped wherever the rest
 /// still exceeds the capacity; so at most as many are looked at as run.
-pub fn shrink(alloc: Global, project: &Project, overload: &Overload) -> Result<ForbiddenSet, AllocError>
+pub fn shrink(
+    alloc: Global,
+    project: &Project,
+    overload: &Overload,
+) -> Result<ForbiddenSet, AllocError>
     requires resource { overload.now.resource < resource_count project.now }
     requires running { All (λ i. i < activity_count project.now) overload.now.running.items }
     requires rising { IsStrictlyIncreasing overload.now.running.items }

@@ -1,10 +1,10 @@
+ghost use Rattle.network.specs.Limits.{AreStarts};
+
+use crate::{ForbiddenSet, shrink};
+use network::{Parts, Project};
+use profile::first_overload;
 use std::alloc::{AllocError, Global};
 use std::test::Fail;
-
-use network::{Parts, Project};
-use profile::{Overload, first_overload};
-
-use crate::shrink;
 
 /// Activities of duration 1 with these demands for one resource.
 fn together(alloc: Global, demands: &[i64], capacity: i64) -> Result<Parts, AllocError> {
@@ -25,17 +25,30 @@ fn together(alloc: Global, demands: &[i64], capacity: i64) -> Result<Parts, Allo
     })
 }
 
+/// The set that the first overload of these starts shrinks to.
+fn set_of(
+    alloc: Global,
+    project: &Project,
+    starts: &[i64],
+) -> Result<Option<ForbiddenSet>, AllocError>
+    requires { AreStarts project.now starts.now }
+{
+    let found = first_overload(alloc, project, starts)?;
+    match found {
+        Some(overload) => Ok(Some(shrink(alloc, project, &overload)?)),
+        None => Ok(None),
+    }
+}
+
 #[test]
 fn the_least_demands_are_dropped_first(rt: HostRuntime) -> Result<(), Fail> {
     let Ok(project) = Project::new(together(rt.alloc(), &[2, 1, 1], 2)?) else {
         return Err("refused".into());
     };
-    let starts = [0, 0, 0, 0, 1];
     assert_eq!(rt; project.activity_count(), 5);
-    let Some(overload) = first_overload(rt.alloc(), &project, &starts)? else {
+    let Some(set) = set_of(rt.alloc(), &project, &[0, 0, 0, 0, 1])? else {
         return Err("no overload".into());
     };
-    let set = shrink(rt.alloc(), &project, &overload)?;
     assert_eq!(rt; set.resource(), 0);
     assert_eq!(rt; set.capacity(), 2);
     assert_eq!(rt; set.members(), [1, 3].as_slice());
@@ -44,16 +57,14 @@ fn the_least_demands_are_dropped_first(rt: HostRuntime) -> Result<(), Fail> {
 }
 
 #[test]
-fn a_set_of_one_is_found(rt: HostRuntime) -> Result<(), Fail> {
+fn a_set_may_have_one_member(rt: HostRuntime) -> Result<(), Fail> {
     let Ok(project) = Project::new(together(rt.alloc(), &[2, 3, 1], 2)?) else {
         return Err("refused".into());
     };
     assert_eq!(rt; project.activity_count(), 5);
-    let starts = [0, 0, 0, 0, 1];
-    let Some(overload) = first_overload(rt.alloc(), &project, &starts)? else {
+    let Some(set) = set_of(rt.alloc(), &project, &[0, 0, 0, 0, 1])? else {
         return Err("no overload".into());
     };
-    let set = shrink(rt.alloc(), &project, &overload)?;
     assert_eq!(rt; set.members(), [2].as_slice());
     Ok(())
 }

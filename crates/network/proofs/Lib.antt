@@ -5,4 +5,5 @@ pub mod Schedules
 pub mod FaultLaws
 pub mod Rows
 pub mod Equal
+pub mod Running
 pub mod Worked

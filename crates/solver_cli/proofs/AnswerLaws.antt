@@ -1,15 +1,15 @@
 -- What `earliest` is to write.
-use Rattle.std.proofs.Common.{◌≡◌, ℕ, ◌-◌, ◌<◌, List, [], ◌++◌, ℤ, pos, Option, length, refl, sym, ap, ◌∙◌, get_or, arith, inl}
+use Rattle.std.proofs.Common.{◌≡◌, ℕ, ◌-◌, ◌<◌, List, [], ℤ, pos, Option, length, sym, ap, ◌∙◌, get_or, arith, inl}
 use Rattle.std.specs.Prelude.{codes}
 use Rattle.std.proofs.lemmas.List.{get_or_default}
 use Rattle.std.proofs.lemmas.List.Elements.{All-nil}
 use Rattle.network.specs.declared.lag.Pair.{Pair}
 use Rattle.network.specs.Limits.{IsProject}
-use Rattle.network.specs.Problem.{Problem, activity_count, end_of, arcs_of}
+use Rattle.network.specs.Problem.{Problem, activity_count, arcs_of}
 use Rattle.network.specs.Schedule.{makespan}
 use Rattle.network.specs.Walk.{IsMatrixOf}
 use Rattle.earliest.specs.Starts.{AreEarliestFor}
-use Rattle.solver_cli.specs.Answers.{starts_text, IsEarliestText, IsLeastText}
+use Rattle.solver_cli.specs.Answers.{starts_text, IsEarliestText}
 
 -- the least schedule that a matrix without pairs gives, with its last start
 pub least_said : (p : Problem) (rows : List (List (Option ℤ))) (starts : List ℤ) (n : ℕ) (last d : ℤ) (text : List ℕ) → IsProject p → IsMatrixOf (activity_count p) (arcs_of p []) rows → AreEarliestFor rows starts →

@@ -1,7 +1,7 @@
 -- Pieces that a device took or gave, one after another.
-use Rattle.std.proofs.Common.{◌≡◌, ℕ, zero, suc, ◌+◌, ◌-◌, ◌≤◌, ◌<◌, List, [], ◌∷◌, ◌++◌, length, take, drop, Option, Some, None, refl, sym, ap, ◌∙◌, append_assoc, arith}
-use Rattle.std.proofs.lemmas.List.{append-nil, take-append-drop, length-take, length-append, drop-drop, take_all, length-drop}
-use Rattle.solver_cli.specs.Devices.{Gave, GaveUpTo, Holds, HoldsFront}
+use Rattle.std.proofs.Common.{◌≡◌, ℕ, zero, suc, ◌+◌, ◌-◌, ◌≤◌, ◌<◌, List, [], ◌∷◌, ◌++◌, length, take, drop, Option, Some, refl, sym, ap, ◌∙◌, append_assoc, arith}
+use Rattle.std.proofs.lemmas.List.{length-take, length-append, take_all, length-drop}
+use Rattle.solver_cli.specs.Devices.{Gave, GaveUpTo, Holds}
 
 abbrev none : List ℕ
 none = []

@@ -1,5 +1,5 @@
 -- Which calls the program takes.
-use Rattle.std.specs.Prelude.{◌≡◌, is_some, Bool, true, false}
+use Rattle.std.specs.Prelude.{◌≡◌, is_some, Bool, false}
 use Rattle.solver_cli.specs.declared.call.Job.{Job}
 use Rattle.solver_cli.specs.declared.call.Job.TheVariants as jobs
 use Rattle.solver_cli.specs.declared.call.Call.{Call}

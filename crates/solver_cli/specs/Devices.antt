@@ -1,5 +1,5 @@
 -- What an input gave and an output holds.
-use Rattle.std.specs.Prelude.{◌≡◌, ℕ, ◌≤◌, ◌<◌, List, ◌++◌, length, take, drop, Option, Some, [], ◌⊎◌}
+use Rattle.std.specs.Prelude.{◌≡◌, ℕ, ◌≤◌, List, ◌++◌, length, take, drop, Option, Some}
 
 -- an input gave a front of what it tells
 abbrev pub Gave : Option (List ℕ) → Option (List ℕ) → List ℕ → Type 0

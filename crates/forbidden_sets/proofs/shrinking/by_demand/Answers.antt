@@ -1,5 +1,5 @@
-use Rattle.std.proofs.Common.{◌≡◌, ◌<◌, ◌≤◌, ◌+◌, ◌++◌, ◌∷◌, [], ℕ, length, get_or, take, ap, sym, refl, ◌∙◌, arith}
-use Rattle.std.specs.List.{All, Contains, sum_by}
+use Rattle.std.proofs.Common.{◌≡◌, ◌<◌, ◌≤◌, ℕ, length, ap, refl, ◌∙◌, arith}
+use Rattle.std.specs.List.{Contains, sum_by}
 use Rattle.std.proofs.lemmas.List.{take_all}
 use Rattle.std.proofs.lemmas.List.Elements.{All-push, Contains-get_or}
 use Rattle.std.proofs.lemmas.List.Sums.{sum_by_push, sum_by_more}
@@ -19,7 +19,7 @@ loop-activity-preserved c =
       demands = rw c.in_ok-push.ensures.items (All-push (λ (load : Load). load.demand ≡ demand c.args.project.now c.args.resource load.activity) _ _ c.loop-activity.invariant.demands c.demand.ensures.value);
       running = rw c.in_ok-push.ensures.items (All-push (λ (load : Load). Contains c.args.running.now load.activity) _ _ c.loop-activity.invariant.running (Contains-get_or c.args.running.now i 0 lt));
       sums = λ f.
-        rw (c.in_ok-push.ensures.items, sum_by_push (λ (load : Load). f load.activity), c.loop-activity.invariant.sums f, sum_by_more f c.args.running.now i 0 lt) refl
+          rw (c.in_ok-push.ensures.items, sum_by_push (λ (load : Load). f load.activity), c.loop-activity.invariant.sums f, sum_by_more f c.args.running.now i 0 lt) refl;
     }
 
 pub returns-clause-len : goal.returns-clause-len

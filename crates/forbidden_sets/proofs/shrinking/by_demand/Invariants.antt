@@ -9,5 +9,5 @@ invariant-loop-activity l = record {
   small : All (λ load. load.demand ≤ 1000000) l.loads.items;
   demands : All (λ load. load.demand ≡ demand l.project l.resource load.activity) l.loads.items;
   running : All (λ load. Contains l.running load.activity) l.loads.items;
-  sums : (f : ℕ → ℕ) → sum_by (λ load. f load.activity) l.loads.items ≡ sum_by f (take l.activity-index l.running)
+  sums : (f : ℕ → ℕ) → sum_by (λ load. f load.activity) l.loads.items ≡ sum_by f (take l.activity-index l.running);
 }

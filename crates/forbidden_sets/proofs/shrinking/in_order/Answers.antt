@@ -1,6 +1,4 @@
 use Rattle.std.proofs.lemmas.List.Sorted.{IsNonDecreasingBy-from_sort}
-use Rattle.forbidden_sets.proofs.Rising.{times_once, rising_from_once, length_rising}
-use Rattle.forbidden_sets.proofs.Shrunken.{minimal_from_needed}
 use Rattle.forbidden_sets.proofs.shrinking.in_order.Goals as goal
 
 pub returns-clause-rising : goal.returns-clause-rising

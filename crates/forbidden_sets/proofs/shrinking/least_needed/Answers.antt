@@ -1,6 +1,5 @@
-use Rattle.std.proofs.Common.{◌≡◌, ◌<◌, ◌≤◌, ℕ, length, arith, sym, ◌∙◌, ap, map}
-use Rattle.std.specs.List.{All, Contains, sum_by}
-use Rattle.std.specs.List.Sorted.{IsPermutation}
+use Rattle.std.proofs.Common.{◌≡◌, length, arith, ◌∙◌, ap}
+use Rattle.std.specs.List.{sum_by}
 use Rattle.network.specs.Problem.{demand, capacity}
 use Rattle.forbidden_sets.specs.declared.shrinking.Load.{Load}
 use Rattle.forbidden_sets.proofs.Rising.{length_rising}

@@ -1,7 +1,6 @@
-use Rattle.std.proofs.Common.{◌≡◌, ◌<◌, ◌≤◌, ℕ, length, arith, sym, ◌∙◌, ap, map}
-use Rattle.std.specs.List.{All, Contains, sum_by}
+use Rattle.std.proofs.Common.{◌≡◌, ◌<◌, ◌∙◌, ap, map}
 use Rattle.std.proofs.lemmas.List.Elements.{All-contains}
-use Rattle.network.specs.Problem.{demand, capacity, activity_count}
+use Rattle.network.specs.Problem.{demand, activity_count}
 use Rattle.forbidden_sets.specs.MinimalSet.{MinimalSet}
 use Rattle.forbidden_sets.proofs.Shrunken.{is_minimal_set, is_minimal_forbidden}
 use Rattle.forbidden_sets.proofs.Rising.{length_rising}

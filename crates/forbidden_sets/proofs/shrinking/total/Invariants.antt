@@ -5,5 +5,5 @@ use Rattle.forbidden_sets.proofs.shrinking.total.Given as goal
 abbrev pub invariant-loop-load : goal.invariant-loop-load
 invariant-loop-load l = record {
   so_far : l.total ≡ sum_by (λ load. load.demand) (take l.load-index l.loads);
-  small : l.total ≤ l.load-index * 1000000
+  small : l.total ≤ l.load-index * 1000000;
 }

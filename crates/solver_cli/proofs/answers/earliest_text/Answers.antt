@@ -1,9 +1,7 @@
-use Rattle.std.proofs.Common.{◌≡◌, ◌∙◌, sym, ap, rules}
+use Rattle.std.proofs.Common.{rules}
 use mir.Val.{SFits}
 use Rattle.std.proofs.lemmas.Int.{to_z-of_z}
 use mir.Syntax.{w64}
-use Rattle.std.specs.Prelude.{codes}
-use Rattle.solver_cli.specs.Answers.{starts_text}
 use Rattle.solver_cli.proofs.AnswerLaws.{least_said}
 use Rattle.solver_cli.proofs.answers.earliest_text.Goals as goal
 

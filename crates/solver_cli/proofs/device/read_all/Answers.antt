@@ -1,4 +1,4 @@
-use Rattle.std.proofs.Common.{◌≡◌, arith, rules, ◌∙◌, ◌++◌, ◌+◌, ◌<◌, ◌≤◌, refl, take, sym, vec_len, length, drop}
+use Rattle.std.proofs.Common.{◌≡◌, arith, rules, ◌∙◌, ◌++◌, ◌+◌, ◌≤◌, refl, take, vec_len, length, drop}
 use Rattle.std.proofs.lemmas.List.{length-take}
 use Rattle.std.proofs.lemmas.List.{take-append-le}
 use Rattle.solver_cli.proofs.DeviceLaws.{gave_more, gave_up_to, gave_more_up_to, read_to_limit, read_to_end}

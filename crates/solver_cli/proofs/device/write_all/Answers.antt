@@ -1,4 +1,4 @@
-use Rattle.std.proofs.Common.{◌≡◌, arith, rules, ◌∙◌}
+use Rattle.std.proofs.Common.{rules}
 use Rattle.solver_cli.proofs.DeviceLaws.{holds_more}
 use Rattle.solver_cli.proofs.device.write_all.Goals as goal
 

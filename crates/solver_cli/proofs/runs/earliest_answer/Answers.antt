@@ -1,4 +1,3 @@
-use Rattle.std.proofs.Common.{◌≡◌, ◌≢◌, ◌∙◌, sym, ap, rules}
 use Rattle.std.proofs.lemmas.Result.{err_from_is_err_and}
 use Rattle.solver_cli.proofs.TextLaws.{refused_by}
 use Rattle.solver_cli.proofs.runs.earliest_answer.Goals as goal

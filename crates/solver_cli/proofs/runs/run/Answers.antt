@@ -1,6 +1,4 @@
-use Rattle.std.proofs.Common.{◌≡◌, ◌≢◌, ◌∙◌, sym, ap, rules}
 use Rattle.std.specs.Prelude.{string_bytes}
-use Rattle.solver_cli.specs.Devices.{HoldsFront}
 use Rattle.solver_cli.proofs.runs.run.Goals as goal
 
 pub returns-in-Ok-clause-cut_short : goal.returns-in-Ok-clause-cut_short
