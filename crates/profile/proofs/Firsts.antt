@@ -15,6 +15,7 @@ use Rattle.profile.specs.declared.overload.Excess.{Excess}
 use Rattle.profile.specs.Overloads.{IsLeastOverloaded, IsFirstOverload, start_times, excess, excesses_at, excesses}
 use Rattle.profile.specs.Sweep.{SweepOf}
 use Rattle.profile.proofs.Uses.{rises_at_starts, RisesAt, filter_none}
+use Rattle.profile.proofs.Empty.{filter_nil, map_nil, flat_map_nil, nil_flat_map}
 use Rattle.profile.proofs.RisingTimes.{Contains-start_times, start_times-rise, All-start_times}
 
 -- ---- where a sweep stands
@@ -96,34 +97,6 @@ none_more p s n t is none here j below =
     (cases_lt j n)
 
 -- ---- the list of overloads is empty where there is none
-
-filter_nil : {X : Type 0} (q : X → Bool) (xs : List X) → filter q xs ≡ [] → AllByRecursion (λ x. q x ≡ false) xs
-filter_nil q [] h = tt
-filter_nil q (x ∷ xs) h = one (q x) refl h (filter_nil q xs)
-  where
-    one : (b : Bool) → q x ≡ b → cond b (x ∷ filter q xs) (filter q xs) ≡ [] → (filter q xs ≡ [] → AllByRecursion (λ y. q y ≡ false) xs) → (q x ≡ false) × AllByRecursion (λ y. q y ≡ false) xs
-    one true e k rest = absurd (cc)
-    one false e k rest = (e, rest k)
-
-map_nil : {X Y : Type 0} (f : X → Y) (xs : List X) → map f xs ≡ [] → xs ≡ []
-map_nil f [] h = refl
-map_nil f (x ∷ xs) h = absurd (cc)
-
-append_nil_left : {X : Type 0} (xs ys : List X) → xs ++ ys ≡ [] → xs ≡ []
-append_nil_left [] ys h = refl
-append_nil_left (x ∷ xs) ys h = absurd (cc)
-
-append_nil_right : {X : Type 0} (xs ys : List X) → xs ++ ys ≡ [] → ys ≡ []
-append_nil_right [] ys h = h
-append_nil_right (x ∷ xs) ys h = absurd (cc)
-
-flat_map_nil : {X Y : Type 0} (f : X → List Y) (xs : List X) → flat_map f xs ≡ [] → AllByRecursion (λ x. f x ≡ []) xs
-flat_map_nil f [] h = tt
-flat_map_nil f (x ∷ xs) h = (append_nil_left (f x) (flat_map f xs) h, flat_map_nil f xs (append_nil_right (f x) (flat_map f xs) h))
-
-nil_flat_map : {X Y : Type 0} (f : X → List Y) (xs : List X) → AllByRecursion (λ x. f x ≡ []) xs → flat_map f xs ≡ []
-nil_flat_map f [] h = refl
-nil_flat_map f (x ∷ xs) h = rw (h.0, nil_flat_map f xs h.1) refl
 
 none_listed : (p : Problem) (s : List ℤ) (t : ℤ) → excesses_at p s t ≡ [] → IsWithinCapacitiesAt p s t
 none_listed p s t h k in_range =

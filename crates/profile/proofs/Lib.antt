@@ -1,3 +1,4 @@
+pub mod Empty
 pub mod Uses
 pub mod Tallies
 pub mod RisingTimes
