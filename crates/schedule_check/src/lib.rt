@@ -2,7 +2,15 @@
 #![tactic(auto)]
 
 mod acceptance;
+mod entry;
+mod fault;
+mod line;
+mod number;
+mod starts_text;
+mod table;
 mod violation;
 
 pub use acceptance::{AcceptFault, accept};
+pub use fault::StartsFault;
+pub use starts_text::read_starts;
 pub use violation::{Violation, violations};

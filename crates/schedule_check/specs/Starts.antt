@@ -1,0 +1,116 @@
+-- The text of starts, line by line: which texts give each activity a start, and the first fault of
+-- those that don't.
+use Rattle.std.specs.Prelude.{ℕ, ◌+◌, nat_lt, nat_le, ◌==◌, Bool, true, false, ◌||◌, ◌&&◌, List, [], ◌∷◌, ◌++◌, length, drop, map, ℤ, pos, neg_ℤ, Option, Some, None, is_some, codes, if◌then◌else◌, nat_eq, position, unwrap_or, is_none}
+use Rattle.std.specs.List.{filter, slice_split, list_all, starts_with, range_with_len}
+use Rattle.std.specs.Option.{option_map}
+use Rattle.std.specs.Char.{is_ascii_digit}
+use Rattle.std.specs.Str.Parse.{digits_value, starts_with_minus}
+use Rattle.std.specs.Str.Lines.{lines}
+use Rattle.schedule_check.specs.declared.entry.Entry.{Entry}
+use Rattle.schedule_check.specs.declared.entry.Entry.TheVariants.{Nothing, Gives, Wrong}
+use Rattle.schedule_check.specs.declared.fault.StartsFault.{StartsFault}
+use Rattle.schedule_check.specs.declared.fault.StartsFault.TheVariants as faults
+
+-- ---- the fields of a line
+
+-- space and tab
+abbrev pub is_space : ℕ → Bool
+is_space b = b == 32 || b == 9
+
+-- a piece that is not empty
+abbrev pub is_field : List ℕ → Bool
+is_field [] = false
+is_field (b ∷ bs) = true
+
+-- the fields of a line: its longest runs of bytes that are neither space nor tab
+unfoldable pub fields : List ℕ → List (List ℕ)
+fields line = filter is_field (slice_split is_space line)
+
+-- 1 to so many digits
+abbrev pub is_numeral : ℕ → List ℕ → Bool
+is_numeral most word = list_all is_ascii_digit word && nat_le 1 (length word) && nat_le (length word) most
+
+-- the number that 1 to so many digits spell
+abbrev pub natural : ℕ → List ℕ → Option ℕ
+natural most word = if is_numeral most word then Some (digits_value 10 word) else None
+
+abbrev pub negated : ℕ → ℤ
+negated n = neg_ℤ (pos n)
+
+-- the number that a minus or nothing, and then 1 to 10 digits, spell
+unfoldable pub whole : List ℕ → Option ℤ
+whole word = if starts_with_minus word then option_map negated (natural 10 (drop 1 word)) else option_map pos (natural 10 word)
+
+-- ---- what a line says
+
+abbrev pub given : Option ℕ → Option ℤ → Entry
+given (Some activity) (Some start) = Gives activity start
+given (Some activity) None = Wrong
+given None start = Wrong
+
+-- nothing without fields, and else an activity and its start
+unfoldable pub entry_of : List (List ℕ) → Entry
+entry_of [] = Nothing
+entry_of (activity ∷ []) = Wrong
+entry_of (activity ∷ start ∷ []) = given (natural 4 activity) (whole start)
+entry_of (activity ∷ start ∷ more ∷ others) = Wrong
+
+abbrev pub line_entries : List (List ℕ) → List Entry
+line_entries lines = map (λ line. entry_of (fields line)) lines
+
+-- an answer of the program, whose first line is passed over
+abbrev pub is_answer : List ℕ → Bool
+is_answer text = starts_with nat_eq text (codes "optimal ") || starts_with nat_eq text (codes "feasible ") || starts_with nat_eq text (codes "earliest ")
+
+-- what the lines of a text say, the first line first
+abbrev pub entries : List ℕ → List Entry
+entries text = if is_answer text then Nothing ∷ line_entries (drop 1 (lines text)) else line_entries (lines text)
+
+-- ---- what the lines say together
+
+-- the start that an entry gives the activity
+abbrev pub start_in : ℕ → Entry → Option ℤ
+start_in activity Nothing = None
+start_in activity Wrong = None
+start_in activity (Gives named start) = if named == activity then Some start else None
+
+-- the start that the first of the entries gives the activity
+abbrev pub start_given : List Entry → ℕ → Option ℤ
+start_given [] activity = None
+start_given (e ∷ es) activity = if is_some (start_in activity e) then start_in activity e else start_given es activity
+
+-- the starts that the entries give so many activities
+abbrev pub starts_given : ℕ → List Entry → List (Option ℤ)
+starts_given activities es = map (start_given es) (range_with_len 0 activities)
+
+-- ---- faults
+
+-- the first of two faults
+abbrev pub or_else : Option StartsFault → Option StartsFault → Option StartsFault
+or_else None second = second
+or_else (Some fault) second = Some fault
+
+-- the fault of an entry at a line, after these entries
+abbrev pub entry_fault : ℕ → List Entry → ℕ → Entry → Option StartsFault
+entry_fault activities before line Nothing = None
+entry_fault activities before line Wrong = Some (faults.Token line)
+entry_fault activities before line (Gives activity start) =
+    if nat_lt activity activities then (if is_some (start_given before activity) then Some (faults.Repeated line) else None) else Some (faults.Activity line)
+
+-- the first fault of entries from a line on, after these entries
+abbrev pub line_fault : ℕ → List Entry → ℕ → List Entry → Option StartsFault
+line_fault activities before line [] = None
+line_fault activities before line (e ∷ es) = or_else (entry_fault activities before line e) (line_fault activities (before ++ e ∷ []) (line + 1) es)
+
+-- the least activity without a start
+abbrev pub missing_fault : List (Option ℤ) → Option StartsFault
+missing_fault starts = option_map faults.Missing (position is_none starts)
+
+-- the first fault of a text: its length, then its lines in order, then the activities
+abbrev pub starts_fault : ℕ → List ℕ → Option StartsFault
+starts_fault activities text =
+    if nat_lt 16777216 (length text) then Some faults.TooLong else or_else (line_fault activities [] 1 (entries text)) (missing_fault (starts_given activities (entries text)))
+
+-- the start that a text gives each activity, in order
+abbrev pub starts_of : ℕ → List ℕ → List ℤ
+starts_of activities text = map (λ start. unwrap_or start (pos 0)) (starts_given activities (entries text))

@@ -1,0 +1,55 @@
+ghost use Rattle.std.specs.Prelude.{◌≡◌, ◌||◌, codes, nat_eq};
+ghost use Rattle.std.specs.List.{starts_with};
+ghost use Rattle.schedule_check.specs.Starts.{fields, entry_of, given, is_answer};
+
+use crate::line::split_field;
+use crate::number::{natural, whole};
+
+/// What a line says.
+#[derive(Clone, Copy, PartialEq, Eq, Debug)]
+pub(crate) enum Entry {
+    /// The line has spaces and tabs alone, or is passed over.
+    Nothing,
+    /// The activity starts at this time.
+    Gives { activity: usize, start: i64 },
+    /// The line is not of the form.
+    Wrong,
+}
+
+fn given(activity: Option<u64>, start: Option<i64>) -> Entry
+    ensures { result ≡ given activity start }
+{
+    match (activity, start) {
+        (Some(activity), Some(start)) => Entry::Gives {
+            activity: activity as usize,
+            start,
+        },
+        _ => Entry::Wrong,
+    }
+}
+
+/// What the line says.
+#[tactic(auto, unfolding(crate::specs::Starts::entry_of))]
+pub(crate) fn entry_of(line: &[u8]) -> Entry
+    ensures { result ≡ entry_of (fields line.now) }
+{
+    let Some((activity, rest)) = split_field(line) else {
+        return Entry::Nothing;
+    };
+    let Some((start, rest)) = split_field(rest) else {
+        return Entry::Wrong;
+    };
+    match split_field(rest) {
+        None => given(natural(activity, 4), whole(start)),
+        Some(_) => Entry::Wrong,
+    }
+}
+
+/// Whether the text is an answer of the program.
+pub(crate) fn is_answer(text: &[u8]) -> bool
+    ensures { result ≡ is_answer text.now }
+{
+    text.starts_with(b"optimal ")
+        || text.starts_with(b"feasible ")
+        || text.starts_with(b"earliest ")
+}

@@ -1,0 +1,39 @@
+ghost use Rattle.std.specs.Prelude.{◌≡◌};
+ghost use Rattle.schedule_check.specs.declared.fault.StartsFault.TheVariants.{Memory};
+
+use std::alloc::{AllocError, AllocFailed};
+
+/// Why a text of starts could not be read: its length, then the first fault of its lines, then the
+/// first activity without a start. Lines count from 1, activities from 0.
+#[derive(Clone, Copy, PartialEq, Eq, Debug)]
+pub enum StartsFault {
+    /// This line is not an activity of 1 to 4 digits and a start of a minus or nothing and 1 to 10
+    /// digits, with spaces or tabs between them.
+    Token { line: usize },
+    /// No line gives this activity a start, but one each activity before it.
+    Missing { activity: usize },
+    /// This line names an activity that an earlier line has named.
+    Repeated { line: usize },
+    /// This line names an activity that is not there.
+    Activity { line: usize },
+    /// Memory ran out.
+    Memory,
+    /// The text has more than 16,777,216 bytes, whatever it holds.
+    TooLong,
+}
+
+impl From<AllocError> for StartsFault {
+    ghost from_gives = { λ _ e. e ≡ Memory };
+
+    fn from(_e: AllocError) -> StartsFault {
+        StartsFault::Memory
+    }
+}
+
+impl<T: Drop> From<AllocFailed<T>> for StartsFault {
+    ghost from_gives = { λ _ e. e ≡ Memory };
+
+    fn from(_e: AllocFailed<T>) -> StartsFault {
+        StartsFault::Memory
+    }
+}
