@@ -1,19 +1,20 @@
 -- What was read of an input stands for all that it tells: a text within the limit is all of it, and a
 -- longer one is too long either way.
-use Rattle.std.proofs.Common.{◌≡◌, ◌≢◌, ℕ, ◌<◌, List, length, take, refl, ap, subst, ◌∙◌, arith, inl, inr, ◌⊎◌}
+use Rattle.std.proofs.Common.{◌≡◌, ◌≢◌, ℕ, ◌<◌, List, length, take, refl, sym, ap, subst, ◌∙◌, arith, inl, inr, ◌⊎◌, Some, None}
 use Rattle.std.proofs.lemmas.List.{length-take, take_all}
-use Rattle.std.proofs.lemmas.Bool.{cases_order}
-use Rattle.network.specs.Problem.{Problem}
+use Rattle.std.proofs.lemmas.Bool.{cases_order, lt-ltb}
+use Rattle.network.specs.Problem.{Problem, activity_count}
+use Rattle.schedule_check.specs.declared.fault.StartsFault.TheVariants as starts
+use Rattle.schedule_check.specs.Starts.{starts_fault, starts_of}
+use Rattle.solver_cli.specs.Answers.{IsCheckText}
 use Rattle.network.specs.Limits.{IsProject}
 use Rattle.sch_reader.specs.declared.fault.SchFault.{SchFault}
 use Rattle.sch_reader.specs.declared.fault.SchFault.TheVariants as texts
 use Rattle.sch_reader.specs.Text.{Spells, IsFirstFault, text_limit}
 use Rattle.solver_cli.specs.declared.fault.Fault.{Fault}
 use Rattle.solver_cli.specs.declared.fault.Fault.TheVariants as faults
-use Rattle.solver_cli.specs.Faults.{fault_of, exit_of}
-use Rattle.solver_cli.specs.Outcome.{SpellsOne, HasFault, IsEarliestAnswer, IsAnswer, IsRefusal}
-use Rattle.solver_cli.specs.declared.call.Job.{Job}
-use Rattle.solver_cli.specs.declared.call.Job.TheVariants.{Earliest}
+use Rattle.solver_cli.specs.Faults.{fault_of}
+use Rattle.solver_cli.specs.Outcome.{HasFault, IsReadAndChecked}
 
 same_or_long : (text bytes : List ℕ) → text ≡ take 16777217 bytes → (text ≡ bytes) ⊎ ((text_limit < length text) × (text_limit < length bytes))
 same_or_long text bytes e = by_length (length bytes) refl
@@ -30,14 +31,11 @@ same_or_long text bytes e = by_length (length bytes) refl
       ]
     ]
 
-pub spells_one_whole : (text bytes : List ℕ) (P : Problem → Type 0) → text ≡ take 16777217 bytes → SpellsOne text P → SpellsOne bytes P
-spells_one_whole text bytes P e h = elim (same_or_long text bytes e) [
-  | inl same ↦ subst (λ (t : List ℕ). SpellsOne t P) same h
-  | inr long ↦ let size = h.spells.size in absurd (omega (arith, long.0))
+pub spells_whole : (text bytes : List ℕ) (p : Problem) → text ≡ take 16777217 bytes → Spells text p → Spells bytes p
+spells_whole text bytes p e h = elim (same_or_long text bytes e) [
+  | inl same ↦ subst (λ (t : List ℕ). Spells t p) same h
+  | inr long ↦ let size = h.size in absurd (omega (arith, long.0))
 ]
-
-pub earliest_whole : (text bytes : List ℕ) (exit : ℕ) (written : List ℕ) → text ≡ take 16777217 bytes → IsEarliestAnswer text exit written → IsEarliestAnswer bytes exit written
-earliest_whole text bytes exit written e h = record { answers = spells_one_whole text bytes _ e h.answers; status = h.status }
 
 pub fault_whole : (text bytes : List ℕ) (fault : Fault) → text ≡ take 16777217 bytes → HasFault text fault → HasFault bytes fault
 fault_whole text bytes fault e h = elim (same_or_long text bytes e) [
@@ -60,9 +58,21 @@ refused_by text cause fault is only first other =
     let apart : cause ≢ texts.Memory = λ e. other (is ∙ ap fault_of e) in
     record { none = λ p is' spells. apart (only p is' spells); cause = cause; first = first apart; told = is }
 
--- the only job so far
-pub earliest_answer_is : (job : Job) (text bytes more : List ℕ) (exit : ℕ) (written : List ℕ) → text ≡ take 16777217 bytes → IsEarliestAnswer text exit written → IsAnswer job bytes more exit written
-earliest_answer_is Earliest text bytes more exit written e h = earliest_whole text bytes exit written e h
+-- ---- texts of starts
 
-pub earliest_refusal_is : (job : Job) (text bytes more : List ℕ) (fault : Fault) → text ≡ take 16777217 bytes → (fault ≢ faults.Memory → HasFault text fault) → exit_of fault ≢ 1 → IsRefusal job bytes more fault
-earliest_refusal_is Earliest text bytes more fault e h other = fault_whole text bytes fault e (h (λ is. other (ap exit_of is)))
+long_starts : (n : ℕ) (text : List ℕ) → text_limit < length text → starts_fault n text ≡ Some starts.TooLong
+long_starts n text h = rw (lt-ltb text_limit (length text) h) refl
+
+-- the first fault of what was read is that of all that the input tells
+pub starts_fault_whole : (n : ℕ) (text bytes : List ℕ) → text ≡ take 16777217 bytes → starts_fault n text ≡ starts_fault n bytes
+starts_fault_whole n text bytes e = elim (same_or_long text bytes e) [
+  | inl same ↦ ap (λ (t : List ℕ). starts_fault n t) same
+  | inr long ↦ long_starts n text long.0 ∙ sym (long_starts n bytes long.1)
+]
+
+pub checked_whole : (p : Problem) (text bytes : List ℕ) (exit : ℕ) (written : List ℕ) → text ≡ take 16777217 bytes → starts_fault (activity_count p) text ≡ None → IsCheckText p (starts_of (activity_count p) text) exit written
+    → IsReadAndChecked p bytes exit written
+checked_whole p text bytes exit written e read h = elim (same_or_long text bytes e) [
+  | inl same ↦ subst (λ (t : List ℕ). IsReadAndChecked p t exit written) same (record { read = read; checked = h })
+  | inr long ↦ let long_is = long_starts (activity_count p) text long.0 in cc
+]

@@ -1,9 +1,14 @@
 -- The texts of answers.
 use Rattle.std.specs.Prelude.{◌≡◌, ℕ, ◌+◌, List, [], ◌∷◌, ◌++◌, ℤ, codes, ◌⊎◌}
+use Rattle.std.specs.List.{flat_map}
 use Rattle.std.specs.Fmt.{decimal, signed_decimal}
 use Rattle.network.specs.Problem.{Problem, rules}
-use Rattle.network.specs.Schedule.{IsLeastSchedule, makespan}
+use Rattle.network.specs.Schedule.{IsLeastSchedule, IsFeasible, makespan}
 use Rattle.network.specs.Walk.{IsLeastCycleTop}
+use Rattle.schedule_check.specs.declared.violation.Violation.{Violation}
+use Rattle.schedule_check.specs.declared.violation.Violation.TheVariants as violation
+use Rattle.schedule_check.specs.Starts.{starts_fault, starts_of}
+use Rattle.schedule_check.specs.Violations.{violations}
 
 -- a line for each activity, from this one on: its number and its start
 abbrev pub start_lines : ℕ → List ℤ → List ℕ
@@ -28,3 +33,32 @@ pub record IsCycleText (p : Problem) (written : List ℕ) : Type 0 where
 
 abbrev pub IsEarliestText : Problem → List ℕ → Type 0
 IsEarliestText p written = IsLeastText p written ⊎ IsCycleText p written
+
+-- ---- what `check` says
+
+-- a line for a broken rule or an overload
+abbrev pub violation_line : Violation → List ℕ
+violation_line (violation.StartNotZero found) = codes "start " ++ (signed_decimal found ++ codes "\n")
+violation_line (violation.Lag from to weight) = codes "lag " ++ (decimal from ++ (codes " " ++ (decimal to ++ (codes " " ++ (signed_decimal weight ++ codes "\n")))))
+violation_line (violation.Overload time resource used) = codes "overload " ++ (signed_decimal time ++ (codes " " ++ (decimal resource ++ (codes " " ++ (decimal used ++ codes "\n")))))
+
+abbrev pub violations_text : List Violation → List ℕ
+violations_text found = flat_map violation_line found
+
+abbrev pub feasible_line : ℤ → List ℕ
+feasible_line makespan = codes "feasible " ++ (signed_decimal makespan ++ codes "\n")
+
+-- what `check` writes for a list of starts, and the exit status: that they are a feasible schedule,
+-- or else every violation
+pub record IsFeasibleText (p : Problem) (starts : List ℤ) (exit : ℕ) (written : List ℕ) : Type 0 where
+  pub feasible : IsFeasible p starts
+  pub text : written ≡ feasible_line (makespan starts)
+  pub status : exit ≡ 0
+
+pub record IsViolationsText (p : Problem) (starts : List ℤ) (exit : ℕ) (written : List ℕ) : Type 0 where
+  pub infeasible : ¬ IsFeasible p starts
+  pub text : written ≡ violations_text (violations p starts)
+  pub status : exit ≡ 4
+
+abbrev pub IsCheckText : Problem → List ℤ → ℕ → List ℕ → Type 0
+IsCheckText p starts exit written = IsFeasibleText p starts exit written ⊎ IsViolationsText p starts exit written

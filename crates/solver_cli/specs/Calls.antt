@@ -1,5 +1,5 @@
 -- Which calls the program takes.
-use Rattle.std.specs.Prelude.{◌≡◌, is_some, Bool, false}
+use Rattle.std.specs.Prelude.{◌≡◌, is_some, Bool, true, false}
 use Rattle.solver_cli.specs.declared.call.Job.{Job}
 use Rattle.solver_cli.specs.declared.call.Job.TheVariants as jobs
 use Rattle.solver_cli.specs.declared.call.Call.{Call}
@@ -7,14 +7,17 @@ use Rattle.solver_cli.specs.declared.call.Call.{Call}
 -- the numbers of a job are within the limits
 abbrev pub IsJob : Job → Type 0
 IsJob jobs.Earliest = Unit {0}
+IsJob jobs.Check = Unit {0}
 
 -- whether a job reads a second input
 abbrev pub reads_second : Job → Bool
 reads_second jobs.Earliest = false
+reads_second jobs.Check = true
 
 -- whether it writes a record
 abbrev pub writes_record : Job → Bool
 writes_record jobs.Earliest = false
+writes_record jobs.Check = false
 
 -- the job is within the limits, and just the files that it uses have names
 pub record IsCall (c : Call) : Type 0 where

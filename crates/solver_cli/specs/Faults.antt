@@ -2,6 +2,8 @@
 use Rattle.std.specs.Prelude.{ℕ}
 use Rattle.sch_reader.specs.declared.fault.SchFault.{SchFault}
 use Rattle.sch_reader.specs.declared.fault.SchFault.TheVariants as texts
+use Rattle.schedule_check.specs.declared.fault.StartsFault.{StartsFault}
+use Rattle.schedule_check.specs.declared.fault.StartsFault.TheVariants as starts
 use Rattle.solver_cli.specs.declared.fault.Fault.{Fault}
 use Rattle.solver_cli.specs.declared.fault.Fault.TheVariants as faults
 
@@ -19,6 +21,15 @@ fault_of (texts.Range index) = faults.Range index
 fault_of (texts.Dummy row) = faults.Dummy row
 fault_of texts.Memory = faults.Memory
 
+-- the fault of a text of starts
+abbrev pub starts_fault_of : StartsFault → Fault
+starts_fault_of starts.TooLong = faults.TooLong
+starts_fault_of (starts.Token line) = faults.StartsToken line
+starts_fault_of (starts.Activity line) = faults.StartsActivity line
+starts_fault_of (starts.Repeated line) = faults.Repeated line
+starts_fault_of (starts.Missing activity) = faults.Missing activity
+starts_fault_of starts.Memory = faults.Memory
+
 -- the exit status: 1 for memory and devices, 2 for a text that isn't what it should be
 abbrev pub exit_of : Fault → ℕ
 exit_of faults.Memory = 1
@@ -34,3 +45,7 @@ exit_of (faults.RowNumber row found) = 2
 exit_of (faults.Activity row found) = 2
 exit_of (faults.Range index) = 2
 exit_of (faults.Dummy row) = 2
+exit_of (faults.StartsToken line) = 2
+exit_of (faults.StartsActivity line) = 2
+exit_of (faults.Repeated line) = 2
+exit_of (faults.Missing activity) = 2

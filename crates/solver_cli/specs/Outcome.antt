@@ -1,15 +1,17 @@
 -- What a run writes for the texts that it reads, and how it ends.
-use Rattle.std.specs.Prelude.{◌≡◌, ℕ, List, Option, Some}
-use Rattle.network.specs.Problem.{Problem}
+use Rattle.std.specs.Prelude.{◌≡◌, ℕ, List, Option, None, Some, ◌⊎◌}
+use Rattle.network.specs.Problem.{Problem, activity_count}
 use Rattle.network.specs.Limits.{IsProject}
 use Rattle.sch_reader.specs.declared.fault.SchFault.{SchFault}
 use Rattle.sch_reader.specs.Text.{Spells, IsFirstFault}
+use Rattle.schedule_check.specs.declared.fault.StartsFault.{StartsFault}
+use Rattle.schedule_check.specs.Starts.{starts_fault, starts_of}
 use Rattle.solver_cli.specs.declared.call.Job.{Job}
 use Rattle.solver_cli.specs.declared.call.Job.TheVariants as jobs
 use Rattle.solver_cli.specs.declared.fault.Fault.{Fault}
-use Rattle.solver_cli.specs.Answers.{IsEarliestText}
+use Rattle.solver_cli.specs.Answers.{IsEarliestText, IsCheckText}
 use Rattle.solver_cli.specs.Devices.{Holds, HoldsFront}
-use Rattle.solver_cli.specs.Faults.{fault_of}
+use Rattle.solver_cli.specs.Faults.{fault_of, starts_fault_of}
 
 -- the text spells a project, which has this property
 pub record SpellsOne (text : List ℕ) (P : Problem → Type 0) : Type 0 where
@@ -30,13 +32,34 @@ pub record IsEarliestAnswer (text : List ℕ) (exit : ℕ) (written : List ℕ) 
   pub answers : SpellsOne text (λ p. IsEarliestText p written)
   pub status : exit ≡ 0
 
+-- the text gives starts for the project, and this is written of them
+pub record IsReadAndChecked (p : Problem) (text : List ℕ) (exit : ℕ) (written : List ℕ) : Type 0 where
+  pub read : starts_fault (activity_count p) text ≡ None
+  pub checked : IsCheckText p (starts_of (activity_count p) text) exit written
+
+-- what `check` writes for the starts in a text and the project in another, and the exit status
+abbrev pub IsCheckAnswer : List ℕ → List ℕ → ℕ → List ℕ → Type 0
+IsCheckAnswer text project exit written = SpellsOne project (λ p. IsReadAndChecked p text exit written)
+
+-- the text gives no starts for the project, and this is its first fault
+pub record IsFirstStartsFault (p : Problem) (text : List ℕ) (fault : Fault) : Type 0 where
+  pub cause : StartsFault
+  pub first : starts_fault (activity_count p) text ≡ Some cause
+  pub told : fault ≡ starts_fault_of cause
+
+-- the same, for the project that another text spells
+abbrev pub HasStartsFault : List ℕ → List ℕ → Fault → Type 0
+HasStartsFault text project fault = SpellsOne project (λ p. IsFirstStartsFault p text fault)
+
 -- what a job writes for its two texts, and the exit status
 abbrev pub IsAnswer : Job → List ℕ → List ℕ → ℕ → List ℕ → Type 0
 IsAnswer jobs.Earliest text second exit written = IsEarliestAnswer text exit written
+IsAnswer jobs.Check text second exit written = IsCheckAnswer text second exit written
 
 -- why a job has no answer to its two texts
 abbrev pub IsRefusal : Job → List ℕ → List ℕ → Fault → Type 0
 IsRefusal jobs.Earliest text second fault = HasFault text fault
+IsRefusal jobs.Check text second fault = HasFault second fault ⊎ HasStartsFault text second fault
 
 -- a job's answer to its two texts was written whole
 pub record IsAnswered (job : Job) (text second : List ℕ) (exit : ℕ) (before after : Option (List ℕ)) : Type 0 where

@@ -2,11 +2,12 @@ ghost use Rattle.std.specs.Prelude.{◌≡◌, ◌++◌, ◌∷◌, [], ◌<◌,
 ghost use Rattle.std.specs.Fmt.{decimal};
 ghost use Rattle.network.specs.Limits.{IsProject};
 ghost use Rattle.network.specs.Schedule.{makespan};
-ghost use Rattle.solver_cli.specs.Answers.{starts_text, start_lines, IsEarliestText};
+ghost use Rattle.solver_cli.specs.Answers.{starts_text, start_lines, feasible_line, violation_line, violations_text, IsEarliestText};
 
 use earliest::least_starts;
 use longest_path::{PathFault, longest};
 use network::Project;
+use schedule_check::Violation;
 use std::alloc::{AllocError, Global};
 
 fn put_start(out: &mut String, activity: usize, start: i64) -> Result<(), AllocError>
@@ -53,4 +54,34 @@ pub(crate) fn earliest_text(alloc: Global, project: &Project) -> Result<String, 
     let end = project.activity_count() - 1;
     let text = starts_text(alloc, "earliest", starts[end], &starts)?;
     Ok(text)
+}
+
+/// That starts with this last one are a feasible schedule.
+pub(crate) fn feasible_text(alloc: Global, makespan: i64) -> Result<String, AllocError>
+    ensures { IfOk result (λ t. string_bytes t ≡ feasible_line makespan) }
+{
+    let mut out = String::new(alloc);
+    writeln!(out, "feasible {makespan}")?;
+    Ok(out)
+}
+
+fn put_violation(out: &mut String, violation: &Violation) -> Result<(), AllocError>
+    ensures { OnOk result (string_bytes out.new ≡ string_bytes out.old ++ violation_line violation.now) }
+{
+    match *violation {
+        Violation::StartNotZero { found } => writeln!(out, "start {found}"),
+        Violation::Lag { from, to, weight } => writeln!(out, "lag {from} {to} {weight}"),
+        Violation::Overload { time, resource, used } => writeln!(out, "overload {time} {resource} {used}"),
+    }
+}
+
+/// A line for each violation.
+pub(crate) fn violations_text(alloc: Global, found: &[Violation]) -> Result<String, AllocError>
+    ensures { IfOk result (λ t. string_bytes t ≡ violations_text found.now) }
+{
+    let mut out = String::new(alloc);
+    for violation in found {
+        put_violation(&mut out, violation)?;
+    }
+    Ok(out)
 }

@@ -2,7 +2,7 @@ ghost use Rattle.std.specs.Prelude.{◌≡◌, IfOk, IfSome};
 ghost use Rattle.solver_cli.specs.Calls.{IsCall};
 
 use clap::error::ErrorKind;
-use clap::{ArgMatches, Command};
+use clap::{Arg, ArgAction, ArgMatches, Command};
 use std::alloc::{AllocError, Global};
 use thiserror::Error;
 
@@ -11,6 +11,9 @@ use thiserror::Error;
 pub enum Job {
     /// Print the least schedule of the time lags of a project, or the positive cycle.
     Earliest,
+    /// Say whether the starts on standard input are a feasible schedule of a project in a file, or
+    /// every rule that they break.
+    Check,
 }
 
 /// A job, and the names of the files that it uses.
@@ -61,26 +64,61 @@ fn earliest_command<'a>(alloc: Global) -> Command<'a> {
     )
 }
 
+fn check_command<'a>(alloc: Global) -> Result<Command<'a>, AllocError> {
+    let project = Arg::new(alloc, "project")
+        .long("project")
+        .value_name("FILE")
+        .action(ArgAction::Set)
+        .required(true);
+    Command::new(alloc, "check")
+        .about("Check a list of starts on standard input against a project in a file")
+        .arg(project)
+}
+
 fn command<'a>(alloc: Global) -> Result<Command<'a>, AllocError> {
     Command::new(alloc, "psmax")
         .bin_name("psmax")?
         .about("Solve projects with resources and time lags, with every answer proved")
         .subcommand_required(true)
-        .subcommand(earliest_command(alloc))
+        .subcommand(earliest_command(alloc))?
+        .subcommand(check_command(alloc)?)
+}
+
+fn earliest_call() -> Call
+    ensures { IsCall result }
+{
+    Call {
+        job: Job::Earliest,
+        second: None,
+        record_file: None,
+    }
+}
+
+/// The call of a job that reads a project from a file; none where the file isn't named, which `clap`
+/// doesn't let pass.
+fn check_call(alloc: Global, matches: &ArgMatches<'_>) -> Result<Option<Call>, AllocError>
+    ensures { IfOk result (λ call. IfSome call IsCall) }
+{
+    let Some(name) = matches.get_str("project") else {
+        return Ok(None);
+    };
+    let name = String::from_str(alloc, name)?;
+    Ok(Some(Call {
+        job: Job::Check,
+        second: Some(name),
+        record_file: None,
+    }))
 }
 
 /// The call that the matches make; none where `clap` lets words pass that make none, which it
 /// doesn't.
-fn found_call(matches: &ArgMatches<'_>) -> Option<Call>
-    ensures { IfSome result IsCall }
+fn found_call(alloc: Global, matches: &ArgMatches<'_>) -> Result<Option<Call>, AllocError>
+    ensures { IfOk result (λ call. IfSome call IsCall) }
 {
     match matches.subcommand() {
-        Some(("earliest", _)) => Some(Call {
-            job: Job::Earliest,
-            second: None,
-            record_file: None,
-        }),
-        _ => None,
+        Some(("earliest", _)) => Ok(Some(earliest_call())),
+        Some(("check", found)) => check_call(alloc, found),
+        _ => Ok(None),
     }
 }
 
@@ -92,7 +130,7 @@ pub fn call_of(alloc: Global, words: &[String]) -> Result<Call, WordsFault>
         Ok(matches) => matches,
         Err(error) => return Err(words_fault(alloc, &error)),
     };
-    match found_call(&matches) {
+    match found_call(alloc, &matches)? {
         Some(call) => Ok(call),
         None => Err(WordsFault::Bad {
             text: String::new(alloc),

@@ -1,11 +1,12 @@
 ghost use Rattle.std.specs.Prelude.{◌≡◌};
 
 use sch_reader::SchFault;
+use schedule_check::StartsFault;
 use std::alloc::AllocError;
 use thiserror::Error;
 
-/// Why a run has no answer, with the text that is printed after `psmax: `. Words and rows are counted
-/// from 0.
+/// Why a run has no answer, with the text that is printed after `psmax: `. Words and rows of a project
+/// text count from 0, lines of a starts text from 1.
 #[derive(Clone, Copy, Debug, PartialEq, Eq, Error)]
 pub enum Fault {
     #[error("out of memory")]
@@ -34,6 +35,14 @@ pub enum Fault {
     Range { index: usize },
     #[error("row {row}: a dummy with duration or demand")]
     Dummy { row: usize },
+    #[error("line {line}: not an activity and a start")]
+    StartsToken { line: usize },
+    #[error("line {line}: no such activity")]
+    StartsActivity { line: usize },
+    #[error("line {line}: repeated")]
+    Repeated { line: usize },
+    #[error("activity {activity}: no start")]
+    Missing { activity: usize },
 }
 
 impl Fault {
@@ -81,6 +90,24 @@ impl From<SchFault> for Fault {
             SchFault::Range { index } => Fault::Range { index },
             SchFault::Dummy { row } => Fault::Dummy { row },
             SchFault::Memory => Fault::Memory,
+        }
+    }
+}
+
+impl From<StartsFault> for Fault {
+    ghost use Rattle.std.specs.Prelude.{◌≡◌};
+    ghost use Rattle.solver_cli.specs.Faults.{starts_fault_of};
+
+    ghost from_gives = { λ cause fault. fault ≡ starts_fault_of cause };
+
+    fn from(cause: StartsFault) -> Fault {
+        match cause {
+            StartsFault::TooLong => Fault::TooLong,
+            StartsFault::Token { line } => Fault::StartsToken { line },
+            StartsFault::Activity { line } => Fault::StartsActivity { line },
+            StartsFault::Repeated { line } => Fault::Repeated { line },
+            StartsFault::Missing { activity } => Fault::Missing { activity },
+            StartsFault::Memory => Fault::Memory,
         }
     }
 }

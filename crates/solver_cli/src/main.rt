@@ -1,20 +1,25 @@
 //! `psmax`: projects with resources and time lags, with every answer proved.
 #![tactic(auto)]
 
+ghost use Rattle.std.specs.Prelude.{◌<◌};
+ghost use Rattle.solver_cli.specs.Calls.{IsCall, IsJob};
+
 mod answers;
 mod call;
 mod device;
 mod fault;
+mod jobs;
 mod runs;
 mod standard;
 #[cfg(test)]
 mod tests;
 
-use call::{Call, WordsFault, call_of};
+use call::{Call, Job, WordsFault, call_of};
+use device::Input;
 use runs::{Ended, run};
 use standard::{NoInput, Reader, Writer};
 use std::process::ExitCode;
-use std::{env, io};
+use std::{env, fs, io};
 
 /// Prints what words that are no call get: help to standard output, the rest to standard error.
 fn refuse(rt: &HostRuntime, fault: &WordsFault) -> ExitCode {
@@ -26,20 +31,32 @@ fn refuse(rt: &HostRuntime, fault: &WordsFault) -> ExitCode {
     ExitCode::from(if printed.is_ok() { status } else { 1 })
 }
 
-/// Runs the call on standard input and output, and prints its fault.
-fn perform(rt: &HostRuntime, call: Call) -> ExitCode {
+/// Runs the job on standard input and output and a second input, and prints its fault.
+fn perform<S: Input>(rt: &HostRuntime, job: Job, second: &mut S) -> ExitCode
+    requires job { IsJob job }
+    requires second { S.failed second.old < 18446744073709551615 }
+{
     let mut input = Reader::new(rt.reader());
     let mut out = Writer::new(io::writer(rt));
-    let mut nothing = Writer::new(io::sink());
-    let ended = run(
-        rt.alloc(),
-        call.job,
-        &mut input,
-        &mut NoInput,
-        &mut out,
-        &mut nothing,
-    );
+    let mut record = Writer::new(io::sink());
+    let ended = run(rt.alloc(), job, &mut input, second, &mut out, &mut record);
     report(rt, &ended)
+}
+
+/// Opens the files that the call names, and runs its job.
+fn start(rt: &HostRuntime, call: &Call) -> ExitCode
+    requires { IsCall call.now }
+{
+    let Some(name) = &call.second else {
+        return perform(rt, call.job, &mut NoInput);
+    };
+    match fs::open(rt, name.as_str()) {
+        Ok(file) => perform(rt, call.job, &mut Reader::new(file)),
+        Err(_) => {
+            let _ = eprintln!(rt; "psmax: cannot open {name}");
+            ExitCode::from(1)
+        }
+    }
 }
 
 fn report(rt: &HostRuntime, ended: &Ended) -> ExitCode {
@@ -61,7 +78,7 @@ fn main(rt: HostRuntime) -> ExitCode {
         return ExitCode::from(2);
     };
     match call_of(rt.alloc(), &words) {
-        Ok(call) => perform(&rt, call),
+        Ok(call) => start(&rt, &call),
         Err(fault) => refuse(&rt, &fault),
     }
 }

@@ -1,22 +1,19 @@
 //! A run over devices.
 
-ghost use Rattle.std.specs.Prelude.{◌≡◌, ◌≢◌, ◌<◌, ◌≤◌, ◌+◌, ◌^◌, ℕ, List, Option, Some, None, Ok, Err, length, take, drop, IfOk, IfErr, IfSome, IfNone, ◌⊎◌, string_bytes};
+ghost use Rattle.std.specs.Prelude.{◌≡◌, ◌≢◌, ◌<◌, ◌+◌, ℕ, List, Option, Some, Err, IfOk, IfErr, IfSome, IfNone, ◌⊎◌, string_bytes};
 ghost use Rattle.solver_cli.specs.declared.fault.Fault.{Fault};
 ghost use Rattle.solver_cli.specs.declared.fault.Fault.TheVariants as faults;
 ghost use Rattle.solver_cli.specs.Calls.{IsJob};
 ghost use Rattle.solver_cli.specs.Devices.{GaveUpTo};
 ghost use Rattle.solver_cli.specs.Faults.{exit_of};
-ghost use Rattle.solver_cli.specs.Outcome.{IsAnswer, IsRefusal, IsAnswered, IsCutShort, IsEarliestAnswer, HasFault, Told};
+ghost use Rattle.solver_cli.specs.Outcome.{IsAnswer, IsRefusal, IsAnswered, IsCutShort, Told};
 
-use crate::answers::earliest_text;
-use crate::call::Job;
-use crate::device::{Failed, Input, Output, ReadError, read_all, write_all};
-use crate::fault::Fault;
-use sch_reader::read_sch;
 use std::alloc::Global;
 
-/// How many bytes a project text may have.
-const TEXT_LIMIT: usize = 16_777_216;
+use crate::call::Job;
+use crate::device::{Failed, Input, Output, write_all};
+use crate::fault::Fault;
+use crate::jobs::{Answer, check, earliest};
 
 /// How a run ended: the exit status, and the fault that is printed, if any.
 #[derive(Clone, Copy, Debug, PartialEq, Eq)]
@@ -25,59 +22,29 @@ pub struct Ended {
     pub fault: Option<Fault>,
 }
 
-/// What is to be written, and the exit status once it is.
-#[derive(Drop)]
-struct Answer {
-    text: String,
-    exit: u8,
-}
-
-/// Reads a whole text, and of a longer one no more than one byte beyond the limit.
-fn read_text<I: Input>(alloc: Global, input: &mut I) -> Result<Vec<u8>, Fault>
-    requires { I.failed input.old < 18446744073709551615 }
-    ensures told { IfOk result (λ text. (bytes : List ℕ) → I.left input.old ≡ Some bytes → text.items ≡ take 16777217 bytes) }
-    ensures faults { IfErr result (λ fault. (fault ≡ faults.ReadFailed) ⊎ (fault ≡ faults.Memory)) }
-    ensures failed { result ≡ Err faults.ReadFailed → I.failed input.new ≡ I.failed input.old + 1 }
-    ensures worked { result ≢ Err faults.ReadFailed → I.failed input.new ≡ I.failed input.old }
-    ensures within { GaveUpTo 16777217 (I.left input.old) (I.left input.new) }
-{
-    match read_all(alloc, input, TEXT_LIMIT) {
-        Ok(text) => Ok(text),
-        Err(ReadError::Failed) => Err(Fault::ReadFailed),
-        Err(ReadError::Memory) => Err(Fault::Memory),
-    }
-}
-
-/// The answer of `earliest` to a text.
-fn earliest_answer(alloc: Global, text: &[u8]) -> Result<Answer, Fault>
-    ensures said { IfOk result (λ a. IsEarliestAnswer text.now a.exit (string_bytes a.text)) }
-    ensures refused { IfErr result (λ fault. fault ≢ faults.Memory → HasFault text.now fault) }
-{
-    let project = read_sch(alloc, text)?;
-    let text = earliest_text(alloc, &project)?;
-    Ok(Answer { text, exit: 0 })
-}
-
 /// The answer of a job to what its inputs hold.
 fn job_answer<I: Input, S: Input>(
     alloc: Global,
     job: Job,
     input: &mut I,
-    _second: &mut S,
+    second: &mut S,
 ) -> Result<Answer, Fault>
     requires input { I.failed input.old < 18446744073709551615 }
-    requires second { S.failed _second.old < 18446744073709551615 }
-    ensures said { IfOk result (λ a. Told (I.left input.old) (S.left _second.old) (λ text more. IsAnswer job text more a.exit (string_bytes a.text))) }
-    ensures refused { IfErr result (λ fault. exit_of fault ≢ 1 → Told (I.left input.old) (S.left _second.old) (λ text more. IsRefusal job text more fault)) }
+    requires second { S.failed second.old < 18446744073709551615 }
+    ensures said { IfOk result (λ a. Told (I.left input.old) (S.left second.old) (λ text more. IsAnswer job text more a.exit (string_bytes a.text))) }
+    ensures refused { IfErr result (λ fault. exit_of fault ≢ 1 → Told (I.left input.old) (S.left second.old) (λ text more. IsRefusal job text more fault)) }
     ensures unwritten { IfErr result (λ fault. fault ≢ faults.WriteFailed) }
-    ensures failed { result ≡ Err faults.ReadFailed → (I.failed input.new ≡ I.failed input.old + 1) ⊎ (S.failed _second.new ≡ S.failed _second.old + 1) }
+    ensures failed { result ≡ Err faults.ReadFailed → (I.failed input.new ≡ I.failed input.old + 1) ⊎ (S.failed second.new ≡ S.failed second.old + 1) }
     ensures within { GaveUpTo 16777217 (I.left input.old) (I.left input.new) }
-    ensures within_second { GaveUpTo 16777217 (S.left _second.old) (S.left _second.new) }
+    ensures within_second { GaveUpTo 16777217 (S.left second.old) (S.left second.new) }
 {
     match job {
         Job::Earliest => {
-            let text = read_text(alloc, input)?;
-            let answer = earliest_answer(alloc, &text)?;
+            let answer = earliest(alloc, input)?;
+            Ok(answer)
+        }
+        Job::Check => {
+            let answer = check(alloc, input, second)?;
             Ok(answer)
         }
     }

@@ -1,6 +1,7 @@
+use Rattle.std.proofs.Common.{◌≡◌, ◌≢◌, ◌∙◌, sym, ap, refl, rules, inl, inr}
 use Rattle.std.proofs.lemmas.Result.{err_from_is_err_and}
 use Rattle.solver_cli.proofs.TextLaws.{refused_by}
-use Rattle.solver_cli.proofs.runs.earliest_answer.Goals as goal
+use Rattle.solver_cli.proofs.jobs.project_of.Goals as goal
 
 pub returns-in_err-project-clause-refused : goal.returns-in_err-project-clause-refused
 returns-in_err-project-clause-refused c =
