@@ -1,14 +1,14 @@
 -- When the list of violations is empty.
-use Rattle.std.proofs.Common.{◌≡◌, ℕ, Bool, true, false, cond, List, [], ◌∷◌, ◌++◌, map, refl, sym, ap, ◌∙◌, append_assoc, arith}
+use Rattle.std.proofs.Common.{◌≡◌, Bool, true, false, cond, List, [], ◌∷◌, ◌++◌, refl, append_assoc, arith}
 use Rattle.std.specs.Prelude.{ℤ, pos, ◌+ℤ◌, ◌≤ℤ◌, int_lt, ◌↔◌}
-use Rattle.std.specs.List.{All, AllByRecursion, filter}
+use Rattle.std.specs.List.{AllByRecursion, filter}
 use Rattle.std.specs.Ordering.{int_eq}
-use Rattle.std.proofs.lemmas.Int.{ints, by_lt_z}
+use Rattle.std.proofs.lemmas.Int.{ints}
 use Rattle.std.proofs.lemmas.List.Elements.{recursion_from_All, All-from_recursion, All-weaker}
 use Rattle.network.specs.declared.lag.Lag.{Lag}
 use Rattle.network.specs.Problem.{Problem, rules}
 use Rattle.network.specs.Limits.{AreStarts}
-use Rattle.network.specs.Schedule.{start, Meets, IsSchedule, IsFeasible, IsWithinCapacities}
+use Rattle.network.specs.Schedule.{start, Meets, IsFeasible}
 use Rattle.profile.specs.Overloads.{excesses}
 use Rattle.profile.proofs.Empty.{filter_nil, map_nil, append_nil_left, append_nil_right}
 use Rattle.profile.proofs.Firsts.{excesses_none}

@@ -1,6 +1,6 @@
 -- What a text of starts gives, and its first fault.
-use Rattle.std.proofs.Common.{◌≡◌, ℕ, zero, suc, ◌+◌, ◌<◌, ◌≤◌, Bool, true, false, cond, ◌&&◌, List, [], ◌∷◌, ◌++◌, length, get_or, map, drop, refl, sym, ap, ◌∙◌, subst, arith, Option, Some, None, ltb, eqb, ◌≢◌}
-use Rattle.std.specs.Prelude.{ℤ, pos, neg_ℤ, unwrap_or, is_some, nat_le}
+use Rattle.std.proofs.Common.{◌≡◌, ℕ, zero, suc, ◌+◌, ◌<◌, ◌≤◌, Bool, true, false, cond, ◌&&◌, List, [], ◌∷◌, length, map, drop, refl, sym, ap, ◌∙◌, subst, arith, Option, Some, None, ltb, eqb}
+use Rattle.std.specs.Prelude.{ℤ, pos, unwrap_or, is_some, nat_le}
 use Rattle.std.specs.List.{All, AllByRecursion, range_with_len, list_all}
 use Rattle.std.specs.Option.{option_map}
 use Rattle.std.specs.Char.{is_ascii_digit}
@@ -15,9 +15,9 @@ use Rattle.network.specs.Limits.{IsTime}
 use Rattle.schedule_check.specs.declared.entry.Entry.{Entry}
 use Rattle.schedule_check.specs.declared.entry.Entry.TheVariants.{Nothing, Gives, Wrong}
 use Rattle.schedule_check.specs.declared.fault.StartsFault.{StartsFault}
-use Rattle.schedule_check.specs.Starts.{fields, is_numeral, natural, negated, whole, given, entry_of, line_entries, is_answer, entries, start_in, start_given, starts_given, line_fault, missing_fault, or_else, starts_fault, starts_of}
+use Rattle.schedule_check.specs.Starts.{fields, is_numeral, natural, negated, whole, given, entry_of, line_entries, is_answer, entries, start_in, start_given, starts_given, line_fault, missing_fault, starts_fault, starts_of}
 use Rattle.schedule_check.specs.Table.{first_fault, with_entries}
-use Rattle.schedule_check.proofs.DigitLaws.{AreDigits, value-below}
+use Rattle.schedule_check.proofs.DigitLaws.{value-below}
 use Rattle.schedule_check.proofs.Tables.{same_first_fault, all_entries}
 
 short_text : (text : List ℕ) → length text ≤ 16777216 → ltb 16777216 (length text) ≡ false

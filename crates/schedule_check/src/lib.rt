@@ -8,6 +8,8 @@ mod line;
 mod number;
 mod starts_text;
 mod table;
+#[cfg(test)]
+mod tests;
 mod violation;
 
 pub use acceptance::{AcceptFault, accept};

@@ -1,4 +1,4 @@
-use Rattle.std.proofs.Common.{◌≡◌, sym, arith, ◌∙◌, drop}
+use Rattle.std.proofs.Common.{◌≡◌, sym, ◌∙◌, drop}
 use Rattle.std.specs.List.{position_or_len}
 use Rattle.schedule_check.specs.Starts.{is_space}
 use Rattle.schedule_check.proofs.FieldLaws.{no_field, found_field, end_is}

@@ -1,4 +1,4 @@
-use Rattle.std.proofs.Common.{◌≡◌, ◌<◌, ◌∷◌, [], ◌∙◌, sym, arith, take, drop, length}
+use Rattle.std.proofs.Common.{◌∙◌, sym, arith, length}
 use Rattle.std.proofs.lemmas.List.{take_all}
 use Rattle.std.proofs.Math.ListN.{drop_of_length-le}
 use Rattle.schedule_check.proofs.LineLaws.{lines-first, lines-last}

@@ -1,4 +1,4 @@
-use Rattle.std.proofs.Common.{arith, get_or}
+use Rattle.std.proofs.Common.{arith}
 use Rattle.schedule_check.proofs.DigitLaws.{value-step, value-small}
 use Rattle.schedule_check.proofs.number.digits_value.Goals as goal
 

@@ -1,4 +1,4 @@
-use Rattle.std.proofs.Common.{◌≡◌, ◌∙◌, rules, ℤ, Option, None, Some, refl}
+use Rattle.std.proofs.Common.{◌∙◌, rules}
 use Rattle.schedule_check.proofs.Tables.{empty_table}
 use Rattle.schedule_check.proofs.starts_text.empty_table.Goals as goal
 

@@ -1,4 +1,4 @@
-use Rattle.std.proofs.Common.{◌≡◌, ◌∙◌, sym, ap, None, Some, length}
+use Rattle.std.proofs.Common.{◌∙◌, sym, ap, None, Some, length}
 use Rattle.std.proofs.lemmas.List.{with_items_is}
 use Rattle.std.proofs.lemmas.Result.{err_from_is_err_and}
 use Rattle.schedule_check.proofs.Texts.{lines_fault, lines_table}

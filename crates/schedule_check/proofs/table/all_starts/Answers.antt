@@ -1,4 +1,4 @@
-use Rattle.std.proofs.Common.{◌≡◌, ◌∙◌, sym, ap, get_or, arith, rules, w64, None, Some}
+use Rattle.std.proofs.Common.{◌∙◌, sym, ap, arith, rules, w64, Some}
 use Rattle.std.proofs.lemmas.Int.{to_z-of_z}
 use Rattle.schedule_check.proofs.Tables.{missing_at, none_missing, given_more, taken_more}
 use Rattle.schedule_check.proofs.table.all_starts.Goals as goal
