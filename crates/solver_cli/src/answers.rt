@@ -71,7 +71,11 @@ fn put_violation(out: &mut String, violation: &Violation) -> Result<(), AllocErr
     match *violation {
         Violation::StartNotZero { found } => writeln!(out, "start {found}"),
         Violation::Lag { from, to, weight } => writeln!(out, "lag {from} {to} {weight}"),
-        Violation::Overload { time, resource, used } => writeln!(out, "overload {time} {resource} {used}"),
+        Violation::Overload {
+            time,
+            resource,
+            used,
+        } => writeln!(out, "overload {time} {resource} {used}"),
     }
 }
 

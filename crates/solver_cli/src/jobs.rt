@@ -12,14 +12,13 @@ ghost use Rattle.solver_cli.specs.Devices.{GaveUpTo};
 ghost use Rattle.solver_cli.specs.Faults.{exit_of};
 ghost use Rattle.solver_cli.specs.Outcome.{IsEarliestAnswer, IsCheckAnswer, HasFault, HasStartsFault, IsFirstStartsFault, Told};
 
+use crate::answers::{earliest_text, feasible_text, violations_text};
+use crate::device::{Input, ReadError, read_all};
+use crate::fault::Fault;
 use network::Project;
 use sch_reader::read_sch;
 use schedule_check::{read_starts, violations};
 use std::alloc::Global;
-
-use crate::answers::{earliest_text, feasible_text, violations_text};
-use crate::device::{Input, ReadError, read_all};
-use crate::fault::Fault;
 
 /// How many bytes a text may have.
 const TEXT_LIMIT: usize = 16_777_216;

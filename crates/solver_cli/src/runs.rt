@@ -8,12 +8,11 @@ ghost use Rattle.solver_cli.specs.Devices.{GaveUpTo};
 ghost use Rattle.solver_cli.specs.Faults.{exit_of};
 ghost use Rattle.solver_cli.specs.Outcome.{IsAnswer, IsRefusal, IsAnswered, IsCutShort, Told};
 
-use std::alloc::Global;
-
 use crate::call::Job;
 use crate::device::{Failed, Input, Output, write_all};
 use crate::fault::Fault;
 use crate::jobs::{Answer, check, earliest};
+use std::alloc::Global;
 
 /// How a run ended: the exit status, and the fault that is printed, if any.
 #[derive(Clone, Copy, Debug, PartialEq, Eq)]

@@ -180,6 +180,16 @@ fn faults_have_their_texts(rt: HostRuntime) -> Result<(), Fail> {
             Fault::Dummy { row: 3 },
             "row 3: a dummy with duration or demand",
         ),
+        (
+            Fault::StartsToken { line: 3 },
+            "line 3: not an activity and a start",
+        ),
+        (
+            Fault::StartsActivity { line: 3 },
+            "line 3: no such activity",
+        ),
+        (Fault::Repeated { line: 3 }, "line 3: repeated"),
+        (Fault::Missing { activity: 3 }, "activity 3: no start"),
     ];
     for (fault, text) in wanted {
         assert_eq!(rt; format!(in rt.alloc(); "{fault}")?.as_str(), text);
@@ -203,6 +213,12 @@ fn words_make_calls(rt: HostRuntime) -> Result<(), Fail> {
     };
     assert_eq!(rt; call.job, Job::Earliest);
     assert!(rt; call.second.is_none() && call.record_file.is_none());
+    let check = words(rt.alloc(), &["psmax", "check", "--project", "p.sch"])?;
+    let Ok(call) = call_of(rt.alloc(), &check) else {
+        return Err("refused".into());
+    };
+    assert_eq!(rt; call.job, Job::Check);
+    assert!(rt; call.second.is_some() && call.record_file.is_none());
     let help = words(rt.alloc(), &["psmax", "--help"])?;
     assert!(rt; matches!(call_of(rt.alloc(), &help), Err(WordsFault::Help { .. })));
     let bad = words(rt.alloc(), &["psmax", "latest"])?;

@@ -20,17 +20,17 @@ pub returns-in_err-answer-clause-refused : goal.returns-in_err-answer-clause-ref
 returns-in_err-answer-clause-refused g c =
     let p = err_from_is_err_and c.from_residual-in_err-answer.result c.from_residual-in_err-answer.ensures.1 in
     rw (p.1, p.2) (λ other text more told told_more.
-      let refused = c.in_err-answer.ensures.refused (λ is. other (ap exit_of is)) in
-      inr (record {
-        project = c.in_ok-project.project;
-        is_project = c.in_ok-project.ensures.project.0;
-        spells = c.in_ok-project.ensures.project.1 more told_more;
-        has = record {
-          cause = refused.cause;
-          first = sym (starts_fault_whole (activity_count c.in_ok-project.project) c.deref.result.now text (c.deref.ensures.value ∙ c.in_ok-text.ensures.told text told)) ∙ refused.first;
-          told = refused.told;
-        };
-      }))
+    let refused = c.in_err-answer.ensures.refused (λ is. other (ap exit_of is)) in
+    inr (record {
+      project = c.in_ok-project.project;
+      is_project = c.in_ok-project.ensures.project.0;
+      spells = c.in_ok-project.ensures.project.1 more told_more;
+      has = record {
+        cause = refused.cause;
+        first = sym (starts_fault_whole (activity_count c.in_ok-project.project) c.deref.result.now text (c.deref.ensures.value ∙ c.in_ok-text.ensures.told text told)) ∙ refused.first;
+        told = refused.told;
+      };
+    }))
 
 pub returns-clause-said : goal.returns-clause-said
 returns-clause-said g c = λ text more told told_more. record {
