@@ -1,1 +1,13 @@
 pub mod BoundLaws
+pub mod Units
+pub mod Sharing
+pub mod Between
+pub mod EnergyHolds
+pub mod TrueBounds
+pub mod Sweeps
+pub mod Shares
+pub mod Orders
+pub mod Terms
+pub mod Greatest
+pub mod Limits
+pub mod Energies

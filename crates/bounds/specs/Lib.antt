@@ -1,2 +1,4 @@
 pub mod Energy
 pub mod Bound
+pub mod Windows
+pub mod Loads

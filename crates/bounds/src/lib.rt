@@ -5,13 +5,19 @@
 //! Thuriot 1991), and [`bound`] is the greater of both.
 #![tactic(auto)]
 
+mod load;
+mod resources;
+mod sweep;
+mod window;
+
 ghost use Rattle.std.specs.Prelude.{◌≡◌, IfOk};
 ghost use Rattle.network.specs.Problem.{Problem};
+ghost use Rattle.bounds.specs.Bound.{critical_weight, IsMatrixFor, IsTrueBoundFor, IsBoundOf};
 ghost use Rattle.network.specs.Limits.{IsProject};
-ghost use Rattle.bounds.specs.Bound.{critical_weight, IsMatrixFor, IsTrueBoundFor, IsEnergyOf, IsBoundOf};
 
 use longest_path::Matrix;
 use network::Project;
+pub use resources::energy;
 use std::alloc::{AllocError, Global};
 
 /// The greatest weight from the start to the end in periods: the least makespan where resources
@@ -24,17 +30,6 @@ pub fn critical(matrix: &Matrix) -> i64
         Some(end) => matrix.get(0, end).unwrap_or(0),
         None => 0,
     }
-}
-
-/// The energy value of a matrix in periods.
-pub fn energy(alloc: Global, project: &Project, matrix: &Matrix) -> Result<i64, AllocError>
-    requires { IsMatrixFor project.now matrix.now }
-    ensures value { IfOk result (λ energy. IsEnergyOf project.now matrix.now energy) }
-    ensures holds { IfOk result (λ energy. IsTrueBoundFor project.now matrix.now energy) }
-    ensures limits { IsProject project.now }
-{
-    let _count = project.activity_count();
-    Err(AllocError)
 }
 
 /// The bound of a matrix in periods: the greater of [`critical`] and [`energy`].
