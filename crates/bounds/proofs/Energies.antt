@@ -1,5 +1,5 @@
 -- The greatest energy term of the resources so far.
-use Rattle.std.proofs.Common.{◌≡◌, refl, sym, ap, ◌∙◌, subst, ℕ, ◌+◌, ◌<◌, ◌≤◌, map, max, ◌⊎◌, inl, inr, ⊎_elim, ℤ, pos, ◌≤ℤ◌, List, arith, below_more}
+use Rattle.std.proofs.Common.{◌≡◌, refl, sym, ap, subst, ℕ, ◌+◌, ◌<◌, ◌≤◌, map, max, ◌⊎◌, inl, inr, ⊎_elim, ℤ, pos, ◌≤ℤ◌, List, arith, below_more}
 use Rattle.std.proofs.lemmas.Bool.{cases_lt}
 use Rattle.std.proofs.lemmas.Int.{ints}
 use Rattle.std.specs.Int.{div_ceil}
@@ -41,9 +41,9 @@ energy_take p heads tails k e n s some term limit small = record {
   reached = inr (⊎_elim
       (λ (more : e < n). let is : max e n ≡ n = omega arith in rw is term)
       (λ (less : n ≤ e). let is : max e n ≡ e = omega arith in rw is (⊎_elim
-          (λ (so : (e ≡ 0) × ((j : ℕ) → j < k → capacity p j ≡ 0)). record { value = term.value; term = term.term; within = omega (arith, ints, term.within, so.0) })
-          (λ (before : IsWithinTerm p heads tails e). before)
-          s.reached))
+      (λ (so : (e ≡ 0) × ((j : ℕ) → j < k → capacity p j ≡ 0)). record { value = term.value; term = term.term; within = omega (arith, ints, term.within, so.0) })
+      (λ (before : IsWithinTerm p heads tails e). before)
+      s.reached))
       (cases_lt e n));
   greatest = below_more (λ j. 0 < capacity p j → IsResourceLimit p heads tails j (max e n)) k
       (λ j lt has a b i is_head is_tail member. omega (arith, ints, s.greatest j lt has a b i is_head is_tail member))
@@ -63,15 +63,15 @@ energy_share p heads tails windows distinct k e g is ordered in_range some befor
 pub energy_all : (p : Problem) (heads tails : List ℤ) (e : ℕ) → IsEnergyUpTo p heads tails (resource_count p) e → IsEnergyValue p heads tails (pos e)
 energy_all p heads tails e s =
     let greatest : (other : ℤ) → IsEnergyTerm p heads tails other → other ≤ℤ pos e = λ other t.
-        subst (λ (z : ℤ). z ≤ℤ pos e) (sym t.is) (s.greatest t.resource t.in_range t.has_capacity t.a t.b t.member t.is_head t.is_tail t.some) in
+    subst (λ (z : ℤ). z ≤ℤ pos e) (sym t.is) (s.greatest t.resource t.in_range t.has_capacity t.a t.b t.member t.is_head t.is_tail t.some) in
     record {
       reached = ⊎_elim
           (λ (so : (e ≡ 0) × ((j : ℕ) → j < resource_count p → capacity p j ≡ 0)). inr (so.1, ap pos so.0))
           (λ (w : IsWithinTerm p heads tails e).
-              let low : w.value ≤ℤ pos e = greatest w.value w.term in
-              let high : pos e ≤ℤ w.value = w.within in
-              let same : w.value ≡ pos e = omega (arith, ints) in
-              inl (subst (IsEnergyTerm p heads tails) same w.term))
+          let low : w.value ≤ℤ pos e = greatest w.value w.term in
+          let high : pos e ≤ℤ w.value = w.within in
+          let same : w.value ≡ pos e = omega (arith, ints) in
+          inl (subst (IsEnergyTerm p heads tails) same w.term))
           s.reached;
       greatest = greatest;
     }

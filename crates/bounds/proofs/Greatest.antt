@@ -1,12 +1,12 @@
 -- The greatest share of a resource, shared out, is its greatest energy term.
-use Rattle.std.proofs.Common.{◌≡◌, refl, sym, ap, ◌∙◌, subst, ℕ, ◌+◌, ◌*◌, ◌<◌, ◌≤◌, Bool, true, ◌&&◌, ◌⊎◌, inl, inr, ⊎_elim, ℤ, pos, ◌+ℤ◌, ◌≤ℤ◌, List, length, get_or, map, arith}
-use Rattle.std.specs.Prelude.{int_le, unsigned_abs, ◌↔◌}
-use Rattle.std.specs.List.{All, Any, Contains, filter, sum_by, range_with_len}
+use Rattle.std.proofs.Common.{◌≡◌, refl, sym, ap, ◌∙◌, subst, ℕ, ◌+◌, ◌*◌, ◌<◌, ◌≤◌, ⊎_elim, ℤ, pos, ◌+ℤ◌, ◌≤ℤ◌, List, length, get_or, map, arith}
+use Rattle.std.specs.Prelude.{unsigned_abs, ◌↔◌}
+use Rattle.std.specs.List.{Any, Contains, sum_by}
 use Rattle.std.specs.Int.{div_ceil}
 use Rattle.std.proofs.lemmas.Int.{ints}
-use Rattle.std.proofs.lemmas.List.{get_or_default, get_or-map, length-map}
-use Rattle.std.proofs.lemmas.List.FromFn.{get_or-map-range_with_len, length-map-range_with_len, get_or-range_with_len, length-range_with_len}
-use Rattle.std.proofs.lemmas.List.Elements.{All-contains, All-filter, filter_passes, Contains-get_or}
+use Rattle.std.proofs.lemmas.List.{get_or-map, length-map}
+use Rattle.std.proofs.lemmas.List.FromFn.{get_or-map-range_with_len, length-map-range_with_len}
+use Rattle.std.proofs.lemmas.List.Elements.{All-contains, Contains-get_or}
 use Rattle.std.proofs.lemmas.List.Sorted.{Contains-permutation, IsPermutation-sym}
 use Rattle.network.specs.Problem.{Problem, activity_count, activities, resource_count, capacity}
 use Rattle.network.specs.Limits.{IsProject, IsBetween}
@@ -15,8 +15,8 @@ use Rattle.earliest.specs.Tails.{tail}
 use Rattle.bounds.specs.declared.window.Window.{Window}
 use Rattle.bounds.specs.declared.load.Load.{Load}
 use Rattle.bounds.specs.Energy.{between, work, IsEnergyTerm}
-use Rattle.bounds.specs.Windows.{AreEnds, window, AreWindows}
-use Rattle.bounds.specs.Loads.{load, work_after, share, IsReached, IsAbove, IsGreatestShare}
+use Rattle.bounds.specs.Windows.{AreEnds, AreWindows}
+use Rattle.bounds.specs.Loads.{load, share, IsReached, IsAbove, IsGreatestShare}
 use Rattle.bounds.proofs.Sharing.{plus-div_ceil-le, div_ceil-le-plus}
 use Rattle.bounds.proofs.Between.{abs_is, lies_between, is_between}
 use Rattle.bounds.proofs.Terms.{end_above, load_at, loads_moved, work_is}
@@ -103,9 +103,9 @@ limit_from_share p k g heads tails windows distinct ordered some found = λ a b 
     let lies = lies_between p heads tails a b i member in
     let occurs : Contains distinct (unsigned_abs b) = (ordered.of_distinct (unsigned_abs b)).1 (tail_there tails b is_tail) in
     let at : share (capacity p k) (map (load p k) windows) (unsigned_abs a) (unsigned_abs b) ≤ g =
-        All-contains (λ c. IsAbove (capacity p k) (map (load p k) windows) c g) distinct (unsigned_abs b) found.above occurs
-        (unsigned_abs a) (load_at p k heads tails i) (there_load p k heads tails windows i ordered.of_heads.count ordered.of_windows lies.there)
-        (abs_le a (start heads i) low lies.late) (abs_le b (tail tails i) high lies.early) in
+    All-contains (λ c. IsAbove (capacity p k) (map (load p k) windows) c g) distinct (unsigned_abs b) found.above occurs
+    (unsigned_abs a) (load_at p k heads tails i) (there_load p k heads tails windows i ordered.of_heads.count ordered.of_windows lies.there)
+    (abs_le a (start heads i) low lies.late) (abs_le b (tail tails i) high lies.early) in
     let e : ℕ = sum_by (work p k) (between p heads tails a b) in
     let same = work_is p k heads tails windows a b ordered.of_heads ordered.of_tails ordered.of_windows low high in
     let fits : capacity p k * (unsigned_abs a + unsigned_abs b) + e ≤ g = rw same at at in
@@ -146,19 +146,19 @@ pub term_from_reached : (p : Problem) (k g : ℕ) (heads tails : List ℤ) (wind
 term_from_reached p k g heads tails windows distinct is ordered in_range some greatest =
     ⊎_elim
     (λ (none : g ≡ 0).
-        let two : 2 ≤ activity_count p = is.two_dummies in
-        let lt : 0 < activity_count p = omega arith in
-        let short : 0 < length tails = rw ordered.of_tails.count lt in
-        term_from_share p k g heads tails windows distinct ordered in_range some 0 (tail tails 0) lt (Contains-get_or tails 0 (pos 0) short) (omega (arith, ints)) (omega (arith, none)))
+    let two : 2 ≤ activity_count p = is.two_dummies in
+    let lt : 0 < activity_count p = omega arith in
+    let short : 0 < length tails = rw ordered.of_tails.count lt in
+    term_from_share p k g heads tails windows distinct ordered in_range some 0 (tail tails 0) lt (Contains-get_or tails 0 (pos 0) short) (omega (arith, ints)) (omega (arith, none)))
     (λ (found : Any (λ b. IsReached (capacity p k) (map (load p k) windows) b g) distinct).
-        let b : ℕ = found.1 in
-        let r : IsReached (capacity p k) (map (load p k) windows) b g = found.4 in
-        let z = tail_of tails b ((ordered.of_distinct b).0 (found.0, found.2, found.3)) in
-        let x = load_of p k heads tails windows r.load ordered.of_heads.count ordered.of_windows r.there in
-        let i : ℕ = x.activity in
-        let late : unsigned_abs z.value ≤ unsigned_abs (tail tails i) = subst (λ (c : ℕ). c ≤ unsigned_abs (tail tails i)) z.is (subst (λ (y : Load). b ≤ y.tail) x.is r.late) in
-        let above : pos 0 ≤ℤ z.value = value_above (activity_count p) tails z.value ordered.of_tails z.there in
-        let within : g ≤ share (capacity p k) (map (load p k) windows) (unsigned_abs (start heads i)) (unsigned_abs z.value) =
-            subst (λ (c : ℕ). g ≤ share (capacity p k) (map (load p k) windows) (unsigned_abs (start heads i)) c) z.is (subst (λ (y : Load). g ≤ share (capacity p k) (map (load p k) windows) y.head b) x.is r.within) in
-        term_from_share p k g heads tails windows distinct ordered in_range some i z.value x.there z.there (le_from_abs z.value (tail tails i) above (end_above (activity_count p) tails i ordered.of_tails) late) within)
+    let b : ℕ = found.1 in
+    let r : IsReached (capacity p k) (map (load p k) windows) b g = found.4 in
+    let z = tail_of tails b ((ordered.of_distinct b).0 (found.0, found.2, found.3)) in
+    let x = load_of p k heads tails windows r.load ordered.of_heads.count ordered.of_windows r.there in
+    let i : ℕ = x.activity in
+    let late : unsigned_abs z.value ≤ unsigned_abs (tail tails i) = subst (λ (c : ℕ). c ≤ unsigned_abs (tail tails i)) z.is (subst (λ (y : Load). b ≤ y.tail) x.is r.late) in
+    let above : pos 0 ≤ℤ z.value = value_above (activity_count p) tails z.value ordered.of_tails z.there in
+    let within : g ≤ share (capacity p k) (map (load p k) windows) (unsigned_abs (start heads i)) (unsigned_abs z.value) =
+    subst (λ (c : ℕ). g ≤ share (capacity p k) (map (load p k) windows) (unsigned_abs (start heads i)) c) z.is (subst (λ (y : Load). g ≤ share (capacity p k) (map (load p k) windows) y.head b) x.is r.within) in
+    term_from_share p k g heads tails windows distinct ordered in_range some i z.value x.there z.there (le_from_abs z.value (tail tails i) above (end_above (activity_count p) tails i ordered.of_tails) late) within)
     greatest.reached

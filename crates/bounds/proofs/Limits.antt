@@ -1,19 +1,17 @@
 -- The loads on a resource are few and small, and come by falling head.
-use Rattle.std.proofs.Common.{◌≡◌, refl, sym, ap, ◌∙◌, subst, ℕ, ◌+◌, ◌*◌, ◌<◌, ◌≤◌, ℤ, pos, ◌≤ℤ◌, List, [], length, get_or, map, arith}
-use Rattle.std.specs.Prelude.{unsigned_abs, ◌↔◌}
-use Rattle.std.specs.List.{All, Contains, range_with_len}
+use Rattle.std.proofs.Common.{◌≡◌, sym, ◌∙◌, subst, ℕ, ◌<◌, ◌≤◌, ℤ, pos, ◌≤ℤ◌, List, [], length, get_or, map, arith}
+use Rattle.std.specs.Prelude.{unsigned_abs}
+use Rattle.std.specs.List.{All, range_with_len}
 use Rattle.std.proofs.lemmas.Int.{ints}
 use Rattle.std.proofs.lemmas.List.{get_or-map, length-map}
 use Rattle.std.proofs.lemmas.List.FromFn.{length-map-range_with_len}
 use Rattle.std.proofs.lemmas.List.Elements.{All-contains, All-map, All-from_get_or, Contains-get_or}
 use Rattle.std.proofs.lemmas.List.Sorted.{All-permutation, length_permutation}
 use Rattle.std.proofs.Math.Nat.{mul-le-mul}
-use Rattle.network.specs.Problem.{Problem, activity_count, activities, resource_count, duration, demand}
+use Rattle.network.specs.Problem.{Problem, activity_count, resource_count, duration, demand}
 use Rattle.network.specs.Limits.{IsProject, IsBetween, IsAmount}
 use Rattle.network.specs.Schedule.{start}
-use Rattle.earliest.specs.Tails.{tail}
 use Rattle.bounds.specs.declared.window.Window.{Window}
-use Rattle.bounds.specs.declared.load.Load.{Load}
 use Rattle.bounds.specs.Energy.{work}
 use Rattle.bounds.specs.Windows.{AreEnds, window, AreWindows}
 use Rattle.bounds.specs.Loads.{load, IsSmall, AreLoads}

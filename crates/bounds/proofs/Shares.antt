@@ -5,7 +5,7 @@ use Rattle.std.proofs.lemmas.Bool.{cases_lt}
 use Rattle.std.proofs.lemmas.Grind.{get_or_default_zero}
 use Rattle.std.proofs.lemmas.List.Elements.{All-more, All-weaker}
 use Rattle.bounds.specs.declared.load.Load.{Load}
-use Rattle.bounds.specs.Loads.{share, IsReached, IsAbove}
+use Rattle.bounds.specs.Loads.{IsReached, IsAbove}
 
 -- the greatest share of the tails so far
 pub record SharedUpTo (c : ℕ) (loads : List Load) (tails : List ℕ) (i n : ℕ) : Type 0 where
@@ -18,11 +18,11 @@ pub shared_more : (c : ℕ) (loads : List Load) (tails : List ℕ) (i n m : ℕ)
 shared_more c loads tails i n m s lt reached above limit = record {
   reached = ⊎_elim
       (λ (more : n < m).
-          let is : max n m ≡ m = omega arith in
-          rw is (⊎_elim (λ (none : m ≡ 0). inl none) (λ (r : IsReached c loads (get_or tails i 0) m). inr (i, get_or tails i 0, lt, get_or_default_zero tails i (get_or tails i 0) lt, r)) reached))
+      let is : max n m ≡ m = omega arith in
+      rw is (⊎_elim (λ (none : m ≡ 0). inl none) (λ (r : IsReached c loads (get_or tails i 0) m). inr (i, get_or tails i 0, lt, get_or_default_zero tails i (get_or tails i 0) lt, r)) reached))
       (λ (less : m ≤ n).
-          let is : max n m ≡ n = omega arith in
-          rw is s.reached)
+      let is : max n m ≡ n = omega arith in
+      rw is s.reached)
       (cases_lt n m);
   above = All-more (λ b. IsAbove c loads b (max n m)) tails i 0 lt
       (All-weaker (λ b. IsAbove c loads b n) (λ b. IsAbove c loads b (max n m)) (λ b h a x there high late. omega (arith, h a x there high late)) (take i tails) s.above)

@@ -1,5 +1,5 @@
 -- What a sweep over loads by falling head has found for a tail b, once it has passed some of them.
-use Rattle.std.proofs.Common.{◌≡◌, refl, sym, ap, ◌∙◌, subst, ℕ, ◌+◌, ◌*◌, ◌<◌, ◌≤◌, max, ◌⊎◌, inl, inr, ⊎_elim, List, [], ◌∷◌, ◌++◌, length, get_or, take, arith}
+use Rattle.std.proofs.Common.{◌≡◌, sym, ap, ◌∙◌, subst, ℕ, ◌+◌, ◌*◌, ◌<◌, ◌≤◌, max, ◌⊎◌, inr, ⊎_elim, List, [], ◌∷◌, ◌++◌, length, get_or, take, arith}
 use Rattle.std.specs.Prelude.{nat_le, if◌then◌else◌}
 use Rattle.std.specs.List.{All, Contains, sum_by}
 use Rattle.std.specs.Ordering.{ord_max, nat_cmp}
@@ -10,7 +10,6 @@ use Rattle.std.proofs.lemmas.List.Elements.{All-from_get_or, All-contains, Conta
 use Rattle.std.proofs.lemmas.List.Sums.{sum_by_more, sum_by-take-le, sum_by-le}
 use Rattle.std.proofs.Math.Nat.{mul-le-mul, mul-le-mul_left}
 use Rattle.bounds.specs.declared.load.Load.{Load}
-use Rattle.bounds.specs.Windows.{IsFalling}
 use Rattle.bounds.specs.Loads.{IsSmall, AreLoads, work_after, share, IsReached, IsAbove}
 use Rattle.bounds.proofs.Units.{sum_by-le-each}
 
@@ -74,14 +73,14 @@ reaches : (c : ℕ) (loads : List Load) (b i w : ℕ) (x : Load) → AreLoads lo
 reaches c loads b i w x are lt at late sum =
     let each : All (λ y. late_work b y ≤ work_after x.head b y) (take (i + 1) loads) =
     All-from_get_or (λ y. late_work b y ≤ work_after x.head b y) (take (i + 1) loads) x (λ k l.
-        let long : i + 1 ≤ length loads = omega arith in
-        let short : k < i + 1 = omega (arith, length-take-le (i + 1) loads long) in
-        let early : k ≤ i = omega arith in
-        let same : get_or (take (i + 1) loads) k x ≡ get_or loads k x = get_or-take (i + 1) loads k x short in
-        let falls : (get_or loads i x).head ≤ (get_or loads k x).head = are.falling k i x early lt in
-        let here : x.head ≡ (get_or loads i x).head = ap (λ y. y.head) at in
-        let there : (get_or (take (i + 1) loads) k x).head ≡ (get_or loads k x).head = ap (λ y. y.head) same in
-        late_work-after x.head b (get_or (take (i + 1) loads) k x) (omega (arith, falls, here, there))) in
+    let long : i + 1 ≤ length loads = omega arith in
+    let short : k < i + 1 = omega (arith, length-take-le (i + 1) loads long) in
+    let early : k ≤ i = omega arith in
+    let same : get_or (take (i + 1) loads) k x ≡ get_or loads k x = get_or-take (i + 1) loads k x short in
+    let falls : (get_or loads i x).head ≤ (get_or loads k x).head = are.falling k i x early lt in
+    let here : x.head ≡ (get_or loads i x).head = ap (λ y. y.head) at in
+    let there : (get_or (take (i + 1) loads) k x).head ≡ (get_or loads k x).head = ap (λ y. y.head) same in
+    late_work-after x.head b (get_or (take (i + 1) loads) k x) (omega (arith, falls, here, there))) in
     omega (arith, sum, sum_by-le-each (late_work b) (work_after x.head b) (take (i + 1) loads) each, sum_by-take-le (work_after x.head b) loads (i + 1))
 
 pub swept_take : (c : ℕ) (loads : List Load) (b i w n : ℕ) (x : Load) → AreLoads loads → Swept c loads b i w n → i < length loads → x ≡ get_or loads i x → b ≤ x.tail →
@@ -92,23 +91,23 @@ swept_take c loads b i w n x are s lt at late =
       sum = sum;
       reached = ⊎_elim
           (λ (more : n < c * (x.head + b) + (w + x.work)).
-              let is : max n (c * (x.head + b) + (w + x.work)) ≡ c * (x.head + b) + (w + x.work) = omega arith in
-              rw is (inr (record { load = x; there = (i, lt, sym at); late = late; within = reaches c loads b i (w + x.work) x are lt at late sum })))
+          let is : max n (c * (x.head + b) + (w + x.work)) ≡ c * (x.head + b) + (w + x.work) = omega arith in
+          rw is (inr (record { load = x; there = (i, lt, sym at); late = late; within = reaches c loads b i (w + x.work) x are lt at late sum })))
           (λ (less : c * (x.head + b) + (w + x.work) ≤ n).
-              let is : max n (c * (x.head + b) + (w + x.work)) ≡ n = omega arith in
-              rw is s.reached)
+          let is : max n (c * (x.head + b) + (w + x.work)) ≡ n = omega arith in
+          rw is s.reached)
           (cases_lt n (c * (x.head + b) + (w + x.work)));
       above = λ a y there high after.
           ⊎_elim
           (λ (low : x.head < a).
-              ⊎_elim
-              (λ (before : Contains (take i loads) y). omega (arith, s.above a y before high after, sum_more (work_after a b) loads i x lt at, work_after-low a b x low))
-              (λ (same : x ≡ y). let heads : x.head ≡ y.head = ap (λ z. z.head) same in absurd (omega arith))
-              (passed loads i x y lt at there))
+          ⊎_elim
+          (λ (before : Contains (take i loads) y). omega (arith, s.above a y before high after, sum_more (work_after a b) loads i x lt at, work_after-low a b x low))
+          (λ (same : x ≡ y). let heads : x.head ≡ y.head = ap (λ z. z.head) same in absurd (omega arith))
+          (passed loads i x y lt at there))
           (λ (up : a ≤ x.head).
-              let between : sum_by (work_after a b) (take (i + 1) loads) ≤ sum_by (late_work b) (take (i + 1) loads) = sum_by-le-each (work_after a b) (late_work b) (take (i + 1) loads) (λ k d l. work_after-le a b (get_or (take (i + 1) loads) k d)) in
-              let ends : a + b ≤ x.head + b = omega arith in
-              omega (arith, between, sum, mul-le-mul_left c ends))
+          let between : sum_by (work_after a b) (take (i + 1) loads) ≤ sum_by (late_work b) (take (i + 1) loads) = sum_by-le-each (work_after a b) (late_work b) (take (i + 1) loads) (λ k d l. work_after-le a b (get_or (take (i + 1) loads) k d)) in
+          let ends : a + b ≤ x.head + b = omega arith in
+          omega (arith, between, sum, mul-le-mul_left c ends))
           (cases_lt x.head a);
     }
 
@@ -116,9 +115,9 @@ swept_take c loads b i w n x are s lt at late =
 sum_small : (f : Load → ℕ) (loads : List Load) → AreLoads loads → ((x : Load) → f x ≤ x.work) → sum_by f loads ≤ 1002000000000000
 sum_small f loads are part =
     let each : All (λ x. f x ≤ 1000000000000) loads = λ k d l.
-        let small : IsSmall (get_or loads k d) = are.small k d l in
-        let limit : (get_or loads k d).work ≤ 1000000000000 = small.work_limit in
-        omega (arith, limit, part (get_or loads k d)) in
+    let small : IsSmall (get_or loads k d) = are.small k d l in
+    let limit : (get_or loads k d).work ≤ 1000000000000 = small.work_limit in
+    omega (arith, limit, part (get_or loads k d)) in
     let few : length loads ≤ 1002 = are.few in
     omega (arith, few, sum_by-le f 1000000000000 loads each)
 
@@ -136,10 +135,10 @@ reached_small c loads b n are few low =
     ⊎_elim
     (λ (none : n ≡ 0). omega arith)
     (λ (r : IsReached c loads b n).
-        let small : IsSmall r.load = All-contains IsSmall loads r.load are.small r.there in
-        let head : r.load.head ≤ 1003000000 = small.head_limit in
-        let within : n ≤ c * (r.load.head + b) + sum_by (work_after r.load.head b) loads = r.within in
-        omega (arith, within, product_small c r.load.head b few head low, sum_small (work_after r.load.head b) loads are (λ x. work_part r.load.head b x)))
+    let small : IsSmall r.load = All-contains IsSmall loads r.load are.small r.there in
+    let head : r.load.head ≤ 1003000000 = small.head_limit in
+    let within : n ≤ c * (r.load.head + b) + sum_by (work_after r.load.head b) loads = r.within in
+    omega (arith, within, product_small c r.load.head b few head low, sum_small (work_after r.load.head b) loads are (λ x. work_part r.load.head b x)))
   where
     work_part : (a t : ℕ) (x : Load) → work_after a t x ≤ x.work
     work_part a t x = omega (arith, work_after-le a t x, late_work-le t x)

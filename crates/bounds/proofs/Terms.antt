@@ -1,27 +1,23 @@
 -- The work between a head and a tail, of the loads and of the activities.
-use Rattle.std.proofs.Common.{◌≡◌, refl, sym, ap, ◌∙◌, subst, ℕ, zero, suc, ◌+◌, ◌*◌, ◌<◌, ◌≤◌, Bool, true, false, cond, ◌&&◌, ◌⊎◌, inl, inr, ⊎_elim, ℤ, pos, negsuc, ◌+ℤ◌, ◌≤ℤ◌, List, [], ◌∷◌, length, get_or, map, arith}
-use Rattle.std.specs.Prelude.{nat_le, int_le, unsigned_abs, ◌↔◌}
-use Rattle.std.specs.List.{All, Any, Contains, filter, sum_by, range_with_len}
+use Rattle.std.proofs.Common.{◌≡◌, refl, sym, ap, ◌∙◌, subst, ℕ, ◌<◌, ◌≤◌, Bool, cond, ◌&&◌, ⊎_elim, ℤ, pos, negsuc, ◌≤ℤ◌, List, [], ◌∷◌, length, map, arith}
+use Rattle.std.specs.Prelude.{nat_le, int_le, unsigned_abs}
+use Rattle.std.specs.List.{sum_by, range_with_len}
 use Rattle.std.specs.List.Sorted.{IsPermutation}
-use Rattle.std.specs.Int.{div_ceil}
 use Rattle.std.proofs.lemmas.Bool.{cases_lt}
-use Rattle.std.proofs.lemmas.Bool.Decides.{nat_tests}
 use Rattle.std.proofs.lemmas.Int.{ints}
-use Rattle.std.proofs.lemmas.Grind.{div_ceil_times}
 use Rattle.std.proofs.lemmas.Simd.{map-map}
 use Rattle.std.proofs.lemmas.List.Sums.{sum_by-cons}
 use Rattle.std.proofs.lemmas.List.Sorted.{IsPermutation-map, sum_by-IsPermutation}
 use Rattle.std.proofs.Math.ListN.{get_or-eq_default}
-use Rattle.std.proofs.Math.Nat.{mul-le-mul_left, mul-le-mul_right}
-use Rattle.network.specs.Problem.{Problem, activity_count, activities, resource_count, capacity}
-use Rattle.network.specs.Limits.{IsProject, IsBetween}
+use Rattle.network.specs.Problem.{Problem, activity_count, activities}
+use Rattle.network.specs.Limits.{IsBetween}
 use Rattle.network.specs.Schedule.{start}
 use Rattle.earliest.specs.Tails.{tail}
 use Rattle.bounds.specs.declared.window.Window.{Window}
 use Rattle.bounds.specs.declared.load.Load.{Load}
-use Rattle.bounds.specs.Energy.{between, work, IsEnergyTerm}
+use Rattle.bounds.specs.Energy.{between, work}
 use Rattle.bounds.specs.Windows.{AreEnds, window, AreWindows}
-use Rattle.bounds.specs.Loads.{load, work_after, share, IsReached, IsAbove}
+use Rattle.bounds.specs.Loads.{load, work_after}
 use Rattle.bounds.proofs.Units.{sum_by-filter}
 
 pub test_is : (a z : ℤ) → pos 0 ≤ℤ a → pos 0 ≤ℤ z → nat_le (unsigned_abs a) (unsigned_abs z) ≡ int_le a z
@@ -63,7 +59,7 @@ pub work_is : (p : Problem) (k : ℕ) (heads tails : List ℤ) (windows : List W
 work_is p k heads tails windows a b of_heads of_tails are low high =
     let test : ℕ → Bool = λ i. int_le a (start heads i) && int_le b (tail tails i) in
     let each : (i : ℕ) → work_after (unsigned_abs a) (unsigned_abs b) (load_at p k heads tails i) ≡ cond (test i) (work p k i) 0 = λ i.
-        ap2 (test_is a (start heads i) low (end_above (activity_count p) heads i of_heads)) (test_is b (tail tails i) high (end_above (activity_count p) tails i of_tails)) (work p k i) in
+    ap2 (test_is a (start heads i) low (end_above (activity_count p) heads i of_heads)) (test_is b (tail tails i) high (end_above (activity_count p) tails i of_tails)) (work p k i) in
     sum_by-IsPermutation (work_after (unsigned_abs a) (unsigned_abs b)) (map (load_at p k heads tails) (activities p)) (map (load p k) windows) (loads_moved p k heads tails windows of_heads.count are)
     ∙ sum_by-map (work_after (unsigned_abs a) (unsigned_abs b)) (load_at p k heads tails) (activities p)
     ∙ sum_by-same (λ i. work_after (unsigned_abs a) (unsigned_abs b) (load_at p k heads tails i)) (λ i. cond (test i) (work p k i) 0) (activities p) each

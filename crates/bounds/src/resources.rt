@@ -52,6 +52,7 @@ pub fn energy(alloc: Global, project: &Project, matrix: &Matrix) -> Result<i64, 
     ensures holds { IfOk result (λ energy. IsTrueBoundFor project.now matrix.now energy) }
     ensures limits { IsProject project.now }
 {
+    prove!(matrix.activity_count() == project.activity_count());
     let heads = heads(alloc, matrix)?;
     let tails = tails(alloc, project, matrix)?;
     let energy = energy_between(alloc, project, &heads, &tails)?;

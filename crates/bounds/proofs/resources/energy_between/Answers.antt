@@ -1,13 +1,10 @@
-use Rattle.std.proofs.Common.{rules, ◌≡◌, ◌∙◌, sym, ap, subst, ℕ, ◌<◌, ◌≤◌, max, pos, List, length, map, arith}
+use Rattle.std.proofs.Common.{◌≡◌, ◌∙◌, sym, ap, subst, ℕ, ◌<◌, ◌≤◌, max, List, map, arith}
 use Rattle.std.specs.List.{All}
 use Rattle.std.specs.Int.{div_ceil}
 use Rattle.network.specs.Problem.{Problem, activity_count, resource_count, capacity}
-use Rattle.network.specs.Limits.{IsProject}
 use Rattle.bounds.specs.declared.window.Window.{Window}
 use Rattle.bounds.specs.declared.load.Load.{Load}
-use Rattle.bounds.specs.Energy.{IsEnergyValue}
-use Rattle.bounds.specs.Windows.{AreEnds}
-use Rattle.bounds.specs.Loads.{load, AreLoads, IsGreatestShare}
+use Rattle.bounds.specs.Loads.{load, IsGreatestShare}
 use Rattle.bounds.proofs.Sweeps.{ord_max-max}
 use Rattle.bounds.proofs.Greatest.{IsOrdered}
 use Rattle.bounds.proofs.Limits.{windows_named, loads_limited, distinct_limited}
@@ -43,7 +40,7 @@ loop-resource-preserved c =
     let in_range : k < resource_count p = omega arith in
     let capacity_is : c.capacity-capacity.result ≡ capacity p k = c.capacity-capacity.ensures.value in
     elim c.if-capacity-gt0.branch [
-      | then-capacity-gt0+in_ok-take_loads w ↦ 
+      | then-capacity-gt0+in_ok-take_loads w ↦
           let loads_are : w.deref-then-capacity-gt0.result.now ≡ map (load p k) c.in_ok-windows.windows.items = w.deref-then-capacity-gt0.ensures.value ∙ w.in_ok-take_loads.ensures ∙ ap (map (load p k)) w.deref.ensures.value in
           let g : ℕ = w.greatest_share-greatest.result in
           let some : 0 < capacity p k = omega (arith, w.if-capacity-gt0.true) in

@@ -1,8 +1,8 @@
-use Rattle.std.proofs.Common.{rules, ◌≡◌, ◌∙◌, max, ◌≤◌, ◌⊎◌, ℕ, ◌+◌, ◌*◌, ◌<◌, length, List, take, subst, arith, slice_index_or, get_or}
+use Rattle.std.proofs.Common.{◌≡◌, ◌∙◌, max, ℕ, ◌+◌, ◌*◌, ◌<◌, length, List, take, subst, arith, slice_index_or, get_or}
 use Rattle.std.proofs.lemmas.List.{take_all, get_or_default}
 use Rattle.bounds.specs.declared.load.Load.{Load}
-use Rattle.bounds.specs.Loads.{AreLoads, IsReached, IsAbove, IsSmall}
-use Rattle.bounds.proofs.Sweeps.{Swept, swept_skip, swept_take, swept_small, product_small, reached_small, ord_max-max}
+use Rattle.bounds.specs.Loads.{IsAbove, IsSmall}
+use Rattle.bounds.proofs.Sweeps.{swept_skip, swept_take, swept_small, product_small, reached_small, ord_max-max}
 use Rattle.bounds.proofs.sweep.greatest_at_tail.Goals as goal
 use Rattle.bounds.proofs.sweep.greatest_at_tail.Goals.{then-tail-load, else-tail-load}
 
@@ -29,7 +29,7 @@ loop-load-preserved c =
     let lt : i < length c.args.loads.now = omega arith in
     let at : x ≡ get_or c.args.loads.now i x = get_or_default c.args.loads.now i _ x lt in
     elim c.if-tail-load.branch [
-      | then-tail-load w ↦ 
+      | then-tail-load w ↦
           let n : ℕ = c.args.capacity * (x.head + c.args.tail) + (c.loop-load.work + x.work) in
           let is : c.if-tail-load.greatest ≡ max c.loop-load.greatest n = w.greatest-is ∙ w.max-greatest.ensures ∙ ord_max-max c.loop-load.greatest n in
           rw (w.work-is, is) (swept_take c.args.capacity c.args.loads.now c.args.tail i c.loop-load.work c.loop-load.greatest x c.requires.loads c.loop-load.invariant lt at w.if-tail-load.true)

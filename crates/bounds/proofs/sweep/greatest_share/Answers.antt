@@ -1,9 +1,9 @@
-use Rattle.std.proofs.Common.{◌≡◌, ◌∙◌, ℕ, max, ◌<◌, ◌≤◌, List, length, take, subst, arith}
+use Rattle.std.proofs.Common.{◌≡◌, ◌∙◌, ℕ, max, ◌<◌, List, length, take, subst, arith}
 use Rattle.std.specs.List.{All}
 use Rattle.std.proofs.lemmas.List.{take_all}
 use Rattle.bounds.specs.Loads.{IsAbove}
 use Rattle.bounds.proofs.Sweeps.{ord_max-max}
-use Rattle.bounds.proofs.Shares.{SharedUpTo, shared_more}
+use Rattle.bounds.proofs.Shares.{shared_more}
 use Rattle.bounds.proofs.sweep.greatest_share.Goals as goal
 
 pub loop-tail-preserved : goal.loop-tail-preserved
