@@ -1,0 +1,6 @@
+pub mod Lists
+pub mod OrderedPairs
+pub mod Cover
+pub mod Together
+pub mod Nodes
+pub mod Kids

@@ -1,0 +1,154 @@
+-- What the overload of a least schedule gives: members of a forbidden set that take time, and ordered
+-- pairs that are new to the node.
+use Rattle.std.proofs.Common.{◌≡◌, sym, ap, ℕ, ◌+◌, ◌-◌, ◌<◌, ◌≤◌, true, ◌&&◌, List, [], ◌∷◌, length, get_or, arith, Option, Some, None}
+use Rattle.std.specs.Prelude.{ℤ, pos, ◌+ℤ◌, ◌≤ℤ◌, ◌<ℤ◌, int_le, int_lt}
+use Rattle.std.specs.List.{All, Any, Contains, range_with_len}
+use Rattle.std.specs.List.Sorted.{IsStrictlyIncreasing}
+use Rattle.std.proofs.lemmas.Int.{ints}
+use Rattle.std.proofs.lemmas.List.Kept.{IsStrictlyIncreasing-filter}
+use Rattle.std.proofs.lemmas.List.FromFn.{length-range_with_len, get_or-range_with_len}
+use Rattle.std.proofs.lemmas.List.Elements.{All-nil, All-contains, All-filter, All-weaker, Contains-get_or, filter_passes}
+use Rattle.std.proofs.Math.Nat.{mul-le-mul_left, mul-le-mul_right}
+use Rattle.network.specs.declared.lag.Pair.{Pair}
+use Rattle.network.specs.Forbidden.{IsForbidden}
+use Rattle.network.specs.Limits.{IsProject}
+use Rattle.network.specs.Problem.{Problem, activity_count, end_of, resource_count, activities, duration, NameActivities}
+use Rattle.network.specs.Schedule.{start, makespan, is_running, running, Keeps, IsFeasible, IsWithinCapacities, IsLeastSchedule, ScheduleOf}
+use Rattle.branching.specs.Subproblem.{Subproblem, NodeStandsFor}
+use Rattle.branching.specs.Fair.{IsFair, IsBelow, IsNewTo, IsKidOf}
+use Rattle.branching.specs.Pairs.{pair_of, ordered_pairs}
+use Rattle.branching.proofs.Lists.{here, BeginsFrom, rising_length}
+use Rattle.branching.proofs.OrderedPairs.{all_pairs, count_pairs}
+use Rattle.branching.proofs.Cover.{AreForbiddenTogether}
+
+-- ---- the running activities
+
+range_below : (n : ℕ) → All (λ i. i < n) (range_with_len 0 n)
+range_below n k d l =
+    let short : k < n = omega (arith, length-range_with_len 0 n) in
+    omega (arith, get_or-range_with_len 0 n k d short)
+
+range_rising : (n : ℕ) → IsStrictlyIncreasing (range_with_len 0 n)
+range_rising n k l =
+    let short : k + 1 < n = omega (arith, length-range_with_len 0 n) in
+    omega (arith, get_or-range_with_len 0 n k 0 (omega arith), get_or-range_with_len 0 n (k + 1) 0 short)
+
+pub running_below : (p : Problem) (s : List ℤ) (t : ℤ) (runs : List ℕ) → runs ≡ running p s t → All (λ i. i < activity_count p) runs
+running_below p s t runs e = rw e (All-filter (is_running p s t) (λ i. i < activity_count p) (activities p) (range_below (activity_count p)))
+
+pub running_rising : (p : Problem) (s : List ℤ) (t : ℤ) (runs : List ℕ) → runs ≡ running p s t → IsStrictlyIncreasing runs
+running_rising p s t runs e = rw e (IsStrictlyIncreasing-filter (is_running p s t) (activities p) (range_rising (activity_count p)))
+
+starts_if : (s u e : ℤ) → (int_le s u && int_lt u e) ≡ true → s ≤ℤ u
+starts_if s u e h = grind (arith, ints)
+
+ends_if : (s u e : ℤ) → (int_le s u && int_lt u e) ≡ true → u <ℤ e
+ends_if s u e h = grind (arith, ints)
+
+-- ---- members run together at the overload
+
+pub record RunTogether (p : Problem) (s : List ℤ) (t : ℤ) (set : List ℕ) : Type 0 where
+  pub known : All (λ i. i < activity_count p) set
+  pub run : All (λ i. is_running p s t i ≡ true) set
+
+pub run_together : (p : Problem) (s : List ℤ) (t : ℤ) (runs set : List ℕ) → runs ≡ running p s t → All (Contains runs) set → RunTogether p s t set
+run_together p s t runs set e within = record {
+  known = λ k d l. All-contains (λ i. i < activity_count p) runs (get_or set k d) (running_below p s t runs e) (within k d l);
+  run = λ k d l. All-contains (λ i. is_running p s t i ≡ true) runs (get_or set k d) (rw e (filter_passes (is_running p s t) (activities p))) (within k d l);
+}
+
+-- what runs takes time
+takes_time : (p : Problem) (s : List ℤ) (t : ℤ) (i : ℕ) → is_running p s t i ≡ true → pos 0 <ℤ duration p i
+takes_time p s t i h =
+    let starts = starts_if (start s i) t (start s i +ℤ duration p i) h in
+    let ends = ends_if (start s i) t (start s i +ℤ duration p i) h in
+    omega (arith, ints)
+
+pub forbidden_together : (p : Problem) (s : List ℤ) (t : ℤ) (k : ℕ) (set : List ℕ) → k < resource_count p → RunTogether p s t set → IsStrictlyIncreasing set → IsForbidden p k set → AreForbiddenTogether p k set
+forbidden_together p s t k set in_range together rising forbidden = record {
+  in_range = in_range;
+  rising = rising;
+  known = together.known;
+  take_time = All-weaker (λ i. is_running p s t i ≡ true) (λ i. pos 0 <ℤ duration p i) (λ i h. takes_time p s t i h) set together.run;
+  forbidden = forbidden;
+}
+
+-- ---- their pairs are new to the node
+
+new_pair : (node : Subproblem) (s : List ℤ) (t : ℤ) (i j : ℕ) → IsLeastSchedule node.project node.pairs s → i < activity_count node.project → j < activity_count node.project → is_running node.project s t i ≡ true → is_running node.project s t j ≡ true → IsNewTo node (pair_of i j)
+new_pair node s t i j least below_i below_j runs_i runs_j other other_least keeps =
+    let ends = ends_if (start s i) t (start s i +ℤ duration node.project i) runs_i in
+    let starts = starts_if (start s j) t (start s j +ℤ duration node.project j) runs_j in
+    let first = least.least other other_least.schedule other_least.keeps i below_i in
+    let second = other_least.least s least.schedule least.keeps j below_j in
+    absurd (omega (arith, ints))
+
+pub new_pairs : (node : Subproblem) (s : List ℤ) (t : ℤ) (set : List ℕ) → IsLeastSchedule node.project node.pairs s → RunTogether node.project s t set → All (IsNewTo node) (ordered_pairs set)
+new_pairs node s t set least together =
+    all_pairs (IsNewTo node) set (λ i j ci cj.
+    new_pair node s t i j least
+    (All-contains (λ a. a < activity_count node.project) set i together.known ci)
+    (All-contains (λ a. a < activity_count node.project) set j together.known cj)
+    (All-contains (λ a. is_running node.project s t a ≡ true) set i together.run ci)
+    (All-contains (λ a. is_running node.project s t a ≡ true) set j together.run cj))
+
+pub named_pairs : (p : Problem) (s : List ℤ) (t : ℤ) (set : List ℕ) → RunTogether p s t set → NameActivities p (ordered_pairs set)
+named_pairs p s t set together =
+    all_pairs (λ (q : Pair). (q.before < activity_count p) × (q.after < activity_count p)) set (λ i j ci cj.
+    (All-contains (λ a. a < activity_count p) set i together.known ci, All-contains (λ a. a < activity_count p) set j together.known cj))
+
+-- ---- at most 1,000 members, so at most 999,000 pairs
+
+-- what takes time is neither the start nor the end
+lies_between : (p : Problem) (i : ℕ) → IsProject p → i < activity_count p → pos 0 <ℤ duration p i → (1 ≤ i) × (i < 1001)
+lies_between p i is known long =
+    let start_none : duration p 0 ≡ pos 0 = is.start_is_dummy.no_time in
+    let end_none : duration p (end_of p) ≡ pos 0 = is.end_is_dummy.no_time in
+    let few : activity_count p ≤ 1002 = is.activity_limit in
+    let not_start : i ≡ 0 → ⊥ = λ e. let same : duration p i ≡ duration p 0 = ap (duration p) e in omega (arith, ints) in
+    let not_end : i ≡ end_of p → ⊥ = λ e. let same : duration p i ≡ duration p (end_of p) = ap (duration p) e in omega (arith, ints) in
+    (omega (arith, not_start), omega (arith, not_end))
+
+pub few_pairs : (p : Problem) (k : ℕ) (set : List ℕ) → IsProject p → AreForbiddenTogether p k set → length (ordered_pairs set) ≤ 999000
+few_pairs p k set is together =
+    let between : (i : ℕ) → Contains set i → (1 ≤ i) × (i < 1001) = λ i c.
+    lies_between p i is (All-contains (λ a. a < activity_count p) set i together.known c) (All-contains (λ a. pos 0 <ℤ duration p a) set i together.take_time c) in
+    let members : length set ≤ 1000 = rising_length 1 1000 set (begins set (λ i c. (between i c).0)) together.rising (λ j d l. (between (get_or set j d) (Contains-get_or set j d l)).1) in
+    let fewer : length set - 1 ≤ 999 = omega arith in
+    omega (arith, count_pairs set, mul-le-mul_left (length set) fewer, mul-le-mul_right 999 members)
+  where
+    begins : (xs : List ℕ) → ((i : ℕ) → Contains xs i → 1 ≤ i) → BeginsFrom 1 xs
+    begins [] h = tt
+    begins (x ∷ xs) h = h x (here x xs)
+
+-- ---- fair reports
+
+pub fair_cut : (node : Subproblem) (ceiling : Option ℤ) → ((s : List ℤ) → NodeStandsFor node s → ¬ IsBelow ceiling s) → IsFair (record { node = node; ceiling = ceiling; found = None; kids = [] })
+fair_cut node ceiling none = record {
+  of_found = tt;
+  of_kids = All-nil (IsKidOf node);
+  covers = λ s stands below shorter. absurd (none s stands below);
+  few = omega arith;
+}
+
+pub fair_found : (node : Subproblem) (ceiling : Option ℤ) (found : ScheduleOf) → found.project ≡ node.project → IsLeastSchedule node.project node.pairs found.starts → IsWithinCapacities node.project found.starts → 2 ≤ activity_count node.project → IsFair (record { node = node; ceiling = ceiling; found = Some found; kids = [] })
+fair_found node ceiling found project least within two = record {
+  of_found = record { project = project; stands = record { feasible = record { schedule = least.schedule; within = within }; keeps = least.keeps } };
+  of_kids = All-nil (IsKidOf node);
+  covers = λ s stands below shorter.
+      let last : end_of node.project < activity_count node.project = omega arith in
+      let long : start found.starts (end_of node.project) ≤ℤ start s (end_of node.project) = least.least s stands.feasible.schedule stands.keeps (end_of node.project) last in
+      let here : start found.starts (end_of node.project) ≡ makespan found.starts = ap (λ n. start found.starts (n - 1)) (sym least.schedule.whole) in
+      let there : start s (end_of node.project) ≡ makespan s = ap (λ n. start s (n - 1)) (sym stands.feasible.schedule.whole) in
+      absurd (omega (arith, ints, shorter));
+  few = omega arith;
+}
+
+-- a report with nothing found is fair where some pair is always kept
+pub fair_kids : (node : Subproblem) (ceiling : Option ℤ) (pairs : List Pair) (kids : List Subproblem) → All (IsKidOf node) kids → ((s : List ℤ) → NodeStandsFor node s → IsBelow ceiling s → Any (Keeps node.project s) pairs → Any (λ kid. NodeStandsFor kid s) kids) → ((s : List ℤ) → IsFeasible node.project s → Any (Keeps node.project s) pairs) → length kids ≤ 999000 → IsFair (record { node = node; ceiling = ceiling; found = None; kids = kids })
+fair_kids node ceiling pairs kids of_node covers kept few = record {
+  of_found = tt;
+  of_kids = of_node;
+  covers = λ s stands below shorter. covers s stands below (kept s stands.feasible);
+  few = few;
+}

@@ -1,0 +1,46 @@
+use Rattle.std.proofs.Common.{◌≡◌, ◌≤◌, length, map, ap, ◌∙◌, arith}
+use Rattle.std.specs.Arc.{arc_value}
+use Rattle.std.proofs.lemmas.List.{length-map}
+use Rattle.network.specs.Forbidden.{IsMinimalForbidden}
+use Rattle.branching.specs.Subproblem.{Subproblem}
+use Rattle.branching.specs.Pairs.{ordered_pairs}
+use Rattle.branching.proofs.Cover.{some_kept}
+use Rattle.branching.proofs.Together.{running_below, running_rising, run_together, forbidden_together, new_pairs, named_pairs, few_pairs, fair_kids}
+use Rattle.branching.proofs.expansion.report_kids.Goals as goal
+
+pub shrink-requires-clause-running : goal.shrink-requires-clause-running
+shrink-requires-clause-running c =
+    let same : c.deref-2.result.now ≡ (arc_value c.args.node.now).project = c.deref-2.ensures ∙ c.project.ensures.project ∙ ap (λ (n : Subproblem). n.project) c.deref.ensures in
+    rw same (running_below (arc_value c.args.node.now).project c.args.starts.now c.args.overload.now.time _ c.requires.running)
+
+pub shrink-requires-clause-rising : goal.shrink-requires-clause-rising
+shrink-requires-clause-rising c = running_rising (arc_value c.args.node.now).project c.args.starts.now c.args.overload.now.time _ c.requires.running
+
+pub kids_of-requires-clause-named : goal.kids_of-requires-clause-named
+kids_of-requires-clause-named c =
+    let pairs : c.as_slice.result.now ≡ ordered_pairs c.in_ok-set.set.members = c.as_slice.ensures.value ∙ c.in_ok-pairs.ensures ∙ ap ordered_pairs c.members.ensures.members in
+    let together = run_together (arc_value c.args.node.now).project c.args.starts.now c.args.overload.now.time _ c.in_ok-set.set.members c.requires.running c.in_ok-set.ensures.running in
+    rw (c.deref-3.ensures, pairs) (named_pairs (arc_value c.args.node.now).project c.args.starts.now c.args.overload.now.time c.in_ok-set.set.members together)
+
+pub kids_of-requires-clause-new : goal.kids_of-requires-clause-new
+kids_of-requires-clause-new c =
+    let pairs : c.as_slice.result.now ≡ ordered_pairs c.in_ok-set.set.members = c.as_slice.ensures.value ∙ c.in_ok-pairs.ensures ∙ ap ordered_pairs c.members.ensures.members in
+    let together = run_together (arc_value c.args.node.now).project c.args.starts.now c.args.overload.now.time _ c.in_ok-set.set.members c.requires.running c.in_ok-set.ensures.running in
+    rw (c.deref-3.ensures, pairs) (new_pairs (arc_value c.args.node.now) c.args.starts.now c.args.overload.now.time c.in_ok-set.set.members c.requires.earliest.least together)
+
+pub new-requires : goal.new-requires
+new-requires c =
+    let node : Subproblem = arc_value c.args.node.now in
+    let same : c.deref-2.result.now ≡ node.project = c.deref-2.ensures ∙ c.project.ensures.project ∙ ap (λ (n : Subproblem). n.project) c.deref.ensures in
+    let pairs : c.as_slice.result.now ≡ ordered_pairs c.in_ok-set.set.members = c.as_slice.ensures.value ∙ c.in_ok-pairs.ensures ∙ ap ordered_pairs c.members.ensures.members in
+    let minimal : IsMinimalForbidden node.project c.args.overload.now.resource c.in_ok-set.set.members = rw same at c.in_ok-set.ensures.minimal in
+    let run = run_together node.project c.args.starts.now c.args.overload.now.time _ c.in_ok-set.set.members c.requires.running c.in_ok-set.ensures.running in
+    let together = forbidden_together node.project c.args.starts.now c.args.overload.now.time c.args.overload.now.resource c.in_ok-set.set.members c.requires.first.least_resource.in_range run c.in_ok-set.ensures.rising minimal.forbidden in
+    let most : length (ordered_pairs c.in_ok-set.set.members) ≤ 999000 = few_pairs node.project c.args.overload.now.resource c.in_ok-set.set.members c.requires.limits together in
+    let few : length (map arc_value c.in_ok-kids.kids.items) ≤ 999000 = omega (arith, length-map c.in_ok-kids.kids.items arc_value, c.in_ok-kids.ensures.few, ap length pairs) in
+    rw c.in_ok-try_clone.ensures
+    (fair_kids node c.args.ceiling c.as_slice.result.now _
+    (rw c.deref-3.ensures at c.in_ok-kids.ensures.kids)
+    (rw c.deref-3.ensures at c.in_ok-kids.ensures.covers)
+    (rw pairs (some_kept node.project c.args.overload.now.resource c.in_ok-set.set.members together))
+    few)

@@ -1,0 +1,8 @@
+-- The fields of a `Report`, as a caller sees them.
+use Rattle.std.specs.Prelude.{map}
+use Rattle.std.specs.Arc.{arc_value}
+use Rattle.branching.specs.Fair.{Expansion}
+use Rattle.branching.specs.declared.report.Report.TheInside.{Inside}
+
+abbrev pub expansion_of : Inside → Expansion
+expansion_of r = record { node = arc_value r.node; ceiling = r.ceiling; found = r.found; kids = map arc_value r.kids.items }

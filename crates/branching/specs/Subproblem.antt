@@ -1,0 +1,47 @@
+-- What a node of the search is: a project, the pairs that were added, and a lower bound.
+use Rattle.std.specs.Prelude.{ℤ, Option, List}
+use Rattle.network.specs.declared.lag.Pair.{Pair}
+use Rattle.network.specs.Problem.{Problem, activity_count, arcs_of, NameActivities}
+use Rattle.network.specs.Limits.{IsProject}
+use Rattle.network.specs.Walk.{IsMatrixOf, HasNoPositiveCycle}
+use Rattle.network.specs.Verdict.{StandsFor, IsTrueBound}
+use Rattle.bounds.specs.Bound.{IsBoundOf}
+
+pub record Subproblem : Type 0 where
+  pub project : Problem
+  pub pairs : List Pair
+  pub bound : ℤ
+
+-- the node stands for the feasible schedules that keep its pairs
+abbrev pub NodeStandsFor : Subproblem → List ℤ → Type 0
+NodeStandsFor node s = StandsFor node.project node.pairs s
+
+-- every schedule that the node stands for takes at least its bound
+abbrev pub HasTrueBound : Subproblem → Type 0
+HasTrueBound node = IsTrueBound node.project node.pairs node.bound
+
+-- the bound of the matrix of the project and the pairs
+pub record IsBoundOfPairs (p : Problem) (pairs : List Pair) (bound : ℤ) : Type 0 where
+  pub rows : List (List (Option ℤ))
+  pub matrix : IsMatrixOf (activity_count p) (arcs_of p pairs) rows
+  pub bound_of : IsBoundOf p rows bound
+
+-- no closed walk over the project's rules and the pairs has positive weight
+abbrev pub IsLive : Problem → List Pair → Type 0
+IsLive p pairs = HasNoPositiveCycle (arcs_of p pairs)
+
+-- what holds of every node
+pub record IsNode (node : Subproblem) : Type 0 where
+  pub limits : IsProject node.project
+  pub named : NameActivities node.project node.pairs
+  pub is_live : IsLive node.project node.pairs
+  pub bound_of : IsBoundOfPairs node.project node.pairs node.bound
+  pub true_bound : HasTrueBound node
+
+-- the rows are the matrix of the node's project and pairs, and its bound is the matrix's
+pub record IsTiedTo (node : Subproblem) (rows : List (List (Option ℤ))) : Type 0 where
+  pub limits : IsProject node.project
+  pub named : NameActivities node.project node.pairs
+  pub matrix : IsMatrixOf (activity_count node.project) (arcs_of node.project node.pairs) rows
+  pub bound_of : IsBoundOf node.project rows node.bound
+  pub true_bound : HasTrueBound node

@@ -1,0 +1,102 @@
+ghost use Rattle.std.specs.Prelude.{◌≡◌, ◌≤◌, List, map, length, option_map};
+ghost use Rattle.std.specs.Arc.{arc_value};
+
+use crate::node::Node;
+use network::Schedule;
+use std::marker::Model;
+use std::sync::Arc;
+
+/// What the expansion of a node gave: a schedule, or kids that stand for all that is left.
+///
+/// A report is fair: what is found is a schedule that the node stands for; each kid adds pairs at the
+/// end of the node's, the first of which the node's least schedule doesn't keep; and each schedule that
+/// the node stands for, below the ceiling and shorter than what is found, is one that some kid stands
+/// for. There are at most 999,000 kids.
+#[derive(Drop, Debug)]
+pub struct Report {
+    node: Arc<Node>,
+    ceiling: Option<i64>,
+    found: Option<Schedule>,
+    kids: Vec<Arc<Node>>,
+}
+
+impl Model for Report {
+    ghost use Rattle.branching.specs.Fair.{Expansion, IsFair};
+
+    ghost Value = { Expansion };
+
+    ghost use Rattle.branching.specs.ReportView.{expansion_of};
+
+    ghost view = { expansion_of };
+
+    ghost invariant = { λ r. IsFair (expansion_of r) };
+}
+
+impl Report {
+    ghost use Rattle.branching.specs.Fair.{Expansion, IsFair};
+
+    /// A report of these parts.
+    pub(crate) fn new(
+        node: Arc<Node>,
+        ceiling: Option<i64>,
+        found: Option<Schedule>,
+        kids: Vec<Arc<Node>>,
+    ) -> Report
+        requires { IsFair (record { node = arc_value node; ceiling = ceiling; found = found; kids = map arc_value kids.items }) }
+        ensures { result ≡ record { node = arc_value node; ceiling = ceiling; found = found; kids = map arc_value kids.items } }
+    {
+        Report {
+            node,
+            ceiling,
+            found,
+            kids,
+        }
+    }
+
+    /// The node that was expanded.
+    pub fn node(&self) -> &Arc<Node>
+        ensures node { arc_value result.now ≡ self.now.node }
+        ensures fair { IsFair self.now }
+    {
+        &self.node
+    }
+
+    /// The ceiling that the node was expanded under, in periods; none where none was known.
+    pub fn ceiling(&self) -> Option<i64>
+        ensures ceiling { result ≡ self.now.ceiling }
+        ensures fair { IsFair self.now }
+    {
+        self.ceiling
+    }
+
+    /// The node's least schedule, where that is feasible.
+    pub fn found(&self) -> Option<&Schedule>
+        ensures found { option_map (λ schedule. schedule.now) result ≡ self.now.found }
+        ensures fair { IsFair self.now }
+    {
+        self.found.as_ref()
+    }
+
+    /// The kids, by rising pairs; at most 999,000.
+    pub fn kids(&self) -> &[Arc<Node>]
+        ensures kids { map arc_value result.now ≡ self.now.kids }
+        ensures fair { IsFair self.now }
+    {
+        self.kids.as_slice()
+    }
+
+    /// What was found, and the kids in their order.
+    pub fn into_parts(self) -> (Option<Schedule>, Vec<Arc<Node>>)
+        ensures found { result.0 ≡ self.found }
+        ensures kids { map arc_value result.1.items ≡ self.kids }
+        ensures fair { IsFair self }
+    {
+        let Report {
+            node: _,
+            ceiling: _,
+            found,
+            kids,
+        } = self;
+        (found, kids)
+    }
+}
