@@ -1,0 +1,62 @@
+#!/usr/bin/env python3
+"""bench/projects.py N SEED [--resources K] [--tight T] > PROJECT.sch
+
+Writes a project of N activities with least and greatest lags, the same for the same numbers.
+
+Each activity has one to three followers among the next eight, with a least lag of its duration or less,
+and now and then a greatest lag back, which leaves the earliest starts of the least lags feasible, so that
+no lags contradict each other. Demands are such that about T activities fit at once."""
+import argparse
+import random
+
+
+def project(n, seed, resources=5, tight=3):
+    rng = random.Random(1_000_003 * n + seed)
+    durations = [0] + [rng.randint(1, 10) for _ in range(n)] + [0]
+    capacities = [rng.randint(6, 10) for _ in range(resources)]
+    demands = [[0] * resources]
+    for _ in range(n):
+        demands.append([rng.choice((0, rng.randint(1, max(1, 2 * c // tight)))) for c in capacities])
+    demands.append([0] * resources)
+    demands = [[min(d, c) for d, c in zip(row, capacities)] for row in demands]
+    arcs = []
+    for i in range(1, n):
+        for j in sorted(rng.sample(range(i + 1, min(n, i + 8) + 1), min(rng.randint(1, 3), min(n, i + 8) - i))):
+            arcs.append((i, j, rng.choice((durations[i], rng.randint(0, durations[i])))))
+    starts = [0] * (n + 2)
+    for i, j, lag in arcs:
+        starts[j] = max(starts[j], starts[i] + lag)
+    for i, j, _ in list(arcs):
+        if rng.random() < 0.15:
+            arcs.append((j, i, -(starts[j] - starts[i] + rng.randint(2, 15))))
+    return durations, demands, capacities, arcs
+
+
+def text(durations, demands, capacities, arcs):
+    lines = [f"{len(durations) - 2} {len(capacities)} 0 0"]
+    followers = {}
+    for i, j, lag in arcs:
+        followers.setdefault(i, []).append((j, lag))
+    for i in range(len(durations)):
+        out = followers.get(i, [])
+        words = [i, 1, len(out), *(j for j, _ in out), *(f"[{lag}]" for _, lag in out)]
+        lines.append(" ".join(map(str, words)))
+    for i, (duration, row) in enumerate(zip(durations, demands)):
+        lines.append(" ".join(map(str, [i, 1, duration, *row])))
+    if capacities:
+        lines.append(" ".join(map(str, capacities)))
+    return "\n".join(lines) + "\n"
+
+
+def main():
+    parser = argparse.ArgumentParser()
+    parser.add_argument("n", type=int)
+    parser.add_argument("seed", type=int)
+    parser.add_argument("--resources", type=int, default=5)
+    parser.add_argument("--tight", type=int, default=3)
+    o = parser.parse_args()
+    print(text(*project(o.n, o.seed, o.resources, o.tight)), end="")
+
+
+if __name__ == "__main__":
+    main()
