@@ -1,4 +1,5 @@
-# make: prove and build the program. make test: everything that must hold. make install PREFIX=..
+# make: prove and build the program. make test: everything that must hold. make bench: measure it.
+# make install PREFIX=..
 PREFIX ?= /usr/local
 SOURCES := crates.txt $(shell find crates -path '*/out' -prune -o \( -name '*.rt' -o -name '*.antt' \) -print)
 
@@ -14,10 +15,13 @@ build/psmax: $(SOURCES)
 test:
 	sh tests/all
 
+bench: build/psmax
+	python3 bench/run.py build/psmax
+
 install: build/psmax
 	install -D -m 755 build/psmax $(DESTDIR)$(PREFIX)/bin/psmax
 
 clean:
 	rm -rf build crates/*/out
 
-.PHONY: all test install clean
+.PHONY: all test bench install clean
