@@ -4,3 +4,4 @@ pub mod Cover
 pub mod Together
 pub mod Nodes
 pub mod Kids
+pub mod Covers

@@ -4,3 +4,6 @@ pub mod Pairs
 pub mod Fate
 pub mod Fair
 pub mod ReportView
+pub mod Covered
+pub mod Verdicts
+pub mod SearchView

@@ -10,9 +10,13 @@
 mod expansion;
 mod fate;
 mod node;
+mod outcome;
 mod pairs;
 mod report;
+mod search;
 
 pub use expansion::expand;
 pub use node::{Node, root};
+pub use outcome::Outcome;
 pub use report::Report;
+pub use search::search_alone;
