@@ -1,9 +1,10 @@
 -- The texts of answers.
-use Rattle.std.specs.Prelude.{◌≡◌, ℕ, ◌+◌, List, [], ◌∷◌, ◌++◌, ℤ, codes, ◌⊎◌}
+use Rattle.std.specs.Prelude.{◌≡◌, ℕ, ◌+◌, List, [], ◌∷◌, ◌++◌, ℤ, ◌≤ℤ◌, ◌<ℤ◌, codes, ◌⊎◌}
 use Rattle.std.specs.List.{flat_map}
 use Rattle.std.specs.Fmt.{decimal, signed_decimal}
 use Rattle.network.specs.Problem.{Problem, rules}
 use Rattle.network.specs.Schedule.{IsLeastSchedule, IsFeasible, makespan}
+use Rattle.network.specs.Verdict.{IsShortest, HasNoSchedule}
 use Rattle.network.specs.Walk.{IsLeastCycleTop}
 use Rattle.schedule_check.specs.declared.violation.Violation.{Violation}
 use Rattle.schedule_check.specs.declared.violation.Violation.TheVariants as violation
@@ -62,3 +63,51 @@ pub record IsViolationsText (p : Problem) (starts : List ℤ) (exit : ℕ) (writ
 
 abbrev pub IsCheckText : Problem → List ℤ → ℕ → List ℕ → Type 0
 IsCheckText p starts exit written = IsFeasibleText p starts exit written ⊎ IsViolationsText p starts exit written
+
+-- ---- what `solve` says
+
+abbrev pub bound_text : ℤ → List ℕ
+bound_text bound = codes " bound " ++ (signed_decimal bound ++ codes "\n")
+
+-- no feasible schedule is shorter than c
+abbrev pub IsLowerBound : Problem → ℤ → Type 0
+IsLowerBound p c = (s : List ℤ) → IsFeasible p s → c ≤ℤ makespan s
+
+-- a makespan with a lower bound of all makespans, and the starts
+abbrev pub stopped_text : ℤ → ℤ → List ℤ → List ℕ
+stopped_text number bound starts = (codes "feasible " ++ (signed_decimal number ++ bound_text bound)) ++ start_lines 0 starts
+
+-- a schedule of least makespan
+pub record IsOptimalText (p : Problem) (exit : ℕ) (written : List ℕ) : Type 0 where
+  pub starts : List ℤ
+  pub feasible : IsFeasible p starts
+  pub shortest : IsShortest p (makespan starts)
+  pub text : written ≡ starts_text (codes "optimal") (makespan starts) starts
+  pub status : exit ≡ 0
+
+-- that there is no schedule
+pub record IsNoScheduleText (p : Problem) (exit : ℕ) (written : List ℕ) : Type 0 where
+  pub none : HasNoSchedule p
+  pub text : written ≡ codes "no schedule\n"
+  pub status : exit ≡ 0
+
+-- where the search was stopped: a feasible schedule, and a number below its makespan that no makespan
+-- is below
+pub record IsFeasibleBoundText (p : Problem) (exit : ℕ) (written : List ℕ) : Type 0 where
+  pub starts : List ℤ
+  pub bound : ℤ
+  pub feasible : IsFeasible p starts
+  pub holds : IsLowerBound p bound
+  pub below : bound <ℤ makespan starts
+  pub text : written ≡ stopped_text (makespan starts) bound starts
+  pub status : exit ≡ 3
+
+-- or that number alone
+pub record IsUnknownText (p : Problem) (exit : ℕ) (written : List ℕ) : Type 0 where
+  pub bound : ℤ
+  pub holds : IsLowerBound p bound
+  pub text : written ≡ codes "unknown" ++ bound_text bound
+  pub status : exit ≡ 3
+
+abbrev pub IsSolveText : Problem → ℕ → List ℕ → Type 0
+IsSolveText p exit written = IsOptimalText p exit written ⊎ (IsNoScheduleText p exit written ⊎ (IsFeasibleBoundText p exit written ⊎ IsUnknownText p exit written))

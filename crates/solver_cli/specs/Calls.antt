@@ -1,5 +1,5 @@
 -- Which calls the program takes.
-use Rattle.std.specs.Prelude.{◌≡◌, is_some, Bool, true, false}
+use Rattle.std.specs.Prelude.{◌≡◌, ◌≤◌, is_some, Bool, true, false}
 use Rattle.solver_cli.specs.declared.call.Job.{Job}
 use Rattle.solver_cli.specs.declared.call.Job.TheVariants as jobs
 use Rattle.solver_cli.specs.declared.call.Call.{Call}
@@ -8,16 +8,19 @@ use Rattle.solver_cli.specs.declared.call.Call.{Call}
 abbrev pub IsJob : Job → Type 0
 IsJob jobs.Earliest = Unit {0}
 IsJob jobs.Check = Unit {0}
+IsJob (jobs.Solve takes) = (1 ≤ takes) × (takes ≤ 1000000000)
 
 -- whether a job reads a second input
 abbrev pub reads_second : Job → Bool
 reads_second jobs.Earliest = false
 reads_second jobs.Check = true
+reads_second (jobs.Solve takes) = false
 
 -- whether it writes a record
 abbrev pub writes_record : Job → Bool
 writes_record jobs.Earliest = false
 writes_record jobs.Check = false
+writes_record (jobs.Solve takes) = false
 
 -- the job is within the limits, and just the files that it uses have names
 pub record IsCall (c : Call) : Type 0 where

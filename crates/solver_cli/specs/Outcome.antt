@@ -9,7 +9,7 @@ use Rattle.schedule_check.specs.Starts.{starts_fault, starts_of}
 use Rattle.solver_cli.specs.declared.call.Job.{Job}
 use Rattle.solver_cli.specs.declared.call.Job.TheVariants as jobs
 use Rattle.solver_cli.specs.declared.fault.Fault.{Fault}
-use Rattle.solver_cli.specs.Answers.{IsEarliestText, IsCheckText}
+use Rattle.solver_cli.specs.Answers.{IsEarliestText, IsCheckText, IsSolveText}
 use Rattle.solver_cli.specs.Devices.{Holds, HoldsFront}
 use Rattle.solver_cli.specs.Faults.{fault_of, starts_fault_of}
 
@@ -54,11 +54,13 @@ HasStartsFault text project fault = SpellsOne project (λ p. IsFirstStartsFault 
 -- what a job writes for its two texts, and the exit status
 abbrev pub IsAnswer : Job → List ℕ → List ℕ → ℕ → List ℕ → Type 0
 IsAnswer jobs.Earliest text second exit written = IsEarliestAnswer text exit written
+IsAnswer (jobs.Solve takes) text second exit written = SpellsOne text (λ p. IsSolveText p exit written)
 IsAnswer jobs.Check text second exit written = IsCheckAnswer text second exit written
 
 -- why a job has no answer to its two texts
 abbrev pub IsRefusal : Job → List ℕ → List ℕ → Fault → Type 0
 IsRefusal jobs.Earliest text second fault = HasFault text fault
+IsRefusal (jobs.Solve takes) text second fault = HasFault text fault
 IsRefusal jobs.Check text second fault = HasFault second fault ⊎ HasStartsFault text second fault
 
 -- a job's answer to its two texts was written whole

@@ -16,8 +16,18 @@ fn put_start(out: &mut String, activity: usize, start: i64) -> Result<(), AllocE
     writeln!(out, "{activity} {start}")
 }
 
-/// A word with a makespan, and a line for each activity: its number and its start.
-fn starts_text(
+/// A line for each activity: its number and its start.
+pub(crate) fn put_starts(out: &mut String, starts: &[i64]) -> Result<(), AllocError>
+    ensures { OnOk result (string_bytes out.new ≡ string_bytes out.old ++ start_lines 0 starts.now) }
+{
+    for (activity, start) in starts.iter().enumerate() {
+        put_start(out, activity, *start)?;
+    }
+    Ok(())
+}
+
+/// A word with a makespan, and the starts.
+pub(crate) fn starts_text(
     alloc: Global,
     word: &str,
     makespan: i64,
@@ -27,9 +37,7 @@ fn starts_text(
 {
     let mut out = String::new(alloc);
     writeln!(out, "{word} {makespan}")?;
-    for (activity, start) in starts.iter().enumerate() {
-        put_start(&mut out, activity, *start)?;
-    }
+    put_starts(&mut out, starts)?;
     Ok(out)
 }
 

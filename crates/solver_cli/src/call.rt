@@ -2,15 +2,24 @@ ghost use Rattle.std.specs.Prelude.{◌≡◌, IfOk, IfSome};
 ghost use Rattle.solver_cli.specs.Calls.{IsCall};
 
 use clap::error::ErrorKind;
-use clap::{Arg, ArgAction, ArgMatches, Command};
+use clap::{Arg, ArgAction, ArgMatches, Command, value_parser};
 use std::alloc::{AllocError, Global};
 use thiserror::Error;
+
+/// How many nodes may be taken, at most.
+const MAX_TAKES: u64 = 1_000_000_000;
+
+/// How many are taken where nothing else is said.
+const DEFAULT_TAKES: u64 = 1_000_000;
 
 /// What the program is to do.
 #[derive(Clone, Copy, Debug, PartialEq, Eq)]
 pub enum Job {
     /// Print the least schedule of the time lags of a project, or the positive cycle.
     Earliest,
+    /// Print the shortest schedule of a project, or that there is none, or, once so many nodes were
+    /// taken, what is known by then.
+    Solve { takes: u64 },
     /// Say whether the starts on standard input are a feasible schedule of a project in a file, or
     /// every rule that they break.
     Check,
@@ -64,6 +73,17 @@ fn earliest_command<'a>(alloc: Global) -> Command<'a> {
     )
 }
 
+fn solve_command<'a>(alloc: Global) -> Result<Command<'a>, AllocError> {
+    let nodes = Arg::new(alloc, "nodes")
+        .long("nodes")
+        .value_name("L")
+        .help("Stop once L nodes of the search were taken [default: 1000000]")
+        .value_parser(value_parser!(u64).range(1..=MAX_TAKES as i64));
+    Command::new(alloc, "solve")
+        .about("Print a shortest schedule of a project on standard input")
+        .arg(nodes)
+}
+
 fn check_command<'a>(alloc: Global) -> Result<Command<'a>, AllocError> {
     let project = Arg::new(alloc, "project")
         .long("project")
@@ -81,6 +101,7 @@ fn command<'a>(alloc: Global) -> Result<Command<'a>, AllocError> {
         .about("Solve projects with resources and time lags, with every answer proved")
         .subcommand_required(true)
         .subcommand(earliest_command(alloc))?
+        .subcommand(solve_command(alloc)?)?
         .subcommand(check_command(alloc)?)
 }
 
@@ -92,6 +113,22 @@ fn earliest_call() -> Call
         second: None,
         record_file: None,
     }
+}
+
+/// The call of a search; none where the number of nodes is out of its range, which `clap` doesn't let
+/// pass.
+fn solve_call(matches: &ArgMatches<'_>) -> Option<Call>
+    ensures { IfSome result IsCall }
+{
+    let takes = matches.get_one::<u64>("nodes").unwrap_or(DEFAULT_TAKES);
+    if takes < 1 || takes > MAX_TAKES {
+        return None;
+    }
+    Some(Call {
+        job: Job::Solve { takes },
+        second: None,
+        record_file: None,
+    })
 }
 
 /// The call of a job that reads a project from a file; none where the file isn't named, which `clap`
@@ -117,6 +154,7 @@ fn found_call(alloc: Global, matches: &ArgMatches<'_>) -> Result<Option<Call>, A
 {
     match matches.subcommand() {
         Some(("earliest", _)) => Ok(Some(earliest_call())),
+        Some(("solve", found)) => Ok(solve_call(found)),
         Some(("check", found)) => check_call(alloc, found),
         _ => Ok(None),
     }

@@ -1,34 +1,30 @@
 //! What each job reads, and its answer.
 
-ghost use Rattle.std.specs.Prelude.{◌≡◌, ◌≢◌, ◌<◌, ◌+◌, ℕ, List, Option, Some, None, Err, take, IfOk, IfErr, OnOk, ◌⊎◌, string_bytes};
+ghost use Rattle.std.specs.Prelude.{◌≡◌, ◌≢◌, ◌<◌, ◌≤◌, ◌+◌, ℕ, List, Option, Some, None, Err, take, IfOk, IfErr, OnOk, ◌⊎◌, string_bytes};
 ghost use Rattle.network.specs.Limits.{IsProject};
 ghost use Rattle.network.specs.Problem.{activity_count};
 ghost use Rattle.sch_reader.specs.Text.{Spells};
 ghost use Rattle.schedule_check.specs.Starts.{starts_fault, starts_of};
 ghost use Rattle.solver_cli.specs.declared.fault.Fault.{Fault};
 ghost use Rattle.solver_cli.specs.declared.fault.Fault.TheVariants as faults;
-ghost use Rattle.solver_cli.specs.Answers.{IsCheckText};
+ghost use Rattle.solver_cli.specs.Answers.{IsCheckText, IsSolveText};
 ghost use Rattle.solver_cli.specs.Devices.{GaveUpTo};
 ghost use Rattle.solver_cli.specs.Faults.{exit_of};
-ghost use Rattle.solver_cli.specs.Outcome.{IsEarliestAnswer, IsCheckAnswer, HasFault, HasStartsFault, IsFirstStartsFault, Told};
+ghost use Rattle.solver_cli.specs.Outcome.{IsEarliestAnswer, IsCheckAnswer, HasFault, HasStartsFault, IsFirstStartsFault, SpellsOne, Told};
 
 use crate::answers::{earliest_text, feasible_text, violations_text};
 use crate::device::{Input, ReadError, read_all};
 use crate::fault::Fault;
+use crate::solved::{Answer, solved_answer};
+use branching::search_alone;
 use network::Project;
 use sch_reader::read_sch;
 use schedule_check::{read_starts, violations};
 use std::alloc::Global;
+use std::sync::Arc;
 
 /// How many bytes a text may have.
 const TEXT_LIMIT: usize = 16_777_216;
-
-/// What is to be written, and the exit status once it is.
-#[derive(Drop)]
-pub(crate) struct Answer {
-    pub(crate) text: String,
-    pub(crate) exit: u8,
-}
 
 /// Reads a whole text, and of a longer one no more than one byte beyond the limit.
 fn read_text<I: Input>(alloc: Global, input: &mut I) -> Result<Vec<u8>, Fault>
@@ -81,6 +77,36 @@ pub(crate) fn earliest<I: Input>(alloc: Global, input: &mut I) -> Result<Answer,
     let project = read_project(alloc, input)?;
     let text = earliest_text(alloc, &project)?;
     Ok(Answer { text, exit: 0 })
+}
+
+/// The answer of the search for a shortest schedule.
+fn search_answer(alloc: Global, project: Project, takes: u64) -> Result<Answer, Fault>
+    requires some { 1 ≤ takes }
+    requires limit { takes ≤ 1000000000 }
+    ensures said { IfOk result (λ a. IsSolveText project a.exit (string_bytes a.text)) }
+    ensures memory { IfErr result (λ fault. fault ≡ faults.Memory) }
+{
+    let project = Arc::new(alloc, project)?;
+    let outcome = search_alone(alloc, &project, takes)?;
+    let answer = solved_answer(alloc, &outcome)?;
+    Ok(answer)
+}
+
+/// The shortest schedule of the project in the input, or what is known where so many nodes were taken
+/// before that.
+pub(crate) fn solve<I: Input>(alloc: Global, input: &mut I, takes: u64) -> Result<Answer, Fault>
+    requires count { I.failed input.old < 18446744073709551615 }
+    requires some { 1 ≤ takes }
+    requires limit { takes ≤ 1000000000 }
+    ensures said { IfOk result (λ a. (bytes : List ℕ) → I.left input.old ≡ Some bytes → SpellsOne bytes (λ p. IsSolveText p a.exit (string_bytes a.text))) }
+    ensures refused { IfErr result (λ fault. exit_of fault ≢ 1 → (bytes : List ℕ) → I.left input.old ≡ Some bytes → HasFault bytes fault) }
+    ensures unwritten { IfErr result (λ fault. fault ≢ faults.WriteFailed) }
+    ensures failed { result ≡ Err faults.ReadFailed → I.failed input.new ≡ I.failed input.old + 1 }
+    ensures within { GaveUpTo 16777217 (I.left input.old) (I.left input.new) }
+{
+    let project = read_project(alloc, input)?;
+    let answer = search_answer(alloc, project, takes)?;
+    Ok(answer)
 }
 
 /// What is to be said of the starts in a text.

@@ -10,6 +10,7 @@ mod device;
 mod fault;
 mod jobs;
 mod runs;
+mod solved;
 mod standard;
 #[cfg(test)]
 mod tests;

@@ -11,7 +11,8 @@ ghost use Rattle.solver_cli.specs.Outcome.{IsAnswer, IsRefusal, IsAnswered, IsCu
 use crate::call::Job;
 use crate::device::{Failed, Input, Output, write_all};
 use crate::fault::Fault;
-use crate::jobs::{Answer, check, earliest};
+use crate::jobs::{check, earliest, solve};
+use crate::solved::Answer;
 use std::alloc::Global;
 
 /// How a run ended: the exit status, and the fault that is printed, if any.
@@ -28,6 +29,7 @@ fn job_answer<I: Input, S: Input>(
     input: &mut I,
     second: &mut S,
 ) -> Result<Answer, Fault>
+    requires job { IsJob job }
     requires input { I.failed input.old < 18446744073709551615 }
     requires second { S.failed second.old < 18446744073709551615 }
     ensures said { IfOk result (λ a. Told (I.left input.old) (S.left second.old) (λ text more. IsAnswer job text more a.exit (string_bytes a.text))) }
@@ -40,6 +42,10 @@ fn job_answer<I: Input, S: Input>(
     match job {
         Job::Earliest => {
             let answer = earliest(alloc, input)?;
+            Ok(answer)
+        }
+        Job::Solve { takes } => {
+            let answer = solve(alloc, input, takes)?;
             Ok(answer)
         }
         Job::Check => {
