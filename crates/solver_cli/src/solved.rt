@@ -6,11 +6,10 @@ ghost use Rattle.network.specs.Schedule.{makespan};
 ghost use Rattle.branching.specs.Verdicts.{IsTrueOf};
 ghost use Rattle.solver_cli.specs.Answers.{starts_text, stopped_text, bound_text, start_lines, IsSolveText};
 
+use crate::answers::{put_starts, starts_text};
 use branching::Outcome;
 use network::Schedule;
 use std::alloc::{AllocError, Global};
-
-use crate::answers::{put_starts, starts_text};
 
 /// What is to be written, and the exit status once it is.
 #[derive(Drop)]
@@ -57,7 +56,10 @@ pub(crate) fn solved_answer(alloc: Global, outcome: &Outcome) -> Result<Answer, 
     let (text, exit) = match outcome {
         Outcome::Optimal(best) => (optimal_text(alloc, best)?, 0),
         Outcome::NoSchedule => (no_schedule_text(alloc)?, 0),
-        Outcome::Stopped { best: Some(best), bound } => (feasible_bound_text(alloc, best, *bound)?, 3),
+        Outcome::Stopped {
+            best: Some(best),
+            bound,
+        } => (feasible_bound_text(alloc, best, *bound)?, 3),
         Outcome::Stopped { best: None, bound } => (unknown_text(alloc, *bound)?, 3),
     };
     Ok(Answer { text, exit })
