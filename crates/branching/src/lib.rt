@@ -20,3 +20,8 @@ pub use node::{Node, root};
 pub use outcome::Outcome;
 pub use report::Report;
 pub use search::search_alone;
+
+#[cfg(test)]
+mod examples;
+#[cfg(test)]
+mod tests;

@@ -176,3 +176,6 @@ pub fn root(alloc: Global, project: Arc<Project>) -> Result<Arc<Node>, PathFault
     let node = Node::shared(alloc, project, pairs, matrix, bound)?;
     Ok(node)
 }
+
+#[cfg(test)]
+mod tests;

@@ -1,0 +1,191 @@
+ghost use Rattle.std.specs.Prelude.{◌<◌, ◌≤◌};
+
+use crate::examples::{backward_lag, both_orders_dead, lag, one_machine, project, three_on_two};
+use crate::{Node, Outcome, Report, expand, root, search_alone};
+use longest_path::PathFault;
+use network::{Pair, Project};
+use std::alloc::Global;
+use std::sync::Arc;
+use std::test::Fail;
+
+fn pair(before: usize, after: usize) -> Pair {
+    Pair { before, after }
+}
+
+/// What the expansion of a project's root gives.
+fn expand_root(alloc: Global, project: Arc<Project>, ceiling: Option<i64>) -> Result<Report, Fail> {
+    let root = root(alloc, project)?;
+    let report = expand(alloc, &root, ceiling)?;
+    Ok(report)
+}
+
+#[test]
+fn both_orders_of_two_activities_are_kids(rt: HostRuntime) -> Result<(), Fail> {
+    for ceiling in [None, Some(8)] {
+        let report = expand_root(rt.alloc(), one_machine(rt.alloc(), &[])?, ceiling)?;
+        assert_eq!(rt; report.node().bound(), 7);
+        assert_eq!(rt; report.ceiling(), ceiling);
+        assert!(rt; report.found().is_none());
+        let kids = report.kids();
+        assert_eq!(rt; kids.len(), 2);
+        assert_eq!(rt; kids[0].pairs(), [pair(1, 2)].as_slice());
+        assert_eq!(rt; kids[1].pairs(), [pair(2, 1)].as_slice());
+        assert_eq!(rt; [kids[0].bound(), kids[1].bound()], [7, 7]);
+    }
+    Ok(())
+}
+
+#[test]
+fn nothing_comes_of_a_node_at_the_ceiling(rt: HostRuntime) -> Result<(), Fail> {
+    let report = expand_root(rt.alloc(), one_machine(rt.alloc(), &[])?, Some(7))?;
+    assert!(rt; report.found().is_none());
+    assert!(rt; report.kids().is_empty());
+    Ok(())
+}
+
+#[test]
+fn dead_kids_are_left_out(rt: HostRuntime) -> Result<(), Fail> {
+    let report = expand_root(rt.alloc(), both_orders_dead(rt.alloc())?, None)?;
+    assert!(rt; report.found().is_none());
+    assert!(rt; report.kids().is_empty());
+    Ok(())
+}
+
+#[test]
+fn a_set_of_one_has_no_kids(rt: HostRuntime) -> Result<(), Fail> {
+    let alone = project(rt.alloc(), &[0, 1, 0], &[0, 2, 0], 1, &[])?;
+    let report = expand_root(rt.alloc(), alone, None)?;
+    assert!(rt; report.found().is_none());
+    assert!(rt; report.kids().is_empty());
+    Ok(())
+}
+
+#[test]
+fn three_members_have_six_kids(rt: HostRuntime) -> Result<(), Fail> {
+    let report = expand_root(rt.alloc(), three_on_two(rt.alloc())?, None)?;
+    assert_eq!(rt; report.node().bound(), 3);
+    assert!(rt; report.found().is_none());
+    let pairs = [
+        pair(1, 2),
+        pair(1, 3),
+        pair(2, 1),
+        pair(2, 3),
+        pair(3, 1),
+        pair(3, 2),
+    ];
+    assert_eq!(rt; report.kids().len(), 6);
+    for (kid, pair) in report.kids().iter().zip(&pairs) {
+        assert_eq!(rt; kid.pairs(), [*pair].as_slice());
+        assert_eq!(rt; kid.bound(), 4);
+    }
+    Ok(())
+}
+
+#[test]
+fn a_least_schedule_without_overload_is_found(rt: HostRuntime) -> Result<(), Fail> {
+    let apart = one_machine(rt.alloc(), &[lag(1, 2, 5)])?;
+    let root = root(rt.alloc(), Arc::try_clone(&apart)?)?;
+    assert!(rt; root.project() == &apart);
+    let (found, kids) = expand(rt.alloc(), &root, None)?.into_parts();
+    assert!(rt; kids.is_empty());
+    match found {
+        Some(found) => assert_eq!(rt; found.starts(), [0, 0, 5, 9].as_slice()),
+        None => return Err("nothing was found".into()),
+    }
+    Ok(())
+}
+
+#[test]
+fn a_positive_cycle_has_no_root(rt: HostRuntime) -> Result<(), Fail> {
+    let cycle = one_machine(rt.alloc(), &[lag(1, 2, 5), lag(2, 1, -4)])?;
+    match root(rt.alloc(), Arc::try_clone(&cycle)?) {
+        Err(fault) => assert_eq!(rt; fault, PathFault::PositiveCycle { at: 2 }),
+        Ok(_) => return Err("there is a root".into()),
+    }
+    match search_alone(rt.alloc(), &cycle, 1)? {
+        Outcome::NoSchedule => Ok(()),
+        _ => Err("there is a schedule".into()),
+    }
+}
+
+/// The starts of the shortest schedule, empty where there is no schedule.
+fn shortest(alloc: Global, project: Arc<Project>) -> Result<Vec<i64>, Fail> {
+    match search_alone(alloc, &project, 1000)? {
+        Outcome::Optimal(best) => Ok(Vec::from_slice(alloc, best.starts())?),
+        Outcome::NoSchedule => Ok(Vec::new(alloc)),
+        Outcome::Stopped { .. } => Err("the search was stopped".into()),
+    }
+}
+
+/// The best starts, empty where none were found, and the bound of a search that is stopped.
+fn stopped(alloc: Global, project: Arc<Project>, takes: u64) -> Result<(Vec<i64>, i64), Fail>
+    requires some { 0 < takes }
+    requires few { takes ≤ 1000 }
+{
+    match search_alone(alloc, &project, takes)? {
+        Outcome::Stopped { best, bound } => match best {
+            Some(best) => Ok((Vec::from_slice(alloc, best.starts())?, bound)),
+            None => Ok((Vec::new(alloc), bound)),
+        },
+        _ => Err("the search was not stopped".into()),
+    }
+}
+
+/// An activity, two after it that ask for the one unit of a resource, and one after these.
+fn two_between(alloc: Global) -> Result<Arc<Project>, Fail> {
+    let lags = [lag(1, 2, 5), lag(1, 3, 5), lag(2, 4, 4), lag(3, 4, 4)];
+    let project = project(alloc, &[0, 5, 4, 4, 3, 0], &[0, 0, 1, 1, 0, 0], 1, &lags)?;
+    Ok(project)
+}
+
+#[test]
+fn shortest_schedules(rt: HostRuntime) -> Result<(), Fail> {
+    let alloc = rt.alloc();
+    let machine = shortest(alloc, one_machine(alloc, &[])?)?;
+    assert_eq!(rt; machine.as_slice(), [0, 4, 0, 7].as_slice());
+    let zero_cycle = one_machine(alloc, &[lag(1, 2, 3), lag(2, 1, -3)])?;
+    assert_eq!(rt;
+        shortest(alloc, zero_cycle)?.as_slice(),
+        [0, 0, 3, 7].as_slice()
+    );
+    let three = shortest(alloc, three_on_two(alloc)?)?;
+    assert_eq!(rt; three.as_slice(), [0, 0, 2, 0, 4].as_slice());
+    let backward = shortest(alloc, backward_lag(alloc)?)?;
+    assert_eq!(rt; backward.as_slice(), [0, 0, 2, 1, 5].as_slice());
+    let in_time = one_machine(alloc, &[lag(3, 0, -7)])?;
+    assert_eq!(rt;
+        shortest(alloc, in_time)?.as_slice(),
+        [0, 4, 0, 7].as_slice()
+    );
+    let between = shortest(alloc, two_between(alloc)?)?;
+    assert_eq!(rt; between.as_slice(), [0, 0, 9, 5, 13, 16].as_slice());
+    let instant = project(alloc, &[0, 0, 0], &[0, 2, 0], 1, &[])?;
+    assert_eq!(rt; shortest(alloc, instant)?.as_slice(), [0, 0, 0].as_slice());
+    Ok(())
+}
+
+#[test]
+fn projects_without_a_schedule(rt: HostRuntime) -> Result<(), Fail> {
+    let alloc = rt.alloc();
+    assert!(rt; shortest(alloc, both_orders_dead(alloc)?)?.is_empty());
+    let too_late = one_machine(alloc, &[lag(3, 0, -6)])?;
+    assert!(rt; shortest(alloc, too_late)?.is_empty());
+    let too_much = project(alloc, &[0, 1, 0], &[0, 2, 0], 1, &[])?;
+    assert!(rt; shortest(alloc, too_much)?.is_empty());
+    Ok(())
+}
+
+#[test]
+fn stopped_searches(rt: HostRuntime) -> Result<(), Fail> {
+    let alloc = rt.alloc();
+    let (best, bound) = stopped(alloc, one_machine(alloc, &[])?, 1)?;
+    assert!(rt; best.is_empty());
+    assert_eq!(rt; bound, 7);
+    let (best, bound) = stopped(alloc, backward_lag(alloc)?, 2)?;
+    assert_eq!(rt; best.as_slice(), [0, 3, 0, 4, 6].as_slice());
+    assert_eq!(rt; bound, 5);
+    let (best, bound) = stopped(alloc, two_between(alloc)?, 1)?;
+    assert!(rt; best.is_empty());
+    assert_eq!(rt; bound, 16);
+    Ok(())
+}
