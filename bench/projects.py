@@ -1,22 +1,23 @@
 #!/usr/bin/env python3
-"""bench/projects.py N SEED [--resources K] [--tight T] > PROJECT.sch
+"""bench/projects.py N SEED [--resources K] [--tight T] [--busy P] > PROJECT.sch
 
 Writes a project of N activities with least and greatest lags, the same for the same numbers.
 
 Each activity has one to three followers among the next eight, with a least lag of its duration or less,
 and now and then a greatest lag back, which leaves the earliest starts of the least lags feasible, so that
-no lags contradict each other. Demands are such that about T activities fit at once."""
+no lags contradict each other. An activity uses a resource with probability P, and then about T of these fit at
+once."""
 import argparse
 import random
 
 
-def project(n, seed, resources=5, tight=3):
+def project(n, seed, resources=5, tight=3, busy=0.5):
     rng = random.Random(1_000_003 * n + seed)
     durations = [0] + [rng.randint(1, 10) for _ in range(n)] + [0]
     capacities = [rng.randint(6, 10) for _ in range(resources)]
     demands = [[0] * resources]
     for _ in range(n):
-        demands.append([rng.choice((0, rng.randint(1, max(1, 2 * c // tight)))) for c in capacities])
+        demands.append([rng.randint(1, max(1, 2 * c // tight)) if rng.random() < busy else 0 for c in capacities])
     demands.append([0] * resources)
     demands = [[min(d, c) for d, c in zip(row, capacities)] for row in demands]
     arcs = []
@@ -54,8 +55,9 @@ def main():
     parser.add_argument("seed", type=int)
     parser.add_argument("--resources", type=int, default=5)
     parser.add_argument("--tight", type=int, default=3)
+    parser.add_argument("--busy", type=float, default=0.5)
     o = parser.parse_args()
-    print(text(*project(o.n, o.seed, o.resources, o.tight)), end="")
+    print(text(*project(o.n, o.seed, o.resources, o.tight, o.busy)), end="")
 
 
 if __name__ == "__main__":

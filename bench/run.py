@@ -15,8 +15,15 @@ import tempfile
 sys.path.insert(0, str(pathlib.Path(__file__).resolve().parent))
 import projects
 
-# activities, takes, how many can run at once, projects
-SEARCHES = ((10, 100, 2, 5), (20, 1_000, 2, 5), (30, 1_000, 2, 5), (100, 500, 3, 3), (1000, 20, 40, 1))
+# activities, takes, how many that use a resource fit at once, how many use it, projects
+SEARCHES = (
+    (10, 100, 2, 0.5, 5),
+    (20, 1_000, 2, 0.5, 5),
+    (30, 1_000, 2, 0.5, 5),
+    (45, 1_000, 2, 0.5, 5),
+    (100, 500, 2, 0.5, 3),
+    (1000, 30, 2, 0.01, 2),
+)
 
 
 # A child counts its parent's memory as its own until it starts the program, so a small parent does it.
@@ -47,11 +54,11 @@ def run(program, args, stdin, files=()):
         return best
 
 
-def stopped(program, n, takes, tight, count):
+def stopped(program, n, takes, tight, busy, count):
     """So many projects whose search is stopped after all its takes."""
     found, seed = [], 0
     while len(found) < count and seed < 400:
-        text = projects.text(*projects.project(n, seed, 5, tight)).encode()
+        text = projects.text(*projects.project(n, seed, 5, tight, busy)).encode()
         status, seconds, memory = run(program, ["solve", "--nodes", str(takes)], text)
         if status == 3:
             _, opening, _ = run(program, ["solve", "--nodes", "1"], text)
@@ -64,8 +71,8 @@ def searches(program):
     print("| Activities | Projects | Takes each | Takes a second | Ratio | First take, ms | Peak memory, MiB |")
     print("|---|---|---|---|---|---|---|")
     first = None
-    for n, takes, tight, count in SEARCHES:
-        found = stopped(program, n, takes, tight, count)
+    for n, takes, tight, busy, count in SEARCHES:
+        found = stopped(program, n, takes, tight, busy, count)
         if not found:
             print(f"| {n} | 0 | {takes} | none of 400 was stopped | | | |")
             continue

@@ -6,7 +6,7 @@ prints each failure, and last 'N passed, M failed'. With --counted, what the las
 counts is added.
 
 A case is one line of JSON: name, args, exit, and, where they matter: stdin, files (made before the
-run), stdout, stderr, stdout_to (a device in place of a pipe). An input is one of
+run), stdout, stdout_first (its first line alone), stderr, stdout_to (a device in place of a pipe). An input is one of
   {"text": TEXT}            this text
   {"file": NAME}            a file of inputs/ beside the cases, with "cut": its first so many bytes,
                             with "append": and then this text
@@ -66,6 +66,8 @@ def failures(program, case, inputs):
     for name, got in (("stdout", ran.stdout or b""), ("stderr", ran.stderr)):
         if name in case and got != case[name].encode():
             bad.append(f"{name} {got[:300]!r}, not {case[name][:300].encode()!r}")
+    if "stdout_first" in case and (ran.stdout or b"").split(b"\n")[0] != case["stdout_first"].encode():
+        bad.append(f"first line {ran.stdout[:100]!r}, not {case['stdout_first']!r}")
     return bad
 
 

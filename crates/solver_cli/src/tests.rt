@@ -219,6 +219,13 @@ fn words_make_calls(rt: HostRuntime) -> Result<(), Fail> {
     };
     assert_eq!(rt; call.job, Job::Check);
     assert!(rt; call.second.is_some() && call.record_file.is_none());
+    let solve = words(rt.alloc(), &["psmax", "solve", "--nodes", "7"])?;
+    let Ok(call) = call_of(rt.alloc(), &solve) else {
+        return Err("refused".into());
+    };
+    assert_eq!(rt; call.job, Job::Solve { takes: 7 });
+    let none = words(rt.alloc(), &["psmax", "solve", "--nodes", "0"])?;
+    assert!(rt; matches!(call_of(rt.alloc(), &none), Err(WordsFault::Bad { .. })));
     let help = words(rt.alloc(), &["psmax", "--help"])?;
     assert!(rt; matches!(call_of(rt.alloc(), &help), Err(WordsFault::Help { .. })));
     let bad = words(rt.alloc(), &["psmax", "latest"])?;
