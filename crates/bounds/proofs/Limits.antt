@@ -15,7 +15,7 @@ use Rattle.bounds.specs.declared.window.Window.{Window}
 use Rattle.bounds.specs.Energy.{work}
 use Rattle.bounds.specs.Windows.{AreEnds, window, AreWindows}
 use Rattle.bounds.specs.Loads.{load, IsSmall, AreLoads}
-use Rattle.bounds.proofs.Between.{range_below}
+use Rattle.network.proofs.Running.{range_below}
 use Rattle.bounds.proofs.Greatest.{IsOrdered, tail_of}
 
 -- a head or tail is within the limits

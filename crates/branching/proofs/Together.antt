@@ -1,17 +1,16 @@
 -- What the overload of a least schedule gives: members of a forbidden set that take time, and ordered
 -- pairs that are new to the node.
-use Rattle.std.proofs.Common.{◌≡◌, sym, ap, ℕ, ◌+◌, ◌-◌, ◌<◌, ◌≤◌, true, ◌&&◌, List, [], ◌∷◌, length, get_or, arith, Option, Some, None}
+use Rattle.std.proofs.Common.{◌≡◌, sym, ap, ℕ, ◌-◌, ◌<◌, ◌≤◌, true, ◌&&◌, List, [], ◌∷◌, length, get_or, arith, Option, Some, None}
 use Rattle.std.specs.Prelude.{ℤ, pos, ◌+ℤ◌, ◌≤ℤ◌, ◌<ℤ◌, int_le, int_lt}
-use Rattle.std.specs.List.{All, Any, Contains, range_with_len}
+use Rattle.std.specs.List.{All, Any, Contains}
 use Rattle.std.specs.List.Sorted.{IsStrictlyIncreasing}
 use Rattle.std.proofs.lemmas.Int.{ints}
-use Rattle.std.proofs.lemmas.List.Kept.{IsStrictlyIncreasing-filter}
-use Rattle.std.proofs.lemmas.List.FromFn.{length-range_with_len, get_or-range_with_len}
-use Rattle.std.proofs.lemmas.List.Elements.{All-nil, All-contains, All-filter, All-weaker, Contains-get_or, filter_passes}
+use Rattle.std.proofs.lemmas.List.Elements.{All-nil, All-contains, All-weaker, Contains-get_or, filter_passes}
 use Rattle.std.proofs.Math.Nat.{mul-le-mul_left, mul-le-mul_right}
 use Rattle.network.specs.declared.lag.Pair.{Pair}
 use Rattle.network.specs.Forbidden.{IsForbidden}
 use Rattle.network.specs.Limits.{IsProject}
+use Rattle.network.proofs.Running.{running_below}
 use Rattle.network.specs.Problem.{Problem, activity_count, end_of, resource_count, activities, duration, NameActivities}
 use Rattle.network.specs.Schedule.{start, makespan, is_running, running, Keeps, IsFeasible, IsWithinCapacities, IsLeastSchedule, ScheduleOf}
 use Rattle.branching.specs.Subproblem.{Subproblem, NodeStandsFor}
@@ -22,22 +21,6 @@ use Rattle.branching.proofs.OrderedPairs.{all_pairs, count_pairs}
 use Rattle.branching.proofs.Cover.{AreForbiddenTogether}
 
 -- ---- the running activities
-
-range_below : (n : ℕ) → All (λ i. i < n) (range_with_len 0 n)
-range_below n k d l =
-    let short : k < n = omega (arith, length-range_with_len 0 n) in
-    omega (arith, get_or-range_with_len 0 n k d short)
-
-range_rising : (n : ℕ) → IsStrictlyIncreasing (range_with_len 0 n)
-range_rising n k l =
-    let short : k + 1 < n = omega (arith, length-range_with_len 0 n) in
-    omega (arith, get_or-range_with_len 0 n k 0 (omega arith), get_or-range_with_len 0 n (k + 1) 0 short)
-
-pub running_below : (p : Problem) (s : List ℤ) (t : ℤ) (runs : List ℕ) → runs ≡ running p s t → All (λ i. i < activity_count p) runs
-running_below p s t runs e = rw e (All-filter (is_running p s t) (λ i. i < activity_count p) (activities p) (range_below (activity_count p)))
-
-pub running_rising : (p : Problem) (s : List ℤ) (t : ℤ) (runs : List ℕ) → runs ≡ running p s t → IsStrictlyIncreasing runs
-running_rising p s t runs e = rw e (IsStrictlyIncreasing-filter (is_running p s t) (activities p) (range_rising (activity_count p)))
 
 starts_if : (s u e : ℤ) → (int_le s u && int_lt u e) ≡ true → s ≤ℤ u
 starts_if s u e h = grind (arith, ints)

@@ -8,7 +8,8 @@ use Rattle.std.proofs.lemmas.List.Kept.{IsStrictlyIncreasing-filter}
 use Rattle.network.specs.Problem.{Problem, activity_count, activities}
 use Rattle.network.specs.Schedule.{is_running, running}
 
-range_below : (n : ℕ) → All (λ i. i < n) (range_with_len 0 n)
+-- the numbers of a range are below its end
+pub range_below : (n : ℕ) → All (λ i. i < n) (range_with_len 0 n)
 range_below n k d l =
     let short : k < n = omega (arith, length-range_with_len 0 n) in
     omega (arith, get_or-range_with_len 0 n k d short)

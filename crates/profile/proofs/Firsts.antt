@@ -1,7 +1,7 @@
 -- The start times up to one have no overload, so no earlier unit of time has one.
-use Rattle.std.proofs.Common.{◌≡◌, ℕ, zero, suc, ◌+◌, ◌<◌, ◌≤◌, Bool, true, false, cond, List, [], ◌∷◌, ◌++◌, length, get_or, map, take, ⊎_elim, arith, sym, ap, ◌∙◌, refl, append-nil, SFits, w64, to_z, of_z}
+use Rattle.std.proofs.Common.{◌≡◌, ℕ, zero, suc, ◌+◌, ◌<◌, ◌≤◌, Bool, false, List, [], ◌∷◌, ◌++◌, length, get_or, map, take, ⊎_elim, arith, sym, ap, ◌∙◌, append-nil, SFits, w64, to_z, of_z}
 use Rattle.std.specs.Prelude.{ℤ, pos, negsuc, ◌≤ℤ◌, ◌<ℤ◌, nat_lt, ◌↔◌}
-use Rattle.std.specs.List.{AllByRecursion, sum_by, filter, flat_map, range_with_len}
+use Rattle.std.specs.List.{sum_by, filter, flat_map, range_with_len}
 use Rattle.std.proofs.lemmas.Bool.{cases_lt, le-ltb, ltb-false}
 use Rattle.std.proofs.lemmas.Int.{ints, to_z-of_z}
 use Rattle.std.proofs.lemmas.List.{get_or_default, take_all, take_more}

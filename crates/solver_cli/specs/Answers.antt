@@ -8,7 +8,6 @@ use Rattle.network.specs.Verdict.{IsShortest, HasNoSchedule}
 use Rattle.network.specs.Walk.{IsLeastCycleTop}
 use Rattle.schedule_check.specs.declared.violation.Violation.{Violation}
 use Rattle.schedule_check.specs.declared.violation.Violation.TheVariants as violation
-use Rattle.schedule_check.specs.Starts.{starts_fault, starts_of}
 use Rattle.schedule_check.specs.Violations.{violations}
 
 -- a line for each activity, from this one on: its number and its start

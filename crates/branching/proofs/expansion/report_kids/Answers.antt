@@ -5,7 +5,8 @@ use Rattle.network.specs.Forbidden.{IsMinimalForbidden}
 use Rattle.branching.specs.Subproblem.{Subproblem}
 use Rattle.branching.specs.Pairs.{ordered_pairs}
 use Rattle.branching.proofs.Cover.{some_kept}
-use Rattle.branching.proofs.Together.{running_below, running_rising, run_together, forbidden_together, new_pairs, named_pairs, few_pairs, fair_kids}
+use Rattle.network.proofs.Running.{running_below, running_rising}
+use Rattle.branching.proofs.Together.{run_together, forbidden_together, new_pairs, named_pairs, few_pairs, fair_kids}
 use Rattle.branching.proofs.expansion.report_kids.Goals as goal
 
 pub shrink-requires-clause-running : goal.shrink-requires-clause-running

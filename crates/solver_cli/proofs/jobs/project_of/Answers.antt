@@ -1,4 +1,3 @@
-use Rattle.std.proofs.Common.{◌≡◌, ◌≢◌, ◌∙◌, sym, ap, refl, rules, inl, inr}
 use Rattle.std.proofs.lemmas.Result.{err_from_is_err_and}
 use Rattle.solver_cli.proofs.TextLaws.{refused_by}
 use Rattle.solver_cli.proofs.jobs.project_of.Goals as goal

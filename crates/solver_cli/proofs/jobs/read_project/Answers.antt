@@ -1,4 +1,4 @@
-use Rattle.std.proofs.Common.{◌≡◌, ◌≢◌, ◌∙◌, sym, ap, refl, rules, inl, inr, List, ℕ, Some, ◌⊎◌}
+use Rattle.std.proofs.Common.{◌∙◌, ap}
 use Rattle.std.proofs.lemmas.Result.{err_from_is_err_and}
 use Rattle.solver_cli.specs.Faults.{exit_of}
 use Rattle.solver_cli.proofs.TextLaws.{fault_whole, spells_whole}

@@ -1,4 +1,3 @@
-use Rattle.std.proofs.Common.{◌≡◌}
 use Rattle.solver_cli.proofs.jobs.search_answer.Goals as goal
 
 pub returns-clause-said : goal.returns-clause-said

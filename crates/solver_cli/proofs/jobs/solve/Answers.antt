@@ -1,6 +1,4 @@
-use Rattle.std.proofs.Common.{◌≡◌, ◌≢◌, ◌∙◌, sym, ap, refl, rules}
 use Rattle.std.proofs.lemmas.Result.{err_from_is_err_and}
-use Rattle.solver_cli.specs.Faults.{exit_of}
 use Rattle.solver_cli.proofs.jobs.solve.Goals as goal
 
 pub returns-in_err-project-clause-refused : goal.returns-in_err-project-clause-refused

@@ -1,4 +1,3 @@
-use Rattle.std.proofs.Common.{◌≡◌}
 use Rattle.solver_cli.proofs.runs.job_answer.Goals as goal
 
 pub returns-in_ok-answer-in-Solve-clause-said : goal.returns-in_ok-answer-in-Solve-clause-said
