@@ -5,8 +5,9 @@ pub mod Between
 pub mod EnergyHolds
 pub mod TrueBounds
 pub mod Sweeps
-pub mod Shares
+pub mod SweepLimits
 pub mod Orders
+pub mod Ranks
 pub mod Terms
 pub mod Greatest
 pub mod Limits

@@ -1,12 +1,12 @@
--- What a sweep over loads by falling head has found for a tail b, once it has passed some of them.
-use Rattle.std.proofs.Common.{◌≡◌, sym, ap, ◌∙◌, subst, ℕ, ◌+◌, ◌*◌, ◌<◌, ◌≤◌, max, ◌⊎◌, inr, ⊎_elim, List, [], ◌∷◌, ◌++◌, length, get_or, take, arith}
-use Rattle.std.specs.Prelude.{nat_le, if◌then◌else◌}
+-- What a sweep over loads by falling head has found, once it has passed some of them.
+use Rattle.std.proofs.Common.{◌≡◌, refl, sym, ap, ◌∙◌, subst, ℕ, ◌+◌, ◌*◌, ◌<◌, ◌≤◌, max, ◌⊎◌, inl, inr, ⊎_elim, List, [], ◌∷◌, ◌++◌, length, get_or, take, map, arith}
+use Rattle.std.specs.Prelude.{nat_lt, if◌then◌else◌}
 use Rattle.std.specs.List.{All, Contains, sum_by}
 use Rattle.std.specs.Ordering.{ord_max, nat_cmp}
 use Rattle.std.proofs.lemmas.Bool.{cases_lt}
 use Rattle.std.proofs.lemmas.Bool.Decides.{nat_tests}
-use Rattle.std.proofs.lemmas.List.{take_more, length-take-le, get_or-take}
-use Rattle.std.proofs.lemmas.List.Elements.{All-from_get_or, All-contains, Contains-push_cases}
+use Rattle.std.proofs.lemmas.List.{take_more, length-take-le, get_or-take, get_or-map, length-map}
+use Rattle.std.proofs.lemmas.List.Elements.{All-from_get_or, Contains-push_cases}
 use Rattle.std.proofs.lemmas.List.Sums.{sum_by_more, sum_by-take-le, sum_by-le}
 use Rattle.std.proofs.Math.Nat.{mul-le-mul, mul-le-mul_left}
 use Rattle.bounds.specs.declared.load.Load.{Load}
@@ -16,38 +16,55 @@ use Rattle.bounds.proofs.Units.{sum_by-le-each}
 pub ord_max-max : (x y : ℕ) → ord_max nat_cmp x y ≡ max x y
 ord_max-max x y = grind (arith, nat_tests)
 
--- the work of a load with tail at least b, and 0 for any other
+-- the work of a load with tail at least that at place j, and 0 for any other
 abbrev pub late_work : ℕ → Load → ℕ
-late_work b x = if nat_le b x.tail then x.work else 0
+late_work j x = if nat_lt j x.rank then x.work else 0
 
-late_work-late : (b : ℕ) (x : Load) → b ≤ x.tail → late_work b x ≡ x.work
-late_work-late b x h = grind (arith, nat_tests)
+late_work-late : (j : ℕ) (x : Load) → j < x.rank → late_work j x ≡ x.work
+late_work-late j x h = grind (arith, nat_tests)
 
-late_work-early : (b : ℕ) (x : Load) → x.tail < b → late_work b x ≡ 0
-late_work-early b x h = grind (arith, nat_tests)
+late_work-early : (j : ℕ) (x : Load) → x.rank ≤ j → late_work j x ≡ 0
+late_work-early j x h = grind (arith, nat_tests)
 
-late_work-le : (b : ℕ) (x : Load) → late_work b x ≤ x.work
-late_work-le b x = grind (arith, nat_tests)
+pub late_work-le : (j : ℕ) (x : Load) → late_work j x ≤ x.work
+late_work-le j x = grind (arith, nat_tests)
 
-work_after-early : (a b : ℕ) (x : Load) → x.tail < b → work_after a b x ≡ 0
-work_after-early a b x h = grind (arith, nat_tests)
+work_after-early : (a j : ℕ) (x : Load) → x.rank ≤ j → work_after a j x ≡ 0
+work_after-early a j x h = grind (arith, nat_tests)
 
-work_after-low : (a b : ℕ) (x : Load) → x.head < a → work_after a b x ≡ 0
-work_after-low a b x h = grind (arith, nat_tests)
+work_after-low : (a j : ℕ) (x : Load) → x.head < a → work_after a j x ≡ 0
+work_after-low a j x h = grind (arith, nat_tests)
 
-work_after-le : (a b : ℕ) (x : Load) → work_after a b x ≤ late_work b x
-work_after-le a b x = grind (arith, nat_tests)
+pub work_after-le : (a j : ℕ) (x : Load) → work_after a j x ≤ late_work j x
+work_after-le a j x = grind (arith, nat_tests)
 
-late_work-after : (a b : ℕ) (x : Load) → a ≤ x.head → late_work b x ≤ work_after a b x
-late_work-after a b x h = grind (arith, nat_tests)
+late_work-after : (a j : ℕ) (x : Load) → a ≤ x.head → late_work j x ≤ work_after a j x
+late_work-after a j x h = grind (arith, nat_tests)
 
--- the sum of the work so far, and the greatest share so far
-pub record Swept (c : ℕ) (loads : List Load) (b i w n : ℕ) : Type 0 where
-  pub sum : w ≡ sum_by (late_work b) (take i loads)
-  pub reached : (n ≡ 0) ⊎ IsReached c loads b n
-  pub above : IsAbove c (take i loads) b n
+-- what a load adds to the shares: its work to those of tails up to its own. The greatest of these is m
+pub record Adds (x : Load) (old new : List ℕ) (m : ℕ) : Type 0 where
+  pub long : length new ≡ length old
+  pub added : (j : ℕ) → j < x.rank → get_or new j 0 ≡ get_or old j 0 + x.work
+  pub others : (j : ℕ) → x.rank ≤ j → get_or new j 0 ≡ get_or old j 0
+  pub reached : (m ≡ 0) ⊎ ((j : ℕ) × (j < x.rank) × (get_or new j 0 ≡ m))
+  pub greatest : (j : ℕ) → j < x.rank → get_or new j 0 ≤ m
 
--- one more load adds what it has between
+-- for each tail the capacity times it and the work so far, and the greatest share so far
+pub record Swept (c : ℕ) (tails : List ℕ) (loads : List Load) (i : ℕ) (shares : List ℕ) (n : ℕ) : Type 0 where
+  pub long : length shares ≡ length tails
+  pub sums : (j : ℕ) → j < length tails → get_or shares j 0 ≡ c * get_or tails j 0 + sum_by (late_work j) (take i loads)
+  pub reached : (n ≡ 0) ⊎ IsReached c tails loads n
+  pub above : IsAbove c tails (take i loads) n
+
+pub swept_start : (c : ℕ) (tails : List ℕ) (loads : List Load) (shares : List ℕ) → shares ≡ map (λ b. c * b) tails → Swept c tails loads 0 shares 0
+swept_start c tails loads shares is = record {
+  long = ap length is ∙ length-map tails (λ b. c * b);
+  sums = λ j lt. omega (arith, ap (λ (xs : List ℕ). get_or xs j 0) is, get_or-map (λ b. c * b) tails j 0 0 lt);
+  reached = inl refl;
+  above = λ a j y there high late. absurd (omega (arith, there.1));
+}
+
+-- one load more adds what it has
 sum_more : (f : Load → ℕ) (loads : List Load) (i : ℕ) (x : Load) → i < length loads → x ≡ get_or loads i x → sum_by f (take (i + 1) loads) ≡ sum_by f (take i loads) + f x
 sum_more f loads i x lt at = sum_by_more f loads i x lt ∙ ap (λ y. sum_by f (take i loads) + f y) (sym at)
 
@@ -56,23 +73,11 @@ passed loads i x y lt at there =
     let more : take (i + 1) loads ≡ take i loads ++ x ∷ [] = take_more loads i x lt ∙ ap (λ z. take i loads ++ z ∷ []) (sym at) in
     Contains-push_cases (take i loads) x y (subst (λ ys. Contains ys y) more there)
 
-pub swept_skip : (c : ℕ) (loads : List Load) (b i w n : ℕ) (x : Load) → Swept c loads b i w n → i < length loads → x ≡ get_or loads i x → x.tail < b → Swept c loads b (i + 1) w n
-swept_skip c loads b i w n x s lt at early = record {
-  sum = omega (arith, s.sum, sum_more (late_work b) loads i x lt at, late_work-early b x early);
-  reached = s.reached;
-  above = λ a y there high late.
-      ⊎_elim
-      (λ (before : Contains (take i loads) y). omega (arith, s.above a y before high late, sum_more (work_after a b) loads i x lt at, work_after-early a b x early))
-      (λ (same : x ≡ y). let tails : x.tail ≡ y.tail = ap (λ z. z.tail) same in absurd (omega arith))
-      (passed loads i x y lt at there);
-}
-
--- the work of the loads up to one, by falling head, all lies between its head and b
-reaches : (c : ℕ) (loads : List Load) (b i w : ℕ) (x : Load) → AreLoads loads → i < length loads → x ≡ get_or loads i x → b ≤ x.tail → w ≡ sum_by (late_work b) (take (i + 1) loads) →
-    c * (x.head + b) + w ≤ share c loads x.head b
-reaches c loads b i w x are lt at late sum =
-    let each : All (λ y. late_work b y ≤ work_after x.head b y) (take (i + 1) loads) =
-    All-from_get_or (λ y. late_work b y ≤ work_after x.head b y) (take (i + 1) loads) x (λ k l.
+-- the work of the loads up to one, by falling head, all lies after its head
+work_reaches : (tails : List ℕ) (loads : List Load) (j i : ℕ) (x : Load) → AreLoads tails loads → i < length loads → x ≡ get_or loads i x → sum_by (late_work j) (take (i + 1) loads) ≤ sum_by (work_after x.head j) loads
+work_reaches tails loads j i x are lt at =
+    let each : All (λ y. late_work j y ≤ work_after x.head j y) (take (i + 1) loads) =
+    All-from_get_or (λ y. late_work j y ≤ work_after x.head j y) (take (i + 1) loads) x (λ k l.
     let long : i + 1 ≤ length loads = omega arith in
     let short : k < i + 1 = omega (arith, length-take-le (i + 1) loads long) in
     let early : k ≤ i = omega arith in
@@ -80,65 +85,90 @@ reaches c loads b i w x are lt at late sum =
     let falls : (get_or loads i x).head ≤ (get_or loads k x).head = are.falling k i x early lt in
     let here : x.head ≡ (get_or loads i x).head = ap (λ y. y.head) at in
     let there : (get_or (take (i + 1) loads) k x).head ≡ (get_or loads k x).head = ap (λ y. y.head) same in
-    late_work-after x.head b (get_or (take (i + 1) loads) k x) (omega (arith, falls, here, there))) in
-    omega (arith, sum, sum_by-le-each (late_work b) (work_after x.head b) (take (i + 1) loads) each, sum_by-take-le (work_after x.head b) loads (i + 1))
+    late_work-after x.head j (get_or (take (i + 1) loads) k x) (omega (arith, falls, here, there))) in
+    omega (arith, sum_by-le-each (late_work j) (work_after x.head j) (take (i + 1) loads) each, sum_by-take-le (work_after x.head j) loads (i + 1))
 
-pub swept_take : (c : ℕ) (loads : List Load) (b i w n : ℕ) (x : Load) → AreLoads loads → Swept c loads b i w n → i < length loads → x ≡ get_or loads i x → b ≤ x.tail →
-    Swept c loads b (i + 1) (w + x.work) (max n (c * (x.head + b) + (w + x.work)))
-swept_take c loads b i w n x are s lt at late =
-    let sum : w + x.work ≡ sum_by (late_work b) (take (i + 1) loads) = omega (arith, s.sum, sum_more (late_work b) loads i x lt at, late_work-late b x late) in
-    record {
-      sum = sum;
-      reached = ⊎_elim
-          (λ (more : n < c * (x.head + b) + (w + x.work)).
-          let is : max n (c * (x.head + b) + (w + x.work)) ≡ c * (x.head + b) + (w + x.work) = omega arith in
-          rw is (inr (record { load = x; there = (i, lt, sym at); late = late; within = reaches c loads b i (w + x.work) x are lt at late sum })))
-          (λ (less : c * (x.head + b) + (w + x.work) ≤ n).
-          let is : max n (c * (x.head + b) + (w + x.work)) ≡ n = omega arith in
-          rw is s.reached)
-          (cases_lt n (c * (x.head + b) + (w + x.work)));
-      above = λ a y there high after.
-          ⊎_elim
-          (λ (low : x.head < a).
-          ⊎_elim
-          (λ (before : Contains (take i loads) y). omega (arith, s.above a y before high after, sum_more (work_after a b) loads i x lt at, work_after-low a b x low))
-          (λ (same : x ≡ y). let heads : x.head ≡ y.head = ap (λ z. z.head) same in absurd (omega arith))
-          (passed loads i x y lt at there))
-          (λ (up : a ≤ x.head).
-          let between : sum_by (work_after a b) (take (i + 1) loads) ≤ sum_by (late_work b) (take (i + 1) loads) = sum_by-le-each (work_after a b) (late_work b) (take (i + 1) loads) (λ k d l. work_after-le a b (get_or (take (i + 1) loads) k d)) in
-          let ends : a + b ≤ x.head + b = omega arith in
-          omega (arith, between, sum, mul-le-mul_left c ends))
-          (cases_lt x.head a);
-    }
+-- one load more
+record IsStep (c : ℕ) (tails : List ℕ) (loads : List Load) (i : ℕ) (old new : List ℕ) (n m : ℕ) (x : Load) : Type 0 where
+  are : AreLoads tails loads
+  swept : Swept c tails loads i old n
+  inside : i < length loads
+  at : x ≡ get_or loads i x
+  small : IsSmall tails x
+  adds : Adds x old new m
 
--- a sum of works, over few loads, is within the limits
-sum_small : (f : Load → ℕ) (loads : List Load) → AreLoads loads → ((x : Load) → f x ≤ x.work) → sum_by f loads ≤ 1002000000000000
-sum_small f loads are part =
-    let each : All (λ x. f x ≤ 1000000000000) loads = λ k d l.
-    let small : IsSmall (get_or loads k d) = are.small k d l in
-    let limit : (get_or loads k d).work ≤ 1000000000000 = small.work_limit in
-    omega (arith, limit, part (get_or loads k d)) in
-    let few : length loads ≤ 1002 = are.few in
-    omega (arith, few, sum_by-le f 1000000000000 loads each)
-
-pub swept_small : (c : ℕ) (loads : List Load) (b i w n : ℕ) → AreLoads loads → Swept c loads b i w n → w ≤ 1002000000000000
-swept_small c loads b i w n are s = omega (arith, s.sum, sum_by-take-le (late_work b) loads i, sum_small (late_work b) loads are (late_work-le b))
-
--- the capacity times a head and a tail is within the limits
-pub product_small : (c a b : ℕ) → c ≤ 1000000 → a ≤ 1003000000 → b ≤ 1003000000 → c * (a + b) ≤ 2006000000000000
-product_small c a b small low high =
-    let ends : a + b ≤ 2006000000 = omega arith in
-    omega (arith, mul-le-mul small ends)
-
-pub reached_small : (c : ℕ) (loads : List Load) (b n : ℕ) → AreLoads loads → c ≤ 1000000 → b ≤ 1003000000 → (n ≡ 0) ⊎ IsReached c loads b n → n ≤ 4000000000000000
-reached_small c loads b n are few low =
+new_sums : (c : ℕ) (tails : List ℕ) (loads : List Load) (i : ℕ) (old new : List ℕ) (n m : ℕ) (x : Load) → IsStep c tails loads i old new n m x →
+    (j : ℕ) → j < length tails → get_or new j 0 ≡ c * get_or tails j 0 + sum_by (late_work j) (take (i + 1) loads)
+new_sums c tails loads i old new n m x s = λ j lt.
+    let before = s.swept.sums j lt in
+    let more = sum_more (late_work j) loads i x s.inside s.at in
     ⊎_elim
-    (λ (none : n ≡ 0). omega arith)
-    (λ (r : IsReached c loads b n).
-    let small : IsSmall r.load = All-contains IsSmall loads r.load are.small r.there in
-    let head : r.load.head ≤ 1003000000 = small.head_limit in
-    let within : n ≤ c * (r.load.head + b) + sum_by (work_after r.load.head b) loads = r.within in
-    omega (arith, within, product_small c r.load.head b few head low, sum_small (work_after r.load.head b) loads are (λ x. work_part r.load.head b x)))
+    (λ (late : j < x.rank). omega (arith, before, more, late_work-late j x late, s.adds.added j late))
+    (λ (early : x.rank ≤ j). omega (arith, before, more, late_work-early j x early, s.adds.others j early))
+    (cases_lt j x.rank)
+
+new_reached : (c : ℕ) (tails : List ℕ) (loads : List Load) (i : ℕ) (old new : List ℕ) (n m : ℕ) (x : Load) → IsStep c tails loads i old new n m x → IsReached c tails loads (c * x.head + m)
+new_reached c tails loads i old new n m x s =
+    ⊎_elim
+    (λ (none : m ≡ 0). record { load = x; place = 0; there = there; late = s.small.some_tail; within = omega (arith, none) })
+    (λ (some : (j : ℕ) × (j < x.rank) × (get_or new j 0 ≡ m)).
+    let limit : x.rank ≤ length tails = s.small.rank_limit in
+    let short : some.0 < length tails = omega (arith, some.1, limit) in
+    record {
+      load = x;
+      place = some.0;
+      there = there;
+      late = some.1;
+      within = omega (arith, some.2, new_sums c tails loads i old new n m x s some.0 short, work_reaches tails loads some.0 i x s.are s.inside s.at);
+    })
+    s.adds.reached
   where
-    work_part : (a t : ℕ) (x : Load) → work_after a t x ≤ x.work
-    work_part a t x = omega (arith, work_after-le a t x, late_work-le t x)
+    there : Contains loads x
+    there = (i, s.inside, sym s.at)
+
+new_above : (c : ℕ) (tails : List ℕ) (loads : List Load) (i : ℕ) (old new : List ℕ) (n m : ℕ) (x : Load) → IsStep c tails loads i old new n m x → IsAbove c tails (take (i + 1) loads) (max n (c * x.head + m))
+new_above c tails loads i old new n m x s = λ a j y there high late.
+    let limit : x.rank ≤ length tails = s.small.rank_limit in
+    let more = sum_more (work_after a j) loads i x s.inside s.at in
+    ⊎_elim
+    (λ (before : Contains (take i loads) y).
+    let so_far = s.swept.above a j y before high late in
+    ⊎_elim
+    (λ (low : x.head < a). omega (arith, so_far, more, work_after-low a j x low))
+    (λ (up : a ≤ x.head).
+    ⊎_elim
+    (λ (counts : j < x.rank). let here = with_new a j up counts in omega (arith, here))
+    (λ (early : x.rank ≤ j). omega (arith, so_far, more, work_after-early a j x early))
+    (cases_lt j x.rank))
+    (cases_lt x.head a))
+    (λ (same : x ≡ y).
+    let heads : x.head ≡ y.head = ap (λ z. z.head) same in
+    let ranks : x.rank ≡ y.rank = ap (λ z. z.rank) same in
+    let here = with_new a j (omega arith) (omega arith) in
+    omega (arith, here))
+    (passed loads i x y s.inside s.at there)
+  where
+    with_new : (a j : ℕ) → a ≤ x.head → j < x.rank → share c tails (take (i + 1) loads) a j ≤ c * x.head + m
+    with_new a j up counts =
+        let limit : x.rank ≤ length tails = s.small.rank_limit in
+        let short : j < length tails = omega arith in
+        let between : sum_by (work_after a j) (take (i + 1) loads) ≤ sum_by (late_work j) (take (i + 1) loads) = sum_by-le-each (work_after a j) (late_work j) (take (i + 1) loads) (λ k d l. work_after-le a j (get_or (take (i + 1) loads) k d)) in
+        omega (arith, between, mul-le-mul_left c up, new_sums c tails loads i old new n m x s j short, s.adds.greatest j counts)
+
+pub swept_more : (c : ℕ) (tails : List ℕ) (loads : List Load) (i : ℕ) (old new : List ℕ) (n m : ℕ) (x : Load) →
+    AreLoads tails loads → Swept c tails loads i old n → i < length loads → x ≡ get_or loads i x → IsSmall tails x → Adds x old new m → Swept c tails loads (i + 1) new (max n (c * x.head + m))
+swept_more c tails loads i old new n m x are swept inside at small adds =
+    let s : IsStep c tails loads i old new n m x = record { are = are; swept = swept; inside = inside; at = at; small = small; adds = adds } in
+    record {
+      long = adds.long ∙ swept.long;
+      sums = new_sums c tails loads i old new n m x s;
+      reached = ⊎_elim
+          (λ (more : n < c * x.head + m).
+          let is : max n (c * x.head + m) ≡ c * x.head + m = omega arith in
+          rw is (inr (new_reached c tails loads i old new n m x s)))
+          (λ (less : c * x.head + m ≤ n).
+          let is : max n (c * x.head + m) ≡ n = omega arith in
+          rw is swept.reached)
+          (cases_lt n (c * x.head + m));
+      above = new_above c tails loads i old new n m x s;
+    }

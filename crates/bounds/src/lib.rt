@@ -5,15 +5,15 @@
 //! Thuriot 1991), and [`bound`] is the greater of both.
 #![tactic(auto)]
 
+ghost use Rattle.std.specs.Prelude.{◌≡◌, IfOk};
+ghost use Rattle.network.specs.Problem.{Problem};
+ghost use Rattle.network.specs.Limits.{IsProject};
+ghost use Rattle.bounds.specs.Bound.{critical_weight, IsMatrixFor, IsTrueBoundFor, IsBoundOf};
+
 mod load;
 mod resources;
 mod sweep;
 mod window;
-
-ghost use Rattle.std.specs.Prelude.{◌≡◌, IfOk};
-ghost use Rattle.network.specs.Problem.{Problem};
-ghost use Rattle.bounds.specs.Bound.{critical_weight, IsMatrixFor, IsTrueBoundFor, IsBoundOf};
-ghost use Rattle.network.specs.Limits.{IsProject};
 
 use longest_path::Matrix;
 use network::Project;

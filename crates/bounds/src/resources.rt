@@ -25,15 +25,16 @@ fn energy_between(
     ensures value { IfOk result (λ energy. IsEnergyValue project.now heads.now tails.now (pos energy)) }
     ensures limit { IfOk result (λ energy. energy ≤ 4000000000000000) }
 {
-    let windows = windows_by_head(alloc, heads, tails)?;
     let distinct = distinct_tails(alloc, tails)?;
+    let windows = windows_by_head(alloc, heads, tails, &distinct)?;
     let mut loads = Vec::with_capacity(alloc, windows.len())?;
+    let mut shares = Vec::with_capacity(alloc, distinct.len())?;
     let mut energy = 0;
     for resource in 0..project.resource_count() {
         let capacity = project.capacity(resource);
         if capacity > 0 {
             take_loads(&mut loads, project, resource, &windows)?;
-            let greatest = greatest_share(&loads, capacity, &distinct);
+            let greatest = greatest_share(&loads, capacity, &distinct, &mut shares)?;
             energy = energy.max(greatest.div_ceil(capacity));
         }
     }
@@ -44,8 +45,9 @@ fn energy_between(
 /// work of the activities with at least this head and this tail, shared out over the capacity, has
 /// to fit between a and the makespan less b. 0 where no resource has a capacity.
 ///
-/// A sweep for each resource and each tail over the activities by falling head: of the order of
-/// `K n²` steps with n activities and K resources.
+/// A sweep for each resource over the activities by falling head, which keeps a sum for each tail:
+/// of the order of `K n²` steps with n activities and K resources, all but `K n` of them in a loop
+/// over one slice.
 pub fn energy(alloc: Global, project: &Project, matrix: &Matrix) -> Result<i64, AllocError>
     requires { IsMatrixFor project.now matrix.now }
     ensures value { IfOk result (λ energy. IsEnergyOf project.now matrix.now energy) }
