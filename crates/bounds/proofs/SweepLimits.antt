@@ -1,11 +1,11 @@
 -- The shares that a sweep keeps are within the limits.
-use Rattle.std.proofs.Common.{◌≡◌, ℕ, ◌+◌, ◌*◌, ◌<◌, ◌≤◌, ◌⊎◌, ⊎_elim, List, length, get_or, take, arith}
+use Rattle.std.proofs.Common.{◌≡◌, ℕ, ◌+◌, ◌-◌, ◌*◌, ◌<◌, ◌≤◌, ◌⊎◌, ⊎_elim, List, length, get_or, arith}
 use Rattle.std.specs.List.{All, sum_by}
 use Rattle.std.proofs.lemmas.List.Elements.{All-contains, All-from_get_or}
 use Rattle.std.proofs.lemmas.List.Sums.{sum_by-take-le, sum_by-le}
 use Rattle.std.proofs.Math.Nat.{mul-le-mul}
 use Rattle.bounds.specs.declared.load.Load.{Load}
-use Rattle.bounds.specs.Loads.{IsSmall, AreLoads, work_after, share, IsReached}
+use Rattle.bounds.specs.Loads.{IsSmall, AreLoads, work_after, IsReached}
 use Rattle.bounds.proofs.Sweeps.{late_work, late_work-le, work_after-le, Swept, Adds}
 
 -- a sum of works, over few loads
@@ -56,3 +56,10 @@ added_small tails x old new m small long shares adds =
     let before : get_or old some.0 0 ≤ 4000000000000000 = shares some.0 0 (omega (arith, some.1)) in
     omega (arith, some.2, adds.added some.0 some.1))
     adds.reached
+
+-- the share of a load's own tail
+pub own_small : (tails : List ℕ) (x : Load) (shares : List ℕ) → IsSmall tails x → length shares ≡ length tails → All (λ share. share ≤ 4000000000000000) shares → get_or shares (x.rank - 1) 0 ≤ 4000000000000000
+own_small tails x shares small long limits =
+    let some : 0 < x.rank = small.some_tail in
+    let rank : x.rank ≤ length tails = small.rank_limit in
+    limits (x.rank - 1) 0 (omega arith)

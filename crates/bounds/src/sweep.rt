@@ -1,5 +1,6 @@
 ghost use Rattle.std.specs.Prelude.{◌≡◌, ◌+◌, ◌*◌, ◌<◌, ◌≤◌, ◌⊎◌, ℕ, length, map, slice_index, OnOk, IfOk};
 ghost use Rattle.std.specs.List.{All};
+ghost use Rattle.std.specs.List.Sorted.{IsNonDecreasing};
 ghost use Rattle.bounds.specs.Loads.{AreLoads, IsGreatestShare};
 
 use crate::load::Load;
@@ -45,7 +46,9 @@ fn add_work(shares: &mut [u64], rank: usize, work: u64) -> u64
 /// The greatest of `capacity * (head + tail) + work`, for the head of each load and each tail that
 /// is at most the load's: `work` is that of the loads with at least this head and this tail.
 ///
-/// The loads come by falling head, and each adds its work to the sums of all tails up to its own.
+/// The loads come by falling head, and each adds its work to the sums of all tails up to its own. Of
+/// a load without work only the share of its own tail counts: any other that is greater was met with
+/// a load before it.
 pub(crate) fn greatest_share(
     loads: &[Load],
     capacity: u64,
@@ -55,6 +58,7 @@ pub(crate) fn greatest_share(
     requires loads { AreLoads tails.now loads.now }
     requires capacity { capacity ≤ 1000000 }
     requires tails { All (λ b. b ≤ 1003000000) tails.now }
+    requires rising { IsNonDecreasing tails.now }
     ensures greatest { IfOk result (λ n. IsGreatestShare capacity tails.now loads.now n) }
     ensures limit { IfOk result (λ n. n ≤ 4000000000000000) }
 {
@@ -62,7 +66,11 @@ pub(crate) fn greatest_share(
     let shares = shares.as_mut_slice();
     let mut greatest = 0;
     for load in loads {
-        let late = add_work(shares, load.rank, load.work);
+        let late = if load.work > 0 {
+            add_work(shares, load.rank, load.work)
+        } else {
+            shares[load.rank - 1]
+        };
         greatest = greatest.max(capacity * load.head + late);
     }
     Ok(greatest)

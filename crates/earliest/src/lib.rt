@@ -17,7 +17,7 @@ pub fn least_starts(alloc: Global, matrix: &Matrix) -> Result<Vec<i64>, AllocErr
     ensures weights { IfOk result (λ starts. starts.items ≡ weights_from 0 matrix.now) }
     ensures earliest { IfOk result (λ starts. AreEarliestFor matrix.now starts.items) }
 {
-    let mut starts = Vec::new(alloc);
+    let mut starts = Vec::with_capacity(alloc, matrix.activity_count())?;
     for i in 0..matrix.activity_count() {
         starts.push(matrix.get(0, i).unwrap_or(0))?;
     }
@@ -41,7 +41,7 @@ pub fn tails(alloc: Global, project: &Project, matrix: &Matrix) -> Result<Vec<i6
     ensures tails { IfOk result (λ tails. AreTailsFor project.now matrix.now tails.items) }
 {
     let end = project.activity_count() - 1;
-    let mut tails = Vec::new(alloc);
+    let mut tails = Vec::with_capacity(alloc, project.activity_count())?;
     for i in 0..project.activity_count() {
         let to_end = matrix.get(i, end).unwrap_or(0);
         tails.push(to_end - project.duration(i))?;
