@@ -4,3 +4,4 @@ pub mod DigitLaws
 pub mod LineLaws
 pub mod Tables
 pub mod Texts
+pub mod StartsTexts

@@ -46,7 +46,7 @@ taken_more found n s starts news lt at is more =
 
 -- ---- the table is what the entries give
 
-given_later : (before : List Entry) (e : Entry) (activity : ℕ) → start_given (before ++ e ∷ []) activity ≡ (if is_some (start_given before activity) then start_given before activity else start_in activity e)
+pub given_later : (before : List Entry) (e : Entry) (activity : ℕ) → start_given (before ++ e ∷ []) activity ≡ (if is_some (start_given before activity) then start_given before activity else start_in activity e)
 given_later [] e activity = last (start_in activity e)
   where
     last : (o : Option ℤ) → cond (is_some o) o None ≡ o
@@ -77,7 +77,7 @@ same_fault n before line (Gives activity start) =
     by_place true e = rw (given_at n before activity (ltb-true activity n e)) refl
 
 -- an entry without a fault gives an activity its first start
-fine_parts : (activity line : ℕ) (b d : Bool) → cond b (cond d (Some (faults.Repeated line)) None) (Some (faults.Activity line)) ≡ None → (b ≡ true) × (d ≡ false)
+pub fine_parts : (activity line : ℕ) (b d : Bool) → cond b (cond d (Some (faults.Repeated line)) None) (Some (faults.Activity line)) ≡ None → (b ≡ true) × (d ≡ false)
 fine_parts activity line true false h = (refl, refl)
 fine_parts activity line true true h = absurd (cc)
 fine_parts activity line false d h = absurd (cc)

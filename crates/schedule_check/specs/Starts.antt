@@ -1,7 +1,7 @@
 -- The text of starts, line by line: which texts give each activity a start, and the first fault of
 -- those that don't.
-use Rattle.std.specs.Prelude.{ℕ, ◌+◌, nat_lt, nat_le, ◌==◌, Bool, true, false, ◌||◌, ◌&&◌, List, [], ◌∷◌, ◌++◌, length, drop, map, ℤ, pos, neg_ℤ, Option, Some, None, is_some, codes, if◌then◌else◌, nat_eq, position, unwrap_or, is_none}
-use Rattle.std.specs.List.{filter, slice_split, list_all, starts_with, range_with_len}
+use Rattle.std.specs.Prelude.{◌≡◌, ◌≤◌, ◌<◌, ℕ, ◌+◌, nat_lt, nat_le, ◌==◌, Bool, true, false, ◌||◌, ◌&&◌, List, [], ◌∷◌, ◌++◌, length, drop, map, ℤ, pos, neg_ℤ, Option, Some, None, is_some, codes, if◌then◌else◌, nat_eq, position, unwrap_or, is_none}
+use Rattle.std.specs.List.{All, count_by, filter, slice_split, list_all, starts_with, range_with_len}
 use Rattle.std.specs.Option.{option_map}
 use Rattle.std.specs.Char.{is_ascii_digit}
 use Rattle.std.specs.Str.Parse.{digits_value, starts_with_minus}
@@ -114,3 +114,21 @@ starts_fault activities text =
 -- the start that a text gives each activity, in order
 abbrev pub starts_of : ℕ → List ℕ → List ℤ
 starts_of activities text = map (λ start. unwrap_or start (pos 0)) (starts_given activities (entries text))
+
+-- ---- the texts that have no fault
+
+-- an entry that is nothing, or gives one of so many activities a start
+abbrev pub IsRight : ℕ → Entry → Type 0
+IsRight activities Nothing = Unit {0}
+IsRight activities Wrong = ⊥
+IsRight activities (Gives activity start) = activity < activities
+
+-- whether an entry gives the activity a start
+abbrev pub gives : ℕ → Entry → Bool
+gives activity e = is_some (start_in activity e)
+
+-- a text within the limit whose lines are all right, with just one for each activity
+pub record IsStartsText (activities : ℕ) (text : List ℕ) : Type 0 where
+  pub short : length text ≤ 16777216
+  pub right : All (IsRight activities) (entries text)
+  pub once : (activity : ℕ) → activity < activities → count_by (gives activity) (entries text) ≡ 1

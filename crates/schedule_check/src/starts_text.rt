@@ -3,7 +3,7 @@ ghost use Rattle.std.specs.List.{All};
 ghost use Rattle.std.specs.Result.{result_err};
 ghost use Rattle.std.specs.Str.Lines.{lines};
 ghost use Rattle.network.specs.Limits.{IsTime};
-ghost use Rattle.schedule_check.specs.Starts.{entries, line_entries, line_fault, starts_fault, starts_given, starts_of};
+ghost use Rattle.schedule_check.specs.Starts.{entries, line_entries, line_fault, starts_fault, starts_given, starts_of, IsStartsText};
 ghost use Rattle.schedule_check.specs.Table.{first_fault, with_entries};
 ghost use Rattle.schedule_check.specs.declared.fault.StartsFault.TheVariants.{Memory};
 
@@ -77,10 +77,12 @@ fn read_lines(
 /// `feasible ` or `earliest `.
 pub fn read_starts(alloc: Global, text: &[u8], activities: usize) -> Result<Vec<i64>, StartsFault>
     ensures accepted { OnOk result (starts_fault activities text.now ≡ None) }
+    ensures text { OnOk result (IsStartsText activities text.now) }
     ensures starts { IfOk result (λ starts. starts.items ≡ starts_of activities text.now) }
     ensures count { IfOk result (λ starts. length starts.items ≡ activities) }
     ensures within { IfOk result (λ starts. All IsTime starts.items) }
     ensures fault { IfErr result (λ fault. fault ≢ Memory → starts_fault activities text.now ≡ Some fault) }
+    ensures refused { IfErr result (λ fault. fault ≢ Memory → ¬ (IsStartsText activities text.now)) }
 {
     if text.len() > MOST_BYTES {
         return Err(StartsFault::TooLong);
