@@ -16,6 +16,10 @@ pub record Expansion : Type 0 where
 abbrev pub IsBelow : Option ℤ → List ℤ → Type 0
 IsBelow ceiling s = IfSome ceiling (λ c. makespan s <ℤ c)
 
+-- the bound is below the ceiling, if there is one
+abbrev pub IsUnder : Option ℤ → ℤ → Type 0
+IsUnder ceiling bound = IfSome ceiling (λ c. bound <ℤ c)
+
 -- the schedule is shorter than the best, if there is one
 abbrev pub IsShorterThan : Option ScheduleOf → List ℤ → Type 0
 IsShorterThan best s = IfSome best (λ best. makespan s <ℤ makespan best.starts)

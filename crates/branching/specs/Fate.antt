@@ -6,7 +6,7 @@ use Rattle.network.specs.Problem.{activity_count, arcs_of, NameActivities}
 use Rattle.network.specs.Schedule.{Keeps}
 use Rattle.network.specs.Walk.{IsMatrixOf, HasPositiveCycle}
 use Rattle.branching.specs.Subproblem.{Subproblem, NodeStandsFor, IsNode}
-use Rattle.branching.specs.Fair.{IsBelow}
+use Rattle.branching.specs.Fair.{IsBelow, IsUnder}
 use Rattle.branching.specs.declared.fate.Fate.{Fate}
 use Rattle.branching.specs.declared.fate.Fate.TheVariants.{Kid, Dead, Cut}
 
@@ -30,6 +30,6 @@ abbrev pub HasNoneBelow : Subproblem → Option ℤ → Pair → Type 0
 HasNoneBelow node ceiling pair = (s : List ℤ) → NodeStandsFor node s → Keeps node.project s pair → ¬ IsBelow ceiling s
 
 abbrev pub IsFateOf : Subproblem → Option ℤ → Pair → Fate → Type 0
-IsFateOf node ceiling pair (Kid kid) = IsNodeWith node pair (arc_value kid)
+IsFateOf node ceiling pair (Kid kid) = IsNodeWith node pair (arc_value kid) × IsUnder ceiling (arc_value kid).bound
 IsFateOf node ceiling pair Dead = ClosesPositiveCycle node pair
 IsFateOf node ceiling pair Cut = HasNoneBelow node ceiling pair

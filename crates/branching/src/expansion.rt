@@ -1,4 +1,4 @@
-ghost use Rattle.std.specs.Prelude.{◌≡◌, ◌<◌, ◌≤◌, ◌≤ℤ◌, ℤ, List, [], ◌∷◌, length, map, IfOk, IfSome};
+ghost use Rattle.std.specs.Prelude.{◌≡◌, ◌<◌, ◌≤◌, ◌≤ℤ◌, ℤ, None, List, [], ◌∷◌, length, map, IfOk, IfSome};
 ghost use Rattle.std.specs.Arc.{arc_value};
 ghost use Rattle.std.specs.List.{All, Any};
 ghost use Rattle.network.specs.Limits.{IsProject};
@@ -7,7 +7,7 @@ ghost use Rattle.network.specs.Schedule.{Keeps, IsLeastSchedule, IsWithinCapacit
 ghost use Rattle.earliest.specs.Starts.{AreEarliest};
 ghost use Rattle.profile.specs.Overloads.{IsFirstOverload};
 ghost use Rattle.branching.specs.Subproblem.{NodeStandsFor};
-ghost use Rattle.branching.specs.Fair.{IsBelow, IsNewTo, IsKidOf};
+ghost use Rattle.branching.specs.Fair.{IsBelow, IsUnder, IsNewTo, IsKidOf};
 
 use crate::fate::{Fate, fate_of, is_over};
 use crate::node::Node;
@@ -30,6 +30,7 @@ fn kids_of(
     requires new { All (IsNewTo node.now) pairs.now }
     ensures kids { IfOk result (λ kids. All (IsKidOf node.now) (map arc_value kids.items)) }
     ensures covers { IfOk result (λ kids. (s : List ℤ) → NodeStandsFor node.now s → IsBelow ceiling s → Any (Keeps node.now.project s) pairs.now → Any (λ kid. NodeStandsFor kid s) (map arc_value kids.items)) }
+    ensures under { IfOk result (λ kids. All (λ kid. IsUnder ceiling kid.bound) (map arc_value kids.items)) }
     ensures few { IfOk result (λ kids. length kids.items ≤ length pairs.now) }
 {
     let mut kids = Vec::new(alloc);
@@ -55,6 +56,7 @@ fn report_found(
     ensures node { IfOk result (λ report. report.node ≡ arc_value node.now) }
     ensures ceiling { IfOk result (λ report. report.ceiling ≡ ceiling) }
     ensures found { IfOk result (λ report. IfSome report.found (λ schedule. IsLeastSchedule (arc_value node.now).project (arc_value node.now).pairs schedule.starts)) }
+    ensures kids { IfOk result (λ report. report.kids ≡ []) }
 {
     let project = Arc::try_clone(node.project())?;
     let node = Arc::try_clone(node)?;
@@ -77,6 +79,7 @@ fn report_kids(
     ensures node { IfOk result (λ report. report.node ≡ arc_value node.now) }
     ensures ceiling { IfOk result (λ report. report.ceiling ≡ ceiling) }
     ensures found { IfOk result (λ report. IfSome report.found (λ schedule. IsLeastSchedule (arc_value node.now).project (arc_value node.now).pairs schedule.starts)) }
+    ensures under { IfOk result (λ report. All (λ kid. IsUnder ceiling kid.bound) report.kids) }
 {
     let set = shrink(alloc, node.project(), overload)?;
     let pairs = ordered_pairs(alloc, set.members())?;
@@ -95,6 +98,8 @@ pub fn expand(alloc: Global, node: &Arc<Node>, ceiling: Option<i64>) -> Result<R
     ensures node { IfOk result (λ report. report.node ≡ arc_value node.now) }
     ensures ceiling { IfOk result (λ report. report.ceiling ≡ ceiling) }
     ensures found { IfOk result (λ report. IfSome report.found (λ schedule. IsLeastSchedule (arc_value node.now).project (arc_value node.now).pairs schedule.starts)) }
+    ensures over { IfOk result (λ report. ¬ IsUnder ceiling (arc_value node.now).bound → (report.found ≡ None) × (report.kids ≡ [])) }
+    ensures under { IfOk result (λ report. All (λ kid. IsUnder ceiling kid.bound) report.kids) }
 {
     if is_over(node.bound(), ceiling) {
         let node = Arc::try_clone(node)?;

@@ -1,8 +1,8 @@
 ghost use Rattle.std.specs.Prelude.{[], ◌∷◌, ℤ, ◌≤ℤ◌, List, IfOk};
-ghost use Rattle.std.specs.Bool.{OnTrue};
+ghost use Rattle.std.specs.Bool.{MatchBool, OnTrue};
 ghost use Rattle.network.specs.Problem.{NameActivities};
 ghost use Rattle.network.specs.Schedule.{makespan};
-ghost use Rattle.branching.specs.Fair.{IsBelow};
+ghost use Rattle.branching.specs.Fair.{IsBelow, IsUnder};
 ghost use Rattle.branching.specs.Fate.{IsFateOf};
 
 use crate::node::Node;
@@ -23,7 +23,8 @@ pub(crate) enum Fate {
 
 /// Whether the bound is at least the ceiling.
 pub(crate) fn is_over(bound: i64, ceiling: Option<i64>) -> bool
-    ensures { OnTrue result ((s : List ℤ) → bound ≤ℤ makespan s → ¬ IsBelow ceiling s) }
+    ensures over { OnTrue result ((s : List ℤ) → bound ≤ℤ makespan s → ¬ IsBelow ceiling s) }
+    ensures under { MatchBool result (¬ IsUnder ceiling bound) (IsUnder ceiling bound) }
 {
     match ceiling {
         Some(ceiling) => bound >= ceiling,

@@ -148,7 +148,8 @@ impl Node {
         requires matrix { IsMatrixWith self.now pair matrix }
         requires bound { IsBoundOf self.now.project matrix bound }
         requires holds { IsTrueBoundFor self.now.project matrix bound }
-        ensures { IfOk result (λ kid. IsNodeWith self.now pair (arc_value kid)) }
+        ensures node { IfOk result (λ kid. IsNodeWith self.now pair (arc_value kid)) }
+        ensures bound { IfOk result (λ kid. (arc_value kid).bound ≡ bound) }
     {
         let mut pairs = Vec::with_capacity(alloc, self.pairs.len() + 1)?;
         pairs.extend_from_slice(self.pairs.as_slice())?;

@@ -14,8 +14,8 @@ shared-requires c =
     let same_pairs : c.push.new.self.items ≡ c.args.self.now.pairs ++ c.args.pair ∷ [] = c.in_ok-push.ensures.items ∙ ap (λ (ps : List Pair). ps ++ c.args.pair ∷ []) (c.in_ok-extend_from_slice.ensures.items ∙ ap (λ (ps : List Pair). ps ++ c.as_slice.result.now) c.in_ok-pairs.ensures.items ∙ c.as_slice.ensures.value ∙ ap (λ (n : Subproblem). n.pairs) c.self.view_is) in
     simp to_z-of_z (rw (same_project, same_pairs) (tied_with c.args.self.now c.args.pair c.self.inside.matrix c.args.matrix c.args.bound tied c.requires.matrix c.requires.bound c.requires.holds))
 
-pub returns : goal.returns
-returns c =
+pub returns-clause-node : goal.returns-clause-node
+returns-clause-node c =
     let same_project : c.in_ok-project.project.value ≡ c.args.self.now.project = c.in_ok-project.ensures ∙ ap (λ (n : Subproblem). n.project) c.self.view_is in
     let same_pairs : c.push.new.self.items ≡ c.args.self.now.pairs ++ c.args.pair ∷ [] = c.in_ok-push.ensures.items ∙ ap (λ (ps : List Pair). ps ++ c.args.pair ∷ []) (c.in_ok-extend_from_slice.ensures.items ∙ ap (λ (ps : List Pair). ps ++ c.as_slice.result.now) c.in_ok-pairs.ensures.items ∙ c.as_slice.ensures.value ∙ ap (λ (n : Subproblem). n.pairs) c.self.view_is) in
     record {
@@ -23,3 +23,8 @@ returns c =
       pairs = ap (λ (n : Subproblem). n.pairs) c.in_ok-kid.ensures.node ∙ same_pairs;
       is_node = c.in_ok-kid.ensures.is_node;
     }
+
+pub returns-clause-bound : goal.returns-clause-bound
+returns-clause-bound c =
+    let fits : SFits w64 c.args.bound = search rules in
+    ap (λ (n : Subproblem). n.bound) c.in_ok-kid.ensures.node ∙ to_z-of_z w64 c.args.bound fits
