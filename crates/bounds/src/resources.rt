@@ -45,9 +45,9 @@ fn energy_between(
 /// work of the activities with at least this head and this tail, shared out over the capacity, has
 /// to fit between a and the makespan less b. 0 where no resource has a capacity.
 ///
-/// A sweep for each resource over the activities by falling head, which keeps a sum for each tail:
-/// of the order of `K n²` steps with n activities and K resources, all but `K n` of them in a loop
-/// over one slice.
+/// A sweep for each resource over the activities by falling head, which keeps for each tail the
+/// greatest share of the tails up to it: at most of the order of `K n²` steps with n activities and
+/// K resources, all but `K n` of them in two loops over one slice.
 pub fn energy(alloc: Global, project: &Project, matrix: &Matrix) -> Result<i64, AllocError>
     requires { IsMatrixFor project.now matrix.now }
     ensures value { IfOk result (λ energy. IsEnergyOf project.now matrix.now energy) }
