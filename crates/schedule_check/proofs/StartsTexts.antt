@@ -6,21 +6,13 @@ use Rattle.std.specs.Option.{option_map}
 use Rattle.std.proofs.lemmas.Bool.{lt-ltb, le-ltb, ltb-true, ltb-false}
 use Rattle.std.proofs.lemmas.Bool.Decides.{nat_tests}
 use Rattle.std.proofs.lemmas.List.Elements.{All-from_recursion, recursion_from_All}
-use Rattle.std.proofs.lemmas.List.FromFn.{get_or-map-range_with_len, length-map-range_with_len}
 use Rattle.std.proofs.lemmas.List.Sums.{sum_by-cons, fails_before_first}
 use Rattle.schedule_check.specs.declared.entry.Entry.{Entry}
 use Rattle.schedule_check.specs.declared.entry.Entry.TheVariants.{Nothing, Gives, Wrong}
 use Rattle.schedule_check.specs.declared.fault.StartsFault.{StartsFault}
 use Rattle.schedule_check.specs.declared.fault.StartsFault.TheVariants as faults
 use Rattle.schedule_check.specs.Starts.{entries, start_in, start_given, starts_given, or_else, entry_fault, line_fault, missing_fault, starts_fault, IsRight, gives, IsStartsText}
-use Rattle.schedule_check.proofs.Tables.{given_later, fine_parts, none_missing}
-
-bit : Bool → ℕ
-bit b = cond b 1 0
-
-both_none : (o p : Option StartsFault) → or_else o p ≡ None → (o ≡ None) × (p ≡ None)
-both_none None p h = (refl, h)
-both_none (Some fault) p h = absurd (cc)
+use Rattle.schedule_check.proofs.Tables.{given_later, given_at, given_length, fine_parts, both_none, none_missing}
 
 count-cons : (a : ℕ) (e : Entry) (es : List Entry) → count_by (gives a) (e ∷ es) ≡ cond (gives a e) 1 0 + count_by (gives a) es
 count-cons a e es = sum_by-cons (λ y. cond (gives a y) 1 0) e es
@@ -86,7 +78,7 @@ fine_from n before line (e ∷ es) right once =
     let here : entry_fault n before line e ≡ None = fine e right.0 (λ a lt. rw (count-cons a e es) at (once a lt)) in
     let rest : line_fault n (before ++ e ∷ []) (line + 1) es ≡ None = fine_from n (before ++ e ∷ []) (line + 1) es right.1 (λ a lt.
     rw (given_later before e a) (take_given (start_given before a) (start_in a e) (count_by (gives a) es) (rw (count-cons a e es) at (once a lt)))) in
-    rw (here) rest
+    rw here rest
   where
     fine : (e : Entry) → IsRight n e → ((a : ℕ) → a < n → cond (is_some (start_given before a)) 1 0 + (cond (gives a e) 1 0 + count_by (gives a) es) ≤ 1) → entry_fault n before line e ≡ None
     fine Nothing r h = refl
@@ -127,14 +119,11 @@ some_or_none : (o : Option ℤ) → is_some o ≡ true → is_none o ≡ false
 some_or_none None h = absurd (cc)
 some_or_none (Some s) h = refl
 
-given_at : (n : ℕ) (es : List Entry) (a : ℕ) → a < n → get_or (starts_given n es) a None ≡ start_given es a
-given_at n es a lt = get_or-map-range_with_len (start_given es) 0 n a a None lt (omega arith)
-
 -- where no activity is missing, each has a start
 given_all : (n : ℕ) (es : List Entry) (a : ℕ) → missing_fault (starts_given n es) ≡ None → a < n → is_some (start_given es a) ≡ true
 given_all n es a fine lt =
     let found : List (Option ℤ) = starts_given n es in
-    let long : length found ≡ n = length-map-range_with_len (start_given es) 0 n in
+    let long : length found ≡ n = given_length n es in
     let past : length found ≤ position_or_len is_none found = ltb-false (position_or_len is_none found) (length found) (no_place (ltb (position_or_len is_none found) (length found)) fine) in
     let here : is_none (get_or found a None) ≡ false = fails_before_first is_none found a None (omega arith) in
     none_or_some (start_given es a) (rw (given_at n es a lt) at here)
@@ -145,7 +134,7 @@ given_all n es a fine lt =
 
 none_lacks : (n : ℕ) (es : List Entry) → ((a : ℕ) → a < n → is_some (start_given es a) ≡ true) → missing_fault (starts_given n es) ≡ None
 none_lacks n es given =
-    none_missing (starts_given n es) n (length-map-range_with_len (start_given es) 0 n) (λ k lt. rw (given_at n es k lt) (some_or_none (start_given es k) (given k lt)))
+    none_missing (starts_given n es) n (given_length n es) (λ k lt. rw (given_at n es k lt) (some_or_none (start_given es k) (given k lt)))
 
 -- ---- the law
 

@@ -59,10 +59,10 @@ given_later (f ∷ before) e activity = first (start_in activity f) (given_later
     first None rest = rest
     first (Some s) rest = refl
 
-given_at : (n : ℕ) (es : List Entry) (activity : ℕ) → activity < n → get_or (starts_given n es) activity None ≡ start_given es activity
+pub given_at : (n : ℕ) (es : List Entry) (activity : ℕ) → activity < n → get_or (starts_given n es) activity None ≡ start_given es activity
 given_at n es activity lt = get_or-map-range_with_len (start_given es) 0 n activity activity None lt (omega arith)
 
-given_length : (n : ℕ) (es : List Entry) → length (starts_given n es) ≡ n
+pub given_length : (n : ℕ) (es : List Entry) → length (starts_given n es) ≡ n
 given_length n es = length-map-range_with_len (start_given es) 0 n
 
 -- an entry has the same fault by the table as by the entries before it
@@ -133,15 +133,16 @@ same_first_fault n before line (e ∷ es) = by_fault (entry_fault n before line 
     by_fault None fine rest = rw (same_fault n before line e, fine, more_given n before line e fine) rest
     by_fault (Some fault) has rest = rw (same_fault n before line e, has) refl
 
+-- no first fault of two
+pub both_none : (o p : Option StartsFault) → or_else o p ≡ None → (o ≡ None) × (p ≡ None)
+both_none None p h = (refl, h)
+both_none (Some fault) p h = absurd (cc)
+
 pub all_entries : (n : ℕ) (before : List Entry) (line : ℕ) (es : List Entry) → line_fault n before line es ≡ None → with_entries (starts_given n before) es ≡ starts_given n (before ++ es)
 all_entries n before line [] fine = ap (starts_given n) (sym (append-nil before))
 all_entries n before line (e ∷ es) fine =
     let parts = both_none (entry_fault n before line e) (line_fault n (before ++ e ∷ []) (line + 1) es) fine in
     ap (λ (found : List (Option ℤ)). with_entries found es) (more_given n before line e parts.0) ∙ all_entries n (before ++ e ∷ []) (line + 1) es parts.1 ∙ ap (starts_given n) (append_assoc before (e ∷ []) es)
-  where
-    both_none : (o p : Option StartsFault) → or_else o p ≡ None → (o ≡ None) × (p ≡ None)
-    both_none None p h = (refl, h)
-    both_none (Some fault) p h = absurd (cc)
 
 -- a table with no entries
 pub empty_table : (n : ℕ) → replicate n None ≡ starts_given n []
