@@ -8,10 +8,13 @@ use Rattle.std.proofs.lemmas.List.FromFn.{get_or-map-range_with_len, length-map-
 use Rattle.network.specs.declared.lag.Lag.{Lag}
 use Rattle.network.specs.declared.lag.Pair.{Pair}
 use Rattle.network.specs.Problem.{Problem, activity_count, end_of, duration, start_arc, end_arc, pair_arc, implied_arcs, rules, arcs_of, NameActivities}
-use Rattle.network.specs.Limits.{IsProject}
-use Rattle.network.specs.Walk.{IsWalk, weight, entry, IsWithin, IsGreatestWeight, IsMatrixOf}
+use Rattle.network.specs.Limits.{IsProject, IsWithin}
+use Rattle.network.specs.ProjectMatrix.{IsProjectMatrix}
+use Rattle.network.specs.Walk.{IsWalk, weight, entry, IsGreatestWeight, IsMatrixOf, Rows}
 use Rattle.network.proofs.ArcLaws.{AreLight-arcs_of}
 use Rattle.longest_path.proofs.Bound.{IsMatrixOf-within}
+use Rattle.network.specs.declared.limits.TheConstants.{MAX_ACTIVITIES, MAX_WALK_WEIGHT}
+use Rattle.network.proofs.Walks.{most_weight}
 
 -- a function's value at a place of a range
 Contains-map-range : (f : ℕ → Lag) (a n i : ℕ) → i < n → Contains (map f (range_with_len a n)) (f (a + i))
@@ -60,7 +63,7 @@ to_end p pairs i is lt =
 pub record IsReachedBy (arcs : List Lag) (a b : ℕ) (o : Option ℤ) (w : ℤ) : Type 0 where
   pub value : ℤ
   pub is : o ≡ Some value
-  pub above : w ≤ℤ value
+  pub at_least : w ≤ℤ value
   pub walk : List Lag
   pub goes : IsWalk arcs a walk b
   pub weighs : weight walk ≡ value
@@ -70,13 +73,13 @@ reached arcs a b None w g s = absurd (g s.walk s.goes)
 reached arcs a b (Some v) w g s =
     let low : w ≤ℤ weight s.walk = s.weighs in
     let high : weight s.walk ≤ℤ v = g.1 s.walk s.goes in
-    record { value = v; is = refl; above = omega (arith, ints); walk = g.0.0; goes = g.0.1; weighs = g.0.2 }
+    record { value = v; is = refl; at_least = omega (arith, ints); walk = g.0.0; goes = g.0.1; weighs = g.0.2 }
 
 -- no entry is above the limit of entries
-pub entry_limit : (p : Problem) (pairs : List Pair) (rows : List (List (Option ℤ))) → IsProject p → NameActivities p pairs → IsMatrixOf (activity_count p) (arcs_of p pairs) rows →
-    (a b : ℕ) (w : ℤ) → a < activity_count p → b < activity_count p → entry rows a b ≡ Some w → w ≤ℤ pos 1003000000
-entry_limit p pairs rows is named m a b w la lb e =
-    let within : IsWithin (1000000 * (activity_count p + 1)) w = IsMatrixOf-within (arcs_of p pairs) (activity_count p) rows (AreLight-arcs_of p pairs is named) m a b w la lb e in
-    let above : w ≤ℤ pos (1000000 * (activity_count p + 1)) = within.above in
-    let few : activity_count p ≤ 1002 = is.activity_limit in
+pub entry_limit : (p : Problem) (pairs : List Pair) (rows : Rows) → IsProjectMatrix p pairs rows →
+    (a b : ℕ) (w : ℤ) → a < activity_count p → b < activity_count p → entry rows a b ≡ Some w → w ≤ℤ MAX_WALK_WEIGHT
+entry_limit p pairs rows m a b w la lb e =
+    let within : IsWithin (most_weight (activity_count p + 1)) w = IsMatrixOf-within (arcs_of p pairs) (activity_count p) rows (AreLight-arcs_of p pairs m.limits m.named) m.matrix a b w la lb e in
+    let above : w ≤ℤ most_weight (activity_count p + 1) = within.at_most in
+    let few : activity_count p ≤ MAX_ACTIVITIES = m.limits.activity_limit in
     omega (arith, ints)

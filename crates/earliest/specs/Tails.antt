@@ -1,18 +1,21 @@
--- The tails that a matrix gives: how long a schedule lasts at least after an activity's end.
+-- The tails that a matrix gives: how long a schedule that keeps the pairs lasts at least after an
+-- activity's end.
 use Rattle.std.specs.Prelude.{◌≡◌, ◌<◌, ℕ, ℤ, pos, ◌+ℤ◌, ◌-ℤ◌, ◌≤ℤ◌, List, Option, map, length, slice_index_or}
 use Rattle.std.specs.List.{All}
 use Rattle.std.specs.Option.{unwrap_or}
 use Rattle.network.specs.declared.lag.Pair.{Pair}
-use Rattle.network.specs.Problem.{Problem, activity_count, activities, end_of, duration, arcs_of, NameActivities}
+use Rattle.network.specs.Problem.{Problem, activity_count, activities, end_of, duration}
 use Rattle.network.specs.Limits.{IsBetween}
 use Rattle.network.specs.Schedule.{start, makespan, IsSchedule, KeepsAll}
-use Rattle.network.specs.Walk.{entry, IsMatrixOf}
+use Rattle.network.specs.Walk.{Rows, entry}
+use Rattle.network.specs.ProjectMatrix.{IsProjectMatrix}
+use Rattle.network.specs.declared.limits.TheConstants.{MAX_WALK_WEIGHT}
 
 -- the greatest weight from activity i to the end, less the activity's duration
-abbrev pub tail_weight : Problem → List (List (Option ℤ)) → ℕ → ℤ
+abbrev pub tail_weight : Problem → Rows → ℕ → ℤ
 tail_weight p rows i = unwrap_or (entry rows i (end_of p)) (pos 0) -ℤ duration p i
 
-abbrev pub tail_weights : Problem → List (List (Option ℤ)) → List ℤ
+abbrev pub tail_weights : Problem → Rows → List ℤ
 tail_weights p rows = map (tail_weight p rows) (activities p)
 
 -- the tail of activity i in a list of tails
@@ -23,11 +26,10 @@ tail tails i = slice_index_or tails i (pos 0)
 -- least the activity's tail after its end
 pub record AreTails (p : Problem) (pairs : List Pair) (tails : List ℤ) : Type 0 where
   pub count : length tails ≡ activity_count p
-  pub range : All (IsBetween (pos 0) (pos 1003000000)) tails
+  pub range : All (IsBetween (pos 0) MAX_WALK_WEIGHT) tails
   pub lasts : (s : List ℤ) → IsSchedule p s → KeepsAll p s pairs → (i : ℕ) → i < activity_count p →
       ((start s i +ℤ duration p i) +ℤ tail tails i) ≤ℤ makespan s
 
 -- the tails are those of all pairs with which this is the project's matrix
-abbrev pub AreTailsFor : Problem → List (List (Option ℤ)) → List ℤ → Type 0
-AreTailsFor p rows tails =
-    (pairs : List Pair) → NameActivities p pairs → IsMatrixOf (activity_count p) (arcs_of p pairs) rows → AreTails p pairs tails
+abbrev pub AreTailsFor : Problem → Rows → List ℤ → Type 0
+AreTailsFor p rows tails = (pairs : List Pair) → IsProjectMatrix p pairs rows → AreTails p pairs tails

@@ -1,5 +1,5 @@
 -- The laws of rows that stand one after another in one list of cells.
-use Rattle.std.proofs.Common.{◌≡◌, ◌≢◌, refl, sym, ◌∙◌, ap, subst, ℕ, ◌+◌, ◌*◌, ◌-◌, ◌<◌, ◌≤◌, Option, None, Some, true, ◌⊎◌, inl, inr, arith, ℤ, pos, ◌+ℤ◌, ◌≤ℤ◌, ◌<ℤ◌, List, [], ◌++◌, length, get_or, set, take, drop, get_or-set_same, get_or-set_other, suc, ◌/◌, replicate, length-drop}
+use Rattle.std.proofs.Common.{◌≡◌, ◌≢◌, refl, sym, ◌∙◌, ap, subst, ℕ, ◌+◌, ◌*◌, ◌-◌, ◌<◌, ◌≤◌, Option, None, Some, true, ◌⊎◌, inl, inr, arith, ℤ, pos, ◌+ℤ◌, ◌≤ℤ◌, ◌<ℤ◌, List, [], ◌++◌, length, get_or, set, take, drop, get_or-set_same, get_or-set_other, suc, ◌/◌, replicate, length-drop, neg_ℤ}
 use Rattle.std.proofs.Math.Nat.{mul-le-mul_right, suc-mul}
 use Rattle.std.proofs.lemmas.Nat.{div-mul-add}
 use Rattle.std.proofs.Math.ListN.{get_or-eq_default}
@@ -12,10 +12,13 @@ use Rattle.std.proofs.lemmas.Bool.{cases_eq, cases_lt}
 use Rattle.std.proofs.lemmas.Int.{ints}
 use Rattle.std.proofs.lemmas.List.FromFn.{get_or-map-range_with_len, length-map-range_with_len}
 use Rattle.network.specs.declared.lag.Lag.{Lag}
-use Rattle.network.specs.Walk.{entry, IsWithin}
+use Rattle.network.specs.Walk.{entry, Rows}
 use Rattle.longest_path.specs.Relax.{greater, joined}
-use Rattle.longest_path.specs.Rows.{Rows, IsSquare, IsRaised}
+use Rattle.longest_path.specs.Rows.{IsSquare, IsRaised}
 use Rattle.longest_path.specs.Grid.{IsRelaxed, IsRow, IsRowRelaxed, HasSmallSums, nothing, weight_of, weight_at, row_of, rows_of}
+use Rattle.network.specs.declared.limits.TheConstants.{MAX_LAG_WEIGHT}
+use Rattle.network.specs.Limits.{IsWithin}
+use Rattle.longest_path.specs.declared.grid.TheConstants.{MAX_FIRST_WEIGHT, MAX_WAY_WEIGHT}
 
 pub length-rows_of : (n : ℕ) (cells : List ℤ) → length (rows_of n cells) ≡ n
 length-rows_of n cells = length-map-range_with_len (row_of n cells) 0 n
@@ -189,10 +192,10 @@ if_some : (P : ℤ → Type 0) (o : Option ℤ) → ((y : ℤ) → o ≡ Some y 
 if_some P None h = tt
 if_some P (Some y) h = h y refl
 
-pub small_sum : (first : ℤ) (via : List ℤ) (b : ℕ) → b < length via → HasSmallSums first via → IfSome (weight_of (get_or via b (pos 0))) (λ y. IsWithin 2010000000 (first +ℤ y))
+pub small_sum : (first : ℤ) (via : List ℤ) (b : ℕ) → b < length via → HasSmallSums first via → IfSome (weight_of (get_or via b (pos 0))) (λ y. IsWithin MAX_WAY_WEIGHT (first +ℤ y))
 small_sum first via b low h =
     let same : get_or via b (pos 0) ≡ get_or via b nothing = get_or_default via b (pos 0) nothing low in
-    if_some (λ y. IsWithin 2010000000 (first +ℤ y)) (weight_of (get_or via b (pos 0))) (λ y e. h b y (ap weight_of (sym same) ∙ e))
+    if_some (λ y. IsWithin MAX_WAY_WEIGHT (first +ℤ y)) (weight_of (get_or via b (pos 0))) (λ y e. h b y (ap weight_of (sym same) ∙ e))
 
 -- the cells below b are relaxed
 pub record IsPartlyRelaxed (b : ℕ) (first : ℤ) (via old row : List ℤ) : Type 0 where
@@ -225,16 +228,16 @@ copied_view n a cells row rows view whole la is = let P : Rows → Type 0 = λ r
 pub relaxed_view : (n a : ℕ) (first : ℤ) (via old new : List ℤ) (rows : Rows) → rows_of n old ≡ rows → a < n → length via ≡ n → IsRowRelaxed n a first via old new → IsRelaxed a first via rows (rows_of n new)
 relaxed_view n a first via old new rows view la wide r = let P : Rows → Type 0 = λ r. IsRelaxed a first via r (rows_of n new) in subst P view (relaxed_rows n a first via old new la wide r)
 
-some_light : (w : ℤ) → IsWithin 1000000 w → weight_of w ≡ Some w
+some_light : (w : ℤ) → IsWithin MAX_LAG_WEIGHT w → weight_of w ≡ Some w
 some_light w light =
-    let low : pos 0 ≤ℤ (w +ℤ pos 1000000) = light.below in
+    let low : neg_ℤ MAX_LAG_WEIGHT ≤ℤ w = light.at_least in
     let above : nothing <ℤ w = omega (arith, ints) in
     ap (λ t. if t then Some w else None) (int_lt-yes nothing w above)
   where
     int_lt-yes : (x y : ℤ) → x <ℤ y → int_lt x y ≡ true
     int_lt-yes x y lt = grind (arith, ints)
 
-pub raised_view : (n p : ℕ) (e : Lag) (w z : ℤ) (cells : List ℤ) (rows : Rows) → rows_of n cells ≡ rows → length cells ≡ n * n → e.from < n → e.to < n → p ≡ e.from * n + e.to → IsWithin 1000000 e.weight →
+pub raised_view : (n p : ℕ) (e : Lag) (w z : ℤ) (cells : List ℤ) (rows : Rows) → rows_of n cells ≡ rows → length cells ≡ n * n → e.from < n → e.to < n → p ≡ e.from * n + e.to → IsWithin MAX_LAG_WEIGHT e.weight →
     z ≡ get_or cells p z → weight_of w ≡ greater (weight_of z) (weight_of e.weight) → IsRaised e rows (rows_of n (set cells p w))
 raised_view n p e w z cells rows view whole lf lt at light read new =
     let low : e.from * n + e.to < n * n = place_low n e.from e.to lf lt in
@@ -268,14 +271,14 @@ pub record IsPartlyWithoutArcs (n a : ℕ) (rows : Rows) : Type 0 where
   pub rest : (k : ℕ) → a ≤ k → entry rows k k ≡ None
   pub apart : (j k : ℕ) → j ≢ k → entry rows j k ≡ None
 
-pub light_fits : (w : ℤ) → IsWithin 1000000 w → FitsSigned w32 w
+pub light_fits : (w : ℤ) → IsWithin MAX_LAG_WEIGHT w → FitsSigned w32 w
 light_fits w light =
-    let up : w ≤ℤ pos 1000000 = light.above in
-    let down : pos 0 ≤ℤ (w +ℤ pos 1000000) = light.below in
+    let up : w ≤ℤ MAX_LAG_WEIGHT = light.at_most in
+    let down : neg_ℤ MAX_LAG_WEIGHT ≤ℤ w = light.at_least in
     omega (arith, ints)
 
-pub small_fits : (w : ℤ) → IsWithin 1004000000 w → FitsSigned w32 w
+pub small_fits : (w : ℤ) → IsWithin MAX_FIRST_WEIGHT w → FitsSigned w32 w
 small_fits w small =
-    let up : w ≤ℤ pos 1004000000 = small.above in
-    let down : pos 0 ≤ℤ (w +ℤ pos 1004000000) = small.below in
+    let up : w ≤ℤ MAX_FIRST_WEIGHT = small.at_most in
+    let down : neg_ℤ (MAX_FIRST_WEIGHT) ≤ℤ w = small.at_least in
     omega (arith, ints)

@@ -9,3 +9,5 @@ pub mod OneArc
 pub mod Bound
 pub mod Over
 pub mod Inserted
+pub mod OneMatrix
+pub mod Redundant

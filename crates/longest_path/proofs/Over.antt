@@ -1,13 +1,13 @@
 -- A row that takes the way over one arc, entry by entry.
-use Rattle.std.proofs.Common.{◌≡◌, ◌≢◌, refl, sym, ◌∙◌, ap, ℕ, ◌+◌, ◌<◌, ◌≤◌, Option, None, Some, inl, inr, arith, ℤ, pos, ◌+ℤ◌, List, ◌++◌, length}
+use Rattle.std.proofs.Common.{◌≡◌, ◌≢◌, refl, sym, ◌∙◌, ap, ℕ, ◌+◌, ◌<◌, ◌≤◌, Option, None, Some, inl, inr, arith, ℤ, pos, ◌+ℤ◌, List, ◌++◌, length, neg_ℤ}
 use Rattle.std.proofs.lemmas.Bool.{cases_eq}
 use Rattle.network.specs.declared.lag.Lag.{Lag}
-use Rattle.network.specs.Walk.{entry, IsWithin, IsMatrixOf, weight}
+use Rattle.network.specs.Walk.{entry, IsMatrixOf, weight, Rows}
 use Rattle.longest_path.specs.Relax.{greater, joined, Reaches}
-use Rattle.longest_path.specs.Rows.{Rows, IsSquare}
+use Rattle.longest_path.specs.Rows.{IsSquare}
 use Rattle.longest_path.specs.Grid.{IsRow, IsRelaxed, HasSmallSums, weight_at}
 use Rattle.longest_path.specs.Passes.{IsRowOver}
-use Rattle.longest_path.specs.Insert.{IsOver, IsTransitive}
+use Rattle.longest_path.specs.Insert.{IsOver, IsTransitive, IsReadyRow}
 use Rattle.longest_path.specs.Matrix.{HasEntriesWithin}
 use Rattle.network.proofs.Walks.{IsWalk-append, weight-append}
 use Rattle.longest_path.proofs.OneArc.{IsGreatest-matrix}
@@ -19,12 +19,15 @@ use Rattle.std.specs.Vec.{with_items}
 use Rattle.std.proofs.lemmas.List.{with_items_is}
 use Rattle.longest_path.proofs.Reach.{at_Reaches, Reaches-weaker, greater_same}
 use Rattle.longest_path.proofs.Span.{IsSquare-inside}
+use Rattle.network.specs.declared.limits.TheConstants.{MAX_LAG_WEIGHT, MAX_WALK_WEIGHT}
+use Rattle.network.specs.Limits.{IsWithin}
+use Rattle.longest_path.specs.declared.grid.TheConstants.{MAX_FIRST_WEIGHT, MAX_WAY_WEIGHT}
 
-greater_none : (x : Option ℤ) → greater x None ≡ x
+pub greater_none : (x : Option ℤ) → greater x None ≡ x
 greater_none None = refl
 greater_none (Some x) = refl
 
-kept_by : (w : ℤ) (o p : Option ℤ) → ((y : ℤ) → p ≡ Some y → Reaches (w +ℤ y) o) → o ≡ greater o (joined (Some w) p)
+pub kept_by : (w : ℤ) (o p : Option ℤ) → ((y : ℤ) → p ≡ Some y → Reaches (w +ℤ y) o) → o ≡ greater o (joined (Some w) p)
 kept_by w o None h = sym (greater_none o)
 kept_by w None (Some y) h = let r = h y refl in let bad : None ≡ Some r.0 = r.1 in cc
 kept_by w (Some x) (Some y) h = let le : (w +ℤ y) ≤ℤ x = at_Reaches (w +ℤ y) x (Some x) refl (h y refl) in sym (greater_same x (w +ℤ y) le)
@@ -89,26 +92,26 @@ entry_below n a b rows s ge = none_by (entry rows a b) refl
 
 -- sums of entries are small
 pub small_through : (m a : ℕ) (first : ℤ) (via : List ℤ) (old : Rows) → IsRow m old via → entry old a m ≡ Some first →
-    ((a b : ℕ) (x y : ℤ) → entry old a m ≡ Some x → entry old m b ≡ Some y → IsWithin 2010000000 (x +ℤ y)) → HasSmallSums first via
+    ((a b : ℕ) (x y : ℤ) → entry old a m ≡ Some x → entry old m b ≡ Some y → IsWithin MAX_WAY_WEIGHT (x +ℤ y)) → HasSmallSums first via
 small_through m a first via old is at h = λ k y e. h a k first y at (sym (is.says k) ∙ e)
 
-pub small_over : (to : ℕ) (x w : ℤ) (via : List ℤ) (old : Rows) → IsRow to old via → IsWithin 1003000000 x → IsWithin 1000000 w → HasEntriesWithin 1003000000 old → HasSmallSums (x +ℤ w) via
+pub small_over : (to : ℕ) (x w : ℤ) (via : List ℤ) (old : Rows) → IsRow to old via → IsWithin MAX_WALK_WEIGHT x → IsWithin MAX_LAG_WEIGHT w → HasEntriesWithin MAX_WALK_WEIGHT old → HasSmallSums (x +ℤ w) via
 small_over to x w via old is p light within = λ k y e.
-    let q : IsWithin 1003000000 y = within to k y (sym (is.says k) ∙ e) in
-    let a : x ≤ℤ pos 1003000000 = p.above in
-    let b : pos 0 ≤ℤ (x +ℤ pos 1003000000) = p.below in
-    let c : w ≤ℤ pos 1000000 = light.above in
-    let d : pos 0 ≤ℤ (w +ℤ pos 1000000) = light.below in
-    let f : y ≤ℤ pos 1003000000 = q.above in
-    let g : pos 0 ≤ℤ (y +ℤ pos 1003000000) = q.below in
-    record { above = omega (arith, ints); below = omega (arith, ints) }
+    let q : IsWithin MAX_WALK_WEIGHT y = within to k y (sym (is.says k) ∙ e) in
+    let a : x ≤ℤ MAX_WALK_WEIGHT = p.at_most in
+    let b : neg_ℤ MAX_WALK_WEIGHT ≤ℤ x = p.at_least in
+    let c : w ≤ℤ MAX_LAG_WEIGHT = light.at_most in
+    let d : neg_ℤ MAX_LAG_WEIGHT ≤ℤ w = light.at_least in
+    let f : y ≤ℤ MAX_WALK_WEIGHT = q.at_most in
+    let g : neg_ℤ MAX_WALK_WEIGHT ≤ℤ y = q.at_least in
+    record { at_most = omega (arith, ints); at_least = omega (arith, ints) }
 
-pub one_sum_fits : (x w : ℤ) → IsWithin 1003000000 x → IsWithin 1000000 w → FitsSigned w64 (x +ℤ w)
+pub one_sum_fits : (x w : ℤ) → IsWithin MAX_WALK_WEIGHT x → IsWithin MAX_LAG_WEIGHT w → FitsSigned w64 (x +ℤ w)
 one_sum_fits x w p light =
-    let a : x ≤ℤ pos 1003000000 = p.above in
-    let b : pos 0 ≤ℤ (x +ℤ pos 1003000000) = p.below in
-    let c : w ≤ℤ pos 1000000 = light.above in
-    let d : pos 0 ≤ℤ (w +ℤ pos 1000000) = light.below in
+    let a : x ≤ℤ MAX_WALK_WEIGHT = p.at_most in
+    let b : neg_ℤ MAX_WALK_WEIGHT ≤ℤ x = p.at_least in
+    let c : w ≤ℤ MAX_LAG_WEIGHT = light.at_most in
+    let d : neg_ℤ MAX_LAG_WEIGHT ≤ℤ w = light.at_least in
     omega (arith, ints)
 
 pub transitive : (n : ℕ) (arcs : List Lag) (rows : Rows) → IsMatrixOf n arcs rows → IsTransitive rows
@@ -129,18 +132,40 @@ some_small (Some x) via h = h x refl
 pub room_kept : (v : Vec ℤ Global) (cells : List ℤ) (rows : Rows) → length cells ≡ v.len → length cells ≡ length rows → length (with_items v cells).items ≡ length rows
 room_kept v cells rows same room = ap length (with_items_is v cells same) ∙ room
 
-pub some_within : (o : Option ℤ) → ((x : ℤ) → o ≡ Some x → IsWithin 1003000000 x) → IfSome o (λ x. IsWithin 1004000000 x)
+pub some_within : (o : Option ℤ) → ((x : ℤ) → o ≡ Some x → IsWithin MAX_WALK_WEIGHT x) → IfSome o (λ x. IsWithin MAX_FIRST_WEIGHT x)
 some_within None h = tt
 some_within (Some x) h =
     let k = h x refl in
-    let up : x ≤ℤ pos 1003000000 = k.above in
-    let down : pos 0 ≤ℤ (x +ℤ pos 1003000000) = k.below in
-    record { above = omega (arith, ints); below = omega (arith, ints) }
+    let up : x ≤ℤ MAX_WALK_WEIGHT = k.at_most in
+    let down : neg_ℤ MAX_WALK_WEIGHT ≤ℤ x = k.at_least in
+    record { at_most = omega (arith, ints); at_least = omega (arith, ints) }
 
-pub sum_within : (x w : ℤ) → IsWithin 1003000000 x → IsWithin 1000000 w → IsWithin 1004000000 (x +ℤ w)
+pub sum_within : (x w : ℤ) → IsWithin MAX_WALK_WEIGHT x → IsWithin MAX_LAG_WEIGHT w → IsWithin MAX_FIRST_WEIGHT (x +ℤ w)
 sum_within x w p light =
-    let a : x ≤ℤ pos 1003000000 = p.above in
-    let b : pos 0 ≤ℤ (x +ℤ pos 1003000000) = p.below in
-    let c : w ≤ℤ pos 1000000 = light.above in
-    let d : pos 0 ≤ℤ (w +ℤ pos 1000000) = light.below in
-    record { above = omega (arith, ints); below = omega (arith, ints) }
+    let a : x ≤ℤ MAX_WALK_WEIGHT = p.at_most in
+    let b : neg_ℤ MAX_WALK_WEIGHT ≤ℤ x = p.at_least in
+    let c : w ≤ℤ MAX_LAG_WEIGHT = light.at_most in
+    let d : neg_ℤ MAX_LAG_WEIGHT ≤ℤ w = light.at_least in
+    record { at_most = omega (arith, ints); at_least = omega (arith, ints) }
+
+pub some_sum_fits : (o : Option ℤ) (w : ℤ) → ((x : ℤ) → o ≡ Some x → IsWithin MAX_WALK_WEIGHT x) → IsWithin MAX_LAG_WEIGHT w → IfSome o (λ x. IfSome (Some w) (λ y. FitsSigned w64 (x +ℤ y)))
+some_sum_fits None w h light = tt
+some_sum_fits (Some x) w h light = one_sum_fits x w (h x refl) light
+
+-- a row that was not gone over yet is ready
+pub ready_row : (n a : ℕ) (e : Lag) (via : List ℤ) (old rows : Rows) → IsHalfOver n e a old rows → a < n → e.from < n → e.to < n → length via ≡ n → IsRow e.to old via → IsWithin MAX_LAG_WEIGHT e.weight →
+    HasEntriesWithin MAX_WALK_WEIGHT old → IsTransitive old → IsReadyRow a e via rows
+ready_row n a e via old rows h low lf lt wide is light within transitive =
+    let le : a ≤ a = omega arith in
+    let long : length rows ≡ n = h.square.rows_long in
+    record {
+      square = rw long h.square;
+      row = rw long low;
+      from_vertex = rw long lf;
+      to_vertex = rw long lt;
+      wide = wide ∙ sym long;
+      light = light;
+      entry_fits = λ x p. within a e.from x (sym (h.rest a e.from le) ∙ p);
+      fits = λ x p. small_over e.to x e.weight via old is (within a e.from x (sym (h.rest a e.from le) ∙ p)) light within;
+      closed = λ b x y p q. rw (h.rest a b le) (transitive a e.to b x y (sym (h.rest a e.to le) ∙ p) (sym (is.says b) ∙ q));
+    }

@@ -1,15 +1,24 @@
 ghost use Rattle.std.specs.Prelude.{◌≡◌, ◌+◌, ◌*◌, ◌+ℤ◌, ◌<◌, ◌≤◌, ℕ, length, take, drop, None, Some, IfOk, IfSome};
-ghost use Rattle.network.specs.Walk.{entry, IsWithin};
+ghost use Rattle.network.specs.Walk.{entry, Rows};
 ghost use Rattle.longest_path.specs.Relax.{greater, joined};
 ghost use Rattle.longest_path.specs.Rows.{IsSquare, IsWithoutArcs, IsRaised};
 ghost use Rattle.longest_path.specs.Grid.{weight_of, weight_at, IsRelaxed, IsRow, IsRowRelaxed, HasSmallSums};
+ghost use Rattle.network.specs.declared.limits.TheConstants.{MAX_ACTIVITIES, MAX_LAG_WEIGHT};
+ghost use Rattle.network.specs.Limits.{IsWithin};
+ghost use Rattle.longest_path.specs.declared.grid.TheConstants.{MAX_FIRST_WEIGHT, MAX_WAY_WEIGHT};
 
-use network::Lag;
+use network::{Lag, MAX_LAG_WEIGHT, MAX_WALK_WEIGHT};
 use std::alloc::{AllocError, Global};
 use std::marker::Model;
 
 /// The cell of an entry that isn't there.
 const NOTHING: i32 = i32::MIN;
+
+/// What the first part of a way weighs at most, which is a walk, or a walk and an arc.
+pub(crate) const MAX_FIRST_WEIGHT: i64 = MAX_WALK_WEIGHT + MAX_LAG_WEIGHT;
+
+/// What a way weighs at most, which is its first part and a walk.
+pub(crate) const MAX_WAY_WEIGHT: i64 = MAX_FIRST_WEIGHT + MAX_WALK_WEIGHT;
 
 /// What a cell says.
 fn weight(cell: i32) -> Option<i64>
@@ -31,7 +40,7 @@ fn better(x: i32, y: i32) -> i32
 
 /// The cell of the way whose first part weighs `first`.
 fn sum(first: i32, last: i32) -> i32
-    requires { IfSome (weight_of last) (λ y. IsWithin 2010000000 (first +ℤ y)) }
+    requires { IfSome (weight_of last) (λ y. IsWithin MAX_WAY_WEIGHT (first +ℤ y)) }
     ensures { weight_of result ≡ joined (Some first) (weight_of last) }
 {
     if NOTHING < last {
@@ -59,7 +68,7 @@ fn relax(row: &mut [i32], first: i32, via: &[i32])
 
 /// The place of a cell.
 fn place(size: usize, a: usize, b: usize) -> usize
-    requires few { size ≤ 1002 }
+    requires few { size ≤ MAX_ACTIVITIES }
     requires row { a < size }
     requires column { b < size }
     ensures value { result ≡ a * size + b }
@@ -70,7 +79,7 @@ fn place(size: usize, a: usize, b: usize) -> usize
 
 /// Where a row begins.
 fn row_start(size: usize, a: usize) -> usize
-    requires few { size ≤ 1002 }
+    requires few { size ≤ MAX_ACTIVITIES }
     requires row { a < size }
     ensures value { result ≡ a * size }
     ensures end { result + size ≤ size * size }
@@ -81,7 +90,7 @@ fn row_start(size: usize, a: usize) -> usize
 
 /// The cells of a row.
 fn row_cells(cells: &[i32], size: usize, a: usize) -> &[i32]
-    requires few { size ≤ 1002 }
+    requires few { size ≤ MAX_ACTIVITIES }
     requires row { a < size }
     requires whole { length cells.now ≡ size * size }
     ensures { result.now ≡ take size (drop (a * size) cells.now) }
@@ -92,7 +101,7 @@ fn row_cells(cells: &[i32], size: usize, a: usize) -> &[i32]
 
 /// Row `a` takes the way that begins with a walk of weight `first` and goes on by `via`.
 fn relax_part(cells: &mut [i32], size: usize, a: usize, first: i32, via: &[i32])
-    requires few { size ≤ 1002 }
+    requires few { size ≤ MAX_ACTIVITIES }
     requires row { a < size }
     requires whole { length cells.old ≡ size * size }
     requires wide { length via.now ≡ size }
@@ -113,7 +122,7 @@ pub(crate) struct Grid {
 }
 
 impl Model for Grid {
-    ghost use Rattle.longest_path.specs.Rows.{Rows};
+    ghost use Rattle.network.specs.Walk.{Rows};
     ghost use Rattle.longest_path.specs.Grid.{rows_of, IsGrid};
 
     ghost Value = { Rows };
@@ -126,7 +135,7 @@ impl Model for Grid {
 impl Grid {
     /// No entry is there.
     fn empty(alloc: Global, size: usize) -> Result<Grid, AllocError>
-        requires { size ≤ 1002 }
+        requires { size ≤ MAX_ACTIVITIES }
         ensures square { IfOk result (λ grid. IsSquare size grid) }
         ensures none { IfOk result (λ grid. (a b : ℕ) → entry grid a b ≡ None) }
     {
@@ -136,7 +145,7 @@ impl Grid {
 
     /// No arc: a walk of weight 0 from each vertex to itself, and no other.
     pub(crate) fn without_arcs(alloc: Global, size: usize) -> Result<Grid, AllocError>
-        requires { size ≤ 1002 }
+        requires { size ≤ MAX_ACTIVITIES }
         ensures { IfOk result (λ grid. IsWithoutArcs size grid) }
     {
         let mut grid = Grid::empty(alloc, size)?;
@@ -154,7 +163,7 @@ impl Grid {
     pub(crate) fn size(&self) -> usize
         ensures value { result ≡ length self.now }
         ensures square { IsSquare (length self.now) self.now }
-        ensures few { length self.now ≤ 1002 }
+        ensures few { length self.now ≤ MAX_ACTIVITIES }
     {
         self.size
     }
@@ -172,7 +181,7 @@ impl Grid {
     pub(crate) fn raise(&mut self, arc: Lag)
         requires from_vertex { arc.from < length self.old }
         requires to_vertex { arc.to < length self.old }
-        requires light { IsWithin 1000000 arc.weight }
+        requires light { IsWithin MAX_LAG_WEIGHT arc.weight }
         ensures square { IsSquare (length self.old) self.new }
         ensures raised { IsRaised arc self.old self.new }
     {
@@ -193,7 +202,7 @@ impl Grid {
     pub(crate) fn relax_row(&mut self, a: usize, first: i64, via: &[i32])
         requires row { a < length self.old }
         requires wide { length via.now ≡ length self.old }
-        requires small { IsWithin 1004000000 first }
+        requires small { IsWithin MAX_FIRST_WEIGHT first }
         requires fits { HasSmallSums first via.now }
         ensures square { IsSquare (length self.old) self.new }
         ensures relaxed { IsRelaxed a first via.now self.old self.new }

@@ -1,13 +1,15 @@
 ghost use Rattle.std.specs.Prelude.{◌≡◌, ◌<◌, ℕ, ℤ, ◌+ℤ◌, length, Some, FitsSigned, IfSome};
 ghost use Rattle.std.specs.Int.{w64};
 ghost use Rattle.std.specs.Bool.{MatchBool};
-ghost use Rattle.network.specs.Walk.{entry, IsWithin};
+ghost use Rattle.network.specs.Walk.{entry};
 ghost use Rattle.longest_path.specs.Relax.{joined, Reaches};
 ghost use Rattle.longest_path.specs.Rows.{IsSquare};
 ghost use Rattle.longest_path.specs.Grid.{weight_at, HasSmallSums};
 ghost use Rattle.longest_path.specs.Passes.{IsRowOver};
 ghost use Rattle.longest_path.specs.Matrix.{HasEntriesWithin};
-ghost use Rattle.longest_path.specs.Insert.{IsOver, IsTransitive};
+ghost use Rattle.longest_path.specs.Insert.{IsOver, IsTransitive, IsReadyRow};
+ghost use Rattle.network.specs.declared.limits.TheConstants.{MAX_LAG_WEIGHT, MAX_WALK_WEIGHT};
+ghost use Rattle.network.specs.Limits.{IsWithin};
 
 use crate::grid::Grid;
 use network::Lag;
@@ -24,7 +26,7 @@ pub(crate) fn sum(x: Option<i64>, y: Option<i64>) -> Option<i64>
 }
 
 /// Whether an entry is there and at least `weight`.
-fn is_reached(weight: i64, entry: Option<i64>) -> bool
+pub(crate) fn is_reached(weight: i64, entry: Option<i64>) -> bool
     ensures { MatchBool result (Reaches weight entry) (Reaches weight entry → ⊥) }
 {
     match entry {
@@ -36,18 +38,10 @@ fn is_reached(weight: i64, entry: Option<i64>) -> bool
 /// Row `a` takes the way over an arc and on by `via`, unless the arc's end gains nothing: then no
 /// other entry of the row does.
 fn go_over_row(grid: &mut Grid, a: usize, arc: Lag, via: &[i32])
-    requires row { a < length grid.old }
-    requires from_vertex { arc.from < length grid.old }
-    requires to_vertex { arc.to < length grid.old }
-    requires wide { length via.now ≡ length grid.old }
-    requires light { IsWithin 1000000 arc.weight }
-    requires entry_fits { (x : ℤ) → entry grid.old a arc.from ≡ Some x → IsWithin 1003000000 x }
-    requires fits { (x : ℤ) → entry grid.old a arc.from ≡ Some x → HasSmallSums (x +ℤ arc.weight) via.now }
-    requires closed { (b : ℕ) (x y : ℤ) → entry grid.old a arc.to ≡ Some x → weight_at via.now b ≡ Some y → Reaches (x +ℤ y) (entry grid.old a b) }
+    requires { IsReadyRow a arc via.now grid.old }
     ensures square { IsSquare (length grid.old) grid.new }
     ensures over { IsRowOver a (joined (entry grid.old a arc.from) (Some arc.weight)) via.now grid.old grid.new }
 {
-    let size = grid.size();
     let Some(weight) = grid.get(a, arc.from) else {
         return;
     };
@@ -63,8 +57,8 @@ pub(crate) fn go_over(grid: &mut Grid, via: &mut [i32], arc: Lag)
     requires room { length via.old ≡ length grid.old }
     requires from_vertex { arc.from < length grid.old }
     requires to_vertex { arc.to < length grid.old }
-    requires light { IsWithin 1000000 arc.weight }
-    requires fits { HasEntriesWithin 1003000000 grid.old }
+    requires light { IsWithin MAX_LAG_WEIGHT arc.weight }
+    requires fits { HasEntriesWithin MAX_WALK_WEIGHT grid.old }
     requires transitive { IsTransitive grid.old }
     ensures square { IsSquare (length grid.old) grid.new }
     ensures over { (a b : ℕ) → IsOver arc grid.old a b (entry grid.new a b) }

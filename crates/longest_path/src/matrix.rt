@@ -1,10 +1,12 @@
-ghost use Rattle.std.specs.Prelude.{◌≡◌, ◌<◌, ◌≤◌, length, IfSome, IfOk, IfErr, OnOk, OnErr};
-ghost use Rattle.network.specs.Walk.{entry, IsWithin};
+ghost use Rattle.std.specs.Prelude.{◌≡◌, ◌<◌, ◌≤◌, pos, length, Some, IfSome, IfOk, IfErr, OnOk, OnErr};
+ghost use Rattle.network.specs.Walk.{entry, Rows};
 ghost use Rattle.longest_path.specs.Insert.{arc_of, AddsArc, ClosesCycle};
+ghost use Rattle.network.specs.declared.limits.TheConstants.{MAX_ACTIVITIES, MAX_LAG_WEIGHT, MAX_WALK_WEIGHT};
+ghost use Rattle.network.specs.Limits.{IsWithin};
 
 use crate::fault::PathFault;
 use crate::grid::Grid;
-use crate::insert::{go_over, sum};
+use crate::insert::{go_over, is_reached, sum};
 use crate::recurrence::is_positive;
 use network::Lag;
 use std::alloc::{AllocError, Global};
@@ -20,7 +22,7 @@ pub struct Matrix {
 }
 
 impl Model for Matrix {
-    ghost use Rattle.longest_path.specs.Rows.{Rows};
+    ghost use Rattle.network.specs.Walk.{Rows};
     ghost use Rattle.longest_path.specs.Matrix.{IsMatrixWithRoom};
 
     ghost Value = { Rows };
@@ -34,7 +36,7 @@ impl Matrix {
     /// How many activities there are.
     pub fn activity_count(&self) -> usize
         ensures value { result ≡ length self.now }
-        ensures limit { length self.now ≤ 1002 }
+        ensures limit { length self.now ≤ MAX_ACTIVITIES }
     {
         self.grid.size()
     }
@@ -45,7 +47,8 @@ impl Matrix {
         requires from_activity { a < length self.now }
         requires to_activity { b < length self.now }
         ensures value { result ≡ entry self.now a b }
-        ensures fits { IfSome result (λ w. IsWithin 1003000000 w) }
+        ensures fits { IfSome result (λ w. IsWithin MAX_WALK_WEIGHT w) }
+        ensures diagonal { a ≡ b → result ≡ Some (pos 0) }
     {
         self.grid.get(a, b)
     }
@@ -60,14 +63,15 @@ impl Matrix {
     }
 
     /// Adds the arc of weight `w` from activity `i` to activity `j`: an entry is then the greater of
-    /// what it was and the way over the arc. Takes no memory.
+    /// what it was and the way over the arc. It returns at once where the entry of `i` and `j` is at
+    /// least `w` already, since nothing changes then.
     ///
     /// [`PathFault::PositiveCycle`] comes where the arc closes a walk of positive weight, and names
     /// `i`. It is the only fault, and leaves the matrix as it was.
     pub fn insert(&mut self, i: usize, j: usize, w: i64) -> Result<(), PathFault>
         requires from_activity { i < length self.old }
         requires to_activity { j < length self.old }
-        requires limit { IsWithin 1000000 w }
+        requires limit { IsWithin MAX_LAG_WEIGHT w }
         ensures size { length self.new ≡ length self.old }
         ensures ok { OnOk result (AddsArc (arc_of i j w) self.old self.new) }
         ensures cycle { OnErr result (ClosesCycle (arc_of i j w) self.old) }
@@ -82,6 +86,9 @@ impl Matrix {
         let way_back = self.grid.get(j, i);
         if is_positive(sum(way_back, Some(w))) {
             return Err(PathFault::PositiveCycle { at: i });
+        }
+        if is_reached(w, self.grid.get(i, j)) {
+            return Ok(());
         }
         go_over(&mut self.grid, self.via.as_mut_slice(), arc);
         Ok(())

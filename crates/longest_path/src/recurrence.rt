@@ -1,13 +1,16 @@
 ghost use Rattle.std.specs.Prelude.{◌≡◌, ◌<◌, ◌≤◌, ℕ, ℤ, pos, ◌+ℤ◌, ◌≤ℤ◌, length, Some, IfSome, IfOk, IfErr};
 ghost use Rattle.std.specs.Bool.{MatchBool};
 ghost use Rattle.network.specs.Problem.{activity_count, arcs_of, NameActivities};
-ghost use Rattle.network.specs.Walk.{entry, IsMatrixOf, AreInside, AreLight, IsWithin};
+ghost use Rattle.network.specs.Walk.{entry, IsMatrixOf, HaveOneMatrix, AreInside, AreLight};
 ghost use Rattle.longest_path.specs.Relax.{IfSomeAbove};
 ghost use Rattle.longest_path.specs.Rows.{IsSquare};
 ghost use Rattle.longest_path.specs.Grid.{IsRow, HasSmallSums};
 ghost use Rattle.longest_path.specs.Passes.{IsSpanned, IsRowOver, IsThrough};
 ghost use Rattle.longest_path.specs.Matrix.{HasEntriesWithin};
 ghost use Rattle.longest_path.specs.Fault.{Explains};
+ghost use Rattle.network.specs.declared.limits.TheConstants.{MAX_ACTIVITIES, MAX_WALK_WEIGHT};
+ghost use Rattle.network.specs.Limits.{IsWithin};
+ghost use Rattle.longest_path.specs.declared.grid.TheConstants.{MAX_FIRST_WEIGHT, MAX_WAY_WEIGHT};
 
 use crate::fault::PathFault;
 use crate::grid::Grid;
@@ -29,7 +32,7 @@ pub(crate) fn is_positive(entry: Option<i64>) -> bool
 fn spanned(alloc: Global, n: usize, arcs: &[Lag]) -> Result<Grid, AllocError>
     requires inside { AreInside n arcs.now }
     requires light { AreLight arcs.now }
-    requires few { n ≤ 1002 }
+    requires few { n ≤ MAX_ACTIVITIES }
     ensures { IfOk result (λ grid. IsSpanned n arcs.now grid) }
 {
     let mut grid = Grid::without_arcs(alloc, n)?;
@@ -44,12 +47,12 @@ fn spanned(alloc: Global, n: usize, arcs: &[Lag]) -> Result<Grid, AllocError>
 fn take_way(grid: &mut Grid, a: usize, first: Option<i64>, via: &[i32])
     requires row { a < length grid.old }
     requires wide { length via.now ≡ length grid.old }
-    requires small { IfSome first (λ x. IsWithin 1004000000 x) }
+    requires small { IfSome first (λ x. IsWithin MAX_FIRST_WEIGHT x) }
     requires fits { IfSome first (λ x. HasSmallSums x via.now) }
     ensures square { IsSquare (length grid.old) grid.new }
     ensures over { IsRowOver a first via.now grid.old grid.new }
 {
-    let size = grid.size();
+    prove!(a < grid.size());
     let Some(first) = first else {
         return;
     };
@@ -60,8 +63,8 @@ fn take_way(grid: &mut Grid, a: usize, first: Option<i64>, via: &[i32])
 fn pass(grid: &mut Grid, m: usize, via: &[i32])
     requires vertex { m < length grid.old }
     requires copy { IsRow m grid.old via.now }
-    requires within { HasEntriesWithin 1003000000 grid.old }
-    requires fits { (a b : ℕ) (x y : ℤ) → entry grid.old a m ≡ Some x → entry grid.old m b ≡ Some y → IsWithin 2010000000 (x +ℤ y) }
+    requires within { HasEntriesWithin MAX_WALK_WEIGHT grid.old }
+    requires fits { (a b : ℕ) (x y : ℤ) → entry grid.old a m ≡ Some x → entry grid.old m b ≡ Some y → IsWithin MAX_WAY_WEIGHT (x +ℤ y) }
     ensures square { IsSquare (length grid.old) grid.new }
     ensures through { IsThrough m grid.old grid.new }
 {
@@ -81,10 +84,10 @@ fn greatest_weights(
 ) -> Result<Grid, PathFault>
     requires inside { AreInside n arcs.now }
     requires light { AreLight arcs.now }
-    requires few { n ≤ 1002 }
+    requires few { n ≤ MAX_ACTIVITIES }
     requires room { length via.old ≡ n }
     ensures matrix { IfOk result (λ rows. IsMatrixOf n arcs.now rows) }
-    ensures fits { IfOk result (λ rows. HasEntriesWithin 1003000000 rows) }
+    ensures fits { IfOk result (λ rows. HasEntriesWithin MAX_WALK_WEIGHT rows) }
     ensures fault { IfErr result (λ fault. Explains arcs.now fault) }
 {
     let mut grid = spanned(alloc, n, arcs)?;
@@ -107,6 +110,9 @@ pub fn longest(alloc: Global, project: &Project, pairs: &[Pair]) -> Result<Matri
     requires { NameActivities project.now pairs.now }
     ensures matrix { IfOk result (λ m. IsMatrixOf (activity_count project.now) (arcs_of project.now pairs.now) m) }
     ensures fault { IfErr result (λ fault. Explains (arcs_of project.now pairs.now) fault) }
+
+    // A law: the arcs have no matrix but this one.
+    ensures one { HaveOneMatrix (activity_count project.now) (arcs_of project.now pairs.now) }
 {
     let arcs = project.arcs(alloc, pairs)?;
     let size = project.activity_count();

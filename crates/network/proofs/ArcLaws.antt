@@ -7,15 +7,16 @@ use Rattle.std.proofs.lemmas.List.{get_or-map, length-map}
 use Rattle.std.proofs.lemmas.List.FromFn.{get_or-map-range_with_len, length-map-range_with_len}
 use Rattle.network.specs.declared.lag.Lag.{Lag}
 use Rattle.network.specs.declared.lag.Pair.{Pair}
-use Rattle.network.specs.Limits.{IsProject, IsLag, IsAmount}
+use Rattle.network.specs.declared.limits.TheConstants.{MAX_AMOUNT, MAX_LAG_WEIGHT}
+use Rattle.network.specs.Limits.{IsProject, IsLag, IsAmount, IsWithin}
 use Rattle.network.specs.Problem.{Problem, activity_count, end_of, duration, start_arc, end_arc, pair_arc, implied_arcs, rules, arcs_of, NameActivities}
-use Rattle.network.specs.Walk.{IsWithin, AreLight, AreInside}
+use Rattle.network.specs.Walk.{AreLight, AreInside}
 
 -- what an arc needs
 pub record IsArc (n : ℕ) (e : Lag) : Type 0 where
   pub from_activity : e.from < n
   pub to_activity : e.to < n
-  pub light : IsWithin 1000000 e.weight
+  pub light : IsWithin MAX_LAG_WEIGHT e.weight
 
 mapped : (f : ℕ → Lag) (a n : ℕ) (e : Lag) → Contains (map f (range_with_len a n)) e → (i : ℕ) × (i < n) × (e ≡ f (a + i))
 mapped f a n e c =
@@ -31,17 +32,13 @@ mapped_list f e qs k lt is =
     (get_or qs k none, Contains-get_or qs k none lt', sym is ∙ get_or-map f qs k none e lt')
 
 lag_is_arc : (n : ℕ) (e : Lag) → IsLag n e → IsArc n e
-lag_is_arc n e l =
-    let above : neg_ℤ (pos 1000000) ≤ℤ e.weight = l.in_limits.above in
-    let below : e.weight ≤ℤ pos 1000000 = l.in_limits.below in
-    record { from_activity = l.from_activity; to_activity = l.to_activity; light = record { above = below; below = omega (arith, ints) } }
+lag_is_arc n e l = record { from_activity = l.from_activity; to_activity = l.to_activity; light = l.light }
 
-duration_within : (p : Problem) → IsProject p → (i : ℕ) → i < activity_count p → IsWithin 1000000 (duration p i)
+duration_within : (p : Problem) → IsProject p → (i : ℕ) → i < activity_count p → IsWithin MAX_LAG_WEIGHT (duration p i)
 duration_within p is i lt =
     let amount : IsAmount (duration p i) = All-get_or IsAmount p.durations i (pos 0) lt is.durations_fit in
-    let above : pos 0 ≤ℤ duration p i = amount.above in
-    let below : duration p i ≤ℤ pos 1000000 = amount.below in
-    record { above = below; below = omega (arith, ints) }
+    let low : pos 0 ≤ℤ duration p i = amount.at_least in
+    record { at_least = omega (arith, ints); at_most = amount.at_most }
 
 pub arc-of : (p : Problem) (pairs : List Pair) → IsProject p → NameActivities p pairs → (e : Lag) → Contains (arcs_of p pairs) e → IsArc (activity_count p) e
 arc-of p pairs is named e c =
@@ -53,7 +50,7 @@ arc-of p pairs is named e c =
           | inl s ↦
               let m = mapped start_arc 1 (end_of p) e s in
               let lt : m.0 < end_of p = m.1 in
-              rw m.2 (record { from_activity = omega arith; to_activity = omega arith; light = record { above = omega (arith, ints); below = omega (arith, ints) } })
+              rw m.2 (record { from_activity = omega arith; to_activity = omega arith; light = record { at_least = omega (arith, ints); at_most = omega (arith, ints) } })
           | inr s ↦
               let m = mapped (end_arc p) 0 (end_of p) e s in
               let lt : m.0 < end_of p = m.1 in

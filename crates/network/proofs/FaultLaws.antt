@@ -11,6 +11,7 @@ use Rattle.network.specs.declared.lag.Lag.{Lag}
 use Rattle.network.specs.declared.parts.ProjectFault.{ProjectFault}
 use Rattle.network.specs.declared.parts.ProjectFault.TheVariants.{Limit, Activity, Dummy, Shape}
 use Rattle.network.specs.declared.parts.Quantity.TheVariants as quantity
+use Rattle.network.specs.declared.limits.TheConstants.{MAX_ACTIVITIES, MAX_AMOUNT, MAX_LAG_WEIGHT, MAX_LAGS, MAX_RESOURCES}
 use Rattle.network.specs.Problem.{Problem, activity_count, end_of, resource_count, duration}
 use Rattle.network.specs.Limits.{IsProject, IsLag, IsAmount, IsDummy}
 use Rattle.network.specs.Faults.{or_else, unless, is_amount, is_weight, is_zero, shape_fault, count_fault, dummy_fault, amount_fault, arc_fault, lag_fault, first_fault}
@@ -27,7 +28,7 @@ int_le-true : (x y : ℤ) → int_le x y ≡ true → x ≤ℤ y
 int_le-true x y e = grind (arith, ints)
 
 amount : (z : ℤ) → is_amount z ≡ true → IsAmount z
-amount z e = let p = and_parts (int_le (pos 0) z) (int_le z (pos 1000000)) e in record { above = int_le-true (pos 0) z p.0; below = int_le-true z (pos 1000000) p.1 }
+amount z e = let p = and_parts (int_le (pos 0) z) (int_le z MAX_AMOUNT) e in record { at_least = int_le-true (pos 0) z p.0; at_most = int_le-true z MAX_AMOUNT p.1 }
 
 zero_is : (z : ℤ) → is_zero z ≡ true → z ≡ pos 0
 zero_is z e =
@@ -50,11 +51,11 @@ arc n place last e h =
     let one = or_else-none _ _ h in
     let two = or_else-none _ _ one.1 in
     let three = or_else-none _ _ two.1 in
-    let w = and_parts (int_le (neg_ℤ (pos 1000000)) e.weight) (int_le e.weight (pos 1000000)) (unless-none (is_weight e.weight) _ three.0) in (
+    let w = and_parts (int_le (neg_ℤ MAX_LAG_WEIGHT) e.weight) (int_le e.weight MAX_LAG_WEIGHT) (unless-none (is_weight e.weight) _ three.0) in (
       record {
         from_activity = ltb-true e.from n (unless-none (nat_lt e.from n) _ one.0);
         to_activity = ltb-true e.to n (unless-none (nat_lt e.to n) _ two.0);
-        in_limits = record { above = int_le-true (neg_ℤ (pos 1000000)) e.weight w.0; below = int_le-true e.weight (pos 1000000) w.1 };
+        light = record { at_least = int_le-true (neg_ℤ MAX_LAG_WEIGHT) e.weight w.0; at_most = int_le-true e.weight MAX_LAG_WEIGHT w.1 };
       },
       leb-true last e.from (unless-none (nat_le last e.from) _ three.1),
     )
@@ -91,9 +92,9 @@ from_parts p shape count first last amounts arcs =
     let given = lags (activity_count p) 0 0 p.lags arcs in
     record {
       two_dummies = leb-true 2 (activity_count p) s2.0;
-      activity_limit = leb-true (activity_count p) 1002 (unless-none _ _ c1.0);
-      resource_limit = leb-true (resource_count p) 32 (unless-none _ _ c2.0);
-      lag_limit = leb-true (length p.lags) 100000 (unless-none _ _ c2.1);
+      activity_limit = leb-true (activity_count p) MAX_ACTIVITIES (unless-none _ _ c1.0);
+      resource_limit = leb-true (resource_count p) MAX_RESOURCES (unless-none _ _ c2.0);
+      lag_limit = leb-true (length p.lags) MAX_LAGS (unless-none _ _ c2.1);
       demand_rows = eqb-true (length p.demands) (activity_count p) s2.1;
       demand_columns = all_by (λ row. nat_eq (length row) (resource_count p)) (λ row. length row ≡ resource_count p) p.demands (λ row t. eqb-true (length row) (resource_count p) t) s1.1;
       start_is_dummy = dummy p 0 first;
@@ -132,7 +133,7 @@ true_int_le : (x y : ℤ) → x ≤ℤ y → int_le x y ≡ true
 true_int_le x y e = grind (arith, ints)
 
 amount_passes : (z : ℤ) → IsAmount z → is_amount z ≡ true
-amount_passes z h = and_true (int_le (pos 0) z) (int_le z (pos 1000000)) (true_int_le (pos 0) z h.above) (true_int_le z (pos 1000000) h.below)
+amount_passes z h = and_true (int_le (pos 0) z) (int_le z MAX_AMOUNT) (true_int_le (pos 0) z h.at_least) (true_int_le z MAX_AMOUNT h.at_most)
 
 zero_passes : (z : ℤ) → z ≡ pos 0 → is_zero z ≡ true
 zero_passes z h = rw h refl
@@ -152,7 +153,7 @@ no_arc_fault n place last e l after =
     (or_else-both (unless (nat_lt e.to n) (Activity place e.to)) _ (unless-true (nat_lt e.to n) _ (lt-ltb e.to n l.to_activity))
     (or_else-both (unless (is_weight e.weight) (Limit quantity.Lag)) _
     (unless-true (is_weight e.weight) _
-    (and_true (int_le (neg_ℤ (pos 1000000)) e.weight) (int_le e.weight (pos 1000000)) (true_int_le (neg_ℤ (pos 1000000)) e.weight l.in_limits.above) (true_int_le e.weight (pos 1000000) l.in_limits.below)))
+    (and_true (int_le (neg_ℤ MAX_LAG_WEIGHT) e.weight) (int_le e.weight MAX_LAG_WEIGHT) (true_int_le (neg_ℤ MAX_LAG_WEIGHT) e.weight l.light.at_least) (true_int_le e.weight MAX_LAG_WEIGHT l.light.at_most)))
     (unless-true (nat_le last e.from) Shape (le-leb last e.from after))))
 
 no_lag_fault : (n place last : ℕ) (es : List Lag) → AreLags n last es → lag_fault n place last es ≡ None
@@ -176,9 +177,9 @@ no_amount_fault p is =
 
 no_count_fault : (p : Problem) → IsProject p → count_fault p ≡ None
 no_count_fault p is =
-    or_else-both (unless (nat_le (activity_count p) 1002) (Limit quantity.Activities)) _ (unless-true (nat_le (activity_count p) 1002) _ (le-leb (activity_count p) 1002 is.activity_limit))
-    (or_else-both (unless (nat_le (resource_count p) 32) (Limit quantity.Resources)) _ (unless-true (nat_le (resource_count p) 32) _ (le-leb (resource_count p) 32 is.resource_limit))
-    (unless-true (nat_le (length p.lags) 100000) _ (le-leb (length p.lags) 100000 is.lag_limit)))
+    or_else-both (unless (nat_le (activity_count p) MAX_ACTIVITIES) (Limit quantity.Activities)) _ (unless-true (nat_le (activity_count p) MAX_ACTIVITIES) _ (le-leb (activity_count p) MAX_ACTIVITIES is.activity_limit))
+    (or_else-both (unless (nat_le (resource_count p) MAX_RESOURCES) (Limit quantity.Resources)) _ (unless-true (nat_le (resource_count p) MAX_RESOURCES) _ (le-leb (resource_count p) MAX_RESOURCES is.resource_limit))
+    (unless-true (nat_le (length p.lags) MAX_LAGS) _ (le-leb (length p.lags) MAX_LAGS is.lag_limit)))
 
 pub no_fault-from_IsProject : (p : Problem) → IsProject p → first_fault p ≡ None
 no_fault-from_IsProject p is =

@@ -9,11 +9,11 @@ use Rattle.std.proofs.lemmas.List.Elements.{Contains-append_cases, Contains-appe
 use Rattle.std.proofs.lemmas.List.FromFn.{get_or-map-range_with_len, length-map-range_with_len}
 use Rattle.network.specs.declared.lag.Lag.{Lag}
 use Rattle.network.specs.declared.lag.Pair.{Pair}
-use Rattle.network.specs.Limits.{IsProject}
-use Rattle.network.specs.Problem.{Problem, activity_count, end_of, start_arc, end_arc, pair_arc, implied_arcs, rules, arcs_of, NameActivities}
+use Rattle.network.specs.Problem.{Problem, activity_count, end_of, start_arc, end_arc, pair_arc, implied_arcs, rules, arcs_of}
 use Rattle.network.specs.Schedule.{start, Meets, IsSchedule, Keeps, KeepsAll, IsLeastSchedule, makespan}
 use Rattle.network.specs.Verdict.{IsTrueBound}
-use Rattle.network.specs.Walk.{IsWalk, weight, entry, IsMatrixOf, IsGreatestWeight, HasPositiveCycle, weights_from}
+use Rattle.network.specs.ProjectMatrix.{IsProjectMatrix}
+use Rattle.network.specs.Walk.{Rows, IsWalk, weight, entry, IsMatrixOf, IsGreatestWeight, HasPositiveCycle, weights_from}
 use Rattle.network.proofs.Walks.{IsWalk-append, weight-append}
 use Rattle.network.proofs.ArcLaws.{mapped_list, AreInside-arcs_of}
 
@@ -45,7 +45,7 @@ no_schedule_on_cycle p pairs s cycle is keeps =
     let positive : pos 0 <ℤ weight cycle.1 = cycle.2.positive in
     omega (arith, ints)
 
-start_weights : (rows : List (List (Option ℤ))) (a b : ℕ) → b < length rows → start (weights_from a rows) b ≡ unwrap_or (entry rows a b) (pos 0)
+start_weights : (rows : Rows) (a b : ℕ) → b < length rows → start (weights_from a rows) b ≡ unwrap_or (entry rows a b) (pos 0)
 start_weights rows a b lt = get_or-map-range_with_len (λ c. unwrap_or (entry rows a c) (pos 0)) 0 (length rows) b b (pos 0) lt (omega arith)
 
 -- what an entry says, by its value
@@ -75,7 +75,7 @@ from_start p pairs (suc i) lt =
     Contains-append_right p.lags (implied_arcs p) (start_arc (suc i)) (Contains-append_left (map start_arc (range_with_len 1 (end_of p))) (map (end_arc p) (range_with_len 0 (end_of p))) (start_arc (suc i)) here) in
     (start_arc (suc i) ∷ [], (rule_contains p pairs (start_arc (suc i)) rule, refl, refl))
 
-entry_attained : (p : Problem) (pairs : List Pair) (rows : List (List (Option ℤ))) → IsMatrixOf (activity_count p) (arcs_of p pairs) rows → (i : ℕ) → i < activity_count p →
+entry_attained : (p : Problem) (pairs : List Pair) (rows : Rows) → IsMatrixOf (activity_count p) (arcs_of p pairs) rows → (i : ℕ) → i < activity_count p →
     IsAttained (arcs_of p pairs) 0 i (start (weights_from 0 rows) i)
 entry_attained p pairs rows m i lt =
     let zero_in : 0 < activity_count p = omega arith in
@@ -84,7 +84,7 @@ entry_attained p pairs rows m i lt =
     let at = attained_by (arcs_of p pairs) 0 i (entry rows 0 i) (m.greatest 0 i zero_in lt) w.0 w.1 in
     rw (start_weights rows 0 i (rw long lt)) at
 
-weights_meet : (p : Problem) (pairs : List Pair) (rows : List (List (Option ℤ))) → IsMatrixOf (activity_count p) (arcs_of p pairs) rows → (e : Lag) → Contains (arcs_of p pairs) e → e.from < activity_count p → e.to < activity_count p → Meets (weights_from 0 rows) e
+weights_meet : (p : Problem) (pairs : List Pair) (rows : Rows) → IsMatrixOf (activity_count p) (arcs_of p pairs) rows → (e : Lag) → Contains (arcs_of p pairs) e → e.from < activity_count p → e.to < activity_count p → Meets (weights_from 0 rows) e
 weights_meet p pairs rows m e here lf lt =
     let from = entry_attained p pairs rows m e.from lf in
     let to = entry_attained p pairs rows m e.to lt in
@@ -103,17 +103,17 @@ Contains-map f qs q c =
     let len : length (map f qs) ≡ length qs = length-map qs f in
     (c.0, rw len c.1, get_or-map f qs c.0 q (f q) c.1 ∙ ap f c.2)
 
-pub IsLeastSchedule-weights : (p : Problem) (pairs : List Pair) (rows : List (List (Option ℤ))) → IsProject p → NameActivities p pairs → IsMatrixOf (activity_count p) (arcs_of p pairs) rows → IsLeastSchedule p pairs (weights_from 0 rows)
-IsLeastSchedule-weights p pairs rows is named m = record {
+pub IsLeastSchedule-weights : (p : Problem) (pairs : List Pair) (rows : Rows) → IsProjectMatrix p pairs rows → IsLeastSchedule p pairs (weights_from 0 rows)
+IsLeastSchedule-weights p pairs rows m = record {
   schedule = record {
-    whole = length-map-range_with_len (λ b. unwrap_or (entry rows 0 b) (pos 0)) 0 (length rows) ∙ m.square.0;
+    whole = length-map-range_with_len (λ b. unwrap_or (entry rows 0 b) (pos 0)) 0 (length rows) ∙ m.matrix.square.0;
     from_zero = zero_start;
     rules_met = All-from_contains (Meets (weights_from 0 rows)) (rules p) (λ e c. met e (rule_contains p pairs e c));
   };
   keeps = All-from_contains (Keeps p (weights_from 0 rows)) pairs (λ q c.
       met (pair_arc p q) (Contains-append_right (rules p) (map (pair_arc p) pairs) (pair_arc p q) (Contains-map (pair_arc p) pairs q c)));
   least = λ t is' keeps i lt.
-      let at = entry_attained p pairs rows m i lt in
+      let at = entry_attained p pairs rows m.matrix i lt in
       let h : (start t 0 +ℤ weight at.walk) ≤ℤ start t i = walk_holds (arcs_of p pairs) t (arcs_met p pairs t is' keeps) 0 i at.walk at.goes in
       let z : start t 0 ≡ pos 0 = is'.from_zero in
       let w : weight at.walk ≡ start (weights_from 0 rows) i = at.weighs in
@@ -121,22 +121,22 @@ IsLeastSchedule-weights p pairs rows is named m = record {
 }
   where
     met : (e : Lag) → Contains (arcs_of p pairs) e → Meets (weights_from 0 rows) e
-    met e c = let ends = AreInside-arcs_of p pairs is named e c in weights_meet p pairs rows m e c ends.0 ends.1
+    met e c = let ends = AreInside-arcs_of p pairs m.limits m.named e c in weights_meet p pairs rows m.matrix e c ends.0 ends.1
 
     zero_start : start (weights_from 0 rows) 0 ≡ pos 0
     zero_start =
-        let two : 2 ≤ activity_count p = is.two_dummies in
-        let at = entry_attained p pairs rows m 0 (omega arith) in
+        let two : 2 ≤ activity_count p = m.limits.two_dummies in
+        let at = entry_attained p pairs rows m.matrix 0 (omega arith) in
         let above : pos 0 ≤ℤ start (weights_from 0 rows) 0 = at.greatest [] refl in
-        let below : weight at.walk ≤ℤ pos 0 = m.no_cycle 0 at.walk at.goes in
+        let below : weight at.walk ≤ℤ pos 0 = m.matrix.no_cycle 0 at.walk at.goes in
         let w : weight at.walk ≡ start (weights_from 0 rows) 0 = at.weighs in
         omega (arith, ints)
 
 -- the greatest weight from the start to the end is a true bound of the node
-pub IsTrueBound-critical : (p : Problem) (pairs : List Pair) (rows : List (List (Option ℤ))) → IsProject p → IsMatrixOf (activity_count p) (arcs_of p pairs) rows → (c : ℤ) → entry rows 0 (end_of p) ≡ Some c → IsTrueBound p pairs c
-IsTrueBound-critical p pairs rows is m c e = λ s stands.
-    let two : 2 ≤ activity_count p = is.two_dummies in
-    let at : IsGreatestWeight (arcs_of p pairs) 0 (end_of p) (Some c) = rw e at (m.greatest 0 (end_of p) (omega arith) (omega arith)) in
+pub IsTrueBound-critical : (p : Problem) (pairs : List Pair) (rows : Rows) → IsProjectMatrix p pairs rows → (c : ℤ) → entry rows 0 (end_of p) ≡ Some c → IsTrueBound p pairs c
+IsTrueBound-critical p pairs rows m c e = λ s stands.
+    let two : 2 ≤ activity_count p = m.limits.two_dummies in
+    let at : IsGreatestWeight (arcs_of p pairs) 0 (end_of p) (Some c) = rw e at (m.matrix.greatest 0 (end_of p) (omega arith) (omega arith)) in
     let h : (start s 0 +ℤ weight at.0.0) ≤ℤ start s (end_of p) =
     walk_holds (arcs_of p pairs) s (arcs_met p pairs s stands.feasible.schedule stands.keeps) 0 (end_of p) at.0.0 at.0.1 in
     let z : start s 0 ≡ pos 0 = stands.feasible.schedule.from_zero in

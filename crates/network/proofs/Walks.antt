@@ -1,12 +1,14 @@
 -- Laws of walks: joined end to end, cut at a vertex, and how long one can be that visits no inner
 -- vertex twice.
-use Rattle.std.proofs.Common.{◌≡◌, refl, sym, ap, ℕ, ◌+◌, ◌*◌, ◌<◌, ◌≤◌, ◌⊎◌, inl, inr, arith, ◌+ℤ◌, List, [], ◌∷◌, ◌++◌, length, true, false, eqb}
+use Rattle.std.proofs.Common.{◌≡◌, refl, sym, ap, ℕ, ◌+◌, ◌*◌, ◌<◌, ◌≤◌, ◌⊎◌, inl, inr, arith, ℤ, pos, unsigned_abs, ◌+ℤ◌, List, [], ◌∷◌, ◌++◌, length, true, false, eqb}
 use Rattle.std.proofs.lemmas.Int.{ints}
 use Rattle.std.specs.List.{Contains, IsDistinct, list_any, AllByRecursion}
 use Rattle.std.proofs.lemmas.Bool.{ne_eqb, eqb-true, or_cases}
 use Rattle.std.proofs.lemmas.Map.Steps.{length-le_from_distinct_below}
 use Rattle.network.specs.declared.lag.Lag.{Lag}
-use Rattle.network.specs.Walk.{IsWalk, weight, IsWithin, AreLight}
+use Rattle.network.specs.declared.limits.TheConstants.{MAX_LAG_WEIGHT}
+use Rattle.network.specs.Limits.{IsWithin}
+use Rattle.network.specs.Walk.{IsWalk, weight, AreLight}
 
 pub IsWalk-append : (arcs : List Lag) (a b c : ℕ) (es fs : List Lag) → IsWalk arcs a es b → IsWalk arcs b fs c → IsWalk arcs a (es ++ fs) c
 IsWalk-append arcs a b c [] fs p q = rw p q
@@ -138,9 +140,13 @@ length-le_inner [] = omega arith
 length-le_inner (e ∷ []) = omega arith
 length-le_inner (e ∷ f ∷ es) = omega (arith, length-le_inner (f ∷ es))
 
-pub weight-within : (arcs : List Lag) (a b : ℕ) (es : List Lag) → AreLight arcs → IsWalk arcs a es b → IsWithin (1000000 * length es) (weight es)
-weight-within arcs a b [] light w = record { above = omega (arith, ints); below = omega (arith, ints) }
+-- what a walk of so many light arcs weighs at most
+abbrev pub most_weight : ℕ → ℤ
+most_weight count = pos (unsigned_abs MAX_LAG_WEIGHT * count)
+
+pub weight-within : (arcs : List Lag) (a b : ℕ) (es : List Lag) → AreLight arcs → IsWalk arcs a es b → IsWithin (most_weight (length es)) (weight es)
+weight-within arcs a b [] light w = record { at_least = omega (arith, ints); at_most = omega (arith, ints) }
 weight-within arcs a b (e ∷ es) light w =
-    let one : IsWithin 1000000 e.weight = light e w.0 in
-    let others : IsWithin (1000000 * length es) (weight es) = weight-within arcs e.to b es light w.2 in
-    record { above = omega (arith, ints); below = omega (arith, ints) }
+    let one : IsWithin MAX_LAG_WEIGHT e.weight = light e w.0 in
+    let others : IsWithin (most_weight (length es)) (weight es) = weight-within arcs e.to b es light w.2 in
+    record { at_least = omega (arith, ints); at_most = omega (arith, ints) }

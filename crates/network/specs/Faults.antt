@@ -5,6 +5,7 @@ use Rattle.network.specs.declared.lag.Lag.{Lag}
 use Rattle.network.specs.declared.parts.ProjectFault.{ProjectFault}
 use Rattle.network.specs.declared.parts.ProjectFault.TheVariants.{Limit, Activity, Dummy, Shape}
 use Rattle.network.specs.declared.parts.Quantity.TheVariants as quantity
+use Rattle.network.specs.declared.limits.TheConstants.{MAX_ACTIVITIES, MAX_AMOUNT, MAX_LAG_WEIGHT, MAX_LAGS, MAX_RESOURCES}
 use Rattle.network.specs.Problem.{Problem, activity_count, end_of, resource_count, duration}
 
 -- the first of two faults
@@ -18,10 +19,10 @@ unless true f = None
 unless false f = Some f
 
 abbrev pub is_amount : ℤ → Bool
-is_amount z = int_le (pos 0) z && int_le z (pos 1000000)
+is_amount z = int_le (pos 0) z && int_le z MAX_AMOUNT
 
 abbrev pub is_weight : ℤ → Bool
-is_weight z = int_le (neg_ℤ (pos 1000000)) z && int_le z (pos 1000000)
+is_weight z = int_le (neg_ℤ MAX_LAG_WEIGHT) z && int_le z MAX_LAG_WEIGHT
 
 abbrev pub is_zero : ℤ → Bool
 is_zero z = int_le (pos 0) z && int_le z (pos 0)
@@ -33,8 +34,8 @@ shape_fault p =
 
 abbrev pub count_fault : Problem → Option ProjectFault
 count_fault p =
-    or_else (unless (nat_le (activity_count p) 1002) (Limit quantity.Activities))
-    (or_else (unless (nat_le (resource_count p) 32) (Limit quantity.Resources)) (unless (nat_le (length p.lags) 100000) (Limit quantity.Lags)))
+    or_else (unless (nat_le (activity_count p) MAX_ACTIVITIES) (Limit quantity.Activities))
+    (or_else (unless (nat_le (resource_count p) MAX_RESOURCES) (Limit quantity.Resources)) (unless (nat_le (length p.lags) MAX_LAGS) (Limit quantity.Lags)))
 
 abbrev pub dummy_fault : Problem → ℕ → Option ProjectFault
 dummy_fault p i = unless (is_zero (duration p i) && list_all is_zero (slice_index_or p.demands i [])) (Dummy i)

@@ -3,6 +3,7 @@ pub mod Limits
 pub mod Schedule
 pub mod Verdict
 pub mod Walk
+pub mod ProjectMatrix
 pub mod Forbidden
 pub mod Parts
 pub mod Faults

@@ -2,7 +2,7 @@
 use Rattle.std.specs.Prelude.{◌≡◌, ℤ, ◌≤ℤ◌, List}
 use Rattle.network.specs.declared.lag.Pair.{Pair}
 use Rattle.network.specs.Problem.{Problem}
-use Rattle.network.specs.Schedule.{IsSchedule, IsFeasible, KeepsAll, makespan}
+use Rattle.network.specs.Schedule.{IsFeasible, KeepsAll, makespan}
 
 -- a node of these pairs stands for the feasible schedules that keep them
 pub record StandsFor (p : Problem) (pairs : List Pair) (s : List ℤ) : Type 0 where
@@ -13,14 +13,14 @@ pub record StandsFor (p : Problem) (pairs : List Pair) (s : List ℤ) : Type 0 w
 abbrev pub IsTrueBound : Problem → List Pair → ℤ → Type 0
 IsTrueBound p pairs c = (s : List ℤ) → StandsFor p pairs s → c ≤ℤ makespan s
 
--- no schedule keeps the pairs
-abbrev pub NoneKeeps : Problem → List Pair → Type 0
-NoneKeeps p pairs = (s : List ℤ) → IsSchedule p s → ¬ KeepsAll p s pairs
+-- every feasible schedule takes at least c
+abbrev pub IsLowerBound : Problem → ℤ → Type 0
+IsLowerBound p c = (s : List ℤ) → IsFeasible p s → c ≤ℤ makespan s
 
 -- c is the least makespan of a feasible schedule
 pub record IsShortest (p : Problem) (c : ℤ) : Type 0 where
   pub witness : (s : List ℤ) × IsFeasible p s × (makespan s ≡ c)
-  pub bound : (s : List ℤ) → IsFeasible p s → c ≤ℤ makespan s
+  pub bound : IsLowerBound p c
 
 abbrev pub HasNoSchedule : Problem → Type 0
 HasNoSchedule p = (s : List ℤ) → ¬ IsFeasible p s

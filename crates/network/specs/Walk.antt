@@ -4,6 +4,8 @@ use Rattle.std.specs.Prelude.{◌≡◌, ℕ, ◌<◌, ◌≤◌, ℤ, pos, ◌+
 use Rattle.std.specs.List.{All, Contains, range_with_len}
 use Rattle.std.specs.Option.{unwrap_or}
 use Rattle.network.specs.declared.lag.Lag.{Lag}
+use Rattle.network.specs.declared.limits.TheConstants.{MAX_LAG_WEIGHT}
+use Rattle.network.specs.Limits.{IsWithin}
 
 -- a list of arcs, end to end, that leads from a to b
 abbrev pub IsWalk : List Lag → ℕ → List Lag → ℕ → Type 0
@@ -42,8 +44,12 @@ IsGreatestWeight arcs a b w =
     ((es : List Lag) → ¬ IsWalk arcs a es b)
     (λ g. ((es : List Lag) × IsWalk arcs a es b × (weight es ≡ g)) × ((es : List Lag) → IsWalk arcs a es b → weight es ≤ℤ g))
 
--- the entry (a, b) of a list of rows
-abbrev pub entry : List (List (Option ℤ)) → ℕ → ℕ → Option ℤ
+-- the rows of a matrix: a weight for each two vertices, none where there is no walk
+abbrev pub Rows : Type 0
+Rows = List (List (Option ℤ))
+
+-- the entry (a, b) of the rows
+abbrev pub entry : Rows → ℕ → ℕ → Option ℤ
 entry rows a b = slice_index_or (slice_index_or rows a []) b None
 
 -- each arc joins two of n activities
@@ -51,21 +57,20 @@ abbrev pub AreInside : ℕ → List Lag → Type 0
 AreInside n arcs = (e : Lag) → Contains arcs e → (e.from < n) × (e.to < n)
 
 -- the matrix of a list of arcs between n activities
-pub record IsMatrixOf (n : ℕ) (arcs : List Lag) (rows : List (List (Option ℤ))) : Type 0 where
+pub record IsMatrixOf (n : ℕ) (arcs : List Lag) (rows : Rows) : Type 0 where
   pub inside : AreInside n arcs
   pub square : (length rows ≡ n) × All (λ row. length row ≡ n) rows
   pub no_cycle : HasNoPositiveCycle arcs
   pub greatest : (a b : ℕ) → a < n → b < n → IsGreatestWeight arcs a b (entry rows a b)
 
--- z lies from -n to n
-pub record IsWithin (n : ℕ) (z : ℤ) : Type 0 where
-  pub above : z ≤ℤ pos n
-  pub below : pos 0 ≤ℤ (z +ℤ pos n)
+-- the arcs have no matrix but one
+abbrev pub HaveOneMatrix : ℕ → List Lag → Type 0
+HaveOneMatrix n arcs = (rows others : Rows) → IsMatrixOf n arcs rows → IsMatrixOf n arcs others → rows ≡ others
 
 -- each arc's weight is within the limits for lags
 abbrev pub AreLight : List Lag → Type 0
-AreLight arcs = (e : Lag) → Contains arcs e → IsWithin 1000000 e.weight
+AreLight arcs = (e : Lag) → Contains arcs e → IsWithin MAX_LAG_WEIGHT e.weight
 
 -- the greatest weights from a vertex, and 0 where there is no walk
-abbrev pub weights_from : ℕ → List (List (Option ℤ)) → List ℤ
+abbrev pub weights_from : ℕ → Rows → List ℤ
 weights_from a rows = map (λ b. unwrap_or (entry rows a b) (pos 0)) (range_with_len 0 (length rows))

@@ -5,6 +5,7 @@ ghost use Rattle.network.specs.Parts.{problem_of};
 ghost use Rattle.network.specs.Faults.{is_amount, is_zero, shape_fault, count_fault, dummy_fault, amount_fault, lag_fault, arc_fault, first_fault};
 
 use crate::lag::Lag;
+use crate::limits::{MAX_ACTIVITIES, MAX_AMOUNT, MAX_LAG_WEIGHT, MAX_LAGS, MAX_RESOURCES};
 use crate::parts::{Parts, ProjectFault, Quantity};
 
 /// Whether the parts are those of a project, by one test after another.
@@ -16,8 +17,7 @@ pub(crate) fn check(parts: &Parts) -> Result<(), ProjectFault>
     check_dummy(parts, 0)?;
     check_dummy(parts, parts.durations.len() - 1)?;
     check_amounts(parts)?;
-    check_lags(parts.lags.as_slice(), parts.durations.len())?;
-    Ok(())
+    check_lags(parts.lags.as_slice(), parts.durations.len())
 }
 
 #[tactic(auto, using(crate::proofs::Lists::rows_all))]
@@ -46,17 +46,17 @@ fn are_long(rows: &[Vec<i64>], columns: usize) -> bool
 fn check_counts(parts: &Parts) -> Result<(), ProjectFault>
     ensures { result_err result ≡ count_fault (problem_of parts.now) }
 {
-    if parts.durations.len() > 1002 {
+    if parts.durations.len() > MAX_ACTIVITIES {
         return Err(ProjectFault::Limit {
             which: Quantity::Activities,
         });
     }
-    if parts.capacities.len() > 32 {
+    if parts.capacities.len() > MAX_RESOURCES {
         return Err(ProjectFault::Limit {
             which: Quantity::Resources,
         });
     }
-    if parts.lags.len() > 100000 {
+    if parts.lags.len() > MAX_LAGS {
         return Err(ProjectFault::Limit {
             which: Quantity::Lags,
         });
@@ -97,7 +97,7 @@ fn rows_are_amounts(rows: &[Vec<i64>]) -> bool
 fn is_amount(value: i64) -> bool
     ensures { result ≡ is_amount value }
 {
-    0 <= value && value <= 1000000
+    0 <= value && value <= MAX_AMOUNT
 }
 
 #[tactic(auto, using(crate::proofs::Lists::rows_all))]
@@ -148,7 +148,7 @@ fn check_lag(lag: &Lag, place: usize, last: usize, activities: usize) -> Result<
             id: lag.to,
         });
     }
-    if lag.weight < -1000000 || 1000000 < lag.weight {
+    if lag.weight < -MAX_LAG_WEIGHT || MAX_LAG_WEIGHT < lag.weight {
         return Err(ProjectFault::Limit {
             which: Quantity::Lag,
         });

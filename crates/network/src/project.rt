@@ -1,6 +1,7 @@
-ghost use Rattle.std.specs.Prelude.{◌≡◌, ◌<◌, ◌≤◌, length, slice_index_or, [], IfOk, IfErr, OnErr, Some};
-ghost use Rattle.network.specs.Problem.{activity_count, resource_count, duration, demand, capacity, arcs_of, NameActivities};
-ghost use Rattle.network.specs.Limits.{IsAmount, IsProject};
+ghost use Rattle.std.specs.Prelude.{◌≡◌, ◌<◌, ◌≤ℤ◌, pos, length, slice_index_or, [], ◌∷◌, IfOk, IfErr, OnErr, Some};
+ghost use Rattle.network.specs.Problem.{activity_count, resource_count, duration, demand, capacity, pair_arc, arcs_of, NameActivities};
+ghost use Rattle.network.specs.declared.limits.TheConstants.{MAX_AMOUNT};
+ghost use Rattle.network.specs.Limits.{IsAmount, IsLag, IsProject};
 
 use crate::arcs::{push_end_arcs, push_pair_arcs, push_start_arcs};
 use crate::equality::parts_equal;
@@ -112,7 +113,7 @@ impl Project {
         requires resource { resource < resource_count self.now }
         requires activity { activity < activity_count self.now }
         ensures value { result ≡ demand self.now resource activity }
-        ensures amount { result ≤ 1000000 }
+        ensures amount { pos result ≤ℤ MAX_AMOUNT }
         ensures limits { IsProject self.now }
     {
         self.demands(activity)[resource].unsigned_abs()
@@ -122,10 +123,24 @@ impl Project {
     pub fn capacity(&self, resource: usize) -> u64
         requires { resource < resource_count self.now }
         ensures value { result ≡ capacity self.now resource }
-        ensures amount { result ≤ 1000000 }
+        ensures amount { pos result ≤ℤ MAX_AMOUNT }
         ensures limits { IsProject self.now }
     {
         self.parts.capacities[resource].unsigned_abs()
+    }
+
+    /// The arc that a pair stands for: the first activity ends before the second starts.
+    pub fn pair_arc(&self, pair: Pair) -> Lag
+        requires { NameActivities self.now (pair ∷ []) }
+        ensures arc { result ≡ pair_arc self.now pair }
+        ensures inside { IsLag (activity_count self.now) result }
+        ensures limits { IsProject self.now }
+    {
+        Lag {
+            from: pair.before,
+            to: pair.after,
+            weight: self.duration(pair.before),
+        }
     }
 
     /// The rules, which are the given arcs and then the arcs from the start and to the end, and

@@ -1,7 +1,8 @@
-ghost use Rattle.std.specs.Prelude.{◌≡◌};
+ghost use Rattle.std.specs.Prelude.{◌≡◌, IfOk};
 ghost use Rattle.std.specs.Arc.{arc_value};
 
 use crate::project::Project;
+use std::alloc::{AllocError, Global};
 use std::marker::Model;
 use std::sync::Arc;
 
@@ -26,7 +27,7 @@ impl Model for Schedule {
 
 impl Schedule {
     ghost use Rattle.network.specs.Schedule.{IsFeasible, makespan};
-    ghost use Rattle.network.specs.Limits.{AreStarts};
+    ghost use Rattle.network.specs.Limits.{IsProject, AreStarts};
 
     /// The schedule of these starts.
     pub fn of(project: Arc<Project>, starts: Vec<i64>) -> Schedule
@@ -39,8 +40,10 @@ impl Schedule {
 
     /// The project that the schedule is for.
     pub fn project(&self) -> &Arc<Project>
-        ensures { arc_value result.now ≡ self.now.project }
+        ensures project { arc_value result.now ≡ self.now.project }
+        ensures limits { IsProject self.now.project }
     {
+        prove!(self.project.activity_count() >= 2);
         &self.project
     }
 
@@ -61,5 +64,14 @@ impl Schedule {
     {
         let count = self.project.activity_count();
         self.starts[count - 1]
+    }
+
+    /// An equal schedule, of the same shared project.
+    pub fn try_copy(&self, alloc: Global) -> Result<Schedule, AllocError>
+        ensures { IfOk result (λ schedule. schedule ≡ self.now) }
+    {
+        let starts = Vec::from_slice(alloc, self.starts.as_slice())?;
+        let project = Arc::try_clone(&self.project)?;
+        Ok(Schedule { project, starts })
     }
 }

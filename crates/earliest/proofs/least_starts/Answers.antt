@@ -17,7 +17,7 @@ loop-i-preserved c =
     (to_z-of_z w64 c.unwrap_or.result fits ∙ u ∙ ap (λ (o : Option ℤ). unwrap_or o (pos 0)) g)
 
 pub returns-clause-earliest : goal.returns-clause-earliest
-returns-clause-earliest c = λ p pairs is named m.
+returns-clause-earliest c = λ p pairs m.
     let all : c.loop-i.i ≡ length c.args.matrix.now = omega (arith, c.activity_count-i-end.ensures.value, c.loop-i.auto.i-end) in
     let whole : c.loop-i.starts.items ≡ weights_from 0 c.args.matrix.now = rw all at c.loop-i.invariant in
-    rw whole (AreEarliest-weights p pairs c.args.matrix.now is named m)
+    rw whole (AreEarliest-weights p pairs c.args.matrix.now m)

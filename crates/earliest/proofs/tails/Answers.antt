@@ -21,7 +21,7 @@ loop-i-preserved c =
     appended_more (tail_weight c.args.project.now c.args.matrix.now) 0 c.loop-i.i c.loop-i.i _ [] c.loop-i.tails.items c.push.new.self.items c.loop-i.invariant c.in_ok-push.ensures.items (omega arith) stored
 
 pub returns-clause-tails : goal.returns-clause-tails
-returns-clause-tails c = λ pairs named m.
+returns-clause-tails c = λ pairs m.
     let all : c.loop-i.i ≡ length c.args.project.now.durations = omega (arith, c.activity_count-i-end.ensures.value, c.loop-i.auto.i-end) in
     let whole : c.loop-i.tails.items ≡ tail_weights c.args.project.now c.args.matrix.now = rw all at c.loop-i.invariant in
-    rw whole (AreTails-weights c.args.project.now pairs c.args.matrix.now c.activity_count-end.ensures.limits named m)
+    rw whole (AreTails-weights c.args.project.now pairs c.args.matrix.now m)

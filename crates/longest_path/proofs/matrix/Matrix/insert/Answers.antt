@@ -1,11 +1,16 @@
 use Rattle.std.proofs.Common.{refl, ◌≡◌, ◌<◌, length, sym, ◌∙◌, ap, w64, ℕ, Some}
 use Rattle.std.proofs.lemmas.Int.{to_z-of_z}
 use Rattle.network.specs.Walk.{entry, IsMatrixOf}
-use Rattle.longest_path.specs.Relax.{joined}
+use Rattle.longest_path.specs.Relax.{joined, Reaches}
 use Rattle.longest_path.specs.Insert.{arc_of, IsOver}
-use Rattle.longest_path.proofs.Over.{transitive, room_kept}
+use Rattle.longest_path.proofs.Over.{transitive, room_kept, some_sum_fits}
 use Rattle.longest_path.proofs.Inserted.{GainsNothing, adds, still_matrix, closes}
+use Rattle.longest_path.proofs.Redundant.{adds_nothing}
 use Rattle.longest_path.proofs.matrix.Matrix.insert.Goals as goal
+
+pub sum-requires : goal.sum-requires
+sum-requires c =
+    rw (to_z-of_z w64 c.args.w c.ranges.w) (some_sum_fits c.get-way_back.result c.args.w (λ x e. c.self.invariant.matrix.within c.args.j c.args.i x (sym c.get-way_back.ensures ∙ e)) c.requires.limit)
 
 pub returns-then-is_positive-clause-cycle : goal.returns-then-is_positive-clause-cycle
 returns-then-is_positive-clause-cycle c = λ arcs m.
@@ -42,3 +47,14 @@ returns-clause-ok c = λ arcs m.
     let over : (a b : ℕ) → IsOver (arc_of c.args.i c.args.j c.args.w) c.self.inside.grid a b (entry c.go_over.new.grid a b) = rw (to_z-of_z w64 c.args.w c.ranges.w) at c.go_over.ensures.over in
     let old : IsMatrixOf (length c.self.inside.grid) arcs c.self.inside.grid = rw (size, sym c.self.view_is) at m in
     rw size (adds (length c.self.inside.grid) (arc_of c.args.i c.args.j c.args.w) c.self.inside.grid c.go_over.new.grid lf lt gains c.go_over.ensures.square over arcs old)
+
+pub returns-then-is_reached-clause-ok : goal.returns-then-is_reached-clause-ok
+returns-then-is_reached-clause-ok c = λ arcs m.
+    let size : length c.args.self.now ≡ (length c.self.inside.grid) = ap length (sym c.self.view_is) in
+    let lf : c.args.i < (length c.self.inside.grid) = rw size at c.requires.from_activity in
+    let lt : c.args.j < (length c.self.inside.grid) = rw size at c.requires.to_activity in
+    let sum_is : c.sum.result ≡ joined (entry c.self.inside.grid c.args.j c.args.i) (Some c.args.w) = rw (to_z-of_z w64 c.args.w c.ranges.w, c.get-way_back.ensures) at c.sum.ensures in
+    let gains : GainsNothing (arc_of c.args.i c.args.j c.args.w) c.self.inside.grid = λ x h. c.if-is_positive.ensures x (sum_is ∙ h) in
+    let old : IsMatrixOf (length c.self.inside.grid) arcs c.self.inside.grid = rw (size, sym c.self.view_is) at m in
+    let here : Reaches c.args.w (entry c.self.inside.grid c.args.i c.args.j) = rw (to_z-of_z w64 c.args.w c.ranges.w, c.get.ensures) at c.if-is_reached.ensures in
+    rw (size, sym c.self.view_is) (adds_nothing (length c.self.inside.grid) (arc_of c.args.i c.args.j c.args.w) c.self.inside.grid lf lt gains here arcs old)
