@@ -1,32 +1,11 @@
 use crate::{heads, least_starts, tails};
 use longest_path::longest;
-use network::{Lag, Parts, Project};
-use std::alloc::Global;
 use std::test::Fail;
-
-fn lag(from: usize, to: usize, weight: i64) -> Lag {
-    Lag { from, to, weight }
-}
-
-/// An activity of 5 periods, then two of 4 that ask for the one unit of a resource, then one of 3.
-fn four_activities(alloc: Global) -> Result<Project, Fail> {
-    let mut demands = Vec::new(alloc);
-    for demand in [0, 0, 1, 1, 0, 0] {
-        demands.push(vec![in alloc; demand]?)?;
-    }
-    let lags = [lag(1, 2, 5), lag(1, 3, 5), lag(2, 4, 4), lag(3, 4, 4)];
-    let parts = Parts {
-        durations: vec![in alloc; 0, 5, 4, 4, 3, 0]?,
-        demands,
-        capacities: vec![in alloc; 1]?,
-        lags: Vec::from_slice(alloc, &lags)?,
-    };
-    Ok(Project::new(parts)?)
-}
+use test_projects::{lag, project, two_between};
 
 #[test]
 fn heads_and_tails_of_four_activities(rt: HostRuntime) -> Result<(), Fail> {
-    let project = four_activities(rt.alloc())?;
+    let project = two_between(rt.alloc())?;
     let matrix = longest(rt.alloc(), &project, &[])?;
     assert_eq!(rt; matrix.activity_count(), project.activity_count());
     let earliest = [0, 0, 5, 5, 9, 12];
@@ -44,18 +23,9 @@ fn heads_and_tails_of_four_activities(rt: HostRuntime) -> Result<(), Fail> {
 
 #[test]
 fn the_greater_of_two_lags_holds(rt: HostRuntime) -> Result<(), Fail> {
-    let parts = Parts {
-        durations: vec![in rt.alloc(); 0, 3, 4, 0]?,
-        demands: vec![in rt.alloc();
-            Vec::new(rt.alloc()),
-            Vec::new(rt.alloc()),
-            Vec::new(rt.alloc()),
-            Vec::new(rt.alloc()),
-        ]?,
-        capacities: Vec::new(rt.alloc()),
-        lags: Vec::from_slice(rt.alloc(), &[lag(1, 2, 2), lag(1, 2, 5)])?,
-    };
-    let matrix = longest(rt.alloc(), &Project::new(parts)?, &[])?;
+    let lags = [lag(1, 2, 2), lag(1, 2, 5)];
+    let project = project(rt.alloc(), &[0, 3, 4, 0], &[&[], &[], &[], &[]], &[], &lags)?;
+    let matrix = longest(rt.alloc(), &project, &[])?;
     assert_eq!(rt;
         least_starts(rt.alloc(), &matrix)?.as_slice(),
         [0, 0, 5, 9].as_slice()
