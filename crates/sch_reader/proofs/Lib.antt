@@ -1,5 +1,3 @@
-pub mod DigitLaws
-pub mod WordLaws
 pub mod Layouts
 pub mod Readings
 pub mod Loops

@@ -1,4 +1,4 @@
-pub mod Words
+pub mod Tokens
 pub mod Layout
 pub mod Text
 pub mod Reading

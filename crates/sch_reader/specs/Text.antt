@@ -5,14 +5,17 @@ use Rattle.sch_reader.specs.declared.fault.SchFault.{SchFault}
 use Rattle.sch_reader.specs.declared.fault.SchFault.TheVariants as faults
 use Rattle.sch_reader.specs.declared.place.Place.{Place}
 use Rattle.network.specs.declared.lag.Lag.{Lag}
-use Rattle.sch_reader.specs.Words.{words, token}
+use Rattle.words.specs.Words.{words}
+use Rattle.words.specs.declared.TheConstants.{MAX_TEXT_BYTES}
+use Rattle.sch_reader.specs.Tokens.{token}
+use Rattle.sch_reader.specs.declared.reader.TheConstants.{BLANKS}
 use Rattle.network.specs.Problem.{Problem}
 use Rattle.network.specs.Limits.{IsProject}
 use Rattle.sch_reader.specs.Layout.{Layout, done, place, misfit, project_text}
 
--- how many bytes a text may have
+-- the limit on a text's bytes
 abbrev pub text_limit : ℕ
-text_limit = 16777216
+text_limit = MAX_TEXT_BYTES
 
 -- the given arcs from an activity
 abbrev pub lags_from : ℕ → List Lag → List Lag
@@ -48,8 +51,8 @@ Spell text numbers = map token text ≡ map Some numbers
 
 -- the text spells the project
 pub record Spells (text : List ℕ) (p : Problem) : Type 0 where
-  pub size : length text ≤ text_limit
-  pub spelled : Spell (words text) (flat p)
+  pub size : length text ≤ MAX_TEXT_BYTES
+  pub spelled : Spell (words BLANKS text) (flat p)
 
 -- the numbers begin the list of some project
 abbrev pub BeginsProject : List ℤ → Type 0
@@ -105,7 +108,7 @@ pub record HasMisfit (text : List (List ℕ)) (fault : SchFault) : Type 0 where
 
 -- The text has too many bytes.
 pub record IsTooLong (text : List ℕ) (fault : SchFault) : Type 0 where
-  pub long : text_limit < length text
+  pub long : MAX_TEXT_BYTES < length text
   pub fault_is : fault ≡ faults.TooLong
 
 -- the first fault of words that spell no project
@@ -115,4 +118,4 @@ IsFirstWordFault text fault = EndsShort text fault ⊎ (GoesOn text fault ⊎ Ha
 -- the first fault of a text that spells no project
 abbrev pub IsFirstFault : List ℕ → SchFault → Type 0
 IsFirstFault text fault =
-    IsTooLong text fault ⊎ ((length text ≤ text_limit) × IsFirstWordFault (words text) fault)
+    IsTooLong text fault ⊎ ((length text ≤ MAX_TEXT_BYTES) × IsFirstWordFault (words BLANKS text) fault)

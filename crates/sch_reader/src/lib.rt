@@ -17,7 +17,6 @@ mod fault;
 mod place;
 mod reader;
 mod text;
-mod word;
 
 pub use fault::SchFault;
 pub use text::read_sch;

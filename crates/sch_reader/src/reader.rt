@@ -1,12 +1,21 @@
 ghost use Rattle.std.specs.Prelude.{◌≡◌, ◌≤◌, ◌+◌, ◌∷◌, [], length, MatchOption, ℕ, List, IfOk, true};
-ghost use Rattle.sch_reader.specs.Words.{words};
+ghost use Rattle.words.specs.Words.{words};
+ghost use Rattle.words.specs.declared.TheConstants.{MAX_TEXT_BYTES};
+ghost use Rattle.sch_reader.specs.Tokens.{token};
+ghost use Rattle.sch_reader.specs.declared.reader.TheConstants.{BLANKS};
 ghost use Rattle.sch_reader.specs.Layout.{fits};
 ghost use Rattle.sch_reader.specs.Reading.{Cursor, Reads, number_at, fitted};
 
 use crate::fault::SchFault;
 use crate::place::Place;
-use crate::word::{split_word, token};
 use std::marker::Model;
+use words::{integer, split_word};
+
+/// What stands between words.
+const BLANKS: [u8; 6] = [b' ', b'\t', b'\r', b'\n', b'[', b']'];
+
+/// The most digits of a token.
+const TOKEN_DIGITS: usize = 9;
 
 /// What is left of a text, and how many words came before it.
 #[derive(Drop)]
@@ -18,17 +27,17 @@ pub(crate) struct Reader<'a> {
 impl<'a> Model for Reader<'a> {
     ghost Value = { Cursor };
 
-    ghost view = { λ r. record { index = r.index; rest = words r.rest.now } };
+    ghost view = { λ r. record { index = r.index; rest = words BLANKS r.rest.now } };
 
-    ghost invariant = { λ r. r.index + length r.rest.now ≤ 16777216 };
+    ghost invariant = { λ r. r.index + length r.rest.now ≤ MAX_TEXT_BYTES };
 }
 
 impl<'a> Reader<'a> {
     /// A reader before the first word.
     pub(crate) fn new(text: &'a [u8]) -> Self
-        requires { length text.now ≤ 16777216 }
+        requires { length text.now ≤ MAX_TEXT_BYTES }
         ensures index { result.index ≡ 0 }
-        ensures rest { result.rest ≡ words text.now }
+        ensures rest { result.rest ≡ words BLANKS text.now }
     {
         Reader {
             rest: text,
@@ -38,7 +47,7 @@ impl<'a> Reader<'a> {
 
     /// How many bytes are left, and so at least how many words.
     pub(crate) fn bytes_left(&self) -> usize
-        ensures { self.now.index + result ≤ 16777216 }
+        ensures { self.now.index + result ≤ MAX_TEXT_BYTES }
     {
         self.rest.len()
     }
@@ -55,7 +64,7 @@ impl<'a> Reader<'a> {
         ensures { MatchOption result (self.old.rest ≡ [])
             (λ w. (self.old.rest ≡ w.now ∷ self.new.rest) × (self.new.index ≡ self.old.index + 1)) }
     {
-        let (word, rest) = split_word(self.rest)?;
+        let (word, rest) = split_word(self.rest, &BLANKS)?;
         self.rest = rest;
         self.index += 1;
         Some(word)
@@ -71,9 +80,16 @@ impl<'a> Reader<'a> {
         let Some(word) = self.word() else {
             return Err(SchFault::Short { index });
         };
-        let value = fitted(place, index, token(word))?;
-        Ok(value)
+        fitted(place, index, token(word))
     }
+}
+
+/// The number that a token spells.
+#[tactic(auto, unfolding(crate::specs::Tokens::token))]
+fn token(word: &[u8]) -> Option<i64>
+    ensures { result ≡ token word.now }
+{
+    integer(word, TOKEN_DIGITS)
 }
 
 /// The number at a place, where the word there is a token of it.

@@ -2,20 +2,19 @@ ghost use Rattle.std.specs.Prelude.{◌≡◌, ◌≢◌, ◌≤◌, ◌<◌, �
 ghost use Rattle.network.specs.Problem.{Problem};
 ghost use Rattle.network.specs.Limits.{IsProject};
 ghost use Rattle.sch_reader.specs.declared.fault.SchFault.{SchFault};
-ghost use Rattle.sch_reader.specs.Text.{Spells, IsFirstFault, text_limit};
+ghost use Rattle.sch_reader.specs.Text.{Spells, IsFirstFault};
 ghost use Rattle.sch_reader.specs.Layout.{row_of, lags_to, network_row, network_rows, request_row, request_rows, amount_place, header, project_text};
 ghost use Rattle.sch_reader.specs.Reading.{Reads, Gives, reading, whole_reading};
 ghost use Rattle.network.specs.Parts.{problem_of};
-ghost use Rattle.sch_reader.specs.Words.{words};
+ghost use Rattle.words.specs.Words.{words};
+ghost use Rattle.sch_reader.specs.declared.reader.TheConstants.{BLANKS};
 
 use crate::fault::SchFault;
 use crate::place::Place;
 use crate::reader::Reader;
 use network::{Lag, Parts, Project};
 use std::alloc::Global;
-
-/// How many bytes a text may have.
-const MAX_BYTES: usize = 16_777_216;
+use words::MAX_TEXT_BYTES;
 
 /// How many arcs a project may have.
 const MAX_LAGS: usize = 100_000;
@@ -90,8 +89,7 @@ fn network_row(
     let count = reader.number(Place::Count { left })?;
     let count = count.unsigned_abs() as usize;
     let ends = numbers(alloc, reader, count, Place::Successor { row, last })?;
-    let lags = lags_to(alloc, reader, row, &ends)?;
-    Ok(lags)
+    lags_to(alloc, reader, row, &ends)
 }
 
 /// The network rows: all given arcs, in order.
@@ -192,8 +190,8 @@ fn project_text(alloc: Global, reader: &mut Reader<'_>) -> Result<Parts, SchFaul
 /// The whole text, and nothing after it.
 #[tactic(auto, unfolding(crate::specs::Reading::whole_reading))]
 fn whole_text(alloc: Global, text: &[u8]) -> Result<Parts, SchFault>
-    requires { length text.now ≤ 16777216 }
-    ensures { Gives problem_of result (whole_reading (words text.now)) }
+    requires { length text.now ≤ MAX_TEXT_BYTES }
+    ensures { Gives problem_of result (whole_reading (words BLANKS text.now)) }
 {
     let mut reader = Reader::new(text);
     let parts = project_text(alloc, &mut reader)?;
@@ -214,12 +212,12 @@ pub fn read_sch(alloc: Global, text: &[u8]) -> Result<Project, SchFault>
     ensures only { (p : Problem) → IsProject p → Spells text.now p →
         MatchResult result (λ q. q ≡ p) (λ e. e ≡ SchFault.Memory) }
     ensures fault { IfErr result (λ e. e ≢ SchFault.Memory → IsFirstFault text.now e) }
-    ensures too_long { (result ≡ Err SchFault.TooLong) ↔ (text_limit < length text.now) }
+    ensures too_long { (result ≡ Err SchFault.TooLong) ↔ (MAX_TEXT_BYTES < length text.now) }
     // A law of the layout: no text spells two projects.
     ensures unique { (p q : Problem) →
         IsProject p → IsProject q → Spells text.now p → Spells text.now q → p ≡ q }
 {
-    if text.len() > MAX_BYTES {
+    if text.len() > MAX_TEXT_BYTES {
         return Err(SchFault::TooLong);
     }
     let parts = whole_text(alloc, text)?;
