@@ -7,6 +7,7 @@ use Rattle.std.proofs.lemmas.Bool.{lt-ltb, le-ltb, ltb-true, ltb-false}
 use Rattle.std.proofs.lemmas.Bool.Decides.{nat_tests}
 use Rattle.std.proofs.lemmas.List.Elements.{All-from_recursion, recursion_from_All}
 use Rattle.std.proofs.lemmas.List.Sums.{sum_by-cons, fails_before_first}
+use Rattle.words.specs.declared.TheConstants.{MAX_TEXT_BYTES}
 use Rattle.schedule_check.specs.declared.entry.Entry.{Entry}
 use Rattle.schedule_check.specs.declared.entry.Entry.TheVariants.{Nothing, Gives, Wrong}
 use Rattle.schedule_check.specs.declared.fault.StartsFault.{StartsFault}
@@ -144,10 +145,10 @@ short_enough false o h = (refl, h)
 
 pub IsStartsText-from_fault : (n : ℕ) (text : List ℕ) → starts_fault n text ≡ None → IsStartsText n text
 IsStartsText-from_fault n text fine =
-    let parts = short_enough (ltb 16777216 (length text)) (or_else (line_fault n [] 1 (entries text)) (missing_fault (starts_given n (entries text)))) fine in
+    let parts = short_enough (ltb MAX_TEXT_BYTES (length text)) (or_else (line_fault n [] 1 (entries text)) (missing_fault (starts_given n (entries text)))) fine in
     let both = both_none (line_fault n [] 1 (entries text)) (missing_fault (starts_given n (entries text))) parts.1 in
     record {
-      short = ltb-false 16777216 (length text) parts.0;
+      short = ltb-false MAX_TEXT_BYTES (length text) parts.0;
       right = All-from_recursion (IsRight n) (entries text) (right_from n [] 1 (entries text) both.0);
       once = λ a lt. omega (arith, once_from n [] 1 (entries text) a both.0, counted (entries text) a (given_all n (entries text) a both.1 lt));
     }
@@ -157,7 +158,7 @@ no_fault-from_text n text t =
     let es : List Entry = entries text in
     let lines : line_fault n [] 1 es ≡ None = fine_from n [] 1 es (recursion_from_All (IsRight n) es t.right) (λ a lt. omega (arith, t.once a lt)) in
     let all : missing_fault (starts_given n es) ≡ None = none_lacks n es (λ a lt. given_by_count es a (omega (arith, t.once a lt))) in
-    rw (le-ltb 16777216 (length text) t.short, lines, all) refl
+    rw (le-ltb MAX_TEXT_BYTES (length text) t.short, lines, all) refl
 
 -- a text has no fault exactly where it is a text of starts
 pub no_fault_tells : (n : ℕ) (text : List ℕ) → (starts_fault n text ≡ None) ↔ IsStartsText n text

@@ -1,6 +1,6 @@
 -- What a text of starts gives, and its first fault.
 use Rattle.std.proofs.Common.{◌≡◌, ℕ, zero, suc, ◌+◌, ◌<◌, ◌≤◌, Bool, true, false, cond, ◌&&◌, List, [], ◌∷◌, length, map, drop, refl, sym, ap, ◌∙◌, subst, arith, Option, Some, None, ltb, eqb}
-use Rattle.std.specs.Prelude.{ℤ, pos, unwrap_or, is_some, nat_le}
+use Rattle.std.specs.Prelude.{ℤ, pos, negsuc, nat_abs, unwrap_or, is_some}
 use Rattle.std.specs.List.{All, AllByRecursion, range_with_len, list_all}
 use Rattle.std.specs.Option.{option_map}
 use Rattle.std.specs.Char.{is_ascii_digit}
@@ -12,16 +12,20 @@ use Rattle.std.proofs.lemmas.List.{length-map}
 use Rattle.std.proofs.lemmas.List.FromFn.{length-map-range_with_len}
 use Rattle.std.proofs.lemmas.List.Elements.{All-from_recursion}
 use Rattle.network.specs.Limits.{IsTime}
+use Rattle.words.specs.declared.TheConstants.{MAX_TEXT_BYTES}
+use Rattle.words.specs.Words.{words}
+use Rattle.words.specs.Numbers.{natural, integer}
+use Rattle.schedule_check.specs.declared.entry.TheConstants.{SPACES, ACTIVITY_DIGITS, START_DIGITS}
 use Rattle.schedule_check.specs.declared.entry.Entry.{Entry}
 use Rattle.schedule_check.specs.declared.entry.Entry.TheVariants.{Nothing, Gives, Wrong}
 use Rattle.schedule_check.specs.declared.fault.StartsFault.{StartsFault}
-use Rattle.schedule_check.specs.Starts.{fields, is_numeral, natural, negated, whole, given, entry_of, line_entries, is_answer, entries, start_in, start_given, starts_given, line_fault, missing_fault, starts_fault, starts_of}
+use Rattle.schedule_check.specs.Starts.{given, entry_of, line_entries, is_answer, entries, start_in, start_given, starts_given, line_fault, missing_fault, starts_fault, starts_of}
 use Rattle.schedule_check.specs.Table.{first_fault, with_entries}
-use Rattle.schedule_check.proofs.DigitLaws.{value-below}
+use Rattle.words.proofs.NumberLaws.{integer-below}
 use Rattle.schedule_check.proofs.Tables.{same_first_fault, all_entries}
 
-short_text : (text : List ℕ) → length text ≤ 16777216 → ltb 16777216 (length text) ≡ false
-short_text text short = le-ltb 16777216 (length text) short
+short_text : (text : List ℕ) → length text ≤ MAX_TEXT_BYTES → ltb MAX_TEXT_BYTES (length text) ≡ false
+short_text text short = le-ltb MAX_TEXT_BYTES (length text) short
 
 -- the first fault of the lines, as the code finds it from an empty table on
 pub lines_fault : (n : ℕ) (text : List ℕ) (found : List (Option ℤ)) (fault : Option StartsFault) → found ≡ starts_given n [] → fault ≡ first_fault found 1 (entries text) → line_fault n [] 1 (entries text) ≡ fault
@@ -34,11 +38,11 @@ lines_table n text found after empty fine put =
     put ∙ ap (λ (t : List (Option ℤ)). with_entries t (entries text)) empty ∙ all_entries n [] 1 (entries text) fine
 
 -- the fault of a text is that of its lines
-pub fault_of_lines : (n : ℕ) (text : List ℕ) (fault : StartsFault) → length text ≤ 16777216 → line_fault n [] 1 (entries text) ≡ Some fault → starts_fault n text ≡ Some fault
+pub fault_of_lines : (n : ℕ) (text : List ℕ) (fault : StartsFault) → length text ≤ MAX_TEXT_BYTES → line_fault n [] 1 (entries text) ≡ Some fault → starts_fault n text ≡ Some fault
 fault_of_lines n text fault short has = rw (short_text text short, has) refl
 
 -- and where they have none, that of the table
-pub fault_of_table : (n : ℕ) (text : List ℕ) (table : List (Option ℤ)) (fault : Option StartsFault) → length text ≤ 16777216 → line_fault n [] 1 (entries text) ≡ None → table ≡ starts_given n (entries text) → missing_fault table ≡ fault → starts_fault n text ≡ fault
+pub fault_of_table : (n : ℕ) (text : List ℕ) (table : List (Option ℤ)) (fault : Option StartsFault) → length text ≤ MAX_TEXT_BYTES → line_fault n [] 1 (entries text) ≡ None → table ≡ starts_given n (entries text) → missing_fault table ≡ fault → starts_fault n text ≡ fault
 fault_of_table n text table fault short fine is missing =
     rw (short_text text short, fine, ← is) missing
 
@@ -49,44 +53,10 @@ IsTimely Nothing = Unit {0}
 IsTimely Wrong = Unit {0}
 IsTimely (Gives activity start) = IsTime start
 
-and_left : (a b : Bool) → (a && b) ≡ true → a ≡ true
-and_left true b h = refl
-and_left false b h = absurd (cc)
-
-and_right : (a b : Bool) → (a && b) ≡ true → b ≡ true
-and_right true b h = h
-and_right false b h = absurd (cc)
-
-if_some : (b : Bool) (v n : ℕ) → cond b (Some v) None ≡ Some n → (b ≡ true) × (v ≡ n)
-if_some true v n h = (refl, cc)
-if_some false v n h = absurd (cc)
-
-natural_below : (word : List ℕ) (n : ℕ) → natural 10 word ≡ Some n → n < 10000000000
-natural_below word n h =
-    let parts = if_some (is_numeral 10 word) (digits_value 10 word) n h in
-    let both : (list_all is_ascii_digit word && nat_le 1 (length word)) ≡ true = and_left (list_all is_ascii_digit word && nat_le 1 (length word)) (nat_le (length word) 10) parts.0 in
-    let few = leb-true (length word) 10 (and_right (list_all is_ascii_digit word && nat_le 1 (length word)) (nat_le (length word) 10) parts.0) in
-    let below = value-below word few (and_left (list_all is_ascii_digit word) (nat_le 1 (length word)) both) in
-    omega (arith, below, parts.1)
-
-mapped : (f : ℕ → ℤ) (o : Option ℕ) (z : ℤ) → option_map f o ≡ Some z → (n : ℕ) × (o ≡ Some n) × (f n ≡ z)
-mapped f None z h = absurd (cc)
-mapped f (Some n) z h = (n, refl, cc)
-
-negated_time : (n : ℕ) → n < 10000000000 → IsTime (negated n)
-negated_time zero h = record { above = omega (arith, ints); below = omega (arith, ints) }
-negated_time (suc n) h = record { above = omega (arith, ints); below = omega (arith, ints) }
-
-plain_time : (n : ℕ) → n < 10000000000 → IsTime (pos n)
-plain_time n h = record { above = omega (arith, ints); below = omega (arith, ints) }
-
-whole_within : (word : List ℕ) (z : ℤ) → whole word ≡ Some z → IsTime z
-unfolding whole
-whole_within word z h = by_sign (starts_with_minus word) h
-  where
-    by_sign : (b : Bool) → cond b (option_map negated (natural 10 (drop 1 word))) (option_map pos (natural 10 word)) ≡ Some z → IsTime z
-    by_sign true h = let m = mapped negated (natural 10 (drop 1 word)) z h in subst IsTime m.2 (negated_time m.0 (natural_below (drop 1 word) m.0 m.1))
-    by_sign false h = let m = mapped pos (natural 10 word) z h in subst IsTime m.2 (plain_time m.0 (natural_below word m.0 m.1))
+-- what a start's digits spell is a time
+time_of_digits : (z : ℤ) → nat_abs z < 10000000000 → IsTime z
+time_of_digits (pos n) below = record { above = omega (arith, ints); below = omega (arith, ints) }
+time_of_digits (negsuc n) below = record { above = omega (arith, ints); below = omega (arith, ints) }
 
 given_timely : (a : Option ℕ) (o : Option ℤ) → ((z : ℤ) → o ≡ Some z → IsTime z) → IsTimely (given a o)
 given_timely None o h = tt
@@ -97,12 +67,12 @@ entry_timely : (words : List (List ℕ)) → IsTimely (entry_of words)
 unfolding entry_of
 entry_timely [] = tt
 entry_timely (a ∷ []) = tt
-entry_timely (a ∷ s ∷ []) = given_timely (natural 4 a) (whole s) (λ z h. whole_within s z h)
+entry_timely (a ∷ s ∷ []) = given_timely (natural ACTIVITY_DIGITS a) (integer START_DIGITS s) (λ z spelled. time_of_digits z (integer-below START_DIGITS s z spelled))
 entry_timely (a ∷ s ∷ more ∷ others) = tt
 
 lines_timely : (ls : List (List ℕ)) → AllByRecursion IsTimely (line_entries ls)
 lines_timely [] = tt
-lines_timely (line ∷ ls) = (entry_timely (fields line), lines_timely ls)
+lines_timely (line ∷ ls) = (entry_timely (words SPACES line), lines_timely ls)
 
 entries_timely : (text : List ℕ) → AllByRecursion IsTimely (entries text)
 entries_timely text = by_answer (is_answer text)

@@ -6,40 +6,14 @@ use Rattle.std.specs.Option.{option_map}
 use Rattle.std.specs.Char.{is_ascii_digit}
 use Rattle.std.specs.Str.Parse.{digits_value, starts_with_minus}
 use Rattle.std.specs.Str.Lines.{lines}
+use Rattle.words.specs.declared.TheConstants.{MAX_TEXT_BYTES}
+use Rattle.words.specs.Words.{words}
+use Rattle.words.specs.Numbers.{natural, integer}
+use Rattle.schedule_check.specs.declared.entry.TheConstants.{SPACES, ACTIVITY_DIGITS, START_DIGITS}
 use Rattle.schedule_check.specs.declared.entry.Entry.{Entry}
 use Rattle.schedule_check.specs.declared.entry.Entry.TheVariants.{Nothing, Gives, Wrong}
 use Rattle.schedule_check.specs.declared.fault.StartsFault.{StartsFault}
 use Rattle.schedule_check.specs.declared.fault.StartsFault.TheVariants as faults
-
--- ---- the fields of a line
-
--- space and tab
-abbrev pub is_space : ℕ → Bool
-is_space b = b == 32 || b == 9
-
--- a piece that is not empty
-abbrev pub is_field : List ℕ → Bool
-is_field [] = false
-is_field (b ∷ bs) = true
-
--- the fields of a line: its longest runs of bytes that are neither space nor tab
-unfoldable pub fields : List ℕ → List (List ℕ)
-fields line = filter is_field (slice_split is_space line)
-
--- 1 to so many digits
-abbrev pub is_numeral : ℕ → List ℕ → Bool
-is_numeral most word = list_all is_ascii_digit word && nat_le 1 (length word) && nat_le (length word) most
-
--- the number that 1 to so many digits spell
-abbrev pub natural : ℕ → List ℕ → Option ℕ
-natural most word = if is_numeral most word then Some (digits_value 10 word) else None
-
-abbrev pub negated : ℕ → ℤ
-negated n = neg_ℤ (pos n)
-
--- the number that a minus or nothing, and then 1 to 10 digits, spell
-unfoldable pub whole : List ℕ → Option ℤ
-whole word = if starts_with_minus word then option_map negated (natural 10 (drop 1 word)) else option_map pos (natural 10 word)
 
 -- ---- what a line says
 
@@ -48,15 +22,16 @@ given (Some activity) (Some start) = Gives activity start
 given (Some activity) None = Wrong
 given None start = Wrong
 
--- nothing without fields, and else an activity and its start
+-- nothing without words, and else an activity of 1 to 4 digits and a start of a minus or nothing and
+-- 1 to 10 digits
 unfoldable pub entry_of : List (List ℕ) → Entry
 entry_of [] = Nothing
 entry_of (activity ∷ []) = Wrong
-entry_of (activity ∷ start ∷ []) = given (natural 4 activity) (whole start)
+entry_of (activity ∷ start ∷ []) = given (natural ACTIVITY_DIGITS activity) (integer START_DIGITS start)
 entry_of (activity ∷ start ∷ more ∷ others) = Wrong
 
 abbrev pub line_entries : List (List ℕ) → List Entry
-line_entries lines = map (λ line. entry_of (fields line)) lines
+line_entries lines = map (λ line. entry_of (words SPACES line)) lines
 
 -- an answer of the program, whose first line is passed over
 abbrev pub is_answer : List ℕ → Bool
@@ -109,7 +84,7 @@ missing_fault starts = option_map faults.Missing (position is_none starts)
 -- the first fault of a text: its length, then its lines in order, then the activities
 abbrev pub starts_fault : ℕ → List ℕ → Option StartsFault
 starts_fault activities text =
-    if nat_lt 16777216 (length text) then Some faults.TooLong else or_else (line_fault activities [] 1 (entries text)) (missing_fault (starts_given activities (entries text)))
+    if nat_lt MAX_TEXT_BYTES (length text) then Some faults.TooLong else or_else (line_fault activities [] 1 (entries text)) (missing_fault (starts_given activities (entries text)))
 
 -- the start that a text gives each activity, in order
 abbrev pub starts_of : ℕ → List ℕ → List ℤ
@@ -129,6 +104,6 @@ gives activity e = is_some (start_in activity e)
 
 -- a text within the limit whose lines are all right, with just one for each activity
 pub record IsStartsText (activities : ℕ) (text : List ℕ) : Type 0 where
-  pub short : length text ≤ 16777216
+  pub short : length text ≤ MAX_TEXT_BYTES
   pub right : All (IsRight activities) (entries text)
   pub once : (activity : ℕ) → activity < activities → count_by (gives activity) (entries text) ≡ 1

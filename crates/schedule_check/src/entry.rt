@@ -1,9 +1,18 @@
 ghost use Rattle.std.specs.Prelude.{◌≡◌, ◌||◌, codes, nat_eq};
 ghost use Rattle.std.specs.List.{starts_with};
-ghost use Rattle.schedule_check.specs.Starts.{fields, entry_of, given, is_answer};
+ghost use Rattle.words.specs.Words.{words};
+ghost use Rattle.schedule_check.specs.Starts.{entry_of, given, is_answer};
 
-use crate::line::split_field;
-use crate::number::{natural, whole};
+use words::{integer, natural, split_word};
+
+/// What stands between the words of a line.
+const SPACES: [u8; 2] = [b' ', b'\t'];
+
+/// The most digits of an activity.
+const ACTIVITY_DIGITS: usize = 4;
+
+/// The most digits of a start.
+const START_DIGITS: usize = 10;
 
 /// What a line says.
 #[derive(Clone, Copy, PartialEq, Eq, Debug)]
@@ -31,16 +40,19 @@ fn given(activity: Option<u64>, start: Option<i64>) -> Entry
 /// What the line says.
 #[tactic(auto, unfolding(crate::specs::Starts::entry_of))]
 pub(crate) fn entry_of(line: &[u8]) -> Entry
-    ensures { result ≡ entry_of (fields line.now) }
+    ensures { result ≡ entry_of (words SPACES line.now) }
 {
-    let Some((activity, rest)) = split_field(line) else {
+    let Some((activity, rest)) = split_word(line, &SPACES) else {
         return Entry::Nothing;
     };
-    let Some((start, rest)) = split_field(rest) else {
+    let Some((start, rest)) = split_word(rest, &SPACES) else {
         return Entry::Wrong;
     };
-    match split_field(rest) {
-        None => given(natural(activity, 4), whole(start)),
+    match split_word(rest, &SPACES) {
+        None => given(
+            natural(activity, ACTIVITY_DIGITS),
+            integer(start, START_DIGITS),
+        ),
         Some(_) => Entry::Wrong,
     }
 }

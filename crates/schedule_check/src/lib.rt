@@ -5,7 +5,6 @@ mod acceptance;
 mod entry;
 mod fault;
 mod line;
-mod number;
 mod starts_text;
 mod table;
 #[cfg(test)]

@@ -12,9 +12,7 @@ use crate::fault::StartsFault;
 use crate::line::split_line;
 use crate::table::{all_starts, put_entry};
 use std::alloc::{AllocError, Global};
-
-/// How many bytes a text of starts may have.
-const MOST_BYTES: usize = 16_777_216;
+use words::MAX_TEXT_BYTES;
 
 /// What is left of a text without the first line of an answer, and the number of its first line.
 fn skip_answer(text: &[u8]) -> (&[u8], usize)
@@ -50,8 +48,7 @@ fn put_lines(found: &mut [Option<i64>], text: &[u8], first: usize) -> Result<(),
 fn empty_table(alloc: Global, activities: usize) -> Result<Vec<Option<i64>>, AllocError>
     ensures { IfOk result (λ table. table.items ≡ starts_given activities []) }
 {
-    let table = vec![in alloc; None; activities]?;
-    Ok(table)
+    vec![in alloc; None; activities]
 }
 
 /// The table of the starts that the lines of a text give.
@@ -60,7 +57,7 @@ fn read_lines(
     text: &[u8],
     activities: usize,
 ) -> Result<Vec<Option<i64>>, StartsFault>
-    requires { length text.now ≤ MOST_BYTES }
+    requires { length text.now ≤ MAX_TEXT_BYTES }
     ensures fine { OnOk result (line_fault activities [] 1 (entries text.now) ≡ None) }
     ensures table { IfOk result (λ table. table.items ≡ starts_given activities (entries text.now)) }
     ensures fault { IfErr result (λ fault. fault ≢ Memory → line_fault activities [] 1 (entries text.now) ≡ Some fault) }
@@ -84,10 +81,9 @@ pub fn read_starts(alloc: Global, text: &[u8], activities: usize) -> Result<Vec<
     ensures fault { IfErr result (λ fault. fault ≢ Memory → starts_fault activities text.now ≡ Some fault) }
     ensures refused { IfErr result (λ fault. fault ≢ Memory → ¬ (IsStartsText activities text.now)) }
 {
-    if text.len() > MOST_BYTES {
+    if text.len() > MAX_TEXT_BYTES {
         return Err(StartsFault::TooLong);
     }
     let table = read_lines(alloc, text, activities)?;
-    let starts = all_starts(alloc, &table)?;
-    Ok(starts)
+    all_starts(alloc, &table)
 }

@@ -1,18 +1,19 @@
 -- What digits spell.
-use Rattle.std.proofs.Common.{◌≡◌, ℕ, ◌<◌, ◌≤◌, ◌^◌, Bool, true, false, cond, List, length, get_or, Option, Some, None, Result, Ok, Err, refl, sym, ap, ◌∙◌, arith, rules, lit<, lit≤, leb, le-leb}
-use Rattle.std.specs.Prelude.{◌&&◌, MatchOption, IfSome, nat_le}
+use Rattle.std.proofs.Common.{◌≡◌, ℕ, zero, suc, drop, nat_abs, ◌<◌, ◌≤◌, ◌^◌, Bool, true, false, cond, List, length, get_or, Option, Some, None, Result, Ok, Err, refl, sym, ap, ◌∙◌, arith, rules, lit<, lit≤, leb, le-leb}
+use Rattle.std.specs.Prelude.{ℤ, pos, ◌&&◌, MatchOption, IfSome, nat_le}
 use Rattle.std.specs.List.{list_all}
 use Rattle.std.specs.Char.{is_ascii_digit}
+use Rattle.std.specs.Option.{option_map}
 use Rattle.std.specs.Result.{result_ok}
 use Rattle.std.specs.Str.{IsUtf8}
-use Rattle.std.specs.Str.Parse.{digits_value, ParsesUnsigned}
+use Rattle.std.specs.Str.Parse.{digits_value, ParsesUnsigned, starts_with_minus}
 use Rattle.std.proofs.Math.Nat.{pow-le-pow_right}
 use Rattle.std.proofs.lemmas.Bool.Decides.{nat_tests}
 use Rattle.std.proofs.lemmas.List.Sums.{AllPass-from_list_all}
 use Rattle.std.proofs.lemmas.Str.{IsUtf8-from_ascii}
 use Rattle.std.proofs.lemmas.Str.Ascii.{IsAscii-from_all}
 use Rattle.std.proofs.lemmas.Str.Parse.{IsNumeralModel, numerals_by_value, digits_value_short, parse_gives}
-use Rattle.words.specs.Numbers.{is_numeral, natural}
+use Rattle.words.specs.Numbers.{is_numeral, natural, negated, integer}
 
 abbrev pub AreDigits : List ℕ → Type 0
 AreDigits digits = list_all is_ascii_digit digits ≡ true
@@ -56,3 +57,20 @@ natural-below most word n spelled = numeral (is_numeral most word) refl spelled
         let few : length word ≤ most = grind (arith, nat_tests) in
         rw (← value) (digits_value-below word most are few)
     numeral false is e = absurd cc
+
+mapped : (f : ℕ → ℤ) (o : Option ℕ) (z : ℤ) → option_map f o ≡ Some z → (n : ℕ) × (o ≡ Some n) × (f n ≡ z)
+mapped f None z h = absurd cc
+mapped f (Some n) z h = (n, refl, cc)
+
+nat_abs-negated : (n : ℕ) → nat_abs (negated n) ≡ n
+nat_abs-negated zero = refl
+nat_abs-negated (suc n) = refl
+
+-- and what a sign and digits spell is as near to 0
+pub integer-below : (most : ℕ) (word : List ℕ) (z : ℤ) → integer most word ≡ Some z → nat_abs z < 10 ^ most
+unfolding integer
+integer-below most word z spelled = by_sign (starts_with_minus word) spelled
+  where
+    by_sign : (b : Bool) → cond b (option_map negated (natural most (drop 1 word))) (option_map pos (natural most word)) ≡ Some z → nat_abs z < 10 ^ most
+    by_sign true h = let m = mapped negated (natural most (drop 1 word)) z h in rw (← m.2, nat_abs-negated) (natural-below most (drop 1 word) m.0 m.1)
+    by_sign false h = let m = mapped pos (natural most word) z h in rw (← m.2) (natural-below most word m.0 m.1)
