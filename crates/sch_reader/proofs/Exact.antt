@@ -4,9 +4,8 @@ use Rattle.std.proofs.lemmas.List.{append-nil}
 use Rattle.sch_reader.specs.declared.fault.SchFault.{SchFault}
 use Rattle.sch_reader.specs.declared.fault.SchFault.TheVariants as faults
 use Rattle.sch_reader.specs.declared.place.Place.{Place}
-use Rattle.words.specs.Words.{words}
+use Rattle.sch_reader.specs.Words.{text_words}
 use Rattle.words.specs.declared.TheConstants.{MAX_TEXT_BYTES}
-use Rattle.sch_reader.specs.declared.reader.TheConstants.{BLANKS}
 use Rattle.network.specs.Problem.{Problem}
 use Rattle.network.specs.Limits.{IsProject}
 use Rattle.sch_reader.specs.Layout.{Layout, done, place, fits, project_text}
@@ -79,14 +78,14 @@ by_reading law text e (Err d) is h =
     stopped_is law text e s s.why
 
 -- each fault is the first one
-pub fault_is_first : IsExact → (text : List ℕ) (e : SchFault) → length text ≤ MAX_TEXT_BYTES → whole_reading (words BLANKS text) ≡ Err e → IsFirstFault text e
+pub fault_is_first : IsExact → (text : List ℕ) (e : SchFault) → length text ≤ MAX_TEXT_BYTES → whole_reading (text_words text) ≡ Err e → IsFirstFault text e
 unfolding whole_reading
-fault_is_first law text e size h = inr (size, by_reading law (words BLANKS text) e (reading project_text (start (words BLANKS text))) refl h)
+fault_is_first law text e size h = inr (size, by_reading law (text_words text) e (reading project_text (start (text_words text))) refl h)
 
 -- what is spelled is read
-pub spelled_is_read : IsExact → (text : List ℕ) (p : Problem) → IsProject p → Spells text p → whole_reading (words BLANKS text) ≡ Ok p
+pub spelled_is_read : IsExact → (text : List ℕ) (p : Problem) → IsProject p → Spells text p → whole_reading (text_words text) ≡ Ok p
 unfolding whole_reading
 spelled_is_read law text p fit s =
-    let again = reading_again project_text p (flat p) 0 (words BLANKS text) [] (law.again p fit) s.spelled in
-    let read : reading project_text (start (words BLANKS text)) ≡ Ok (p, record { index = 0 + length (words BLANKS text); rest = [] }) = ap (λ (ws : List (List ℕ)). reading project_text (start ws)) (sym (append-nil (words BLANKS text))) ∙ again in
+    let again = reading_again project_text p (flat p) 0 (text_words text) [] (law.again p fit) s.spelled in
+    let read : reading project_text (start (text_words text)) ≡ Ok (p, record { index = 0 + length (text_words text); rest = [] }) = ap (λ (ws : List (List ℕ)). reading project_text (start ws)) (sym (append-nil (text_words text))) ∙ again in
     rw read refl

@@ -3,7 +3,7 @@ use Rattle.std.proofs.Common.{◌≡◌, ℕ, ◌+◌, Bool, true, false, List, 
 use Rattle.sch_reader.specs.declared.fault.SchFault.{SchFault}
 use Rattle.sch_reader.specs.declared.fault.SchFault.TheVariants as faults
 use Rattle.sch_reader.specs.declared.place.Place.{Place}
-use Rattle.sch_reader.specs.Tokens.{token}
+use Rattle.sch_reader.specs.Words.{token}
 use Rattle.sch_reader.specs.Layout.{Layout, done, place, fits, misfit, ◌>>=◌ as ◌then◌}
 use Rattle.sch_reader.specs.Text.{Spell, misfit_of}
 use Rattle.sch_reader.specs.Reading.{Cursor, ◌>>=◌, fitted, if_fits, number_at, reading}

@@ -8,10 +8,8 @@ use Rattle.sch_reader.specs.declared.fault.SchFault.{SchFault}
 use Rattle.sch_reader.specs.declared.fault.SchFault.TheVariants as faults
 use Rattle.sch_reader.specs.declared.place.Place.{Place}
 use Rattle.sch_reader.specs.declared.place.Place.TheVariants as places
-use Rattle.words.specs.Words.{words}
 use Rattle.words.specs.declared.TheConstants.{MAX_TEXT_BYTES}
-use Rattle.sch_reader.specs.Tokens.{token}
-use Rattle.sch_reader.specs.declared.reader.TheConstants.{BLANKS}
+use Rattle.sch_reader.specs.Words.{text_words, token}
 use Rattle.sch_reader.specs.Layout.{project_text, misfit}
 use Rattle.sch_reader.specs.Text.{flat, Spell, Spells, IsFirstWordFault, IsFirstFault, misfit_of}
 use Rattle.sch_reader.specs.Reading.{Cursor, ◌>>=◌, reading, ended, whole_reading}
@@ -24,23 +22,23 @@ answer p = Ok p
 
 -- ---- a project that was read
 
-after_all : (text : List ℕ) (q p : Problem) (c : Cursor) (rest : List (List ℕ)) → length text ≤ MAX_TEXT_BYTES → c.rest ≡ rest → WasRead project_text 0 (words BLANKS text) q c → ended q c.index rest ≡ Ok p → IsProject p × Spells text p
+after_all : (text : List ℕ) (q p : Problem) (c : Cursor) (rest : List (List ℕ)) → length text ≤ MAX_TEXT_BYTES → c.rest ≡ rest → WasRead project_text 0 (text_words text) q c → ended q c.index rest ≡ Ok p → IsProject p × Spells text p
 after_all text q p c (w ∷ more) size is was e = absurd cc
 after_all text q p c [] size is was e =
     let f = exact.found was.numbers q was.reached in
-    let all : words BLANKS text ≡ was.front = was.parts ∙ ap (λ (r : List (List ℕ)). was.front ++ r) is ∙ append-nil was.front in
-    let spelled : Spell (words BLANKS text) (flat q) = subst (λ (zs : List ℤ). Spell (words BLANKS text) zs) (sym f.1) (subst (λ (t : List (List ℕ)). Spell t was.numbers) (sym all) was.spelled) in
+    let all : text_words text ≡ was.front = was.parts ∙ ap (λ (r : List (List ℕ)). was.front ++ r) is ∙ append-nil was.front in
+    let spelled : Spell (text_words text) (flat q) = subst (λ (zs : List ℤ). Spell (text_words text) zs) (sym f.1) (subst (λ (t : List (List ℕ)). Spell t was.numbers) (sym all) was.spelled) in
     let same : q ≡ p = cc in
     subst (λ (r : Problem). IsProject r × Spells text r) same (f.0, record { size = size; spelled = spelled })
 
-by_reading : (text : List ℕ) (p : Problem) (r : Result (Problem × Cursor) SchFault) → length text ≤ MAX_TEXT_BYTES → reading project_text (start (words BLANKS text)) ≡ r → (r >>= λ x. ended x.0 x.1.index x.1.rest) ≡ Ok p → IsProject p × Spells text p
-by_reading text p (Ok x) size is h = after_all text x.0 p x.1 x.1.rest size refl (reading_was project_text 0 (words BLANKS text) x.0 x.1 is) h
+by_reading : (text : List ℕ) (p : Problem) (r : Result (Problem × Cursor) SchFault) → length text ≤ MAX_TEXT_BYTES → reading project_text (start (text_words text)) ≡ r → (r >>= λ x. ended x.0 x.1.index x.1.rest) ≡ Ok p → IsProject p × Spells text p
+by_reading text p (Ok x) size is h = after_all text x.0 p x.1 x.1.rest size refl (reading_was project_text 0 (text_words text) x.0 x.1 is) h
 by_reading text p (Err d) size is h = absurd cc
 
 -- what is read is spelled
-pub read_is_spelled : (text : List ℕ) (p : Problem) → length text ≤ MAX_TEXT_BYTES → whole_reading (words BLANKS text) ≡ Ok p → IsProject p × Spells text p
+pub read_is_spelled : (text : List ℕ) (p : Problem) → length text ≤ MAX_TEXT_BYTES → whole_reading (text_words text) ≡ Ok p → IsProject p × Spells text p
 unfolding whole_reading
-read_is_spelled text p size h = by_reading text p (reading project_text (start (words BLANKS text))) size refl h
+read_is_spelled text p size h = by_reading text p (reading project_text (start (text_words text))) size refl h
 
 -- a text spells at most one project
 pub spelled_once : (text : List ℕ) (p q : Problem) → IsProject p → IsProject q → Spells text p → Spells text q → p ≡ q
@@ -50,7 +48,7 @@ spelled_once text p q fit fit' s t =
     cc
 
 -- what was read is what the text spells
-pub read_alone : (text : List ℕ) (p q : Problem) → whole_reading (words BLANKS text) ≡ Ok p → IsProject q → Spells text q → p ≡ q
+pub read_alone : (text : List ℕ) (p q : Problem) → whole_reading (text_words text) ≡ Ok p → IsProject q → Spells text q → p ≡ q
 read_alone text p q h fit s = let other = spelled_is_read exact text q fit s in cc
 
 -- ---- a fault
@@ -70,10 +68,10 @@ memory_alone (faults.Dummy row) h = absurd (h (λ x. absurd cc))
 memory_alone faults.Memory h = refl
 
 -- where the text spells a project the fault is Memory
-pub fault_of_spelled : (text : List ℕ) (p : Problem) (e : SchFault) → IsProject p → Spells text p → (e ≢ faults.Memory → whole_reading (words BLANKS text) ≡ Err e) → e ≡ faults.Memory
+pub fault_of_spelled : (text : List ℕ) (p : Problem) (e : SchFault) → IsProject p → Spells text p → (e ≢ faults.Memory → whole_reading (text_words text) ≡ Err e) → e ≡ faults.Memory
 fault_of_spelled text p e fit s h = memory_alone e (λ other. let a = spelled_is_read exact text p fit s in let b = h other in absurd cc)
 
-pub first_fault : (text : List ℕ) (e : SchFault) → length text ≤ MAX_TEXT_BYTES → whole_reading (words BLANKS text) ≡ Err e → IsFirstFault text e
+pub first_fault : (text : List ℕ) (e : SchFault) → length text ≤ MAX_TEXT_BYTES → whole_reading (text_words text) ≡ Err e → IsFirstFault text e
 first_fault text e size h = fault_is_first exact text e size h
 
 misfit_short : (p : Place) (index : ℕ) (z : ℤ) → misfit p index z ≢ faults.TooLong
@@ -101,9 +99,9 @@ word_fault text e (inr (inr m)) is = misfit_of_short m.here (length m.front) (to
 -- only a long text is too long
 long_from_fault : (text : List ℕ) (e : SchFault) → IsFirstFault text e → e ≡ faults.TooLong → MAX_TEXT_BYTES < length text
 long_from_fault text e (inl long) is = long.long
-long_from_fault text e (inr other) is = absurd (word_fault (words BLANKS text) e other.1 is)
+long_from_fault text e (inr other) is = absurd (word_fault (text_words text) e other.1 is)
 
-pub not_long : (text : List ℕ) (e : SchFault) → length text ≤ MAX_TEXT_BYTES → (e ≢ faults.Memory → whole_reading (words BLANKS text) ≡ Err e) → e ≢ faults.TooLong
+pub not_long : (text : List ℕ) (e : SchFault) → length text ≤ MAX_TEXT_BYTES → (e ≢ faults.Memory → whole_reading (text_words text) ≡ Err e) → e ≢ faults.TooLong
 not_long text e size h is =
     let other : e ≢ faults.Memory = λ memory. absurd cc in
     let long = long_from_fault text e (first_fault text e size (h other)) is in

@@ -1,4 +1,4 @@
-pub mod Tokens
+pub mod Words
 pub mod Layout
 pub mod Text
 pub mod Reading

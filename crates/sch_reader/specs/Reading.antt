@@ -3,7 +3,7 @@ use Rattle.std.specs.Prelude.{◌≡◌, ◌≢◌, Bool, true, false, ℕ, ◌+
 use Rattle.sch_reader.specs.declared.fault.SchFault.{SchFault}
 use Rattle.sch_reader.specs.declared.fault.SchFault.TheVariants as faults
 use Rattle.sch_reader.specs.declared.place.Place.{Place}
-use Rattle.sch_reader.specs.Tokens.{token}
+use Rattle.sch_reader.specs.Words.{token}
 use Rattle.network.specs.Problem.{Problem}
 use Rattle.sch_reader.specs.Layout.{Layout, done, place, fits, misfit, project_text}
 

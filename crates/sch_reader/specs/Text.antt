@@ -5,10 +5,8 @@ use Rattle.sch_reader.specs.declared.fault.SchFault.{SchFault}
 use Rattle.sch_reader.specs.declared.fault.SchFault.TheVariants as faults
 use Rattle.sch_reader.specs.declared.place.Place.{Place}
 use Rattle.network.specs.declared.lag.Lag.{Lag}
-use Rattle.words.specs.Words.{words}
 use Rattle.words.specs.declared.TheConstants.{MAX_TEXT_BYTES}
-use Rattle.sch_reader.specs.Tokens.{token}
-use Rattle.sch_reader.specs.declared.reader.TheConstants.{BLANKS}
+use Rattle.sch_reader.specs.Words.{text_words, token}
 use Rattle.network.specs.Problem.{Problem}
 use Rattle.network.specs.Limits.{IsProject}
 use Rattle.sch_reader.specs.Layout.{Layout, done, place, misfit, project_text}
@@ -52,7 +50,7 @@ Spell text numbers = map token text ≡ map Some numbers
 -- the text spells the project
 pub record Spells (text : List ℕ) (p : Problem) : Type 0 where
   pub size : length text ≤ MAX_TEXT_BYTES
-  pub spelled : Spell (words BLANKS text) (flat p)
+  pub spelled : Spell (text_words text) (flat p)
 
 -- the numbers begin the list of some project
 abbrev pub BeginsProject : List ℤ → Type 0
@@ -118,4 +116,4 @@ IsFirstWordFault text fault = EndsShort text fault ⊎ (GoesOn text fault ⊎ Ha
 -- the first fault of a text that spells no project
 abbrev pub IsFirstFault : List ℕ → SchFault → Type 0
 IsFirstFault text fault =
-    IsTooLong text fault ⊎ ((length text ≤ MAX_TEXT_BYTES) × IsFirstWordFault (words BLANKS text) fault)
+    IsTooLong text fault ⊎ ((length text ≤ MAX_TEXT_BYTES) × IsFirstWordFault (text_words text) fault)

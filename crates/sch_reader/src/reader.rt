@@ -1,8 +1,6 @@
 ghost use Rattle.std.specs.Prelude.{◌≡◌, ◌≤◌, ◌+◌, ◌∷◌, [], length, MatchOption, ℕ, List, IfOk, true};
-ghost use Rattle.words.specs.Words.{words};
 ghost use Rattle.words.specs.declared.TheConstants.{MAX_TEXT_BYTES};
-ghost use Rattle.sch_reader.specs.Tokens.{token};
-ghost use Rattle.sch_reader.specs.declared.reader.TheConstants.{BLANKS};
+ghost use Rattle.sch_reader.specs.Words.{text_words, token};
 ghost use Rattle.sch_reader.specs.Layout.{fits};
 ghost use Rattle.sch_reader.specs.Reading.{Cursor, Reads, number_at, fitted};
 
@@ -27,7 +25,7 @@ pub(crate) struct Reader<'a> {
 impl<'a> Model for Reader<'a> {
     ghost Value = { Cursor };
 
-    ghost view = { λ r. record { index = r.index; rest = words BLANKS r.rest.now } };
+    ghost view = { λ r. record { index = r.index; rest = text_words r.rest.now } };
 
     ghost invariant = { λ r. r.index + length r.rest.now ≤ MAX_TEXT_BYTES };
 }
@@ -37,7 +35,7 @@ impl<'a> Reader<'a> {
     pub(crate) fn new(text: &'a [u8]) -> Self
         requires { length text.now ≤ MAX_TEXT_BYTES }
         ensures index { result.index ≡ 0 }
-        ensures rest { result.rest ≡ words BLANKS text.now }
+        ensures rest { result.rest ≡ text_words text.now }
     {
         Reader {
             rest: text,
@@ -85,7 +83,7 @@ impl<'a> Reader<'a> {
 }
 
 /// The number that a token spells.
-#[tactic(auto, unfolding(crate::specs::Tokens::token))]
+#[tactic(auto, unfolding(crate::specs::Words::token))]
 fn token(word: &[u8]) -> Option<i64>
     ensures { result ≡ token word.now }
 {

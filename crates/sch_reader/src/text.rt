@@ -6,8 +6,7 @@ ghost use Rattle.sch_reader.specs.Text.{Spells, IsFirstFault};
 ghost use Rattle.sch_reader.specs.Layout.{row_of, lags_to, network_row, network_rows, request_row, request_rows, amount_place, header, project_text};
 ghost use Rattle.sch_reader.specs.Reading.{Reads, Gives, reading, whole_reading};
 ghost use Rattle.network.specs.Parts.{problem_of};
-ghost use Rattle.words.specs.Words.{words};
-ghost use Rattle.sch_reader.specs.declared.reader.TheConstants.{BLANKS};
+ghost use Rattle.sch_reader.specs.Words.{text_words};
 
 use crate::fault::SchFault;
 use crate::place::Place;
@@ -147,7 +146,8 @@ fn request_row(
     Ok((duration, demands))
 }
 
-/// The request rows: the durations and the demands of all activities.
+/// The request rows: the durations and the demands of all activities. Room is made for all of them at
+/// once: as many network rows, of three words or more, came before them.
 fn request_rows(
     alloc: Global,
     reader: &mut Reader<'_>,
@@ -191,7 +191,7 @@ fn project_text(alloc: Global, reader: &mut Reader<'_>) -> Result<Parts, SchFaul
 #[tactic(auto, unfolding(crate::specs::Reading::whole_reading))]
 fn whole_text(alloc: Global, text: &[u8]) -> Result<Parts, SchFault>
     requires { length text.now ≤ MAX_TEXT_BYTES }
-    ensures { Gives problem_of result (whole_reading (words BLANKS text.now)) }
+    ensures { Gives problem_of result (whole_reading (text_words text.now)) }
 {
     let mut reader = Reader::new(text);
     let parts = project_text(alloc, &mut reader)?;
@@ -206,7 +206,8 @@ fn whole_text(alloc: Global, text: &[u8]) -> Result<Parts, SchFault>
 ///
 /// A text of more than 16,777,216 bytes is [`SchFault::TooLong`]; else the fault is the first one in
 /// the order of words. [`SchFault::Memory`] comes only where memory ran out. The time is linear in
-/// the text, and what is kept besides the project is one row.
+/// the text, and what is kept besides the project is one row. Room is made for no more than the text
+/// can hold: no allocation is larger than 12 bytes for each byte of the text.
 pub fn read_sch(alloc: Global, text: &[u8]) -> Result<Project, SchFault>
     ensures found { IfOk result (λ p. IsProject p × Spells text.now p) }
     ensures only { (p : Problem) → IsProject p → Spells text.now p →

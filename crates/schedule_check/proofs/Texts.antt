@@ -15,11 +15,11 @@ use Rattle.network.specs.Limits.{IsTime}
 use Rattle.words.specs.declared.TheConstants.{MAX_TEXT_BYTES}
 use Rattle.words.specs.Words.{words}
 use Rattle.words.specs.Numbers.{natural, integer}
-use Rattle.schedule_check.specs.declared.entry.TheConstants.{SPACES, ACTIVITY_DIGITS, START_DIGITS}
+use Rattle.schedule_check.specs.declared.entry.TheConstants.{ACTIVITY_DIGITS, START_DIGITS}
 use Rattle.schedule_check.specs.declared.entry.Entry.{Entry}
 use Rattle.schedule_check.specs.declared.entry.Entry.TheVariants.{Nothing, Gives, Wrong}
 use Rattle.schedule_check.specs.declared.fault.StartsFault.{StartsFault}
-use Rattle.schedule_check.specs.Starts.{given, entry_of, line_entries, is_answer, entries, start_in, start_given, starts_given, line_fault, missing_fault, starts_fault, starts_of}
+use Rattle.schedule_check.specs.Starts.{spaces, given, entry_of, line_entries, is_answer, entries, start_in, start_given, starts_given, line_fault, missing_fault, starts_fault, starts_of}
 use Rattle.schedule_check.specs.Table.{first_fault, with_entries}
 use Rattle.words.proofs.NumberLaws.{integer-below}
 use Rattle.schedule_check.proofs.Tables.{same_first_fault, all_entries}
@@ -72,7 +72,7 @@ entry_timely (a ∷ s ∷ more ∷ others) = tt
 
 lines_timely : (ls : List (List ℕ)) → AllByRecursion IsTimely (line_entries ls)
 lines_timely [] = tt
-lines_timely (line ∷ ls) = (entry_timely (words SPACES line), lines_timely ls)
+lines_timely (line ∷ ls) = (entry_timely (words spaces line), lines_timely ls)
 
 entries_timely : (text : List ℕ) → AllByRecursion IsTimely (entries text)
 entries_timely text = by_answer (is_answer text)

@@ -9,13 +9,17 @@ use Rattle.std.specs.Str.Lines.{lines}
 use Rattle.words.specs.declared.TheConstants.{MAX_TEXT_BYTES}
 use Rattle.words.specs.Words.{words}
 use Rattle.words.specs.Numbers.{natural, integer}
-use Rattle.schedule_check.specs.declared.entry.TheConstants.{SPACES, ACTIVITY_DIGITS, START_DIGITS}
+use Rattle.schedule_check.specs.declared.entry.TheConstants.{ACTIVITY_DIGITS, START_DIGITS}
 use Rattle.schedule_check.specs.declared.entry.Entry.{Entry}
 use Rattle.schedule_check.specs.declared.entry.Entry.TheVariants.{Nothing, Gives, Wrong}
 use Rattle.schedule_check.specs.declared.fault.StartsFault.{StartsFault}
 use Rattle.schedule_check.specs.declared.fault.StartsFault.TheVariants as faults
 
 -- ---- what a line says
+
+-- space and tab
+abbrev pub spaces : List ℕ
+spaces = 32 ∷ 9 ∷ []
 
 abbrev pub given : Option ℕ → Option ℤ → Entry
 given (Some activity) (Some start) = Gives activity start
@@ -31,7 +35,7 @@ entry_of (activity ∷ start ∷ []) = given (natural ACTIVITY_DIGITS activity) 
 entry_of (activity ∷ start ∷ more ∷ others) = Wrong
 
 abbrev pub line_entries : List (List ℕ) → List Entry
-line_entries lines = map (λ line. entry_of (words SPACES line)) lines
+line_entries lines = map (λ line. entry_of (words spaces line)) lines
 
 -- an answer of the program, whose first line is passed over
 abbrev pub is_answer : List ℕ → Bool

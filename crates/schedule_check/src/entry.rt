@@ -1,7 +1,7 @@
 ghost use Rattle.std.specs.Prelude.{◌≡◌, ◌||◌, codes, nat_eq};
 ghost use Rattle.std.specs.List.{starts_with};
 ghost use Rattle.words.specs.Words.{words};
-ghost use Rattle.schedule_check.specs.Starts.{entry_of, given, is_answer};
+ghost use Rattle.schedule_check.specs.Starts.{spaces, entry_of, given, is_answer};
 
 use words::{integer, natural, split_word};
 
@@ -40,7 +40,7 @@ fn given(activity: Option<u64>, start: Option<i64>) -> Entry
 /// What the line says.
 #[tactic(auto, unfolding(crate::specs::Starts::entry_of))]
 pub(crate) fn entry_of(line: &[u8]) -> Entry
-    ensures { result ≡ entry_of (words SPACES line.now) }
+    ensures { result ≡ entry_of (words spaces line.now) }
 {
     let Some((activity, rest)) = split_word(line, &SPACES) else {
         return Entry::Nothing;

@@ -72,6 +72,8 @@ fn read_lines(
 /// and its start in periods, in any order, ended by LF or CRLF. Lines of spaces and tabs alone are
 /// passed over, and so is the first line of an answer of the program, which begins with `optimal `,
 /// `feasible ` or `earliest `.
+///
+/// Besides what it hands out it takes 16 bytes for each activity, whatever the text holds.
 pub fn read_starts(alloc: Global, text: &[u8], activities: usize) -> Result<Vec<i64>, StartsFault>
     ensures accepted { OnOk result (starts_fault activities text.now ≡ None) }
     ensures text { OnOk result (IsStartsText activities text.now) }
