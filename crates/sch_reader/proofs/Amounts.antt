@@ -4,17 +4,18 @@ use Rattle.std.specs.Prelude.{◌||◌}
 use Rattle.std.specs.List.{AllByRecursion}
 use Rattle.std.proofs.lemmas.Bool.{eq-eqb, or_left, or_right}
 use Rattle.std.proofs.lemmas.Int.{ints}
+use Rattle.network.specs.declared.limits.TheConstants.{MAX_AMOUNT}
 use Rattle.network.specs.Limits.{IsAmount}
 use Rattle.sch_reader.specs.declared.place.Place.TheVariants as places
 use Rattle.sch_reader.specs.Layout.{fits, amount_place}
-use Rattle.sch_reader.proofs.Numbers.{within, is_within_from, exactly}
+use Rattle.sch_reader.proofs.Numbers.{within, is_between_from, exactly}
 use Rattle.sch_reader.proofs.RequestRows.{AreRequests}
 
 pub amount_from : (z : ℤ) → fits places.Amount z ≡ true → IsAmount z
-amount_from z h = let w = within (pos 0) (pos 1000000) z h in record { above = w.0; below = w.1 }
+amount_from z h = within (pos 0) MAX_AMOUNT z h
 
 pub amount_fits : (z : ℤ) → IsAmount z → fits places.Amount z ≡ true
-amount_fits z a = is_within_from (pos 0) (pos 1000000) z a.above a.below
+amount_fits z a = is_between_from (pos 0) MAX_AMOUNT z a.at_least a.at_most
 
 -- the duration and the demands of an activity fit their place
 pub record IsRequestAt (last resources i : ℕ) (d : ℤ) (row : List ℤ) : Type 0 where
@@ -58,7 +59,7 @@ request_at last resources id (d ∷ durations) (row ∷ demands) h (suc i) lt =
 amount_at : (row : ℕ) (b : Bool) (z : ℤ) → fits (cond b (places.Nothing row) places.Amount) z ≡ true → IsAmount z
 amount_at row true z h =
     let e = exactly 0 z h in
-    record { above = omega (arith, ints, e); below = omega (arith, ints, e) }
+    record { at_least = omega (arith, ints, e); at_most = omega (arith, ints, e) }
 amount_at row false z h = amount_from z h
 
 pub amount_there : (last i : ℕ) (z : ℤ) → fits (amount_place last i) z ≡ true → IsAmount z
@@ -79,7 +80,7 @@ pub nothing_there : (last i : ℕ) (z : ℤ) → (eqb i 0 || eqb i last) ≡ tru
 nothing_there last i z e h = nothing_at (last + 1 + i) (eqb i 0 || eqb i last) z e h
 
 fits_at : (row : ℕ) (b : Bool) (z : ℤ) → (b ≡ true → z ≡ pos 0) → IsAmount z → fits (cond b (places.Nothing row) places.Amount) z ≡ true
-fits_at row true z nothing amount = let e = nothing refl in is_within_from (pos 0) (pos 0) z (omega (arith, ints, e)) (omega (arith, ints, e))
+fits_at row true z nothing amount = let e = nothing refl in is_between_from (pos 0) (pos 0) z (omega (arith, ints, e)) (omega (arith, ints, e))
 fits_at row false z nothing amount = amount_fits z amount
 
 pub fits_there : (last i : ℕ) (z : ℤ) → ((eqb i 0 || eqb i last) ≡ true → z ≡ pos 0) → IsAmount z → fits (amount_place last i) z ≡ true

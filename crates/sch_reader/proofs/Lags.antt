@@ -5,8 +5,7 @@ use Rattle.std.proofs.lemmas.List.Elements.{All-nil, All-cons, All-head, All-wea
 use Rattle.std.proofs.lemmas.List.Kept.{AllPairs-cons}
 use Rattle.network.specs.declared.lag.Lag.{Lag}
 use Rattle.network.specs.Limits.{IsLag}
-use Rattle.sch_reader.proofs.NetworkRows.{AreInOrder}
-use Rattle.sch_reader.proofs.NetworkRowsAgain.{IsEnd}
+use Rattle.sch_reader.proofs.NetworkRows.{AreInOrder, IsEnd}
 
 abbrev starts_rise : Lag → Lag → Type 0
 starts_rise a b = a.from ≤ b.from
@@ -33,10 +32,10 @@ in_order_all from (a ∷ lags) h =
     }
 
 end_is_lag : (last n : ℕ) → n ≡ last + 1 → (a : Lag) → IsEnd last n a → IsLag n a
-end_is_lag last n e a h = record { from_activity = h.1; to_activity = omega (arith, h.0); in_limits = record { above = h.2; below = h.3 } }
+end_is_lag last n e a h = record { from_activity = h.1; to_activity = omega (arith, h.0); light = h.2 }
 
 lag_is_end : (last n : ℕ) → n ≡ last + 1 → (a : Lag) → IsLag n a → IsEnd last n a
-lag_is_end last n e a h = (omega (arith, h.to_activity), h.from_activity, h.in_limits.above, h.in_limits.below)
+lag_is_end last n e a h = (omega (arith, h.to_activity), h.from_activity, h.light)
 
 pub lags_from_ends : (last n : ℕ) (lags : List Lag) → n ≡ last + 1 → AllByRecursion (IsEnd last n) lags → All (IsLag n) lags
 lags_from_ends last n lags e h = All-weaker (IsEnd last n) (IsLag n) (end_is_lag last n e) lags (All-from_recursion (IsEnd last n) lags h)

@@ -3,6 +3,7 @@ use Rattle.std.proofs.Common.{◌≡◌, ℕ, suc, ◌-◌, ◌+◌, ◌≤◌, 
 use Rattle.std.proofs.Math.Seq.{drop-cons}
 use Rattle.std.proofs.lemmas.List.{append-nil, length-append}
 use Rattle.std.proofs.Math.ListN.{drop_of_length-le}
+use Rattle.network.specs.declared.limits.TheConstants.{MAX_LAGS}
 use Rattle.sch_reader.specs.declared.fault.SchFault.{SchFault}
 use Rattle.sch_reader.specs.declared.place.Place.{Place}
 use Rattle.sch_reader.specs.declared.place.Place.TheVariants as places
@@ -101,22 +102,22 @@ lags_end from ends i front c total le so_far =
 -- ---- the network rows
 
 abbrev pub networks_so_far : List Lag → ℕ → ℕ → ℕ → Cursor → Result (List Lag × Cursor) SchFault
-networks_so_far front rows last row c = with_front ◌++◌ front (reading (network_rows rows last (100000 - length front) row) c)
+networks_so_far front rows last row c = with_front ◌++◌ front (reading (network_rows rows last (MAX_LAGS - length front) row) c)
 
-pub networks_turn : (rows last row : ℕ) (front : List Lag) (c after : Cursor) (lags : List Lag) (total : Result (List Lag × Cursor) SchFault) → row < rows → reading (network_row last (100000 - length front) row) c ≡ Ok (lags, after)
+pub networks_turn : (rows last row : ℕ) (front : List Lag) (c after : Cursor) (lags : List Lag) (total : Result (List Lag × Cursor) SchFault) → row < rows → reading (network_row last (MAX_LAGS - length front) row) c ≡ Ok (lags, after)
     → networks_so_far front (rows - row) last row c ≡ total → networks_so_far (front ++ lags) (rows - (row + 1)) last (row + 1) after ≡ total
 unfolding network_rows
 networks_turn rows last row front c after lags total lt h so_far =
     let k : rows - row ≡ suc (rows - (row + 1)) = omega arith in
-    let left : 100000 - length (front ++ lags) ≡ 100000 - length front - length lags = omega (arith, length-append front lags) in
-    rw left (turn ◌++◌ append_assoc_is (λ v. v) (network_row last (100000 - length front) row) (λ v. network_rows (rows - (row + 1)) last (100000 - length front - length v) (row + 1)) front c after lags total h (rw k at so_far))
+    let left : MAX_LAGS - length (front ++ lags) ≡ MAX_LAGS - length front - length lags = omega (arith, length-append front lags) in
+    rw left (turn ◌++◌ append_assoc_is (λ v. v) (network_row last (MAX_LAGS - length front) row) (λ v. network_rows (rows - (row + 1)) last (MAX_LAGS - length front - length v) (row + 1)) front c after lags total h (rw k at so_far))
 
-pub networks_fail : (rows last row : ℕ) (front : List Lag) (c : Cursor) (e : SchFault) (total : Result (List Lag × Cursor) SchFault) → row < rows → reading (network_row last (100000 - length front) row) c ≡ Err e
+pub networks_fail : (rows last row : ℕ) (front : List Lag) (c : Cursor) (e : SchFault) (total : Result (List Lag × Cursor) SchFault) → row < rows → reading (network_row last (MAX_LAGS - length front) row) c ≡ Err e
     → networks_so_far front (rows - row) last row c ≡ total → total ≡ Err e
 unfolding network_rows
 networks_fail rows last row front c e total lt h so_far =
     let k : rows - row ≡ suc (rows - (row + 1)) = omega arith in
-    fails ◌++◌ (λ v. v) (network_row last (100000 - length front) row) (λ v. network_rows (rows - (row + 1)) last (100000 - length front - length v) (row + 1)) front c e total h (rw k at so_far)
+    fails ◌++◌ (λ v. v) (network_row last (MAX_LAGS - length front) row) (λ v. network_rows (rows - (row + 1)) last (MAX_LAGS - length front - length v) (row + 1)) front c e total h (rw k at so_far)
 
 pub networks_end : (rows last row : ℕ) (front : List Lag) (c : Cursor) (total : Result (List Lag × Cursor) SchFault) → rows ≤ row → networks_so_far front (rows - row) last row c ≡ total → total ≡ Ok (front, c)
 unfolding network_rows

@@ -1,10 +1,13 @@
 -- What the layout of the network rows leads to.
-use Rattle.std.proofs.Common.{◌≡◌, ℕ, zero, suc, ◌+◌, ◌-◌, ◌≤◌, ◌<◌, true, eqb, List, [], ◌∷◌, ◌++◌, length, map, ℤ, pos, negsuc, nat_abs, ◌≤ℤ◌, refl, sym, ap, subst, ◌∙◌, append_assoc, arith}
+use Rattle.std.proofs.Common.{◌≡◌, ℕ, zero, suc, ◌+◌, ◌-◌, ◌≤◌, ◌<◌, true, eqb, List, [], ◌∷◌, ◌++◌, length, map, ℤ, pos, nat_abs, refl, sym, ap, subst, ◌∙◌, append_assoc, arith}
 use Rattle.std.specs.List.{AllByRecursion}
 use Rattle.std.proofs.lemmas.List.{append-nil, length-append, length-map}
 use Rattle.std.proofs.lemmas.List.Elements.{filter-append}
 use Rattle.std.proofs.lemmas.Bool.{eq-eqb, ne_eqb}
+use Rattle.std.specs.Prelude.{neg_ℤ}
 use Rattle.network.specs.declared.lag.Lag.{Lag}
+use Rattle.network.specs.declared.limits.TheConstants.{MAX_LAG_WEIGHT}
+use Rattle.network.specs.Limits.{IsWithin}
 use Rattle.sch_reader.specs.declared.place.Place.TheVariants as places
 use Rattle.sch_reader.specs.Layout.{done, fits, row_of, lags_to, network_row, network_rows, ◌>>=◌}
 use Rattle.sch_reader.specs.Text.{lags_from, network_numbers}
@@ -21,8 +24,7 @@ AreInOrder from (a ∷ lags) = (from ≤ a.from) × AreInOrder a.from lags
 pub record RowLag (row last : ℕ) (a : Lag) : Type 0 where
   pub from : a.from ≡ row
   pub to : a.to ≤ last
-  pub low : negsuc 999999 ≤ℤ a.weight
-  pub high : a.weight ≤ℤ pos 1000000
+  pub light : IsWithin MAX_LAG_WEIGHT a.weight
 
 pub record LagsFound (row last : ℕ) (ends zs : List ℤ) (lags : List Lag) : Type 0 where
   pub weights : zs ≡ map (λ a. a.weight) lags
@@ -44,10 +46,10 @@ lags_found row last (e ∷ ends) zs lags fit h =
     let f = finished (lag_of row e a.number ∷ b.value) lags b.second b.after in
     let rest : a.rest ≡ map (λ a. a.weight) b.value = alone_is a.rest b.first b.second (map (λ a. a.weight) b.value) b.parts f.0 ih.weights in
     let n = up_to last e fit.0 in
-    let w = within (negsuc 999999) (pos 1000000) a.number a.fit in
+    let light = within (neg_ℤ MAX_LAG_WEIGHT) MAX_LAG_WEIGHT a.number a.fit in
     let to_ends : pos (nat_abs e) ∷ map (λ a. pos a.to) b.value ≡ e ∷ ends = ap (λ (r : List ℤ). pos (nat_abs e) ∷ r) ih.to_ends ∙ ap (λ (x : ℤ). x ∷ ends) (sym n.0) in
     subst (λ (v : List Lag). LagsFound row last (e ∷ ends) zs v) f.1
-    (record { weights = next_is zs a.rest (map (λ a. a.weight) b.value) a.number a.number a.parts refl rest; to_ends = to_ends; each = (record { from = refl; to = n.1; low = w.0; high = w.1 }, ih.each) })
+    (record { weights = next_is zs a.rest (map (λ a. a.weight) b.value) a.number a.number a.parts refl rest; to_ends = to_ends; each = (record { from = refl; to = n.1; light = light }, ih.each) })
 
 abbrev pub row_numbers : ℕ → List Lag → List ℤ
 row_numbers row own = pos row ∷ pos 1 ∷ pos (length own) ∷ (map (λ a. pos a.to) own ++ map (λ a. a.weight) own)
@@ -103,17 +105,21 @@ in_order row last [] [] h g = tt
 in_order row last [] (a ∷ others) h g = (omega (arith, g.0), g.1)
 in_order row last (a ∷ own) others h g = (omega (arith, h.0.from), subst (λ (r : ℕ). AreInOrder r (own ++ others)) (sym h.0.from) (in_order row last own others h.1 g))
 
+-- an arc that leads from an activity below this one
+abbrev pub IsEnd : ℕ → ℕ → Lag → Type 0
+IsEnd last below a = (a.to ≤ last) × (a.from < below) × IsWithin MAX_LAG_WEIGHT a.weight
+
 pub record RowsFound (rows last left row : ℕ) (zs : List ℤ) (lags : List Lag) : Type 0 where
   pub same : zs ≡ network_numbers rows row lags
   pub few : length lags ≤ left
   pub order : AreInOrder row lags
-  pub ends : AllByRecursion (λ a. (a.to ≤ last) × (a.from < row + rows) × (negsuc 999999 ≤ℤ a.weight) × (a.weight ≤ℤ pos 1000000)) lags
+  pub ends : AllByRecursion (IsEnd last (row + rows)) lags
 
-both_ends : (row last rows : ℕ) (own others : List Lag) → AllByRecursion (RowLag row last) own → AllByRecursion (λ a. (a.to ≤ last) × (a.from < (row + 1) + rows) × (negsuc 999999 ≤ℤ a.weight) × (a.weight ≤ℤ pos 1000000)) others
-    → AllByRecursion (λ a. (a.to ≤ last) × (a.from < row + suc rows) × (negsuc 999999 ≤ℤ a.weight) × (a.weight ≤ℤ pos 1000000)) (own ++ others)
+both_ends : (row last rows : ℕ) (own others : List Lag) → AllByRecursion (RowLag row last) own → AllByRecursion (IsEnd last ((row + 1) + rows)) others
+    → AllByRecursion (IsEnd last (row + suc rows)) (own ++ others)
 both_ends row last rows [] [] h g = tt
-both_ends row last rows [] (a ∷ others) h g = ((g.0.0, omega (arith, g.0.1), g.0.2, g.0.3), both_ends row last rows [] others tt g.1)
-both_ends row last rows (a ∷ own) others h g = ((h.0.to, omega (arith, h.0.from), h.0.low, h.0.high), both_ends row last rows own others h.1 g)
+both_ends row last rows [] (a ∷ others) h g = ((g.0.0, omega (arith, g.0.1), g.0.2), both_ends row last rows [] others tt g.1)
+both_ends row last rows (a ∷ own) others h g = ((h.0.to, omega (arith, h.0.from), h.0.light), both_ends row last rows own others h.1 g)
 
 pub network_rows_found : (rows last left row : ℕ) (zs : List ℤ) (lags : List Lag) → Reaches (network_rows rows last left row) zs (done lags) → RowsFound rows last left row zs lags
 unfolding network_rows

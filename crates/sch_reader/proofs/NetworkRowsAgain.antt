@@ -8,11 +8,8 @@ use Rattle.network.specs.declared.lag.Lag.{Lag}
 use Rattle.sch_reader.specs.Layout.{done, network_row, network_rows, ◌>>=◌}
 use Rattle.sch_reader.specs.Text.{lags_from, network_numbers}
 use Rattle.sch_reader.proofs.Layouts.{Reaches, Reaches-bind}
-use Rattle.sch_reader.proofs.NetworkRows.{AreInOrder, RowLag, row_numbers, kept, later_gone, skipped}
+use Rattle.sch_reader.proofs.NetworkRows.{AreInOrder, IsEnd, RowLag, row_numbers, kept, later_gone, skipped}
 use Rattle.sch_reader.proofs.NetworkRowAgain.{Reaches-made, network_row_again}
-
-abbrev pub IsEnd : ℕ → ℕ → Lag → Type 0
-IsEnd last below a = (a.to ≤ last) × (a.from < below) × (negsuc 999999 ≤ℤ a.weight) × (a.weight ≤ℤ pos 1000000)
 
 -- the arcs of one row, and those after it
 record Split (row last below : ℕ) (lags : List Lag) : Type 0 where
@@ -28,7 +25,7 @@ split_at : (row last below : ℕ) (a : Lag) (lags : List Lag) (b : Bool) → eqb
 split_at row last below a lags true e le order end ends ih =
     let same = eqb-true a.from row e in
     let s = ih same in
-    record { own = a ∷ s.own; later = s.later; parts = ap (λ (r : List Lag). a ∷ r) s.parts; own_row = (record { from = same; to = end.0; low = end.2; high = end.3 }, s.own_row); order = s.order; ends = s.ends }
+    record { own = a ∷ s.own; later = s.later; parts = ap (λ (r : List Lag). a ∷ r) s.parts; own_row = (record { from = same; to = end.0; light = end.2 }, s.own_row); order = s.order; ends = s.ends }
 split_at row last below a lags false e le order end ends ih =
     let differ : a.from ≡ row → ⊥ = λ same. let t = eq-eqb a.from row same in absurd cc in
     let above : row + 1 ≤ a.from = omega (arith, differ) in

@@ -12,7 +12,7 @@ use Rattle.sch_reader.specs.Text.{flat}
 use Rattle.sch_reader.proofs.Layouts.{Reaches}
 use Rattle.sch_reader.proofs.Amounts.{IsRequestAt, amount_from, amount_fits, amount_there, nothing_there, fits_there, is_first, is_last, requests_from, requests_count, request_at}
 use Rattle.sch_reader.proofs.Lags.{order_from, in_order_all, lags_from_ends, ends_from_lags}
-use Rattle.sch_reader.proofs.NetworkRowsAgain.{IsEnd}
+use Rattle.sch_reader.proofs.NetworkRows.{IsEnd}
 use Rattle.sch_reader.proofs.Whole.{IsAccepted, accepted_found}
 use Rattle.sch_reader.proofs.WholeAgain.{accepted_again}
 use Rattle.sch_reader.proofs.Exact.{IsExact}

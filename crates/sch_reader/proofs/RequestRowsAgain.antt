@@ -5,7 +5,7 @@ use Rattle.std.proofs.lemmas.Int.{ints}
 use Rattle.sch_reader.specs.Layout.{done, fits, row_of, request_row, request_rows, Requests, both, amount_place, ◌>>=◌}
 use Rattle.sch_reader.specs.Text.{request_numbers}
 use Rattle.sch_reader.proofs.Layouts.{Reaches, Reaches-bind}
-use Rattle.sch_reader.proofs.Numbers.{is_within_from}
+use Rattle.sch_reader.proofs.Numbers.{is_between_from}
 use Rattle.sch_reader.proofs.Flat.{row_again}
 use Rattle.sch_reader.proofs.NetworkRowAgain.{Reaches-made}
 use Rattle.sch_reader.proofs.RequestRows.{AreRequests}
@@ -15,9 +15,9 @@ pub request_row_again : (last resources id : ℕ) (d : ℤ) (row : List ℤ) →
 unfolding request_row
 request_row_again last resources id d row len fit all =
     let there : Reaches (row_of resources (amount_place last id)) row (done row) = subst (λ (n : ℕ). Reaches (row_of n (amount_place last id)) row (done row)) len (row_again (amount_place last id) row all) in (
-      is_within_from (pos id) (pos id) (pos id) (omega (arith, ints)) (omega (arith, ints)),
+      is_between_from (pos id) (pos id) (pos id) (omega (arith, ints)) (omega (arith, ints)),
       (
-        is_within_from (pos 1) (pos 1) (pos 1) (omega (arith, ints)) (omega (arith, ints)),
+        is_between_from (pos 1) (pos 1) (pos 1) (omega (arith, ints)) (omega (arith, ints)),
         (fit, Reaches-made (row_of resources (amount_place last id)) (λ demands. (d, demands)) row row there),
       ),
     )

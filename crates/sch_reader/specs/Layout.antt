@@ -1,27 +1,28 @@
 -- The places of a project text, what fits each, and the fault of each.
-use Rattle.std.specs.Prelude.{ℕ, zero, suc, ◌+◌, ◌-◌, ◌==◌, Bool, ◌&&◌, ◌||◌, List, [], ◌∷◌, ◌++◌, length, ℤ, pos, negsuc, nat_abs, int_le, if◌then◌else◌}
+use Rattle.std.specs.Prelude.{ℕ, zero, suc, ◌+◌, ◌-◌, ◌==◌, Bool, ◌&&◌, ◌||◌, List, [], ◌∷◌, ◌++◌, length, ℤ, pos, neg_ℤ, nat_abs, int_le, if◌then◌else◌}
 use Rattle.sch_reader.specs.declared.fault.SchFault.{SchFault}
 use Rattle.sch_reader.specs.declared.fault.SchFault.TheVariants as faults
 use Rattle.sch_reader.specs.declared.place.Place.{Place}
 use Rattle.sch_reader.specs.declared.place.Place.TheVariants as places
 use Rattle.network.specs.declared.lag.Lag.{Lag}
+use Rattle.network.specs.declared.limits.TheConstants.{MAX_ACTIVITIES, MAX_AMOUNT, MAX_LAG_WEIGHT, MAX_LAGS, MAX_RESOURCES}
 use Rattle.network.specs.Problem.{Problem}
 
-abbrev pub is_within : ℤ → ℤ → ℤ → Bool
-is_within low high z = int_le low z && int_le z high
+abbrev pub is_between : ℤ → ℤ → ℤ → Bool
+is_between low high z = int_le low z && int_le z high
 
 -- the numbers that fit a place
 abbrev pub fits : Place → ℤ → Bool
-fits places.Activities z = is_within (pos 0) (pos 1000) z
-fits places.Resources z = is_within (pos 0) (pos 32) z
-fits places.OtherResources z = is_within (pos 0) (pos 0) z
-fits (places.Id row id) z = is_within (pos id) (pos id) z
-fits (places.Mode row) z = is_within (pos 1) (pos 1) z
-fits (places.Count left) z = is_within (pos 0) (pos left) z
-fits (places.Successor row last) z = is_within (pos 0) (pos last) z
-fits places.Lag z = is_within (negsuc 999999) (pos 1000000) z
-fits (places.Nothing row) z = is_within (pos 0) (pos 0) z
-fits places.Amount z = is_within (pos 0) (pos 1000000) z
+fits places.Activities z = is_between (pos 0) (pos (MAX_ACTIVITIES - 2)) z
+fits places.Resources z = is_between (pos 0) (pos MAX_RESOURCES) z
+fits places.OtherResources z = is_between (pos 0) (pos 0) z
+fits (places.Id row id) z = is_between (pos id) (pos id) z
+fits (places.Mode row) z = is_between (pos 1) (pos 1) z
+fits (places.Count left) z = is_between (pos 0) (pos left) z
+fits (places.Successor row last) z = is_between (pos 0) (pos last) z
+fits places.Lag z = is_between (neg_ℤ MAX_LAG_WEIGHT) MAX_LAG_WEIGHT z
+fits (places.Nothing row) z = is_between (pos 0) (pos 0) z
+fits places.Amount z = is_between (pos 0) MAX_AMOUNT z
 
 -- the fault of a number that does not fit, at this word
 abbrev pub misfit : Place → ℕ → ℤ → SchFault
@@ -127,7 +128,7 @@ header = do
 unfoldable pub project_text : Layout Problem
 project_text = do
   h ← header
-  lags ← network_rows (h.0 + 2) (h.0 + 1) 100000 0
+  lags ← network_rows (h.0 + 2) (h.0 + 1) MAX_LAGS 0
   requests ← request_rows (h.0 + 2) (h.0 + 1) h.1 0
   capacities ← row_of h.1 places.Amount
   done (record {

@@ -2,6 +2,7 @@ ghost use Rattle.std.specs.Prelude.{◌≡◌};
 ghost use Rattle.sch_reader.specs.Layout.{fits, misfit};
 
 use crate::fault::SchFault;
+use network::{MAX_ACTIVITIES, MAX_AMOUNT, MAX_LAG_WEIGHT, MAX_RESOURCES};
 
 /// A place of a project text: what a number there stands for.
 #[derive(Clone, Copy)]
@@ -34,15 +35,15 @@ impl Place {
         ensures { result ≡ fits self value }
     {
         let (low, high) = match self {
-            Place::Activities => (0, 1_000),
-            Place::Resources => (0, 32),
+            Place::Activities => (0, MAX_ACTIVITIES as i64 - 2),
+            Place::Resources => (0, MAX_RESOURCES as i64),
             Place::OtherResources | Place::Nothing { .. } => (0, 0),
             Place::Id { id, .. } => return usize::try_from(value).is_ok_and(|v| v == id),
             Place::Mode { .. } => (1, 1),
             Place::Count { left } => return usize::try_from(value).is_ok_and(|v| v <= left),
             Place::Successor { last, .. } => return usize::try_from(value).is_ok_and(|v| v <= last),
-            Place::Lag => (-1_000_000, 1_000_000),
-            Place::Amount => (0, 1_000_000),
+            Place::Lag => (-MAX_LAG_WEIGHT, MAX_LAG_WEIGHT),
+            Place::Amount => (0, MAX_AMOUNT),
         };
         low <= value && value <= high
     }

@@ -11,18 +11,15 @@ ghost use Rattle.sch_reader.specs.Words.{text_words};
 use crate::fault::SchFault;
 use crate::place::Place;
 use crate::reader::Reader;
-use network::{Lag, Parts, Project};
+use network::{Lag, MAX_ACTIVITIES, MAX_LAGS, MAX_RESOURCES, Parts, Project};
 use std::alloc::Global;
 use words::MAX_TEXT_BYTES;
-
-/// How many arcs a project may have.
-const MAX_LAGS: usize = 100_000;
 
 /// The header: how many activities there are between the start and the end, and how many resources.
 #[tactic(auto, unfolding(crate::specs::Layout::header))]
 fn header(reader: &mut Reader<'_>) -> Result<(usize, usize), SchFault>
     ensures reads { Reads (λ h. (h.0, h.1)) result reader.new (reading header reader.old) }
-    ensures few { IfOk result (λ h. (h.0 ≤ 1000) × (h.1 ≤ 32)) }
+    ensures few { IfOk result (λ h. (h.0 + 2 ≤ MAX_ACTIVITIES) × (h.1 ≤ MAX_RESOURCES)) }
 {
     let activities = reader.number(Place::Activities)?;
     let resources = reader.number(Place::Resources)?;
@@ -97,9 +94,9 @@ fn network_rows(
     reader: &mut Reader<'_>,
     activities: usize,
 ) -> Result<Vec<Lag>, SchFault>
-    requires { activities ≤ 1000 }
+    requires { activities + 2 ≤ MAX_ACTIVITIES }
     ensures { Reads (λ v. v.items) result reader.new
-        (reading (network_rows (activities + 2) (activities + 1) 100000 0) reader.old) }
+        (reading (network_rows (activities + 2) (activities + 1) MAX_LAGS 0) reader.old) }
 {
     let mut lags = Vec::new(alloc);
     for row in 0..activities + 2 {
@@ -112,7 +109,7 @@ fn network_rows(
 
 /// The place of a duration or a demand of an activity.
 fn amount_place(last: usize, id: usize) -> Place
-    requires last { last ≤ 1001 }
+    requires last { last < MAX_ACTIVITIES }
     requires id { id ≤ last }
     ensures { result ≡ amount_place last id }
 {
@@ -132,7 +129,7 @@ fn request_row(
     resources: usize,
     id: usize,
 ) -> Result<(i64, Vec<i64>), SchFault>
-    requires last { last ≤ 1001 }
+    requires last { last < MAX_ACTIVITIES }
     requires id { id ≤ last }
     ensures { Reads (λ r. (r.0, r.1.items)) result reader.new
         (reading (request_row last resources id) reader.old) }
@@ -154,7 +151,7 @@ fn request_rows(
     activities: usize,
     resources: usize,
 ) -> Result<(Vec<i64>, Vec<Vec<i64>>), SchFault>
-    requires { activities ≤ 1000 }
+    requires { activities + 2 ≤ MAX_ACTIVITIES }
     ensures { Reads
         (λ r. record { durations = r.0.items; demands = map (λ v. v.items) r.1.items })
         result reader.new
