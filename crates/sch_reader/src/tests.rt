@@ -1,7 +1,8 @@
 use super::*;
-use network::{Lag, Project};
+use network::Project;
 use std::alloc::Global;
 use std::test::Fail;
+use test_projects::lag;
 
 /// Two activities on one machine.
 const TWO_JOBS: &str =
@@ -22,10 +23,6 @@ fn read(alloc: Global, text: &str) -> Result<Project, SchFault> {
 
 fn fault_of(alloc: Global, text: &str) -> Option<SchFault> {
     read(alloc, text).err()
-}
-
-fn lag(from: usize, to: usize, weight: i64) -> Lag {
-    Lag { from, to, weight }
 }
 
 #[test]

@@ -1,5 +1,6 @@
 ghost use Rattle.std.specs.Prelude.{◌≡◌, ◌≢◌, ◌≤◌, ◌<◌, ◌+◌, ◌↔◌, nat_abs, pos, IfOk, IfErr, MatchResult, length, map, ℕ};
 ghost use Rattle.network.specs.Problem.{Problem};
+ghost use Rattle.network.specs.declared.limits.TheConstants.{MAX_ACTIVITIES, MAX_RESOURCES};
 ghost use Rattle.network.specs.Limits.{IsProject};
 ghost use Rattle.sch_reader.specs.declared.fault.SchFault.{SchFault};
 ghost use Rattle.sch_reader.specs.Text.{Spells, IsFirstFault};
@@ -11,7 +12,7 @@ ghost use Rattle.sch_reader.specs.Words.{text_words};
 use crate::fault::SchFault;
 use crate::place::Place;
 use crate::reader::Reader;
-use network::{Lag, MAX_ACTIVITIES, MAX_LAGS, MAX_RESOURCES, Parts, Project};
+use network::{Lag, MAX_LAGS, Parts, Project};
 use std::alloc::Global;
 use words::MAX_TEXT_BYTES;
 

@@ -1,5 +1,5 @@
 -- What a text of starts gives, and its first fault.
-use Rattle.std.proofs.Common.{◌≡◌, ℕ, zero, suc, ◌+◌, ◌<◌, ◌≤◌, Bool, true, false, cond, ◌&&◌, List, [], ◌∷◌, length, map, drop, refl, sym, ap, ◌∙◌, subst, arith, Option, Some, None, ltb, eqb}
+use Rattle.std.proofs.Common.{◌≡◌, ℕ, zero, suc, ◌+◌, ◌<◌, ◌≤◌, ◌^◌, Bool, true, false, cond, ◌&&◌, List, [], ◌∷◌, length, map, drop, refl, sym, ap, ◌∙◌, subst, arith, Option, Some, None, ltb, eqb}
 use Rattle.std.specs.Prelude.{ℤ, pos, negsuc, nat_abs, unwrap_or, is_some}
 use Rattle.std.specs.List.{All, AllByRecursion, range_with_len, list_all}
 use Rattle.std.specs.Option.{option_map}
@@ -54,9 +54,9 @@ IsTimely Wrong = Unit {0}
 IsTimely (Gives activity start) = IsTime start
 
 -- what a start's digits spell is a time
-time_of_digits : (z : ℤ) → nat_abs z < 10000000000 → IsTime z
-time_of_digits (pos n) below = record { above = omega (arith, ints); below = omega (arith, ints) }
-time_of_digits (negsuc n) below = record { above = omega (arith, ints); below = omega (arith, ints) }
+time_of_digits : (z : ℤ) → nat_abs z < 10 ^ START_DIGITS → IsTime z
+time_of_digits (pos n) below = record { at_least = omega (arith, ints); at_most = omega (arith, ints) }
+time_of_digits (negsuc n) below = record { at_least = omega (arith, ints); at_most = omega (arith, ints) }
 
 given_timely : (a : Option ℕ) (o : Option ℤ) → ((z : ℤ) → o ≡ Some z → IsTime z) → IsTimely (given a o)
 given_timely None o h = tt
@@ -82,7 +82,7 @@ entries_timely text = by_answer (is_answer text)
     by_answer false = lines_timely (lines text)
 
 zero_time : IsTime (pos 0)
-zero_time = record { above = omega (arith, ints); below = omega (arith, ints) }
+zero_time = record { at_least = omega (arith, ints); at_most = omega (arith, ints) }
 
 start_timely : (es : List Entry) (activity : ℕ) → AllByRecursion IsTimely es → IsTime (unwrap_or (start_given es activity) (pos 0))
 start_timely [] activity all = zero_time

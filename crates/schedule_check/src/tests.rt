@@ -2,29 +2,12 @@ ghost use Rattle.std.specs.Prelude.{IsTrue};
 ghost use Rattle.network.specs.Limits.{AreStarts};
 
 use crate::{AcceptFault, StartsFault, Violation, accept, read_starts, violations};
-use network::{Lag, Parts, Project, Schedule};
+use network::{MAX_START, Project, Schedule};
 use std::alloc::{AllocError, Global};
 use std::process::Abort;
 use std::sync::Arc;
 use std::test::Fail;
-
-const LAST_TIME: i64 = 9_999_999_999;
-
-/// Two activities of 3 and 4 periods that ask for the one unit of a resource.
-fn two_activities(alloc: Global, lags: &[Lag]) -> Result<Project, Fail> {
-    let parts = Parts {
-        durations: vec![in alloc; 0, 3, 4, 0]?,
-        demands: vec![in alloc;
-            vec![in alloc; 0]?,
-            vec![in alloc; 1]?,
-            vec![in alloc; 1]?,
-            vec![in alloc; 0]?,
-        ]?,
-        capacities: vec![in alloc; 1]?,
-        lags: Vec::from_slice(alloc, lags)?,
-    };
-    Ok(Project::new(parts)?)
-}
+use test_projects::{lag, one_machine};
 
 /// Whether there is a start within the limits for each activity.
 fn are_starts(project: &Project, starts: &[i64]) -> bool
@@ -33,7 +16,7 @@ fn are_starts(project: &Project, starts: &[i64]) -> bool
     starts.len() == project.activity_count()
         && starts
             .iter()
-            .all(|start| -LAST_TIME <= *start && *start <= LAST_TIME)
+            .all(|start| -MAX_START <= *start && *start <= MAX_START)
 }
 
 fn judge(
@@ -68,7 +51,7 @@ fn violations_of(answer: Result<Schedule, AcceptFault>) -> Option<Vec<Violation>
 
 #[test]
 fn each_kind_of_violation_is_listed(rt: HostRuntime) -> Result<(), Fail> {
-    let project = two_activities(rt.alloc(), &[])?;
+    let project = one_machine(rt.alloc(), &[])?;
     let found = judge(&rt, rt.alloc(), &project, &[1, 0, 2, 6])?;
     let expected = [
         Violation::StartNotZero { found: 1 },
@@ -103,12 +86,8 @@ fn each_kind_of_violation_is_listed(rt: HostRuntime) -> Result<(), Fail> {
 
 #[test]
 fn a_rule_that_stands_twice_is_listed_twice(rt: HostRuntime) -> Result<(), Fail> {
-    let lag = Lag {
-        from: 1,
-        to: 2,
-        weight: 5,
-    };
-    let project = two_activities(rt.alloc(), &[lag, lag])?;
+    let twice = [lag(1, 2, 5), lag(1, 2, 5)];
+    let project = one_machine(rt.alloc(), &twice)?;
     let found = judge(&rt, rt.alloc(), &project, &[0, 0, 3, 7])?;
     let broken = Violation::Lag {
         from: 1,
@@ -121,8 +100,8 @@ fn a_rule_that_stands_twice_is_listed_twice(rt: HostRuntime) -> Result<(), Fail>
 
 #[test]
 fn feasible_starts_are_accepted(rt: HostRuntime) -> Result<(), Fail> {
-    for last in [7, LAST_TIME] {
-        let project = two_activities(rt.alloc(), &[])?;
+    for last in [7, MAX_START] {
+        let project = one_machine(rt.alloc(), &[])?;
         match take(&rt, rt.alloc(), project, &[0, 0, 3, last])? {
             Ok(schedule) => {
                 assert_eq!(rt; schedule.makespan(), last);
@@ -136,7 +115,7 @@ fn feasible_starts_are_accepted(rt: HostRuntime) -> Result<(), Fail> {
 
 #[test]
 fn other_starts_are_refused_with_what_they_violate(rt: HostRuntime) -> Result<(), Fail> {
-    let project = two_activities(rt.alloc(), &[])?;
+    let project = one_machine(rt.alloc(), &[])?;
     let answer = take(&rt, rt.alloc(), project, &[0, 0, 2, 6])?;
     let found = violations_of(answer).ok_or("accepted, or no memory")?;
     let expected = [Violation::Overload {
@@ -160,7 +139,7 @@ fn texts_of_starts_are_read(rt: HostRuntime) -> Result<(), Fail> {
         assert_eq!(rt; starts.as_slice(), [0, 0, 3, 7].as_slice());
     }
     let starts = read_starts(rt.alloc(), b"0 -9999999999\n1 9999999999\n", 2)?;
-    assert_eq!(rt; starts.as_slice(), [-LAST_TIME, LAST_TIME].as_slice());
+    assert_eq!(rt; starts.as_slice(), [-MAX_START, MAX_START].as_slice());
     assert!(rt; read_starts(rt.alloc(), b"", 0)?.is_empty());
     Ok(())
 }

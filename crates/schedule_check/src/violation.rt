@@ -1,8 +1,8 @@
 ghost use Rattle.std.specs.Prelude.{◌≡◌, ◌<◌, ◌↔◌, ◌++◌, [], length, IfOk, OnOk};
 ghost use Rattle.std.specs.List.{All};
-ghost use Rattle.network.specs.Limits.{AreStarts, IsTime};
+ghost use Rattle.network.specs.Limits.{AreStarts, IsLag, IsTime};
 ghost use Rattle.network.specs.Schedule.{IsFeasible};
-ghost use Rattle.network.specs.Walk.{AreInside, AreLight, IsWithin};
+ghost use Rattle.network.specs.Walk.{AreInside, AreLight};
 ghost use Rattle.profile.specs.Overloads.{excesses};
 ghost use Rattle.schedule_check.specs.Violations.{breaks, start_violations, lag_violations, overload_violations, violations};
 
@@ -46,9 +46,7 @@ fn push_start(violations: &mut Vec<Violation>, starts: &[i64]) -> Result<(), All
 
 /// Whether the starts break the rule.
 fn breaks(starts: &[i64], rule: &Lag) -> bool
-    requires from { rule.now.from < length starts.now }
-    requires to { rule.now.to < length starts.now }
-    requires weight { IsWithin 1000000 rule.now.weight }
+    requires rule { IsLag (length starts.now) rule.now }
     requires within { All IsTime starts.now }
     ensures { result ≡ breaks starts.now rule.now }
 {

@@ -11,7 +11,7 @@ breaks_is a b w fits_a fits_b fits_w fits_sum =
 
 pub returns : goal.returns
 returns c =
-    let to = c.requires.within c.args.rule.now.to (pos 0) c.requires.to in
-    let from = c.requires.within c.args.rule.now.from (pos 0) c.requires.from in
-    let weight = c.requires.weight in
+    let to = c.requires.within c.args.rule.now.to (pos 0) c.requires.rule.to_activity in
+    let from = c.requires.within c.args.rule.now.from (pos 0) c.requires.rule.from_activity in
+    let weight = c.requires.rule.light in
     breaks_is (get_or c.args.starts.now c.args.rule.now.to (pos 0)) (get_or c.args.starts.now c.args.rule.now.from (pos 0)) c.args.rule.now.weight (omega (arith, ints)) (omega (arith, ints)) (omega (arith, ints)) (omega (arith, ints))
