@@ -1,6 +1,6 @@
 -- What digits spell.
-use Rattle.std.proofs.Common.{◌≡◌, ℕ, zero, suc, drop, nat_abs, ◌<◌, ◌≤◌, ◌^◌, Bool, true, false, cond, List, length, get_or, Option, Some, None, Result, Ok, Err, refl, sym, ap, ◌∙◌, arith, rules, lit<, lit≤, leb, le-leb}
-use Rattle.std.specs.Prelude.{ℤ, pos, ◌&&◌, MatchOption, IfSome, nat_le}
+use Rattle.std.proofs.Common.{◌≡◌, ℕ, zero, suc, drop, nat_abs, ◌<◌, ◌≤◌, ◌^◌, Bool, true, false, cond, List, length, get_or, Option, Some, None, Result, Ok, refl, sym, arith, rules, lit<}
+use Rattle.std.specs.Prelude.{ℤ, pos, IfSome}
 use Rattle.std.specs.List.{list_all}
 use Rattle.std.specs.Char.{is_ascii_digit}
 use Rattle.std.specs.Option.{option_map}
@@ -13,13 +13,15 @@ use Rattle.std.proofs.lemmas.List.Sums.{AllPass-from_list_all}
 use Rattle.std.proofs.lemmas.Str.{IsUtf8-from_ascii}
 use Rattle.std.proofs.lemmas.Str.Ascii.{IsAscii-from_all}
 use Rattle.std.proofs.lemmas.Str.Parse.{IsNumeralModel, numerals_by_value, digits_value_short, parse_gives}
+use Rattle.words.specs.declared.numeral.TheConstants.{MAX_DIGITS}
 use Rattle.words.specs.Numbers.{is_numeral, natural, negated, integer}
 
 abbrev pub AreDigits : List ℕ → Type 0
 AreDigits digits = list_all is_ascii_digit digits ≡ true
 
-own : IsNumeralModel AreDigits (digits_value 10)
-own = numerals_by_value AreDigits (search rules)
+-- the digits of a number, as std knows them
+pub numerals : IsNumeralModel AreDigits (digits_value 10)
+numerals = numerals_by_value AreDigits (search rules)
 
 below_128 : (c : ℕ) → is_ascii_digit c ≡ true → c < 128
 below_128 c h = grind (arith, nat_tests)
@@ -30,20 +32,20 @@ IsUtf8-digits digits are = IsUtf8-from_ascii digits (IsAscii-from_all digits (λ
 
 -- so many digits spell a number below that power of ten
 pub digits_value-below : (digits : List ℕ) (most : ℕ) → AreDigits digits → length digits ≤ most → digits_value 10 digits < 10 ^ most
-digits_value-below digits most are few = digits_value_short own digits most are few
+digits_value-below digits most are few = digits_value_short numerals digits most are few
 
 -- where what is asked for holds, that is the number
 pub natural-Some : (most : ℕ) (word : List ℕ) → AreDigits word → 0 < length word → length word ≤ most → natural most word ≡ Some (digits_value 10 word)
 natural-Some most word are some few = grind (arith, nat_tests)
 
 -- what `parse` makes of so many digits
-pub parsed : {E : Type 0} (most : ℕ) (word text : List ℕ) (r : Result ℕ E) → most ≤ 18 → text ≡ word → AreDigits word → 0 < length word → length word ≤ most
-    → ParsesUnsigned 64 10 text r → (result_ok r ≡ natural most word) × IfSome (result_ok r) (λ n. n < 1000000000000000000)
+pub parsed : {E : Type 0} (most : ℕ) (word text : List ℕ) (r : Result ℕ E) → most ≤ MAX_DIGITS → text ≡ word → AreDigits word → 0 < length word → length word ≤ most
+    → ParsesUnsigned 64 10 text r → (result_ok r ≡ natural most word) × IfSome (result_ok r) (λ n. n < 10 ^ MAX_DIGITS)
 parsed most word text r few_digits same are some few parses =
-    let wide : 10 ^ most ≤ 10 ^ 18 = pow-le-pow_right (lit< tt) few_digits in
+    let wide : 10 ^ most ≤ 10 ^ MAX_DIGITS = pow-le-pow_right (lit< tt) few_digits in
     let below = digits_value-below word most are few in
-    let small : digits_value 10 word < 1000000000000000000 = omega (arith, wide, below) in
-    let gives : r ≡ Ok (digits_value 10 word) = parse_gives own 64 word r (rw same at parses) are some (omega (arith, small)) in
+    let small : digits_value 10 word < 10 ^ MAX_DIGITS = omega (arith, wide, below) in
+    let gives : r ≡ Ok (digits_value 10 word) = parse_gives numerals 64 word r (rw same at parses) are some (omega (arith, small)) in
     rw gives (sym (natural-Some most word are some few), small)
 
 -- what digits spell is below that power of ten

@@ -1,5 +1,5 @@
 -- The words of a text, from its front.
-use Rattle.std.proofs.Common.{◌≡◌, ℕ, zero, suc, ◌+◌, ◌<◌, ◌≤◌, Bool, true, false, cond, not, List, [], ◌∷◌, length, take, drop, get_or, Option, Some, None, refl, sym, ap, ◌∙◌, add-one, add-zero, drop-drop, arith, ltb}
+use Rattle.std.proofs.Common.{◌≡◌, ℕ, zero, suc, ◌+◌, ◌<◌, ◌≤◌, Bool, true, false, cond, not, List, [], ◌∷◌, length, take, drop, get_or, Option, Some, None, refl, sym, ap, ◌∙◌, add-one, add-zero, drop-drop, arith}
 use Rattle.std.specs.Prelude.{unwrap_or}
 use Rattle.std.specs.List.{filter, slice_split, position, position_or_len}
 use Rattle.std.proofs.Math.Seq.{drop-cons, drop-length}
@@ -8,7 +8,7 @@ use Rattle.std.proofs.lemmas.List.{length-take, length-drop, get_or-drop, take_a
 use Rattle.std.proofs.lemmas.List.Quantifiers.{position-Some}
 use Rattle.std.proofs.lemmas.List.Splits.{slice_split_first, slice_split_none, slice_split-cons_yes}
 use Rattle.std.proofs.lemmas.List.Sums.{fails_before_first}
-use Rattle.words.specs.Words.{is_in, is_word, pieces, words}
+use Rattle.words.specs.Words.{is_word}
 
 -- the parts between what passes a test, without those that are empty
 abbrev pub parts_by : (ℕ → Bool) → List ℕ → List (List ℕ)

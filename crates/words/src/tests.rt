@@ -27,12 +27,20 @@ fn spells_naturals(rt: HostRuntime) {
     for word in ["", "+1", "-1", "1 ", "1.", "12345678901"] {
         assert_eq!(rt; natural(word.as_bytes(), 10), None, "{word}");
     }
-    assert_eq!(rt; natural(b"999999999999999999", MAX_DIGITS), Some(999_999_999_999_999_999));
+    assert_eq!(rt;
+        natural(b"999999999999999999", MAX_DIGITS),
+        Some(999_999_999_999_999_999)
+    );
 }
 
 #[test]
 fn spells_integers(rt: HostRuntime) {
-    for (word, number) in [("0", 0), ("-0", 0), ("-012", -12), ("123456789", 123_456_789)] {
+    for (word, number) in [
+        ("0", 0),
+        ("-0", 0),
+        ("-012", -12),
+        ("123456789", 123_456_789),
+    ] {
         assert_eq!(rt; integer(word.as_bytes(), 9), Some(number), "{word}");
     }
     for word in ["", "-", "--1", "+1", "-1234567890"] {

@@ -1,5 +1,5 @@
-use Rattle.std.proofs.Common.{◌≡◌, ◌<◌, ◌≤◌, ◌∙◌, arith, rules, length, IfSome}
-use Rattle.std.specs.Prelude.{nat_eq}
+use Rattle.std.proofs.Common.{◌≡◌, ◌<◌, ◌^◌, arith, rules, length, IfSome}
+use Rattle.words.specs.declared.numeral.TheConstants.{MAX_DIGITS}
 use Rattle.words.specs.Numbers.{natural}
 use Rattle.words.proofs.NumberLaws.{AreDigits, IsUtf8-digits, parsed}
 use Rattle.words.proofs.numeral.natural.Goals as goal
@@ -9,7 +9,7 @@ returns-in_default-clause-value c =
     let digits : AreDigits c.args.word.now = search rules in
     absurd (c.in_default.ensures.cases.0 (IsUtf8-digits c.args.word.now digits))
 
-result_is : (c : goal.After-ok) → (c.ok.result ≡ natural c.args.most c.args.word.now) × IfSome c.ok.result (λ n. n < 1000000000000000000)
+result_is : (c : goal.After-ok) → (c.ok.result ≡ natural c.args.most c.args.word.now) × IfSome c.ok.result (λ n. n < 10 ^ MAX_DIGITS)
 result_is c =
     let digits : AreDigits c.args.word.now = search rules in
     let some : 0 < length c.args.word.now = search rules in

@@ -1,4 +1,4 @@
-use Rattle.std.proofs.Common.{◌≡◌, ◌∙◌, ap, sym, arith, not, length, drop, unwrap_or}
+use Rattle.std.proofs.Common.{◌∙◌, sym, arith}
 use Rattle.words.specs.Words.{is_in, words}
 use Rattle.words.proofs.WordLaws.{words-None, words-Some}
 use Rattle.words.proofs.split.split_word.Goals as goal
