@@ -1,10 +1,8 @@
 -- The text of starts, line by line: which texts give each activity a start, and the first fault of
 -- those that don't.
-use Rattle.std.specs.Prelude.{◌≡◌, ◌≤◌, ◌<◌, ℕ, ◌+◌, nat_lt, nat_le, ◌==◌, Bool, true, false, ◌||◌, ◌&&◌, List, [], ◌∷◌, ◌++◌, length, drop, map, ℤ, pos, neg_ℤ, Option, Some, None, is_some, codes, if◌then◌else◌, nat_eq, position, unwrap_or, is_none}
-use Rattle.std.specs.List.{All, count_by, filter, slice_split, list_all, starts_with, range_with_len}
+use Rattle.std.specs.Prelude.{◌≡◌, ◌≤◌, ◌<◌, ℕ, ◌+◌, nat_lt, ◌==◌, Bool, ◌||◌, List, [], ◌∷◌, ◌++◌, length, drop, map, ℤ, pos, Option, Some, None, is_some, codes, if◌then◌else◌, nat_eq, position, unwrap_or, is_none}
+use Rattle.std.specs.List.{All, count_by, starts_with, range_with_len}
 use Rattle.std.specs.Option.{option_map}
-use Rattle.std.specs.Char.{is_ascii_digit}
-use Rattle.std.specs.Str.Parse.{digits_value, starts_with_minus}
 use Rattle.std.specs.Str.Lines.{lines}
 use Rattle.words.specs.declared.TheConstants.{MAX_TEXT_BYTES}
 use Rattle.words.specs.Words.{words}
