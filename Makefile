@@ -18,7 +18,9 @@ test:
 bench: build/psmax
 	python3 bench/run.py build/psmax
 
-install: build/psmax
+# A program that stands already is installed as it is: that needs no toolchain.
+install:
+	test -x build/psmax || $(MAKE) build/psmax
 	install -D -m 755 build/psmax $(DESTDIR)$(PREFIX)/bin/psmax
 
 clean:

@@ -6,11 +6,13 @@ prints each failure, and last 'N passed, M failed'. With --counted, what the las
 counts is added.
 
 A case is one line of JSON: name, args, exit, and, where they matter: stdin, files (made before the
-run), stdout, stdout_first (its first line alone), stderr, stdout_to (a device in place of a pipe). An input is one of
+run), stdout, stdout_first (its first line alone), stderr, stdout_to (a device in place of a pipe). What is wanted of
+stdout and stderr is a text or an input. An input is one of
   {"text": TEXT}            this text
   {"file": NAME}            a file of inputs/ beside the cases, with "cut": its first so many bytes,
                             with "append": and then this text
   {"repeat": [TEXT, N]}     the text so many times
+  {"made": [NAME, WORD]}    what a script of inputs/ prints for this word
   {"concat": [INPUT, ..]}   these one after another
   {"path": PATH}            this file or device itself"""
 import argparse
@@ -33,11 +35,18 @@ def content(spec, inputs):
         return spec["text"].encode()
     if "concat" in spec:
         return b"".join(content(part, inputs) for part in spec["concat"])
+    if "made" in spec:
+        name, word = spec["made"]
+        return subprocess.run([sys.executable, inputs / name, word], stdout=subprocess.PIPE, check=True).stdout
     if "repeat" in spec:
         text, times = spec["repeat"]
         return text.encode() * times
     data = (inputs / spec["file"]).read_bytes()
     return data[: spec.get("cut", len(data))] + spec.get("append", "").encode()
+
+
+def wanted(spec, inputs):
+    return spec.encode() if isinstance(spec, str) else content(spec, inputs)
 
 
 def failures(program, case, inputs):
@@ -64,8 +73,8 @@ def failures(program, case, inputs):
     if ran.returncode != case["exit"]:
         bad.append(f"exit {ran.returncode}, not {case['exit']}")
     for name, got in (("stdout", ran.stdout or b""), ("stderr", ran.stderr)):
-        if name in case and got != case[name].encode():
-            bad.append(f"{name} {got[:300]!r}, not {case[name][:300].encode()!r}")
+        if name in case and got != wanted(case[name], inputs):
+            bad.append(f"{name} {got[:300]!r}, not {wanted(case[name], inputs)[:300]!r}")
     if "stdout_first" in case and (ran.stdout or b"").split(b"\n")[0] != case["stdout_first"].encode():
         bad.append(f"first line {ran.stdout[:100]!r}, not {case['stdout_first']!r}")
     return bad
