@@ -19,7 +19,7 @@ pub use expansion::expand;
 pub use node::{Node, root};
 pub use outcome::Outcome;
 pub use report::Report;
-pub use search::search_alone;
+pub use search::{MAX_TAKES, search_alone};
 
 #[cfg(test)]
 mod examples;

@@ -6,7 +6,7 @@ use Rattle.branching.specs.Subproblem.{Subproblem}
 use Rattle.branching.specs.Pairs.{ordered_pairs}
 use Rattle.branching.proofs.Cover.{some_kept}
 use Rattle.network.proofs.Running.{running_below, running_rising}
-use Rattle.branching.proofs.Together.{run_together, forbidden_together, new_pairs, named_pairs, few_pairs, fair_kids}
+use Rattle.branching.proofs.Together.{run_together, forbidden_together, new_pairs, named_pairs, few_pairs, report_kids}
 use Rattle.branching.proofs.expansion.report_kids.Goals as goal
 
 pub shrink-requires-clause-running : goal.shrink-requires-clause-running
@@ -40,8 +40,8 @@ new-requires c =
     let most : length (ordered_pairs c.in_ok-set.set.members) ≤ 999000 = few_pairs node.project c.args.overload.now.resource c.in_ok-set.set.members c.requires.limits together in
     let few : length (map arc_value c.in_ok-kids.kids.items) ≤ 999000 = omega (arith, length-map c.in_ok-kids.kids.items arc_value, c.in_ok-kids.ensures.few, ap length pairs) in
     rw c.in_ok-try_clone.ensures
-    (fair_kids node c.args.ceiling c.as_slice.result.now _
+    (report_kids node c.args.ceiling c.as_slice.result.now _
     (rw c.deref-3.ensures at c.in_ok-kids.ensures.kids)
     (rw c.deref-3.ensures at c.in_ok-kids.ensures.covers)
     (rw pairs (some_kept node.project c.args.overload.now.resource c.in_ok-set.set.members together))
-    few)
+    few c.in_ok-kids.ensures.under)
