@@ -3,6 +3,7 @@ use Rattle.std.specs.Prelude.{◌≡◌, ◌≤◌, ℤ, ◌<ℤ◌, Option, IfS
 use Rattle.std.specs.List.{All, Any}
 use Rattle.network.specs.declared.lag.Pair.{Pair}
 use Rattle.network.specs.Schedule.{ScheduleOf, Keeps, IsLeastSchedule, makespan}
+use Rattle.branching.specs.declared.report.TheConstants.{MAX_KIDS}
 use Rattle.branching.specs.Subproblem.{Subproblem, NodeStandsFor, IsNode}
 
 -- what a `Report` is: a node, the ceiling it was expanded under, a schedule if one was found, and kids
@@ -48,7 +49,7 @@ pub record IsFair (report : Expansion) : Type 0 where
   pub of_found : IfSome report.found (IsFoundFor report.node)
   pub of_kids : All (IsKidOf report.node) report.kids
   pub covers : (s : List ℤ) → NodeStandsFor report.node s → IsBelow report.ceiling s → IsShorterThan report.found s → Any (λ kid. NodeStandsFor kid s) report.kids
-  pub few : length report.kids ≤ 999000
+  pub few : length report.kids ≤ MAX_KIDS
 
 -- what a `Report` keeps: it is fair, each kid's bound is below the ceiling, and where a schedule is found
 -- there are no kids

@@ -18,7 +18,7 @@ mod search;
 pub use expansion::expand;
 pub use node::{Node, root};
 pub use outcome::Outcome;
-pub use report::Report;
+pub use report::{MAX_KIDS, Report};
 pub use search::{MAX_TAKES, search_alone};
 
 #[cfg(test)]

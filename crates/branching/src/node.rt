@@ -87,6 +87,13 @@ impl Node {
         self.bound
     }
 
+    /// The matrix of the project and the pairs, of which the bound is.
+    pub fn matrix(&self) -> &Matrix
+        ensures { IsTiedTo self.now result.now }
+    {
+        &self.matrix
+    }
+
     /// The starts of the least schedule that keeps the pairs, in periods.
     pub(crate) fn least_starts(&self, alloc: Global) -> Result<Vec<i64>, AllocError>
         ensures { IfOk result (λ starts. AreEarliest self.now.project self.now.pairs starts.items) }

@@ -6,12 +6,15 @@ use network::Schedule;
 use std::marker::Model;
 use std::sync::Arc;
 
+/// How many kids a node has at most: an ordered pair of two of 1,000 activities each.
+pub const MAX_KIDS: usize = 999_000;
+
 /// What the expansion of a node gave: a schedule, or kids that stand for all that is left.
 ///
 /// A report is fair: what is found is a schedule that the node stands for; each kid adds pairs at the
 /// end of the node's, the first of which the node's least schedule doesn't keep; and each schedule that
 /// the node stands for, below the ceiling and shorter than what is found, is one that some kid stands
-/// for. There are at most 999,000 kids. Besides, each kid's bound is below the ceiling, and where a
+/// for. There are at most [`MAX_KIDS`] kids. Besides, each kid's bound is below the ceiling, and where a
 /// schedule is found there are no kids.
 #[derive(Drop, Debug)]
 pub struct Report {
@@ -78,7 +81,7 @@ impl Report {
         self.found.as_ref()
     }
 
-    /// The kids, by rising pairs; at most 999,000.
+    /// The kids, by rising pairs; at most [`MAX_KIDS`].
     pub fn kids(&self) -> &[Arc<Node>]
         ensures kids { map arc_value result.now ≡ self.now.kids }
         ensures report { IsReport self.now }

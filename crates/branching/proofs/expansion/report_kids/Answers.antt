@@ -3,6 +3,7 @@ use Rattle.std.specs.Arc.{arc_value}
 use Rattle.std.proofs.lemmas.List.{length-map}
 use Rattle.network.specs.Forbidden.{IsMinimalForbidden}
 use Rattle.branching.specs.Subproblem.{Subproblem}
+use Rattle.branching.specs.declared.report.TheConstants.{MAX_KIDS}
 use Rattle.branching.specs.Pairs.{ordered_pairs}
 use Rattle.branching.proofs.Cover.{some_kept}
 use Rattle.network.proofs.Running.{running_below, running_rising}
@@ -36,9 +37,9 @@ new-requires c =
     let pairs : c.as_slice.result.now ≡ ordered_pairs c.in_ok-set.set.members = c.as_slice.ensures.value ∙ c.in_ok-pairs.ensures ∙ ap ordered_pairs c.members.ensures.members in
     let minimal : IsMinimalForbidden node.project c.args.overload.now.resource c.in_ok-set.set.members = rw same at c.in_ok-set.ensures.minimal in
     let run = run_together node.project c.args.starts.now c.args.overload.now.time _ c.in_ok-set.set.members c.requires.running c.in_ok-set.ensures.running in
-    let together = forbidden_together node.project c.args.starts.now c.args.overload.now.time c.args.overload.now.resource c.in_ok-set.set.members c.requires.first.least_resource.in_range run c.in_ok-set.ensures.rising minimal.forbidden in
-    let most : length (ordered_pairs c.in_ok-set.set.members) ≤ 999000 = few_pairs node.project c.args.overload.now.resource c.in_ok-set.set.members c.requires.limits together in
-    let few : length (map arc_value c.in_ok-kids.kids.items) ≤ 999000 = omega (arith, length-map c.in_ok-kids.kids.items arc_value, c.in_ok-kids.ensures.few, ap length pairs) in
+    let together = forbidden_together node.project c.args.starts.now c.args.overload.now.time c.args.overload.now.resource c.in_ok-set.set.members c.requires.first.least_resource.in_range run minimal.rising minimal.forbidden in
+    let most : length (ordered_pairs c.in_ok-set.set.members) ≤ MAX_KIDS = few_pairs node.project c.args.overload.now.resource c.in_ok-set.set.members c.requires.limits together in
+    let few : length (map arc_value c.in_ok-kids.kids.items) ≤ MAX_KIDS = omega (arith, length-map c.in_ok-kids.kids.items arc_value, c.in_ok-kids.ensures.few, ap length pairs) in
     rw c.in_ok-try_clone.ensures
     (report_kids node c.args.ceiling c.as_slice.result.now _
     (rw c.deref-3.ensures at c.in_ok-kids.ensures.kids)
