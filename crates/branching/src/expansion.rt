@@ -7,7 +7,7 @@ ghost use Rattle.network.specs.Schedule.{Keeps, IsWithinCapacities, running};
 ghost use Rattle.earliest.specs.Starts.{AreEarliest};
 ghost use Rattle.profile.specs.Overloads.{IsFirstOverload};
 ghost use Rattle.branching.specs.Subproblem.{NodeStandsFor};
-ghost use Rattle.branching.specs.Fair.{IsBelow, IsUnder, IsNewTo, IsKidOf, IsReportOn};
+ghost use Rattle.branching.specs.Fair.{IsBelow, IsUnder, IsNewTo, IsKidOf, IsReport, IsReportOn};
 
 use crate::fate::{Fate, fate_of, is_over};
 use crate::node::Node;
@@ -61,6 +61,26 @@ fn report_found(
     Ok(Report::new(node, ceiling, Some(schedule), Vec::new(alloc)))
 }
 
+/// The kids of a node whose least schedule has this first overload: they stand for all that is left.
+fn kids_at(
+    alloc: Global,
+    node: &Arc<Node>,
+    ceiling: Option<i64>,
+    starts: &[i64],
+    overload: &Overload,
+) -> Result<Vec<Arc<Node>>, AllocError>
+    requires limits { IsProject (arc_value node.now).project }
+    requires earliest { AreEarliest (arc_value node.now).project (arc_value node.now).pairs starts.now }
+    requires first { IsFirstOverload (arc_value node.now).project starts.now overload.now.time overload.now.resource }
+    requires running { overload.now.running.items ≡ running (arc_value node.now).project starts.now overload.now.time }
+    ensures { IfOk result (λ kids. IsReport (record { node = arc_value node.now; ceiling = ceiling; found = None; kids = map arc_value kids.items })) }
+{
+    let set = shrink(alloc, node.project(), overload)?;
+    let pairs = ordered_pairs(alloc, set.members())?;
+    let kids = kids_of(alloc, node, ceiling, pairs.as_slice())?;
+    Ok(kids)
+}
+
 /// The report on a node whose least schedule has this first overload.
 fn report_kids(
     alloc: Global,
@@ -75,9 +95,7 @@ fn report_kids(
     requires running { overload.now.running.items ≡ running (arc_value node.now).project starts.now overload.now.time }
     ensures { IfOk result (IsReportOn (arc_value node.now) ceiling) }
 {
-    let set = shrink(alloc, node.project(), overload)?;
-    let pairs = ordered_pairs(alloc, set.members())?;
-    let kids = kids_of(alloc, node, ceiling, pairs.as_slice())?;
+    let kids = kids_at(alloc, node, ceiling, starts, overload)?;
     Ok(Report::new(Arc::try_clone(node)?, ceiling, None, kids))
 }
 

@@ -22,6 +22,4 @@ pub use report::{MAX_KIDS, Report};
 pub use search::{MAX_TAKES, search_alone};
 
 #[cfg(test)]
-mod examples;
-#[cfg(test)]
 mod tests;

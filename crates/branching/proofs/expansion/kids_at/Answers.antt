@@ -8,7 +8,7 @@ use Rattle.branching.specs.Pairs.{ordered_pairs}
 use Rattle.branching.proofs.Cover.{some_kept}
 use Rattle.network.proofs.Running.{running_below, running_rising}
 use Rattle.branching.proofs.Together.{run_together, forbidden_together, new_pairs, named_pairs, few_pairs, report_kids}
-use Rattle.branching.proofs.expansion.report_kids.Goals as goal
+use Rattle.branching.proofs.expansion.kids_at.Goals as goal
 
 pub shrink-requires-clause-running : goal.shrink-requires-clause-running
 shrink-requires-clause-running c =
@@ -30,8 +30,8 @@ kids_of-requires-clause-new c =
     let together = run_together (arc_value c.args.node.now).project c.args.starts.now c.args.overload.now.time _ c.in_ok-set.set.members c.requires.running c.in_ok-set.ensures.running in
     rw (c.deref-3.ensures, pairs) (new_pairs (arc_value c.args.node.now) c.args.starts.now c.args.overload.now.time c.in_ok-set.set.members c.requires.earliest.least together)
 
-pub new-requires : goal.new-requires
-new-requires c =
+pub returns : goal.returns
+returns c =
     let node : Subproblem = arc_value c.args.node.now in
     let same : c.deref-2.result.now ≡ node.project = c.deref-2.ensures ∙ c.project.ensures.project ∙ ap (λ (n : Subproblem). n.project) c.deref.ensures in
     let pairs : c.as_slice.result.now ≡ ordered_pairs c.in_ok-set.set.members = c.as_slice.ensures.value ∙ c.in_ok-pairs.ensures ∙ ap ordered_pairs c.members.ensures.members in
@@ -40,9 +40,8 @@ new-requires c =
     let together = forbidden_together node.project c.args.starts.now c.args.overload.now.time c.args.overload.now.resource c.in_ok-set.set.members c.requires.first.least_resource.in_range run minimal.rising minimal.forbidden in
     let most : length (ordered_pairs c.in_ok-set.set.members) ≤ MAX_KIDS = few_pairs node.project c.args.overload.now.resource c.in_ok-set.set.members c.requires.limits together in
     let few : length (map arc_value c.in_ok-kids.kids.items) ≤ MAX_KIDS = omega (arith, length-map c.in_ok-kids.kids.items arc_value, c.in_ok-kids.ensures.few, ap length pairs) in
-    rw c.in_ok-try_clone.ensures
-    (report_kids node c.args.ceiling c.as_slice.result.now _
+    report_kids node c.args.ceiling c.as_slice.result.now _
     (rw c.deref-3.ensures at c.in_ok-kids.ensures.kids)
     (rw c.deref-3.ensures at c.in_ok-kids.ensures.covers)
     (rw pairs (some_kept node.project c.args.overload.now.resource c.in_ok-set.set.members together))
-    few c.in_ok-kids.ensures.under)
+    few c.in_ok-kids.ensures.under
