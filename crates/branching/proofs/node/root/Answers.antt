@@ -1,11 +1,9 @@
-use Rattle.std.proofs.Common.{sym, subst, ◌<◌, rules, [], w64}
+use Rattle.std.proofs.Common.{sym, subst, rules, [], w64}
 use Rattle.std.proofs.lemmas.Int.{to_z-of_z}
-use Rattle.std.proofs.lemmas.List.Elements.{All-nil}
 use mir.Val.{SFits}
 use Rattle.std.specs.Arc.{arc_value}
-use Rattle.network.specs.declared.lag.Pair.{Pair}
 use Rattle.network.specs.Limits.{IsProject}
-use Rattle.network.specs.Problem.{Problem, activity_count, arcs_of, NameActivities}
+use Rattle.network.specs.Problem.{Problem, activity_count, arcs_of}
 use Rattle.network.specs.Walk.{IsMatrixOf}
 use Rattle.bounds.specs.Bound.{IsMatrixFor, IsBoundOf, IsTrueBoundFor}
 use Rattle.branching.proofs.Nodes.{tied_root, no_pairs}
