@@ -16,9 +16,9 @@ mod load;
 mod sweep;
 mod window;
 
+pub use energy_value::energy;
 use longest_path::Matrix;
 use network::Project;
-pub use energy_value::energy;
 use std::alloc::{AllocError, Global};
 
 /// The greatest weight from the start to the end in periods: the least makespan where resources
