@@ -10,5 +10,5 @@ pub mod Orders
 pub mod Ranks
 pub mod Terms
 pub mod Greatest
-pub mod Limits
+pub mod LoadLimits
 pub mod Energies

@@ -1,30 +1,31 @@
 //! Lower bounds of the makespans of the schedules that a node stands for.
 //!
 //! [`critical`] is the greatest weight from the start to the end, [`energy`] looks at how much work
-//! of one resource has to be done between two times (energetic reasoning, Erschler, Lopez and
-//! Thuriot 1991), and [`bound`] is the greater of both.
+//! of one resource has to be done between a head and a tail, by the activities that lie there whole
+//! (in the manner of Carlier's bound by heads, work and tails of subsets: The one-machine sequencing
+//! problem, 1982), and [`bound`] is the greater of both.
 #![tactic(auto)]
 
 ghost use Rattle.std.specs.Prelude.{◌≡◌, IfOk};
 ghost use Rattle.network.specs.Problem.{Problem};
-ghost use Rattle.network.specs.Limits.{IsProject};
 ghost use Rattle.bounds.specs.Bound.{critical_weight, IsMatrixFor, IsTrueBoundFor, IsBoundOf};
 
+mod energy_value;
+mod limits;
 mod load;
-mod resources;
 mod sweep;
 mod window;
 
+pub use energy_value::energy;
 use longest_path::Matrix;
 use network::Project;
-pub use resources::energy;
 use std::alloc::{AllocError, Global};
 
 /// The greatest weight from the start to the end in periods: the least makespan where resources
 /// don't count. Takes no memory.
 pub fn critical(matrix: &Matrix) -> i64
     ensures value { result ≡ critical_weight matrix.now }
-    ensures holds { (p : Problem) → IsProject p → IsTrueBoundFor p matrix.now result }
+    ensures holds { (p : Problem) → IsTrueBoundFor p matrix.now result }
 {
     match matrix.activity_count().checked_sub(1) {
         Some(end) => matrix.get(0, end).unwrap_or(0),

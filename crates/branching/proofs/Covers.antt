@@ -1,37 +1,60 @@
--- The steps of a search keep that the nodes cover, and none left proves the best.
-use Rattle.std.proofs.Common.{◌≡◌, refl, sym, ◌∙◌, subst, List, [], ◌∷◌, ◌++◌, get_or, ◌⊎◌, ⊎_elim, arith, Option, Some, None}
-use Rattle.std.specs.Prelude.{ℤ, ◌≤ℤ◌, ◌<ℤ◌, IfSome}
+-- The steps of a search keep that its nodes cover what is shorter than its best.
+use Rattle.std.proofs.Common.{◌≡◌, sym, ◌∙◌, subst, inl, inr, append_assoc, append-nil, List, [], ◌∷◌, ◌++◌, get_or, ◌⊎◌, ⊎_elim, arith, Option, Some, None}
+use Rattle.std.specs.Prelude.{ℤ, ◌≤ℤ◌, IfSome}
 use Rattle.std.specs.List.{All, Any}
-use Rattle.std.proofs.lemmas.Int.{ints, by_lt_z}
-use Rattle.std.proofs.lemmas.List.Elements.{All-nil, All-cons, All-push, All-append, All-contains, All-weaker, Contains-append_left, Contains-push, Contains-get_or}
-use Rattle.network.specs.Problem.{Problem, arcs_of}
+use Rattle.std.proofs.lemmas.Int.{ints}
+use Rattle.std.proofs.lemmas.List.Quantifiers.{Any-push}
+use Rattle.std.proofs.lemmas.List.Elements.{All-nil, All-cons, All-push, All-append, All-contains, All-weaker, Contains-append_left, Contains-append_right, Contains-push, Contains-get_or}
+use Rattle.network.specs.Problem.{Problem}
 use Rattle.network.specs.Schedule.{ScheduleOf, IsFeasible, Keeps, makespan}
-use Rattle.network.specs.Verdict.{HasNoSchedule}
-use Rattle.network.specs.Walk.{HasPositiveCycle}
-use Rattle.network.proofs.Schedules.{no_schedule_on_cycle}
 use Rattle.branching.specs.Subproblem.{Subproblem, NodeStandsFor}
-use Rattle.branching.specs.Fair.{Expansion, IsFair, IsBelow, IsShorterThan, IsFoundFor, IsKidOf}
-use Rattle.branching.specs.Covered.{IsNodeOf, IsScheduleFor, IsCovered, AreBoundedBy, ceiling_of}
-use Rattle.branching.specs.Verdicts.{IsOptimal, IsStoppedAt}
-use Rattle.branching.proofs.Lists.{here, any_cases, any_left, any_right}
+use Rattle.branching.specs.Fair.{Expansion, IsFair, IsBelow, IsUnder, IsShorterThan, IsFoundFor, IsKidOf}
+use Rattle.branching.specs.Covered.{IsNodeOf, IsRootOf, IsScheduleFor, IsCovered, IsLeastBound, SearchState, IsSoundState, ceiling_of}
+use Rattle.branching.specs.Takes.{DropsOver, IsShorterOf, IsTake}
+use Rattle.branching.proofs.Lists.{here, any_cases, any_parts, any_left, any_right}
 
 all_left : {X : Type 0} (P : X → Type 0) (xs ys : List X) → All P (xs ++ ys) → All P xs
 all_left P xs ys all k d l = All-contains P (xs ++ ys) (get_or xs k d) all (Contains-append_left xs ys (get_or xs k d) (Contains-get_or xs k d l))
 
--- a node whose bound is not below the best's makespan may be left out
-pub cut_keeps : (p : Problem) (best : ScheduleOf) (nodes : List Subproblem) (node : Subproblem) → makespan best.starts ≤ℤ node.bound → IsCovered p (Some best) (nodes ++ node ∷ []) → IsCovered p (Some best) nodes
-cut_keeps p best nodes node high covered = record {
-  of_best = covered.of_best;
-  of_nodes = all_left (IsNodeOf p) nodes (node ∷ []) covered.of_nodes;
-  covers = λ s feasible shorter.
-      ⊎_elim
-      (λ (early : Any (λ n. NodeStandsFor n s) nodes). early)
-      (λ (last : NodeStandsFor node s).
-      let known : IsNodeOf p node = All-contains (IsNodeOf p) (nodes ++ node ∷ []) node covered.of_nodes (Contains-push nodes node) in
-      let bound : node.bound ≤ℤ makespan s = known.is_node.true_bound s last in
-      absurd (omega (arith, ints, shorter)))
-      (any_cases (λ n. NodeStandsFor n s) nodes node (covered.covers s feasible shorter));
+all_right : {X : Type 0} (P : X → Type 0) (xs ys : List X) → All P (xs ++ ys) → All P ys
+all_right P xs ys all k d l = All-contains P (xs ++ ys) (get_or ys k d) all (Contains-append_right xs ys (get_or ys k d) (Contains-get_or ys k d l))
+
+-- where a schedule is shorter than the best, a bound that is at most its makespan is below the best's
+pub under_best : (best : Option ScheduleOf) (bound : ℤ) (s : List ℤ) → bound ≤ℤ makespan s → IsShorterThan best s → IsUnder (ceiling_of best) bound
+under_best None bound s low shorter = tt
+under_best (Some best) bound s low shorter = omega (arith, ints, shorter)
+
+-- a node that is not below the best stands for no shorter schedule
+pub none_stands : (p : Problem) (best : Option ScheduleOf) (nodes : List Subproblem) → All (IsNodeOf p) nodes → All (λ node. ¬ IsUnder (ceiling_of best) node.bound) nodes → (s : List ℤ) → IsShorterThan best s → Any (λ node. NodeStandsFor node s) nodes → ⊥
+none_stands p best nodes known over s shorter (k, node, l, e, stands) =
+    let is : IsNodeOf p node = All-contains (IsNodeOf p) nodes node known (k, l, e) in
+    All-contains (λ (n : Subproblem). ¬ IsUnder (ceiling_of best) n.bound) nodes node over (k, l, e) (under_best best node.bound s (is.is_node.true_bound s stands) shorter)
+
+-- nodes that are not below the best may be left out
+pub drops_keep : (p : Problem) (best : Option ScheduleOf) (old new : List Subproblem) → DropsOver (ceiling_of best) old new → IsCovered p best old → IsCovered p best new
+drops_keep p best old new drops covered =
+    let nodes : All (IsNodeOf p) (new ++ drops.dropped) = rw drops.from_end at covered.of_nodes in
+    record {
+      of_best = covered.of_best;
+      of_nodes = all_left (IsNodeOf p) new drops.dropped nodes;
+      covers = λ s feasible shorter.
+          let some : Any (λ n. NodeStandsFor n s) (new ++ drops.dropped) = rw drops.from_end at covered.covers s feasible shorter in
+          ⊎_elim
+          (λ (kept : Any (λ n. NodeStandsFor n s) new). kept)
+          (λ (late : Any (λ n. NodeStandsFor n s) drops.dropped). absurd (none_stands p best drops.dropped (all_right (IsNodeOf p) new drops.dropped nodes) drops.over s shorter late))
+          (any_parts (λ n. NodeStandsFor n s) new drops.dropped some);
+    }
+
+-- one node more was dropped
+pub drop_one : (ceiling : Option ℤ) (old new : List Subproblem) (node : Subproblem) → ¬ IsUnder ceiling node.bound → DropsOver ceiling old (new ++ node ∷ []) → DropsOver ceiling old new
+drop_one ceiling old new node over drops = record {
+  dropped = node ∷ drops.dropped;
+  from_end = drops.from_end ∙ append_assoc new (node ∷ []) drops.dropped;
+  over = All-cons (λ (n : Subproblem). ¬ IsUnder ceiling n.bound) node drops.dropped over drops.over;
 }
+
+pub drop_none : (ceiling : Option ℤ) (nodes : List Subproblem) → DropsOver ceiling nodes nodes
+drop_none ceiling nodes = record { dropped = []; from_end = simp append-nil; over = All-nil (λ (n : Subproblem). ¬ IsUnder ceiling n.bound) }
 
 below_from_shorter : (best : Option ScheduleOf) (ceiling : Option ℤ) (s : List ℤ) → ceiling ≡ ceiling_of best → IsShorterThan best s → IsBelow ceiling s
 below_from_shorter None ceiling s e shorter = rw e tt
@@ -52,101 +75,74 @@ best_after p best (Some s) found node e of_best of_found from =
     as_schedule f = record { project = f.project ∙ e; feasible = subst (λ (q : Problem). IsFeasible q s.starts) e f.stands.feasible }
 
 -- a node may be replaced by the kids of a fair report under the best, once what was found is counted
-pub expansion_keeps : (p : Problem) (best after : Option ScheduleOf) (nodes : List Subproblem) (report : Expansion) → IsFair report → report.ceiling ≡ ceiling_of best → ((s : List ℤ) → IsShorterThan after s → IsShorterThan best s) → ((s : List ℤ) → IsShorterThan after s → IsShorterThan report.found s) →
-    IfSome after (λ s. (Some s ≡ best) ⊎ (Some s ≡ report.found)) → IsCovered p best (nodes ++ report.node ∷ []) → IsCovered p after (nodes ++ report.kids)
-expansion_keeps p best after nodes report fair ceiling than_best than_found from covered =
+pub expansion_keeps : (p : Problem) (best after : Option ScheduleOf) (nodes : List Subproblem) (report : Expansion) → IsFair report → report.ceiling ≡ ceiling_of best → IsShorterOf best report.found after → IsCovered p best (nodes ++ report.node ∷ []) → IsCovered p after (nodes ++ report.kids)
+expansion_keeps p best after nodes report fair ceiling shorter_of covered =
     let known : IsNodeOf p report.node = All-contains (IsNodeOf p) (nodes ++ report.node ∷ []) report.node covered.of_nodes (Contains-push nodes report.node) in
     record {
-      of_best = best_after p best after report.found report.node known.project covered.of_best fair.of_found from;
+      of_best = best_after p best after report.found report.node known.project covered.of_best fair.of_found shorter_of.from;
       of_nodes = All-append (IsNodeOf p) nodes report.kids (all_left (IsNodeOf p) nodes (report.node ∷ []) covered.of_nodes) (All-weaker (IsKidOf report.node) (IsNodeOf p) (λ kid k. kid_is_node p report.node kid known.project k) report.kids fair.of_kids);
       covers = λ s feasible shorter.
-          let before : IsShorterThan best s = than_best s shorter in
+          let before : IsShorterThan best s = shorter_of.than_best s shorter in
           ⊎_elim
           (λ (early : Any (λ n. NodeStandsFor n s) nodes). any_left (λ n. NodeStandsFor n s) nodes report.kids early)
-          (λ (last : NodeStandsFor report.node s). any_right (λ n. NodeStandsFor n s) nodes report.kids (fair.covers s last (below_from_shorter best report.ceiling s ceiling before) (than_found s shorter)))
+          (λ (last : NodeStandsFor report.node s). any_right (λ n. NodeStandsFor n s) nodes report.kids (fair.covers s last (below_from_shorter best report.ceiling s ceiling before) (shorter_of.than_found s shorter)))
           (any_cases (λ n. NodeStandsFor n s) nodes report.node (covered.covers s feasible before));
     }
 
 -- the root stands for every feasible schedule
-pub root_covers : (p : Problem) (root : Subproblem) → IsNodeOf p root → root.pairs ≡ [] → IsCovered p None (root ∷ [])
-root_covers p root known none = record {
+pub root_covers : (p : Problem) (root : Subproblem) → IsRootOf p root → IsCovered p None (root ∷ [])
+root_covers p root is_root = record {
   of_best = tt;
-  of_nodes = All-cons (IsNodeOf p) root [] known (All-nil (IsNodeOf p));
+  of_nodes = All-cons (IsNodeOf p) root [] is_root.of_project (All-nil (IsNodeOf p));
   covers = λ s feasible shorter.
-      let all : NodeStandsFor root s = rw (none, known.project) (record { feasible = feasible; keeps = All-nil (Keeps p s) }) in
+      let all : NodeStandsFor root s = rw (is_root.no_pairs, is_root.of_project.project) (record { feasible = feasible; keeps = All-nil (Keeps p s) }) in
       let first = here root [] in
       (first.0, root, first.1, first.2, all);
 }
 
--- ---- what a cover proves
-
--- a bound below which no node's is holds of each schedule that is shorter than the best
-bound_holds : (p : Problem) (best : Option ScheduleOf) (nodes : List Subproblem) (bound : ℤ) → IsCovered p best nodes → All (λ node. bound ≤ℤ node.bound) nodes → (s : List ℤ) → IsFeasible p s → IsShorterThan best s → bound ≤ℤ makespan s
-bound_holds p best nodes bound covered low s feasible shorter = by_node (covered.covers s feasible shorter)
-  where
-    by_node : Any (λ n. NodeStandsFor n s) nodes → bound ≤ℤ makespan s
-    by_node (k, node, l, e, stands) =
-        let known : IsNodeOf p node = All-contains (IsNodeOf p) nodes node covered.of_nodes (k, l, e) in
-        let above : node.bound ≤ℤ makespan s = known.is_node.true_bound s stands in
-        let below : bound ≤ℤ node.bound = All-contains (λ (n : Subproblem). bound ≤ℤ n.bound) nodes node low (k, l, e) in
-        omega (arith, ints)
-
-pub stopped_none : (p : Problem) (nodes : List Subproblem) (bound : ℤ) → IsCovered p None nodes → All (λ node. bound ≤ℤ node.bound) nodes → IsStoppedAt p None bound
-stopped_none p nodes bound covered low = record {
-  found = tt;
-  below_best = tt;
-  holds = λ s feasible. bound_holds p None nodes bound covered low s feasible tt;
-}
-
-pub stopped_some : (p : Problem) (best : ScheduleOf) (nodes : List Subproblem) (bound : ℤ) → IsCovered p (Some best) nodes → All (λ node. bound ≤ℤ node.bound) nodes → bound <ℤ makespan best.starts → IsStoppedAt p (Some best) bound
-stopped_some p best nodes bound covered low below = record {
-  found = covered.of_best;
-  below_best = below;
-  holds = λ s feasible.
-      by_lt_z (makespan s) (makespan best.starts)
-      (λ shorter. bound_holds p (Some best) nodes bound covered low s feasible shorter)
-      (λ longer. omega (arith, ints));
-}
-
--- where no bound is below the best's makespan, the best is shortest
-pub optimal : (p : Problem) (best : ScheduleOf) (nodes : List Subproblem) (bound : ℤ) → IsCovered p (Some best) nodes → All (λ node. bound ≤ℤ node.bound) nodes → makespan best.starts ≤ℤ bound → IsOptimal p best
-optimal p best nodes bound covered low high = record {
-  found = covered.of_best;
-  shortest = record {
-    witness = (best.starts, covered.of_best.feasible, refl);
-    bound = λ s feasible.
-        by_lt_z (makespan s) (makespan best.starts)
-        (λ shorter. let least : bound ≤ℤ makespan s = bound_holds p (Some best) nodes bound covered low s feasible shorter in omega (arith, ints))
-        (λ longer. longer);
-  };
-}
-
-nothing_stands : (s : List ℤ) → Any (λ n. NodeStandsFor n s) [] → ⊥
-nothing_stands s (k, x, l, e, p) = omega arith
-
-pub optimal_at_end : (p : Problem) (best : ScheduleOf) → IsCovered p (Some best) [] → IsOptimal p best
-optimal_at_end p best covered = record {
-  found = covered.of_best;
-  shortest = record {
-    witness = (best.starts, covered.of_best.feasible, refl);
-    bound = λ s feasible.
-        by_lt_z (makespan s) (makespan best.starts)
-        (λ shorter. absurd (nothing_stands s (covered.covers s feasible shorter)))
-        (λ longer. longer);
-  };
-}
-
-pub none_at_end : (p : Problem) → IsCovered p None [] → HasNoSchedule p
-none_at_end p covered s feasible = nothing_stands s (covered.covers s feasible tt)
-
-pub none_on_cycle : (p : Problem) → HasPositiveCycle (arcs_of p []) → HasNoSchedule p
-none_on_cycle p cycle s feasible = no_schedule_on_cycle p [] s cycle feasible.schedule (All-nil (Keeps p s))
+-- a take keeps the search sound
+pub take_keeps : (old new : SearchState) → IsTake old new → IsSoundState old → IsSoundState new
+take_keeps old new take sound =
+    let reached : IsCovered old.project old.best (take.rest ++ take.node ∷ []) = drops_keep old.project old.best old.nodes (take.rest ++ take.node ∷ []) take.last_under sound in
+    let covered : IsCovered old.project old.best (take.rest ++ take.report.node ∷ []) = rw take.expanded.node_is reached in
+    rw (take.project, take.nodes) (expansion_keeps old.project old.best new.best take.rest take.report take.is_report.fair take.expanded.ceiling_is take.best covered)
 
 -- ---- the least bound of the nodes
 
-pub lower_all : (least : Option ℤ) (lower bound : ℤ) (nodes : List Subproblem) (node : Subproblem) → AreBoundedBy least nodes → IfSome least (λ least. lower ≤ℤ least) → lower ≤ℤ bound → bound ≡ node.bound → AreBoundedBy (Some lower) (nodes ++ node ∷ [])
-lower_all None lower bound nodes node none than_least than_bound same =
-    let Low : Subproblem → Type 0 = λ (n : Subproblem). lower ≤ℤ n.bound in
-    rw none (All-cons Low node [] (omega (arith, ints)) (All-nil Low))
-lower_all (Some least) lower bound nodes node all than_least than_bound same =
-    All-push (λ (n : Subproblem). lower ≤ℤ n.bound) nodes node (All-weaker (λ (n : Subproblem). least ≤ℤ n.bound) (λ (n : Subproblem). lower ≤ℤ n.bound) (λ n h. omega (arith, ints)) nodes all) (omega (arith, ints))
+least_of_one : (bound : ℤ) (node : Subproblem) → bound ≡ node.bound → IsLeastBound (node ∷ []) bound
+least_of_one bound node same =
+    let first = here node [] in
+    record {
+      of_some = (first.0, node, first.1, first.2, sym same);
+      least = All-cons (λ (n : Subproblem). bound ≤ℤ n.bound) node [] (omega (arith, ints)) (All-nil (λ (n : Subproblem). bound ≤ℤ n.bound));
+    }
+
+-- the lesser of the least so far and the bound of one node more
+least_of_more : (least lower : ℤ) (nodes : List Subproblem) (node : Subproblem) → IsLeastBound nodes least → lower ≤ℤ least → lower ≤ℤ node.bound → (lower ≡ node.bound) ⊎ (lower ≡ least) → IsLeastBound (nodes ++ node ∷ []) lower
+least_of_more least lower nodes node so_far than_least than_bound from = record {
+  of_some =
+      ⊎_elim
+      (λ (new : lower ≡ node.bound). Any-push (λ (n : Subproblem). n.bound ≡ lower) nodes node (sym new))
+      (λ (old : lower ≡ least). any_left (λ (n : Subproblem). n.bound ≡ lower) nodes (node ∷ []) (rw old so_far.of_some))
+      from;
+  least = All-push (λ (n : Subproblem). lower ≤ℤ n.bound) nodes node (All-weaker (λ (n : Subproblem). least ≤ℤ n.bound) (λ (n : Subproblem). lower ≤ℤ n.bound) (λ n h. omega (arith, ints)) nodes so_far.least) than_bound;
+}
+
+-- what is known of the least bound so far
+abbrev pub LeastSoFar : List Subproblem → Option ℤ → Type 0
+LeastSoFar nodes None = nodes ≡ []
+LeastSoFar nodes (Some least) = IsLeastBound nodes least
+
+pub lower_all : (least : Option ℤ) (lower bound : ℤ) (nodes : List Subproblem) (node : Subproblem) → LeastSoFar nodes least → IfSome least (λ least. lower ≤ℤ least) → lower ≤ℤ bound → (lower ≡ bound) ⊎ (Some lower ≡ least) → bound ≡ node.bound → IsLeastBound (nodes ++ node ∷ []) lower
+lower_all None lower bound nodes node none than_least than_bound from same =
+    rw none
+    (⊎_elim
+    (λ (new : lower ≡ bound). least_of_one lower node (new ∙ same))
+    (λ (old : Some lower ≡ None). absurd cc)
+    from)
+lower_all (Some least) lower bound nodes node so_far than_least than_bound from same =
+    least_of_more least lower nodes node so_far than_least (rw same at than_bound)
+    (⊎_elim
+    (λ (new : lower ≡ bound). inl (new ∙ same))
+    (λ (old : Some lower ≡ Some least). inr cc)
+    from)

@@ -5,3 +5,4 @@ pub mod Together
 pub mod Nodes
 pub mod Kids
 pub mod Covers
+pub mod Outcomes

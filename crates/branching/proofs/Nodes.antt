@@ -1,16 +1,18 @@
 -- What a node's matrix says: of the schedules that keep its pairs, and of one pair more.
 use Rattle.std.proofs.Common.{◌≡◌, refl, sym, ap, subst, ℕ, ◌-◌, ◌<◌, ◌≤◌, arith, ℤ, pos, ◌+ℤ◌, ◌≤ℤ◌, ◌<ℤ◌, List, [], ◌∷◌, ◌++◌, length, Option, None, Some, true}
 use Rattle.std.specs.Option.{unwrap_or}
-use Rattle.std.specs.Prelude.{IfSome, FitsSigned}
+use Rattle.std.specs.Prelude.{IfSome, FitsSigned, neg_ℤ}
 use Rattle.std.specs.Int.{w64}
 use Rattle.std.specs.Int.Signed.{lt_z}
 use Rattle.std.proofs.lemmas.Int.{ints}
 use Rattle.std.proofs.lemmas.List.Elements.{All-nil, All-head, All-push}
 use Rattle.network.specs.declared.lag.Pair.{Pair}
 use Rattle.network.specs.Problem.{Problem, activity_count, end_of, duration, pair_arc, arcs_of, NameActivities}
-use Rattle.network.specs.Limits.{IsProject, IsAmount}
+use Rattle.network.specs.Limits.{IsProject, IsAmount, IsWithin}
+use Rattle.network.specs.ProjectMatrix.{IsProjectMatrix}
+use Rattle.network.specs.declared.limits.TheConstants.{MAX_AMOUNT, MAX_LAG_WEIGHT, MAX_WALK_WEIGHT}
 use Rattle.network.specs.Schedule.{start, makespan, IsSchedule, Keeps, KeepsAll}
-use Rattle.network.specs.Walk.{weight, entry, IsWithin, IsMatrixOf, IsGreatestWeight, HasPositiveCycle}
+use Rattle.network.specs.Walk.{Rows, weight, entry, IsMatrixOf, IsGreatestWeight, HasPositiveCycle}
 use Rattle.network.specs.Verdict.{StandsFor}
 use Rattle.network.proofs.Schedules.{walk_holds, arcs_met, arcs_of-push}
 use Rattle.longest_path.specs.Insert.{AddsArc, ClosesCycle}
@@ -22,11 +24,11 @@ use Rattle.branching.specs.Subproblem.{Subproblem, IsNode, IsTiedTo}
 use Rattle.branching.specs.Fate.{IsMatrixWith}
 
 -- what a node's type keeps is what it hands out
-pub is_node : (node : Subproblem) (rows : List (List (Option ℤ))) → IsTiedTo node rows → IsNode node
+pub is_node : (node : Subproblem) (rows : Rows) → IsTiedTo node rows → IsNode node
 is_node node rows tied = record {
-  limits = tied.limits;
-  named = tied.named;
-  is_live = tied.matrix.no_cycle;
+  limits = tied.matrix.limits;
+  named = tied.matrix.named;
+  is_live = tied.matrix.matrix.no_cycle;
   bound_of = record { rows = rows; matrix = tied.matrix; bound_of = tied.bound_of };
   true_bound = tied.true_bound;
 }
@@ -36,7 +38,7 @@ pub ends_of : (p : Problem) (pair : Pair) → NameActivities p (pair ∷ []) →
 ends_of p pair named = All-head (λ (q : Pair). (q.before < activity_count p) × (q.after < activity_count p)) pair [] named
 
 -- an entry holds of each schedule that keeps the pairs
-pub entry_holds : (p : Problem) (pairs : List Pair) (rows : List (List (Option ℤ))) → IsMatrixOf (activity_count p) (arcs_of p pairs) rows → (a b : ℕ) (w : ℤ) → a < activity_count p → b < activity_count p → entry rows a b ≡ Some w →
+pub entry_holds : (p : Problem) (pairs : List Pair) (rows : Rows) → IsMatrixOf (activity_count p) (arcs_of p pairs) rows → (a b : ℕ) (w : ℤ) → a < activity_count p → b < activity_count p → entry rows a b ≡ Some w →
     (s : List ℤ) → IsSchedule p s → KeepsAll p s pairs → (start s a +ℤ w) ≤ℤ start s b
 entry_holds p pairs rows m a b w la lb e s is keeps =
     let at : IsGreatestWeight (arcs_of p pairs) a b (Some w) = rw e at (m.greatest a b la lb) in
@@ -45,7 +47,7 @@ entry_holds p pairs rows m a b w la lb e s is keeps =
     omega (arith, ints)
 
 -- a way back that is too long for the pair's first activity closes a positive walk
-pub closes_over : (p : Problem) (pairs : List Pair) (pair : Pair) (rows : List (List (Option ℤ))) (back : ℤ) → NameActivities p (pair ∷ []) → IsMatrixOf (activity_count p) (arcs_of p pairs) rows → entry rows pair.after pair.before ≡ Some back → pos 0 <ℤ (back +ℤ duration p pair.before) →
+pub closes_over : (p : Problem) (pairs : List Pair) (pair : Pair) (rows : Rows) (back : ℤ) → NameActivities p (pair ∷ []) → IsMatrixOf (activity_count p) (arcs_of p pairs) rows → entry rows pair.after pair.before ≡ Some back → pos 0 <ℤ (back +ℤ duration p pair.before) →
     HasPositiveCycle (arcs_of p (pairs ++ pair ∷ []))
 closes_over p pairs pair rows back named m e positive =
     let ends = ends_of p pair named in
@@ -54,23 +56,24 @@ closes_over p pairs pair rows back named m e positive =
     rw (arcs_of-push p pairs pair) (pair.before, found.0, found.1)
 
 -- the matrix with the pair's arc is that of the pairs and the pair
-pub matrix_with : (node : Subproblem) (pair : Pair) (old new : List (List (Option ℤ))) → IsTiedTo node old → NameActivities node.project (pair ∷ []) → AddsArc (pair_arc node.project pair) old new → IsMatrixWith node pair new
+pub matrix_with : (node : Subproblem) (pair : Pair) (old new : Rows) → IsTiedTo node old → NameActivities node.project (pair ∷ []) → AddsArc (pair_arc node.project pair) old new → IsMatrixWith node pair new
 matrix_with node pair old new tied named adds =
-    let long : length old ≡ activity_count node.project = tied.matrix.square.0 in
-    let more = adds (arcs_of node.project node.pairs) (rw long tied.matrix) in
+    let long : length old ≡ activity_count node.project = tied.matrix.matrix.square.0 in
+    let more = adds (arcs_of node.project node.pairs) (rw long tied.matrix.matrix) in
     record {
-      named = All-push (λ (q : Pair). (q.before < activity_count node.project) × (q.after < activity_count node.project)) node.pairs pair tied.named (ends_of node.project pair named);
+      limits = tied.matrix.limits;
+      named = All-push (λ (q : Pair). (q.before < activity_count node.project) × (q.after < activity_count node.project)) node.pairs pair tied.matrix.named (ends_of node.project pair named);
       matrix = rw (arcs_of-push node.project node.pairs pair) (rw long at more);
     }
 
-pub closes_with : (p : Problem) (pairs : List Pair) (pair : Pair) (old : List (List (Option ℤ))) → IsMatrixOf (activity_count p) (arcs_of p pairs) old → ClosesCycle (pair_arc p pair) old → HasPositiveCycle (arcs_of p (pairs ++ pair ∷ []))
+pub closes_with : (p : Problem) (pairs : List Pair) (pair : Pair) (old : Rows) → IsMatrixOf (activity_count p) (arcs_of p pairs) old → ClosesCycle (pair_arc p pair) old → HasPositiveCycle (arcs_of p (pairs ++ pair ∷ []))
 closes_with p pairs pair old m closes =
     let long : length old ≡ activity_count p = m.square.0 in
     let found = closes (arcs_of p pairs) (rw long m) in
     rw (arcs_of-push p pairs pair) (pair.before, found.0, found.1)
 
 -- a schedule that keeps the pair lasts at least the way to it, its first activity, and the way from it
-pub least_with_holds : (p : Problem) (pairs : List Pair) (pair : Pair) (rows : List (List (Option ℤ))) → IsProject p → NameActivities p (pair ∷ []) → IsMatrixOf (activity_count p) (arcs_of p pairs) rows → (s : List ℤ) → StandsFor p pairs s → Keeps p s pair →
+pub least_with_holds : (p : Problem) (pairs : List Pair) (pair : Pair) (rows : Rows) → IsProject p → NameActivities p (pair ∷ []) → IsMatrixOf (activity_count p) (arcs_of p pairs) rows → (s : List ℤ) → StandsFor p pairs s → Keeps p s pair →
     ((unwrap_or (entry rows 0 pair.before) (pos 0) +ℤ duration p pair.before) +ℤ unwrap_or (entry rows pair.after (end_of p)) (pos 0)) ≤ℤ makespan s
 least_with_holds p pairs pair rows is named m s stands keeps =
     let ends = ends_of p pair named in
@@ -86,62 +89,62 @@ least_with_holds p pairs pair rows is named m s stands keeps =
     let whole : start s (end_of p) ≡ makespan s = ap (λ n. start s (n - 1)) (sym stands.feasible.schedule.whole) in
     rw (head.is, rest.is) (omega (arith, ints))
 
-pub amount_within : (z : ℤ) → IsAmount z → IsWithin 1000000 z
+pub amount_within : (z : ℤ) → IsAmount z → IsWithin MAX_LAG_WEIGHT z
 amount_within z amount =
-    let low : pos 0 ≤ℤ z = amount.above in
-    let high : z ≤ℤ pos 1000000 = amount.below in
-    record { above = high; below = omega (arith, ints) }
+    let low : pos 0 ≤ℤ z = amount.at_least in
+    let high : z ≤ℤ MAX_AMOUNT = amount.at_most in
+    record { at_least = omega (arith, ints); at_most = high }
 
 -- ---- the same, of the value of a node
 
-pub tied_along : (node value : Subproblem) (rows : List (List (Option ℤ))) → node ≡ value → IsTiedTo node rows → IsTiedTo value rows
+pub tied_along : (node value : Subproblem) (rows : Rows) → node ≡ value → IsTiedTo node rows → IsTiedTo value rows
 tied_along node value rows view tied = subst (λ (v : Subproblem). IsTiedTo v rows) view tied
 
 -- both activities of the pair have a row and a column
-pub rows_of : (node : Subproblem) (rows : List (List (Option ℤ))) (pair : Pair) → IsTiedTo node rows → NameActivities node.project (pair ∷ []) → (pair.before < length rows) × (pair.after < length rows)
+pub rows_of : (node : Subproblem) (rows : Rows) (pair : Pair) → IsTiedTo node rows → NameActivities node.project (pair ∷ []) → (pair.before < length rows) × (pair.after < length rows)
 rows_of node rows pair tied named =
     let ends = ends_of node.project pair named in
-    let long : length rows ≡ activity_count node.project = tied.matrix.square.0 in
+    let long : length rows ≡ activity_count node.project = tied.matrix.matrix.square.0 in
     rw long ends
 
-pub weight_within : (o : Option ℤ) → IfSome o (λ w. IsWithin 1003000000 w) → IsWithin 1003000000 (unwrap_or o (pos 0))
-weight_within None within = record { above = omega (arith, ints); below = omega (arith, ints) }
+pub weight_within : (o : Option ℤ) → IfSome o (λ w. IsWithin MAX_WALK_WEIGHT w) → IsWithin MAX_WALK_WEIGHT (unwrap_or o (pos 0))
+weight_within None within = record { at_least = omega (arith, ints); at_most = omega (arith, ints) }
 weight_within (Some w) within = within
 
-pub sum_fits : (x y : ℤ) → IsWithin 1003000000 x → IsAmount y → FitsSigned w64 (x +ℤ y)
+pub sum_fits : (x y : ℤ) → IsWithin MAX_WALK_WEIGHT x → IsAmount y → FitsSigned w64 (x +ℤ y)
 sum_fits x y within amount =
-    let up : x ≤ℤ pos 1003000000 = within.above in
-    let down : pos 0 ≤ℤ (x +ℤ pos 1003000000) = within.below in
-    let low : pos 0 ≤ℤ y = amount.above in
-    let high : y ≤ℤ pos 1000000 = amount.below in
+    let up : x ≤ℤ MAX_WALK_WEIGHT = within.at_most in
+    let down : neg_ℤ MAX_WALK_WEIGHT ≤ℤ x = within.at_least in
+    let low : pos 0 ≤ℤ y = amount.at_least in
+    let high : y ≤ℤ MAX_AMOUNT = amount.at_most in
     omega (arith, ints)
 
-pub sums_fit : (x y z : ℤ) → IsWithin 1003000000 x → IsAmount y → IsWithin 1003000000 z → FitsSigned w64 ((x +ℤ y) +ℤ z)
+pub sums_fit : (x y z : ℤ) → IsWithin MAX_WALK_WEIGHT x → IsAmount y → IsWithin MAX_WALK_WEIGHT z → FitsSigned w64 ((x +ℤ y) +ℤ z)
 sums_fit x y z within amount within_z =
-    let up : x ≤ℤ pos 1003000000 = within.above in
-    let down : pos 0 ≤ℤ (x +ℤ pos 1003000000) = within.below in
-    let low : pos 0 ≤ℤ y = amount.above in
-    let high : y ≤ℤ pos 1000000 = amount.below in
-    let up_z : z ≤ℤ pos 1003000000 = within_z.above in
-    let down_z : pos 0 ≤ℤ (z +ℤ pos 1003000000) = within_z.below in
+    let up : x ≤ℤ MAX_WALK_WEIGHT = within.at_most in
+    let down : neg_ℤ MAX_WALK_WEIGHT ≤ℤ x = within.at_least in
+    let low : pos 0 ≤ℤ y = amount.at_least in
+    let high : y ≤ℤ MAX_AMOUNT = amount.at_most in
+    let up_z : z ≤ℤ MAX_WALK_WEIGHT = within_z.at_most in
+    let down_z : neg_ℤ MAX_WALK_WEIGHT ≤ℤ z = within_z.at_least in
     omega (arith, ints)
 
 pub positive_from : (x : ℤ) → lt_z (pos 0) x ≡ true → pos 0 <ℤ x
 positive_from x h = grind (arith, ints)
 
 -- the node with one pair more, by the matrix with the pair's arc
-pub tied_with : (node : Subproblem) (pair : Pair) (old rows : List (List (Option ℤ))) (bound : ℤ) → IsTiedTo node old → IsMatrixWith node pair rows → IsBoundOf node.project rows bound → IsTrueBoundFor node.project rows bound →
+pub tied_with : (node : Subproblem) (pair : Pair) (old rows : Rows) (bound : ℤ) → IsTiedTo node old → IsMatrixWith node pair rows → IsBoundOf node.project rows bound → IsTrueBoundFor node.project rows bound →
     IsTiedTo (record { project = node.project; pairs = node.pairs ++ pair ∷ []; bound = bound }) rows
 tied_with node pair old rows bound tied with_pair bound_of holds = record {
-  limits = tied.limits;
-  named = with_pair.named;
-  matrix = with_pair.matrix;
+  matrix = with_pair;
   bound_of = bound_of;
-  true_bound = holds (node.pairs ++ pair ∷ []) with_pair.named with_pair.matrix;
+  true_bound = holds (node.pairs ++ pair ∷ []) with_pair;
 }
 
 -- the node without pairs
-pub tied_root : (p : Problem) (rows : List (List (Option ℤ))) (bound : ℤ) → IsProject p → IsMatrixOf (activity_count p) (arcs_of p []) rows → IsBoundOf p rows bound → IsTrueBoundFor p rows bound → IsTiedTo (record { project = p; pairs = []; bound = bound }) rows
-tied_root p rows bound is m bound_of holds =
-    let named : NameActivities p [] = All-nil (λ (q : Pair). (q.before < activity_count p) × (q.after < activity_count p)) in
-    record { limits = is; named = named; matrix = m; bound_of = bound_of; true_bound = holds [] named m }
+pub tied_root : (p : Problem) (rows : Rows) (bound : ℤ) → IsProjectMatrix p [] rows → IsBoundOf p rows bound → IsTrueBoundFor p rows bound → IsTiedTo (record { project = p; pairs = []; bound = bound }) rows
+tied_root p rows bound m bound_of holds = record { matrix = m; bound_of = bound_of; true_bound = holds [] m }
+
+-- the matrix of the project's rules, with no pair
+pub no_pairs : (p : Problem) (rows : Rows) → IsProject p → IsMatrixOf (activity_count p) (arcs_of p []) rows → IsProjectMatrix p [] rows
+no_pairs p rows is m = record { limits = is; named = All-nil (λ (q : Pair). (q.before < activity_count p) × (q.after < activity_count p)); matrix = m }

@@ -1,6 +1,6 @@
 -- What the overload of a least schedule gives: members of a forbidden set that take time, and ordered
 -- pairs that are new to the node.
-use Rattle.std.proofs.Common.{◌≡◌, sym, ap, ℕ, ◌-◌, ◌<◌, ◌≤◌, true, ◌&&◌, List, [], ◌∷◌, length, get_or, arith, Option, Some, None}
+use Rattle.std.proofs.Common.{◌≡◌, refl, sym, ap, ℕ, ◌-◌, ◌<◌, ◌≤◌, true, ◌&&◌, List, [], ◌∷◌, length, get_or, arith, Option, Some, None}
 use Rattle.std.specs.Prelude.{ℤ, pos, ◌+ℤ◌, ◌≤ℤ◌, ◌<ℤ◌, int_le, int_lt}
 use Rattle.std.specs.List.{All, Any, Contains}
 use Rattle.std.specs.List.Sorted.{IsStrictlyIncreasing}
@@ -10,11 +10,13 @@ use Rattle.std.proofs.Math.Nat.{mul-le-mul_left, mul-le-mul_right}
 use Rattle.network.specs.declared.lag.Pair.{Pair}
 use Rattle.network.specs.Forbidden.{IsForbidden}
 use Rattle.network.specs.Limits.{IsProject}
+use Rattle.network.specs.declared.limits.TheConstants.{MAX_ACTIVITIES}
 use Rattle.network.proofs.Running.{running_below}
 use Rattle.network.specs.Problem.{Problem, activity_count, end_of, resource_count, activities, duration, NameActivities}
 use Rattle.network.specs.Schedule.{start, makespan, is_running, running, Keeps, IsFeasible, IsWithinCapacities, IsLeastSchedule, ScheduleOf}
 use Rattle.branching.specs.Subproblem.{Subproblem, NodeStandsFor}
-use Rattle.branching.specs.Fair.{IsFair, IsBelow, IsNewTo, IsKidOf}
+use Rattle.branching.specs.Fair.{IsReport, IsBelow, IsUnder, IsNewTo, IsKidOf}
+use Rattle.branching.specs.declared.report.TheConstants.{MAX_KIDS}
 use Rattle.branching.specs.Pairs.{pair_of, ordered_pairs}
 use Rattle.branching.proofs.Lists.{here, BeginsFrom, rising_length}
 use Rattle.branching.proofs.OrderedPairs.{all_pairs, count_pairs}
@@ -87,12 +89,12 @@ lies_between : (p : Problem) (i : ℕ) → IsProject p → i < activity_count p 
 lies_between p i is known long =
     let start_none : duration p 0 ≡ pos 0 = is.start_is_dummy.no_time in
     let end_none : duration p (end_of p) ≡ pos 0 = is.end_is_dummy.no_time in
-    let few : activity_count p ≤ 1002 = is.activity_limit in
+    let few : activity_count p ≤ MAX_ACTIVITIES = is.activity_limit in
     let not_start : i ≡ 0 → ⊥ = λ e. let same : duration p i ≡ duration p 0 = ap (duration p) e in omega (arith, ints) in
     let not_end : i ≡ end_of p → ⊥ = λ e. let same : duration p i ≡ duration p (end_of p) = ap (duration p) e in omega (arith, ints) in
     (omega (arith, not_start), omega (arith, not_end))
 
-pub few_pairs : (p : Problem) (k : ℕ) (set : List ℕ) → IsProject p → AreForbiddenTogether p k set → length (ordered_pairs set) ≤ 999000
+pub few_pairs : (p : Problem) (k : ℕ) (set : List ℕ) → IsProject p → AreForbiddenTogether p k set → length (ordered_pairs set) ≤ MAX_KIDS
 few_pairs p k set is together =
     let between : (i : ℕ) → Contains set i → (1 ≤ i) × (i < 1001) = λ i c.
     lies_between p i is (All-contains (λ a. a < activity_count p) set i together.known c) (All-contains (λ a. pos 0 <ℤ duration p a) set i together.take_time c) in
@@ -104,34 +106,46 @@ few_pairs p k set is together =
     begins [] h = tt
     begins (x ∷ xs) h = h x (here x xs)
 
--- ---- fair reports
+-- ---- reports
 
-pub fair_cut : (node : Subproblem) (ceiling : Option ℤ) → ((s : List ℤ) → NodeStandsFor node s → ¬ IsBelow ceiling s) → IsFair (record { node = node; ceiling = ceiling; found = None; kids = [] })
-fair_cut node ceiling none = record {
-  of_found = tt;
-  of_kids = All-nil (IsKidOf node);
-  covers = λ s stands below shorter. absurd (none s stands below);
-  few = omega arith;
+pub report_cut : (node : Subproblem) (ceiling : Option ℤ) → ((s : List ℤ) → NodeStandsFor node s → ¬ IsBelow ceiling s) → IsReport (record { node = node; ceiling = ceiling; found = None; kids = [] })
+report_cut node ceiling none = record {
+  fair = record {
+    of_found = tt;
+    of_kids = All-nil (IsKidOf node);
+    covers = λ s stands below shorter. absurd (none s stands below);
+    few = omega arith;
+  };
+  under = All-nil (λ (kid : Subproblem). IsUnder ceiling kid.bound);
+  found_alone = tt;
 }
 
-pub fair_found : (node : Subproblem) (ceiling : Option ℤ) (found : ScheduleOf) → found.project ≡ node.project → IsLeastSchedule node.project node.pairs found.starts → IsWithinCapacities node.project found.starts → 2 ≤ activity_count node.project → IsFair (record { node = node; ceiling = ceiling; found = Some found; kids = [] })
-fair_found node ceiling found project least within two = record {
-  of_found = record { project = project; stands = record { feasible = record { schedule = least.schedule; within = within }; keeps = least.keeps } };
-  of_kids = All-nil (IsKidOf node);
-  covers = λ s stands below shorter.
-      let last : end_of node.project < activity_count node.project = omega arith in
-      let long : start found.starts (end_of node.project) ≤ℤ start s (end_of node.project) = least.least s stands.feasible.schedule stands.keeps (end_of node.project) last in
-      let here : start found.starts (end_of node.project) ≡ makespan found.starts = ap (λ n. start found.starts (n - 1)) (sym least.schedule.whole) in
-      let there : start s (end_of node.project) ≡ makespan s = ap (λ n. start s (n - 1)) (sym stands.feasible.schedule.whole) in
-      absurd (omega (arith, ints, shorter));
-  few = omega arith;
+pub report_found : (node : Subproblem) (ceiling : Option ℤ) (found : ScheduleOf) → found.project ≡ node.project → IsLeastSchedule node.project node.pairs found.starts → IsWithinCapacities node.project found.starts → 2 ≤ activity_count node.project → IsReport (record { node = node; ceiling = ceiling; found = Some found; kids = [] })
+report_found node ceiling found project least within two = record {
+  fair = record {
+    of_found = record { project = project; stands = record { feasible = record { schedule = least.schedule; within = within }; keeps = least.keeps } };
+    of_kids = All-nil (IsKidOf node);
+    covers = λ s stands below shorter.
+        let last : end_of node.project < activity_count node.project = omega arith in
+        let long : start found.starts (end_of node.project) ≤ℤ start s (end_of node.project) = least.least s stands.feasible.schedule stands.keeps (end_of node.project) last in
+        let here : start found.starts (end_of node.project) ≡ makespan found.starts = ap (λ n. start found.starts (n - 1)) (sym least.schedule.whole) in
+        let there : start s (end_of node.project) ≡ makespan s = ap (λ n. start s (n - 1)) (sym stands.feasible.schedule.whole) in
+        absurd (omega (arith, ints, shorter));
+    few = omega arith;
+  };
+  under = All-nil (λ (kid : Subproblem). IsUnder ceiling kid.bound);
+  found_alone = refl;
 }
 
 -- a report with nothing found is fair where some pair is always kept
-pub fair_kids : (node : Subproblem) (ceiling : Option ℤ) (pairs : List Pair) (kids : List Subproblem) → All (IsKidOf node) kids → ((s : List ℤ) → NodeStandsFor node s → IsBelow ceiling s → Any (Keeps node.project s) pairs → Any (λ kid. NodeStandsFor kid s) kids) → ((s : List ℤ) → IsFeasible node.project s → Any (Keeps node.project s) pairs) → length kids ≤ 999000 → IsFair (record { node = node; ceiling = ceiling; found = None; kids = kids })
-fair_kids node ceiling pairs kids of_node covers kept few = record {
-  of_found = tt;
-  of_kids = of_node;
-  covers = λ s stands below shorter. covers s stands below (kept s stands.feasible);
-  few = few;
+pub report_kids : (node : Subproblem) (ceiling : Option ℤ) (pairs : List Pair) (kids : List Subproblem) → All (IsKidOf node) kids → ((s : List ℤ) → NodeStandsFor node s → IsBelow ceiling s → Any (Keeps node.project s) pairs → Any (λ kid. NodeStandsFor kid s) kids) → ((s : List ℤ) → IsFeasible node.project s → Any (Keeps node.project s) pairs) → length kids ≤ MAX_KIDS → All (λ kid. IsUnder ceiling kid.bound) kids → IsReport (record { node = node; ceiling = ceiling; found = None; kids = kids })
+report_kids node ceiling pairs kids of_node covers kept few under = record {
+  fair = record {
+    of_found = tt;
+    of_kids = of_node;
+    covers = λ s stands below shorter. covers s stands below (kept s stands.feasible);
+    few = few;
+  };
+  under = under;
+  found_alone = tt;
 }

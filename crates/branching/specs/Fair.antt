@@ -1,8 +1,9 @@
 -- What the expansion of a node gives, and when a report on it is fair.
-use Rattle.std.specs.Prelude.{◌≡◌, ◌≤◌, ℤ, ◌<ℤ◌, Option, IfSome, List, ◌∷◌, ◌++◌, length}
+use Rattle.std.specs.Prelude.{◌≡◌, ◌≤◌, ℤ, ◌<ℤ◌, Option, IfSome, List, [], ◌∷◌, ◌++◌, length}
 use Rattle.std.specs.List.{All, Any}
 use Rattle.network.specs.declared.lag.Pair.{Pair}
 use Rattle.network.specs.Schedule.{ScheduleOf, Keeps, IsLeastSchedule, makespan}
+use Rattle.branching.specs.declared.report.TheConstants.{MAX_KIDS}
 use Rattle.branching.specs.Subproblem.{Subproblem, NodeStandsFor, IsNode}
 
 -- what a `Report` is: a node, the ceiling it was expanded under, a schedule if one was found, and kids
@@ -48,4 +49,17 @@ pub record IsFair (report : Expansion) : Type 0 where
   pub of_found : IfSome report.found (IsFoundFor report.node)
   pub of_kids : All (IsKidOf report.node) report.kids
   pub covers : (s : List ℤ) → NodeStandsFor report.node s → IsBelow report.ceiling s → IsShorterThan report.found s → Any (λ kid. NodeStandsFor kid s) report.kids
-  pub few : length report.kids ≤ 999000
+  pub few : length report.kids ≤ MAX_KIDS
+
+-- what a `Report` keeps: it is fair, each kid's bound is below the ceiling, and where a schedule is found
+-- there are no kids
+pub record IsReport (report : Expansion) : Type 0 where
+  pub fair : IsFair report
+  pub under : All (λ kid. IsUnder report.ceiling kid.bound) report.kids
+  pub found_alone : IfSome report.found (λ found. report.kids ≡ [])
+
+-- a report on this node under this ceiling, which finds nothing but the node's least schedule
+pub record IsReportOn (node : Subproblem) (ceiling : Option ℤ) (report : Expansion) : Type 0 where
+  pub node_is : report.node ≡ node
+  pub ceiling_is : report.ceiling ≡ ceiling
+  pub found_is : IfSome report.found (λ found. IsLeastSchedule node.project node.pairs found.starts)

@@ -2,9 +2,10 @@
 use Rattle.std.specs.Prelude.{◌≡◌, ℤ, Option, List, [], ◌∷◌, ◌++◌}
 use Rattle.std.specs.Arc.{arc_value}
 use Rattle.network.specs.declared.lag.Pair.{Pair}
-use Rattle.network.specs.Problem.{activity_count, arcs_of, NameActivities}
+use Rattle.network.specs.Problem.{arcs_of}
+use Rattle.network.specs.ProjectMatrix.{IsProjectMatrix}
 use Rattle.network.specs.Schedule.{Keeps}
-use Rattle.network.specs.Walk.{IsMatrixOf, HasPositiveCycle}
+use Rattle.network.specs.Walk.{Rows, HasPositiveCycle}
 use Rattle.branching.specs.Subproblem.{Subproblem, NodeStandsFor, IsNode}
 use Rattle.branching.specs.Fair.{IsBelow, IsUnder}
 use Rattle.branching.specs.declared.fate.Fate.{Fate}
@@ -16,10 +17,9 @@ pub record IsNodeWith (node : Subproblem) (pair : Pair) (kid : Subproblem) : Typ
   pub pairs : kid.pairs ≡ node.pairs ++ pair ∷ []
   pub is_node : IsNode kid
 
--- the rows are the matrix of the node's arcs and the pair's
-pub record IsMatrixWith (node : Subproblem) (pair : Pair) (rows : List (List (Option ℤ))) : Type 0 where
-  pub named : NameActivities node.project (node.pairs ++ pair ∷ [])
-  pub matrix : IsMatrixOf (activity_count node.project) (arcs_of node.project (node.pairs ++ pair ∷ [])) rows
+-- the rows are the matrix of the node's project, its pairs and the pair
+abbrev pub IsMatrixWith : Subproblem → Pair → Rows → Type 0
+IsMatrixWith node pair rows = IsProjectMatrix node.project (node.pairs ++ pair ∷ []) rows
 
 -- the pair closes a walk of positive weight
 abbrev pub ClosesPositiveCycle : Subproblem → Pair → Type 0

@@ -5,5 +5,6 @@ pub mod Fate
 pub mod Fair
 pub mod ReportView
 pub mod Covered
+pub mod Takes
 pub mod Verdicts
 pub mod SearchView

@@ -1,9 +1,10 @@
 -- What a node of the search is: a project, the pairs that were added, and a lower bound.
-use Rattle.std.specs.Prelude.{ℤ, Option, List}
+use Rattle.std.specs.Prelude.{ℤ, List}
 use Rattle.network.specs.declared.lag.Pair.{Pair}
-use Rattle.network.specs.Problem.{Problem, activity_count, arcs_of, NameActivities}
+use Rattle.network.specs.Problem.{Problem, arcs_of, NameActivities}
+use Rattle.network.specs.ProjectMatrix.{IsProjectMatrix}
 use Rattle.network.specs.Limits.{IsProject}
-use Rattle.network.specs.Walk.{IsMatrixOf, HasNoPositiveCycle}
+use Rattle.network.specs.Walk.{Rows, HasNoPositiveCycle}
 use Rattle.network.specs.Verdict.{StandsFor, IsTrueBound}
 use Rattle.bounds.specs.Bound.{IsBoundOf}
 
@@ -22,8 +23,8 @@ HasTrueBound node = IsTrueBound node.project node.pairs node.bound
 
 -- the bound of the matrix of the project and the pairs
 pub record IsBoundOfPairs (p : Problem) (pairs : List Pair) (bound : ℤ) : Type 0 where
-  pub rows : List (List (Option ℤ))
-  pub matrix : IsMatrixOf (activity_count p) (arcs_of p pairs) rows
+  pub rows : Rows
+  pub matrix : IsProjectMatrix p pairs rows
   pub bound_of : IsBoundOf p rows bound
 
 -- no closed walk over the project's rules and the pairs has positive weight
@@ -39,9 +40,7 @@ pub record IsNode (node : Subproblem) : Type 0 where
   pub true_bound : HasTrueBound node
 
 -- the rows are the matrix of the node's project and pairs, and its bound is the matrix's
-pub record IsTiedTo (node : Subproblem) (rows : List (List (Option ℤ))) : Type 0 where
-  pub limits : IsProject node.project
-  pub named : NameActivities node.project node.pairs
-  pub matrix : IsMatrixOf (activity_count node.project) (arcs_of node.project node.pairs) rows
+pub record IsTiedTo (node : Subproblem) (rows : Rows) : Type 0 where
+  pub matrix : IsProjectMatrix node.project node.pairs rows
   pub bound_of : IsBoundOf node.project rows node.bound
   pub true_bound : HasTrueBound node

@@ -1,13 +1,13 @@
-ghost use Rattle.std.specs.Prelude.{◌≡◌, ◌<◌, ◌≤◌, ◌≤ℤ◌, ℤ, None, List, [], ◌∷◌, length, map, IfOk, IfSome};
+ghost use Rattle.std.specs.Prelude.{◌≡◌, ◌<◌, ◌≤◌, ◌≤ℤ◌, ℤ, None, List, [], ◌∷◌, length, map, IfOk};
 ghost use Rattle.std.specs.Arc.{arc_value};
 ghost use Rattle.std.specs.List.{All, Any};
 ghost use Rattle.network.specs.Limits.{IsProject};
 ghost use Rattle.network.specs.Problem.{NameActivities};
-ghost use Rattle.network.specs.Schedule.{Keeps, IsLeastSchedule, IsWithinCapacities, running};
+ghost use Rattle.network.specs.Schedule.{Keeps, IsWithinCapacities, running};
 ghost use Rattle.earliest.specs.Starts.{AreEarliest};
 ghost use Rattle.profile.specs.Overloads.{IsFirstOverload};
 ghost use Rattle.branching.specs.Subproblem.{NodeStandsFor};
-ghost use Rattle.branching.specs.Fair.{IsBelow, IsUnder, IsNewTo, IsKidOf};
+ghost use Rattle.branching.specs.Fair.{IsBelow, IsUnder, IsNewTo, IsKidOf, IsReport, IsReportOn};
 
 use crate::fate::{Fate, fate_of, is_over};
 use crate::node::Node;
@@ -53,15 +53,32 @@ fn report_found(
 ) -> Result<Report, AllocError>
     requires earliest { AreEarliest (arc_value node.now).project (arc_value node.now).pairs starts.items }
     requires within { IsWithinCapacities (arc_value node.now).project starts.items }
-    ensures node { IfOk result (λ report. report.node ≡ arc_value node.now) }
-    ensures ceiling { IfOk result (λ report. report.ceiling ≡ ceiling) }
-    ensures found { IfOk result (λ report. IfSome report.found (λ schedule. IsLeastSchedule (arc_value node.now).project (arc_value node.now).pairs schedule.starts)) }
-    ensures kids { IfOk result (λ report. report.kids ≡ []) }
+    ensures { IfOk result (IsReportOn (arc_value node.now) ceiling) }
 {
     let project = Arc::try_clone(node.project())?;
     let node = Arc::try_clone(node)?;
     let schedule = Schedule::of(project, starts);
     Ok(Report::new(node, ceiling, Some(schedule), Vec::new(alloc)))
+}
+
+/// The kids of a node whose least schedule has this first overload: they stand for all that is left.
+fn kids_at(
+    alloc: Global,
+    node: &Arc<Node>,
+    ceiling: Option<i64>,
+    starts: &[i64],
+    overload: &Overload,
+) -> Result<Vec<Arc<Node>>, AllocError>
+    requires limits { IsProject (arc_value node.now).project }
+    requires earliest { AreEarliest (arc_value node.now).project (arc_value node.now).pairs starts.now }
+    requires first { IsFirstOverload (arc_value node.now).project starts.now overload.now.time overload.now.resource }
+    requires running { overload.now.running.items ≡ running (arc_value node.now).project starts.now overload.now.time }
+    ensures { IfOk result (λ kids. IsReport (record { node = arc_value node.now; ceiling = ceiling; found = None; kids = map arc_value kids.items })) }
+{
+    let set = shrink(alloc, node.project(), overload)?;
+    let pairs = ordered_pairs(alloc, set.members())?;
+    let kids = kids_of(alloc, node, ceiling, pairs.as_slice())?;
+    Ok(kids)
 }
 
 /// The report on a node whose least schedule has this first overload.
@@ -76,14 +93,9 @@ fn report_kids(
     requires earliest { AreEarliest (arc_value node.now).project (arc_value node.now).pairs starts.now }
     requires first { IsFirstOverload (arc_value node.now).project starts.now overload.now.time overload.now.resource }
     requires running { overload.now.running.items ≡ running (arc_value node.now).project starts.now overload.now.time }
-    ensures node { IfOk result (λ report. report.node ≡ arc_value node.now) }
-    ensures ceiling { IfOk result (λ report. report.ceiling ≡ ceiling) }
-    ensures found { IfOk result (λ report. IfSome report.found (λ schedule. IsLeastSchedule (arc_value node.now).project (arc_value node.now).pairs schedule.starts)) }
-    ensures under { IfOk result (λ report. All (λ kid. IsUnder ceiling kid.bound) report.kids) }
+    ensures { IfOk result (IsReportOn (arc_value node.now) ceiling) }
 {
-    let set = shrink(alloc, node.project(), overload)?;
-    let pairs = ordered_pairs(alloc, set.members())?;
-    let kids = kids_of(alloc, node, ceiling, pairs.as_slice())?;
+    let kids = kids_at(alloc, node, ceiling, starts, overload)?;
     Ok(Report::new(Arc::try_clone(node)?, ceiling, None, kids))
 }
 
@@ -95,20 +107,16 @@ fn report_kids(
 /// is at least the ceiling. In a feasible schedule the members can't all run at the greatest of their
 /// starts, so that it keeps one of the pairs.
 pub fn expand(alloc: Global, node: &Arc<Node>, ceiling: Option<i64>) -> Result<Report, AllocError>
-    ensures node { IfOk result (λ report. report.node ≡ arc_value node.now) }
-    ensures ceiling { IfOk result (λ report. report.ceiling ≡ ceiling) }
-    ensures found { IfOk result (λ report. IfSome report.found (λ schedule. IsLeastSchedule (arc_value node.now).project (arc_value node.now).pairs schedule.starts)) }
+    ensures report { IfOk result (IsReportOn (arc_value node.now) ceiling) }
     ensures over { IfOk result (λ report. ¬ IsUnder ceiling (arc_value node.now).bound → (report.found ≡ None) × (report.kids ≡ [])) }
-    ensures under { IfOk result (λ report. All (λ kid. IsUnder ceiling kid.bound) report.kids) }
 {
     if is_over(node.bound(), ceiling) {
         let node = Arc::try_clone(node)?;
         return Ok(Report::new(node, ceiling, None, Vec::new(alloc)));
     }
     let starts = node.least_starts(alloc)?;
-    let report = match first_overload(alloc, node.project(), starts.as_slice())? {
-        Some(overload) => report_kids(alloc, node, ceiling, starts.as_slice(), &overload)?,
-        None => report_found(alloc, node, ceiling, starts)?,
-    };
-    Ok(report)
+    match first_overload(alloc, node.project(), starts.as_slice())? {
+        Some(overload) => report_kids(alloc, node, ceiling, starts.as_slice(), &overload),
+        None => report_found(alloc, node, ceiling, starts),
+    }
 }

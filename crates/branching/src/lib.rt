@@ -18,10 +18,8 @@ mod search;
 pub use expansion::expand;
 pub use node::{Node, root};
 pub use outcome::Outcome;
-pub use report::Report;
-pub use search::search_alone;
+pub use report::{MAX_KIDS, Report};
+pub use search::{MAX_TAKES, search_alone};
 
-#[cfg(test)]
-mod examples;
 #[cfg(test)]
 mod tests;

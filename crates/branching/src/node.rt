@@ -9,6 +9,7 @@ ghost use Rattle.longest_path.specs.Fault.{Explains};
 ghost use Rattle.earliest.specs.Starts.{AreEarliest};
 ghost use Rattle.bounds.specs.Bound.{IsBoundOf, IsTrueBoundFor};
 ghost use Rattle.branching.specs.Subproblem.{Subproblem, NodeStandsFor, IsNode, IsTiedTo};
+ghost use Rattle.branching.specs.Covered.{IsRootOf};
 ghost use Rattle.branching.specs.Fate.{IsNodeWith, IsMatrixWith, ClosesPositiveCycle};
 
 use longest_path::{Matrix, PathFault, longest};
@@ -84,6 +85,13 @@ impl Node {
         ensures is_node { IsNode self.now }
     {
         self.bound
+    }
+
+    /// The matrix of the project and the pairs, of which the bound is.
+    pub fn matrix(&self) -> &Matrix
+        ensures { IsTiedTo self.now result.now }
+    {
+        &self.matrix
     }
 
     /// The starts of the least schedule that keeps the pairs, in periods.
@@ -165,9 +173,7 @@ impl Node {
 /// [`PathFault::PositiveCycle`] comes exactly where the project's rules have a closed walk of
 /// positive weight, so that there is no schedule.
 pub fn root(alloc: Global, project: Arc<Project>) -> Result<Arc<Node>, PathFault>
-    ensures project { IfOk result (λ node. (arc_value node).project ≡ arc_value project) }
-    ensures pairs { IfOk result (λ node. (arc_value node).pairs ≡ []) }
-    ensures is_node { IfOk result (λ node. IsNode (arc_value node)) }
+    ensures root { IfOk result (λ node. IsRootOf (arc_value project) (arc_value node)) }
     ensures fault { IfErr result (λ fault. Explains (arcs_of (arc_value project) []) fault) }
 {
     prove!(project.activity_count() >= 2);

@@ -6,12 +6,16 @@ use network::Schedule;
 use std::marker::Model;
 use std::sync::Arc;
 
+/// How many kids a node has at most: an ordered pair of two of 1,000 activities each.
+pub const MAX_KIDS: usize = 999_000;
+
 /// What the expansion of a node gave: a schedule, or kids that stand for all that is left.
 ///
 /// A report is fair: what is found is a schedule that the node stands for; each kid adds pairs at the
 /// end of the node's, the first of which the node's least schedule doesn't keep; and each schedule that
 /// the node stands for, below the ceiling and shorter than what is found, is one that some kid stands
-/// for. There are at most 999,000 kids.
+/// for. There are at most [`MAX_KIDS`] kids. Besides, each kid's bound is below the ceiling, and where a
+/// schedule is found there are no kids.
 #[derive(Drop, Debug)]
 pub struct Report {
     node: Arc<Node>,
@@ -21,7 +25,7 @@ pub struct Report {
 }
 
 impl Model for Report {
-    ghost use Rattle.branching.specs.Fair.{Expansion, IsFair};
+    ghost use Rattle.branching.specs.Fair.{Expansion, IsReport};
 
     ghost Value = { Expansion };
 
@@ -29,11 +33,11 @@ impl Model for Report {
 
     ghost view = { expansion_of };
 
-    ghost invariant = { λ r. IsFair (expansion_of r) };
+    ghost invariant = { λ r. IsReport (expansion_of r) };
 }
 
 impl Report {
-    ghost use Rattle.branching.specs.Fair.{Expansion, IsFair};
+    ghost use Rattle.branching.specs.Fair.{Expansion, IsReport};
 
     /// A report of these parts.
     pub(crate) fn new(
@@ -42,7 +46,7 @@ impl Report {
         found: Option<Schedule>,
         kids: Vec<Arc<Node>>,
     ) -> Report
-        requires { IsFair (record { node = arc_value node; ceiling = ceiling; found = found; kids = map arc_value kids.items }) }
+        requires { IsReport (record { node = arc_value node; ceiling = ceiling; found = found; kids = map arc_value kids.items }) }
         ensures { result ≡ record { node = arc_value node; ceiling = ceiling; found = found; kids = map arc_value kids.items } }
     {
         Report {
@@ -56,7 +60,7 @@ impl Report {
     /// The node that was expanded.
     pub fn node(&self) -> &Arc<Node>
         ensures node { arc_value result.now ≡ self.now.node }
-        ensures fair { IsFair self.now }
+        ensures report { IsReport self.now }
     {
         &self.node
     }
@@ -64,7 +68,7 @@ impl Report {
     /// The ceiling that the node was expanded under, in periods; none where none was known.
     pub fn ceiling(&self) -> Option<i64>
         ensures ceiling { result ≡ self.now.ceiling }
-        ensures fair { IsFair self.now }
+        ensures report { IsReport self.now }
     {
         self.ceiling
     }
@@ -72,15 +76,15 @@ impl Report {
     /// The node's least schedule, where that is feasible.
     pub fn found(&self) -> Option<&Schedule>
         ensures found { option_map (λ schedule. schedule.now) result ≡ self.now.found }
-        ensures fair { IsFair self.now }
+        ensures report { IsReport self.now }
     {
         self.found.as_ref()
     }
 
-    /// The kids, by rising pairs; at most 999,000.
+    /// The kids, by rising pairs; at most [`MAX_KIDS`].
     pub fn kids(&self) -> &[Arc<Node>]
         ensures kids { map arc_value result.now ≡ self.now.kids }
-        ensures fair { IsFair self.now }
+        ensures report { IsReport self.now }
     {
         self.kids.as_slice()
     }
@@ -89,7 +93,7 @@ impl Report {
     pub fn into_parts(self) -> (Option<Schedule>, Vec<Arc<Node>>)
         ensures found { result.0 ≡ self.found }
         ensures kids { map arc_value result.1.items ≡ self.kids }
-        ensures fair { IsFair self }
+        ensures report { IsReport self }
     {
         let Report {
             node: _,

@@ -1,22 +1,20 @@
 ghost use Rattle.std.specs.Prelude.{◌<◌, ◌≤◌};
 
-use crate::examples::{backward_lag, both_orders_dead, lag, one_machine, project, three_on_two};
 use crate::{Node, Outcome, Report, expand, root, search_alone};
 use longest_path::PathFault;
-use network::{Pair, Project};
+use network::Project;
 use std::alloc::Global;
 use std::sync::Arc;
 use std::test::Fail;
-
-fn pair(before: usize, after: usize) -> Pair {
-    Pair { before, after }
-}
+use test_projects::{
+    backward_lag, both_orders_dead, lag, one_machine, pair, three_on_two, two_between,
+    with_one_resource,
+};
 
 /// What the expansion of a project's root gives.
-fn expand_root(alloc: Global, project: Arc<Project>, ceiling: Option<i64>) -> Result<Report, Fail> {
-    let root = root(alloc, project)?;
-    let report = expand(alloc, &root, ceiling)?;
-    Ok(report)
+fn expand_root(alloc: Global, project: Project, ceiling: Option<i64>) -> Result<Report, Fail> {
+    let root = root(alloc, Arc::new(alloc, project)?)?;
+    Ok(expand(alloc, &root, ceiling)?)
 }
 
 #[test]
@@ -53,7 +51,7 @@ fn dead_kids_are_left_out(rt: HostRuntime) -> Result<(), Fail> {
 
 #[test]
 fn a_set_of_one_has_no_kids(rt: HostRuntime) -> Result<(), Fail> {
-    let alone = project(rt.alloc(), &[0, 1, 0], &[0, 2, 0], 1, &[])?;
+    let alone = with_one_resource(rt.alloc(), &[0, 1, 0], &[0, 2, 0], 1, &[])?;
     let report = expand_root(rt.alloc(), alone, None)?;
     assert!(rt; report.found().is_none());
     assert!(rt; report.kids().is_empty());
@@ -83,7 +81,7 @@ fn three_members_have_six_kids(rt: HostRuntime) -> Result<(), Fail> {
 
 #[test]
 fn a_least_schedule_without_overload_is_found(rt: HostRuntime) -> Result<(), Fail> {
-    let apart = one_machine(rt.alloc(), &[lag(1, 2, 5)])?;
+    let apart = Arc::new(rt.alloc(), one_machine(rt.alloc(), &[lag(1, 2, 5)])?)?;
     let root = root(rt.alloc(), Arc::try_clone(&apart)?)?;
     assert!(rt; root.project() == &apart);
     let (found, kids) = expand(rt.alloc(), &root, None)?.into_parts();
@@ -97,7 +95,8 @@ fn a_least_schedule_without_overload_is_found(rt: HostRuntime) -> Result<(), Fai
 
 #[test]
 fn a_positive_cycle_has_no_root(rt: HostRuntime) -> Result<(), Fail> {
-    let cycle = one_machine(rt.alloc(), &[lag(1, 2, 5), lag(2, 1, -4)])?;
+    let lags = [lag(1, 2, 5), lag(2, 1, -4)];
+    let cycle = Arc::new(rt.alloc(), one_machine(rt.alloc(), &lags)?)?;
     match root(rt.alloc(), Arc::try_clone(&cycle)?) {
         Err(fault) => assert_eq!(rt; fault, PathFault::PositiveCycle { at: 2 }),
         Ok(_) => return Err("there is a root".into()),
@@ -109,8 +108,8 @@ fn a_positive_cycle_has_no_root(rt: HostRuntime) -> Result<(), Fail> {
 }
 
 /// The starts of the shortest schedule, empty where there is no schedule.
-fn shortest(alloc: Global, project: Arc<Project>) -> Result<Vec<i64>, Fail> {
-    match search_alone(alloc, &project, 1000)? {
+fn shortest(alloc: Global, project: Project) -> Result<Vec<i64>, Fail> {
+    match search_alone(alloc, &Arc::new(alloc, project)?, 1000)? {
         Outcome::Optimal(best) => Ok(Vec::from_slice(alloc, best.starts())?),
         Outcome::NoSchedule => Ok(Vec::new(alloc)),
         Outcome::Stopped { .. } => Err("the search was stopped".into()),
@@ -118,24 +117,17 @@ fn shortest(alloc: Global, project: Arc<Project>) -> Result<Vec<i64>, Fail> {
 }
 
 /// The best starts, empty where none were found, and the bound of a search that is stopped.
-fn stopped(alloc: Global, project: Arc<Project>, takes: u64) -> Result<(Vec<i64>, i64), Fail>
+fn stopped(alloc: Global, project: Project, takes: u64) -> Result<(Vec<i64>, i64), Fail>
     requires some { 0 < takes }
     requires few { takes ≤ 1000 }
 {
-    match search_alone(alloc, &project, takes)? {
+    match search_alone(alloc, &Arc::new(alloc, project)?, takes)? {
         Outcome::Stopped { best, bound } => match best {
             Some(best) => Ok((Vec::from_slice(alloc, best.starts())?, bound)),
             None => Ok((Vec::new(alloc), bound)),
         },
         _ => Err("the search was not stopped".into()),
     }
-}
-
-/// An activity, two after it that ask for the one unit of a resource, and one after these.
-fn two_between(alloc: Global) -> Result<Arc<Project>, Fail> {
-    let lags = [lag(1, 2, 5), lag(1, 3, 5), lag(2, 4, 4), lag(3, 4, 4)];
-    let project = project(alloc, &[0, 5, 4, 4, 3, 0], &[0, 0, 1, 1, 0, 0], 1, &lags)?;
-    Ok(project)
 }
 
 #[test]
@@ -159,7 +151,7 @@ fn shortest_schedules(rt: HostRuntime) -> Result<(), Fail> {
     );
     let between = shortest(alloc, two_between(alloc)?)?;
     assert_eq!(rt; between.as_slice(), [0, 0, 9, 5, 13, 16].as_slice());
-    let instant = project(alloc, &[0, 0, 0], &[0, 2, 0], 1, &[])?;
+    let instant = with_one_resource(alloc, &[0, 0, 0], &[0, 2, 0], 1, &[])?;
     assert_eq!(rt; shortest(alloc, instant)?.as_slice(), [0, 0, 0].as_slice());
     Ok(())
 }
@@ -170,7 +162,7 @@ fn projects_without_a_schedule(rt: HostRuntime) -> Result<(), Fail> {
     assert!(rt; shortest(alloc, both_orders_dead(alloc)?)?.is_empty());
     let too_late = one_machine(alloc, &[lag(3, 0, -6)])?;
     assert!(rt; shortest(alloc, too_late)?.is_empty());
-    let too_much = project(alloc, &[0, 1, 0], &[0, 2, 0], 1, &[])?;
+    let too_much = with_one_resource(alloc, &[0, 1, 0], &[0, 2, 0], 1, &[])?;
     assert!(rt; shortest(alloc, too_much)?.is_empty());
     Ok(())
 }
@@ -187,5 +179,27 @@ fn stopped_searches(rt: HostRuntime) -> Result<(), Fail> {
     let (best, bound) = stopped(alloc, two_between(alloc)?, 1)?;
     assert!(rt; best.is_empty());
     assert_eq!(rt; bound, 16);
+    Ok(())
+}
+
+#[test]
+fn two_takes_are_enough_for_two_activities(rt: HostRuntime) -> Result<(), Fail> {
+    let machine = Arc::new(rt.alloc(), one_machine(rt.alloc(), &[])?)?;
+    match search_alone(rt.alloc(), &machine, 2)? {
+        Outcome::Optimal(best) => assert_eq!(rt; best.makespan(), 7),
+        _ => return Err("the search was stopped".into()),
+    }
+    Ok(())
+}
+
+#[test]
+fn nine_activities_are_no_want_of_memory(rt: HostRuntime) -> Result<(), Fail> {
+    let alloc = rt.alloc();
+    let ones = [0, 1, 1, 1, 1, 1, 1, 1, 1, 1, 0];
+    let machine = with_one_resource(alloc, &ones, &ones, 1, &[])?;
+    let starts = shortest(alloc, machine)?;
+    assert_eq!(rt; starts.last(), Some(&9));
+    let eight_at_once = with_one_resource(alloc, &ones, &ones, 8, &[])?;
+    assert_eq!(rt; expand_root(alloc, eight_at_once, None)?.kids().len(), 72);
     Ok(())
 }

@@ -122,6 +122,7 @@ is_minimal_set resource capacity r R running numbers members demands shrunk em e
 
 pub is_minimal_forbidden : (P : Problem) (k : ℕ) (running members : List ℕ) → AreShrunk (demand P k) (capacity P k) running members → IsMinimalForbidden P k members
 is_minimal_forbidden P k running members shrunk = record {
+  rising = shrunk.rising;
   forbidden = shrunk.forbidden;
   minimal = minimal_from_needed (demand P k) (capacity P k) members shrunk.needed;
 }

@@ -1,7 +1,12 @@
--- What shrinking leaves of a forbidden set.
-use Rattle.std.specs.Prelude.{ℕ, ◌+◌, ◌<◌, ◌≤◌, List}
+-- In which order shrinking goes through a forbidden set, and what it leaves of it.
+use Rattle.std.specs.Prelude.{◌≡◌, ◌⊎◌, ℕ, ◌+◌, ◌<◌, ◌≤◌, List}
 use Rattle.std.specs.List.{All, Contains, sum_by}
 use Rattle.std.specs.List.Sorted.{IsStrictlyIncreasing}
+use Rattle.forbidden_sets.specs.declared.shrinking.Load.{Load}
+
+-- by rising demand, ties by rising number
+abbrev pub ComesBefore : Load → Load → Type 0
+ComesBefore x y = (x.demand < y.demand) ⊎ ((x.demand ≡ y.demand) × (x.activity ≤ y.activity))
 
 -- activities that run, rising, which exceed the capacity, and of which none can be spared
 pub record AreShrunk (r : ℕ → ℕ) (capacity : ℕ) (running members : List ℕ) : Type 0 where

@@ -5,8 +5,10 @@ ghost use Rattle.std.specs.List.Sorted.{IsStrictlyIncreasing};
 use smallvec::SmallVec;
 use std::marker::Model;
 
-/// Activities that together need more of a resource than there is, and without any one of them do not.
-#[derive(Drop)]
+/// Activities that together need more of a resource than there is, and without any one of them do not: a
+/// minimal forbidden set of Bartusch, Möhring and Radermacher (1988), but minimal for this one resource,
+/// where they mean all.
+#[derive(Drop, Debug)]
 pub struct ForbiddenSet {
     resource: usize,
     capacity: u64,
@@ -29,6 +31,7 @@ impl Model for ForbiddenSet {
 impl ForbiddenSet {
     ghost use Rattle.forbidden_sets.specs.MinimalSet.{MinimalSet, IsMinimalSet};
 
+    /// The set of these members and demands.
     pub(crate) fn new(
         resource: usize,
         capacity: u64,
@@ -46,12 +49,14 @@ impl ForbiddenSet {
         }
     }
 
+    /// The resource that the set is forbidden for.
     pub fn resource(&self) -> usize
         ensures { result ≡ self.now.resource }
     {
         self.resource
     }
 
+    /// How much of the resource there is.
     pub fn capacity(&self) -> u64
         ensures { result ≡ self.now.capacity }
     {

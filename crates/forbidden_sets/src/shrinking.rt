@@ -1,13 +1,13 @@
-ghost use Rattle.std.specs.Prelude.{◌≡◌, ◌<◌, ◌≤◌, ◌+◌, ◌*◌, ℕ, length, map, IfOk};
-ghost use Rattle.std.specs.List.{All, Contains, sum_by};
+ghost use Rattle.std.specs.Prelude.{◌≡◌, ◌<◌, ◌≤◌, ◌+◌, ◌*◌, ℕ, pos, ◌≤ℤ◌, length, map, IfOk};
+ghost use Rattle.std.specs.List.{All, AllPairs, Contains, sum_by};
 ghost use Rattle.std.specs.List.Sorted.{IsStrictlyIncreasing, IsNonDecreasing, IsPermutation};
 ghost use Rattle.network.specs.Forbidden.{IsForbidden, IsMinimalForbidden};
 ghost use Rattle.network.specs.Problem.{activity_count, resource_count, demand, capacity};
-ghost use Rattle.forbidden_sets.specs.Shrunk.{AreShrunk};
+ghost use Rattle.forbidden_sets.specs.Shrunk.{AreShrunk, ComesBefore};
 ghost use Rattle.forbidden_sets.specs.declared.shrinking.Load.{Load};
 
 use crate::set::ForbiddenSet;
-use network::Project;
+use network::{MAX_ACTIVITIES, MAX_AMOUNT, Project};
 use profile::Overload;
 use smallvec::SmallVec;
 use std::alloc::{AllocError, Global};
@@ -29,9 +29,10 @@ fn by_demand(
     requires resource { resource < resource_count project.now }
     requires running { All (λ i. i < activity_count project.now) running.now }
     ensures len { IfOk result (λ loads. length loads.items ≡ length running.now) }
-    ensures small { IfOk result (λ loads. All (λ load. load.demand ≤ 1000000) loads.items) }
+    ensures small { IfOk result (λ loads. All (λ load. pos load.demand ≤ℤ MAX_AMOUNT) loads.items) }
     ensures demands { IfOk result (λ loads. All (λ load. load.demand ≡ demand project.now resource load.activity) loads.items) }
     ensures running { IfOk result (λ loads. All (λ load. Contains running.now load.activity) loads.items) }
+    ensures order { IfOk result (λ loads. AllPairs ComesBefore loads.items) }
     ensures sums { IfOk result (λ loads. (f : ℕ → ℕ) → sum_by (λ load. f load.activity) loads.items ≡ sum_by f running.now) }
 {
     let mut loads = Vec::new(alloc);
@@ -47,8 +48,8 @@ fn by_demand(
 
 /// How much the loads need together.
 fn total(loads: &[Load]) -> u64
-    requires few { length loads.now ≤ 1002 }
-    requires small { All (λ load. load.demand ≤ 1000000) loads.now }
+    requires few { length loads.now ≤ MAX_ACTIVITIES }
+    requires small { All (λ load. pos load.demand ≤ℤ MAX_AMOUNT) loads.now }
     ensures { result ≡ sum_by (λ load. load.demand) loads.now }
 {
     let mut total = 0;
@@ -60,8 +61,8 @@ fn total(loads: &[Load]) -> u64
 
 /// Goes through the loads and drops one wherever the rest still exceeds the capacity.
 fn needed(alloc: Global, loads: &[Load], capacity: u64) -> Result<Vec<Load>, AllocError>
-    requires few { length loads.now ≤ 1002 }
-    requires small { All (λ load. load.demand ≤ 1000000) loads.now }
+    requires few { length loads.now ≤ MAX_ACTIVITIES }
+    requires small { All (λ load. pos load.demand ≤ℤ MAX_AMOUNT) loads.now }
     requires forbidden { capacity < sum_by (λ load. load.demand) loads.now }
     ensures forbidden { IfOk result (λ kept. capacity < sum_by (λ load. load.demand) kept.items) }
     ensures needed { IfOk result (λ kept. All (λ load. sum_by (λ load. load.demand) kept.items ≤ capacity + load.demand) kept.items) }
@@ -142,7 +143,6 @@ pub fn shrink(
     ensures capacity { IfOk result (λ set. set.capacity ≡ capacity project.now overload.now.resource) }
     ensures demands { IfOk result (λ set. set.demands ≡ map (demand project.now overload.now.resource) set.members) }
     ensures running { IfOk result (λ set. All (Contains overload.now.running.items) set.members) }
-    ensures rising { IfOk result (λ set. IsStrictlyIncreasing set.members) }
     ensures few { IfOk result (λ set. length set.members ≤ activity_count project.now) }
     ensures minimal { IfOk result (λ set. IsMinimalForbidden project.now overload.now.resource set.members) }
 {

@@ -1,29 +1,11 @@
 ghost use Rattle.network.specs.Limits.{AreStarts};
 
 use crate::{ForbiddenSet, shrink};
-use network::{Parts, Project};
+use network::Project;
 use profile::first_overload;
 use std::alloc::{AllocError, Global};
 use std::test::Fail;
-
-/// Activities of duration 1 with these demands for one resource.
-fn together(alloc: Global, demands: &[i64], capacity: i64) -> Result<Parts, AllocError> {
-    let mut durations = Vec::from_slice(alloc, &[0])?;
-    let mut rows = Vec::new(alloc);
-    rows.push(Vec::from_slice(alloc, &[0])?)?;
-    for demand in demands {
-        durations.push(1)?;
-        rows.push(Vec::from_slice(alloc, &[*demand])?)?;
-    }
-    durations.push(0)?;
-    rows.push(Vec::from_slice(alloc, &[0])?)?;
-    Ok(Parts {
-        durations,
-        demands: rows,
-        capacities: Vec::from_slice(alloc, &[capacity])?,
-        lags: Vec::new(alloc),
-    })
-}
+use test_projects::with_one_resource;
 
 /// The set that the first overload of these starts shrinks to.
 fn set_of(
@@ -33,20 +15,25 @@ fn set_of(
 ) -> Result<Option<ForbiddenSet>, AllocError>
     requires { AreStarts project.now starts.now }
 {
-    let found = first_overload(alloc, project, starts)?;
-    match found {
+    match first_overload(alloc, project, starts)? {
         Some(overload) => Ok(Some(shrink(alloc, project, &overload)?)),
         None => Ok(None),
     }
 }
 
+/// The set of three activities that run together, of these demands at a capacity of 2.
+fn set_of_three(alloc: Global, demands: [i64; 3]) -> Result<Option<ForbiddenSet>, Fail> {
+    let [a, b, c] = demands;
+    let project = with_one_resource(alloc, &[0, 1, 1, 1, 0], &[0, a, b, c, 0], 2, &[])?;
+    if project.activity_count() != 5 {
+        return Err("other activities".into());
+    }
+    Ok(set_of(alloc, &project, &[0, 0, 0, 0, 1])?)
+}
+
 #[test]
 fn the_least_demands_are_dropped_first(rt: HostRuntime) -> Result<(), Fail> {
-    let Ok(project) = Project::new(together(rt.alloc(), &[2, 1, 1], 2)?) else {
-        return Err("refused".into());
-    };
-    assert_eq!(rt; project.activity_count(), 5);
-    let Some(set) = set_of(rt.alloc(), &project, &[0, 0, 0, 0, 1])? else {
+    let Some(set) = set_of_three(rt.alloc(), [2, 1, 1])? else {
         return Err("no overload".into());
     };
     assert_eq!(rt; set.resource(), 0);
@@ -58,13 +45,46 @@ fn the_least_demands_are_dropped_first(rt: HostRuntime) -> Result<(), Fail> {
 
 #[test]
 fn a_set_may_have_one_member(rt: HostRuntime) -> Result<(), Fail> {
-    let Ok(project) = Project::new(together(rt.alloc(), &[2, 3, 1], 2)?) else {
-        return Err("refused".into());
-    };
-    assert_eq!(rt; project.activity_count(), 5);
-    let Some(set) = set_of(rt.alloc(), &project, &[0, 0, 0, 0, 1])? else {
+    let Some(set) = set_of_three(rt.alloc(), [2, 3, 1])? else {
         return Err("no overload".into());
     };
     assert_eq!(rt; set.members(), [2].as_slice());
+    Ok(())
+}
+
+#[test]
+fn the_least_number_is_dropped_first_of_equal_demands(rt: HostRuntime) -> Result<(), Fail> {
+    let alloc = rt.alloc();
+    let project = with_one_resource(alloc, &[0, 1, 1, 1, 1, 0], &[0, 3, 2, 2, 2, 0], 5, &[])?;
+    assert_eq!(rt; project.activity_count(), 6);
+    let Some(set) = set_of(alloc, &project, &[0, 0, 0, 0, 0, 1])? else {
+        return Err("no overload".into());
+    };
+    assert_eq!(rt; set.members(), [1, 3, 4].as_slice());
+    assert_eq!(rt; set.demands(), [3, 2, 2].as_slice());
+    Ok(())
+}
+
+/// The set of nine activities that run together and ask for one unit each.
+fn set_of_nine(alloc: Global, capacity: i64) -> Result<Option<ForbiddenSet>, Fail> {
+    let ones = [0, 1, 1, 1, 1, 1, 1, 1, 1, 1, 0];
+    let project = with_one_resource(alloc, &ones, &ones, capacity, &[])?;
+    if project.activity_count() != 11 {
+        return Err("other activities".into());
+    }
+    Ok(set_of(alloc, &project, &[0, 0, 0, 0, 0, 0, 0, 0, 0, 0, 1])?)
+}
+
+#[test]
+fn more_run_than_a_set_has_room_for_in_place(rt: HostRuntime) -> Result<(), Fail> {
+    let Some(two) = set_of_nine(rt.alloc(), 1)? else {
+        return Err("no overload".into());
+    };
+    assert_eq!(rt; two.members(), [8, 9].as_slice());
+    let Some(nine) = set_of_nine(rt.alloc(), 8)? else {
+        return Err("no overload".into());
+    };
+    assert_eq!(rt; nine.members(), [1, 2, 3, 4, 5, 6, 7, 8, 9].as_slice());
+    assert_eq!(rt; nine.demands(), [1; 9].as_slice());
     Ok(())
 }

@@ -31,7 +31,7 @@ swept p s n = record { project = p; starts = s; time = time_after (start_times s
 
 -- the next start time is later
 pub next_later : (p : Problem) (s : List ℤ) (n : ℕ) (d : ℤ) → AreStarts p s → n < length (start_times s) → time_after (start_times s) n ≤ℤ get_or (start_times s) n d
-next_later p s zero d are lt = let within = All-start_times IsTime s are.within 0 d lt in let above = within.above in omega (arith, ints)
+next_later p s zero d are lt = let within = All-start_times IsTime s are.within 0 d lt in let above = within.at_least in omega (arith, ints)
 next_later p s (suc n) d are lt =
     let rise = start_times-rise s n (suc n) (pos 0) (omega arith) lt in
     let same = get_or_default (start_times s) (suc n) d (pos 0) lt in

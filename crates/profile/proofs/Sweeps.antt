@@ -87,7 +87,7 @@ tally_total p at t tally is passed k in_range =
 -- ---- what runs, what has ended and what has started
 
 pub duration_nonnegative : (p : Problem) → IsProject p → (i : ℕ) → pos 0 ≤ℤ duration p i
-duration_nonnegative p is i = (get_or-all IsAmount p.durations (pos 0) (recursion_from_All IsAmount p.durations is.durations_fit) zero_amount i).above
+duration_nonnegative p is i = (get_or-all IsAmount p.durations (pos 0) (recursion_from_All IsAmount p.durations is.durations_fit) zero_amount i).at_least
 
 one_activity : (s d t : ℤ) (r : ℕ) → pos 0 ≤ℤ d → cond (int_le s t && int_lt t (s +ℤ d)) r 0 + cond (int_le (s +ℤ d) t) r 0 ≡ cond (int_le s t) r 0
 one_activity s d t r h =

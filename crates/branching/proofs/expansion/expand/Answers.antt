@@ -1,13 +1,18 @@
-use Rattle.std.proofs.Common.{◌≡◌, ap, ◌∙◌, rules, w64}
+use Rattle.std.proofs.Common.{◌≡◌, None, [], ap, ◌∙◌, rules, w64}
 use Rattle.std.proofs.lemmas.Int.{to_z-of_z}
 use mir.Val.{SFits}
 use Rattle.std.specs.Arc.{arc_value}
-use Rattle.std.proofs.lemmas.List.Elements.{All-nil}
 use Rattle.branching.specs.Subproblem.{Subproblem, IsNode}
-use Rattle.branching.specs.Fair.{IsUnder}
-use Rattle.branching.proofs.Together.{fair_cut}
+use Rattle.std.specs.Prelude.{Result, Ok, Err, IfOk}
+use Rattle.std.specs.declared.alloc.AllocError.{AllocError}
+use Rattle.branching.specs.Fair.{Expansion, IsUnder}
+use Rattle.branching.proofs.Together.{report_cut}
 use Rattle.branching.proofs.expansion.expand.Goals as goal
-use Rattle.branching.proofs.expansion.expand.Goals.{in-Some+in_ok-report-in-Some, in-None+in_ok-report-in-None}
+
+-- at a node below the ceiling nothing is to be shown
+not_over : {P : Type 0} (result : Result Expansion AllocError) → P → IfOk result (λ report. ¬ P → (report.found ≡ None) × (report.kids ≡ []))
+not_over (Ok report) under = λ over. absurd (over under)
+not_over (Err e) under = tt
 
 pub new-requires-then-is_over : goal.new-requires-then-is_over
 new-requires-then-is_over c =
@@ -17,18 +22,18 @@ new-requires-then-is_over c =
     let fits : SFits w64 c.bound.result = search rules in
     let over = simp to_z-of_z at c.if-is_over.ensures.over in
     rw (c.new.ensures.items, c.in_ok-node.ensures)
-    (fair_cut node c.args.ceiling (λ s stands. over s (rw bound_is (is.true_bound s stands))))
+    (report_cut node c.args.ceiling (λ s stands. over s (rw bound_is (is.true_bound s stands))))
 
-pub returns-clause-over : goal.returns-clause-over
-returns-clause-over c = λ over.
-    let node : Subproblem = arc_value c.args.node.now in
-    let bound_is : c.bound.result ≡ node.bound = c.bound.ensures.bound ∙ ap (λ (n : Subproblem). n.bound) c.deref.ensures in
+pub returns-in-Some-clause-over : goal.returns-in-Some-clause-over
+returns-in-Some-clause-over c =
+    let bound_is : c.bound.result ≡ (arc_value c.args.node.now).bound = c.bound.ensures.bound ∙ ap (λ (n : Subproblem). n.bound) c.deref.ensures in
     let fits : SFits w64 c.bound.result = search rules in
     let under : IsUnder c.args.ceiling c.bound.result = simp to_z-of_z at c.if-is_over.ensures.under in
-    absurd (over (rw bound_is at under))
+    not_over _ (rw bound_is at under)
 
-pub returns-clause-under : goal.returns-clause-under
-returns-clause-under c = elim c.match-branch-4.branch [
-  | in-Some+in_ok-report-in-Some w ↦ rw w.report-is w.in_ok-report-in-Some.ensures.under
-  | in-None+in_ok-report-in-None w ↦ rw (w.report-is, w.in_ok-report-in-None.ensures.kids) (All-nil (λ (kid : Subproblem). IsUnder c.args.ceiling kid.bound))
-]
+pub returns-in-None-clause-over : goal.returns-in-None-clause-over
+returns-in-None-clause-over c =
+    let bound_is : c.bound.result ≡ (arc_value c.args.node.now).bound = c.bound.ensures.bound ∙ ap (λ (n : Subproblem). n.bound) c.deref.ensures in
+    let fits : SFits w64 c.bound.result = search rules in
+    let under : IsUnder c.args.ceiling c.bound.result = simp to_z-of_z at c.if-is_over.ensures.under in
+    not_over _ (rw bound_is at under)

@@ -11,14 +11,14 @@ use Rattle.branching.proofs.fate.fate_of.Goals as goal
 pub bound-requires : goal.bound-requires
 bound-requires c =
     let with_pair : IsMatrixWith c.args.node.now c.args.pair c.in-Some.matrix = rw c.in-Some.is at c.in_ok-matrix.ensures.matrix in
-    rw (c.deref.ensures ∙ c.project.ensures.project) (record { pairs = _; named = with_pair.named; matrix = with_pair.matrix })
+    rw (c.deref.ensures ∙ c.project.ensures.project) (record { pairs = _; matrix = with_pair })
 
 pub returns-then-is_over-2 : goal.returns-then-is_over-2
 returns-then-is_over-2 c s stands keeps below =
     let with_pair : IsMatrixWith c.args.node.now c.args.pair c.in-Some.matrix = rw c.in-Some.is at c.in_ok-matrix.ensures.matrix in
     let holds : IsTrueBoundFor c.args.node.now.project c.in-Some.matrix c.in_ok-bound.bound = rw (c.deref.ensures ∙ c.project.ensures.project) at c.in_ok-bound.ensures.holds in
     let fits : SFits w64 c.in_ok-bound.bound = search rules in
-    let long : c.in_ok-bound.bound ≤ℤ makespan s = holds _ with_pair.named with_pair.matrix s (record { feasible = stands.feasible; keeps = All-push (Keeps c.args.node.now.project s) c.args.node.now.pairs c.args.pair stands.keeps keeps }) in
+    let long : c.in_ok-bound.bound ≤ℤ makespan s = holds _ with_pair s (record { feasible = stands.feasible; keeps = All-push (Keeps c.args.node.now.project s) c.args.node.now.pairs c.args.pair stands.keeps keeps }) in
     let over = simp to_z-of_z at c.if-is_over-2.ensures.over in
     over s long below
 

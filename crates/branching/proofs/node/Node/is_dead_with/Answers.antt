@@ -33,4 +33,4 @@ returns-in-Some c =
     OnTrue_from _ (ClosesPositiveCycle c.args.self.now c.args.pair) (λ test.
     let sum : lt_z (pos 0) (c.in-Some.back +ℤ c.duration-duration.result) ≡ true = simp to_z-of_z at test in
     let positive : pos 0 <ℤ (c.in-Some.back +ℤ c.duration-duration.result) = positive_from (c.in-Some.back +ℤ c.duration-duration.result) sum in
-    closes_over c.args.self.now.project c.args.self.now.pairs c.args.pair c.self.inside.matrix c.in-Some.back c.requires tied.matrix read (rw long at positive))
+    closes_over c.args.self.now.project c.args.self.now.pairs c.args.pair c.self.inside.matrix c.in-Some.back c.requires tied.matrix.matrix read (rw long at positive))

@@ -3,7 +3,9 @@ use Rattle.std.specs.Option.{unwrap_or}
 use Rattle.std.proofs.lemmas.Int.{to_z-of_z}
 use mir.Val.{SFits}
 use Rattle.network.specs.Problem.{Problem, activity_count, end_of, duration}
-use Rattle.network.specs.Walk.{entry, IsWithin}
+use Rattle.network.specs.Walk.{entry}
+use Rattle.network.specs.Limits.{IsWithin}
+use Rattle.network.specs.declared.limits.TheConstants.{MAX_WALK_WEIGHT}
 use Rattle.branching.specs.Subproblem.{Subproblem}
 use Rattle.branching.proofs.Nodes.{tied_along, rows_of, ends_of, least_with_holds, weight_within, sum_fits, sums_fit}
 use Rattle.branching.proofs.node.Node.least_with.Goals as goal
@@ -23,7 +25,7 @@ pub overflow_add-result : goal.overflow_add-result
 overflow_add-result c =
     let head_fits : SFits w64 c.unwrap_or-head.result = search rules in
     let long_fits : SFits w64 c.duration.result = search rules in
-    let head : IsWithin 1003000000 c.unwrap_or-head.result = rw c.unwrap_or-head.ensures (weight_within c.get.result c.get.ensures.fits) in
+    let head : IsWithin MAX_WALK_WEIGHT c.unwrap_or-head.result = rw c.unwrap_or-head.ensures (weight_within c.get.result c.get.ensures.fits) in
     simp to_z-of_z (sum_fits c.unwrap_or-head.result c.duration.result head c.duration.ensures.amount)
 
 pub overflow_add-result-2 : goal.overflow_add-result-2
@@ -31,8 +33,8 @@ overflow_add-result-2 c =
     let head_fits : SFits w64 c.unwrap_or-head.result = search rules in
     let long_fits : SFits w64 c.duration.result = search rules in
     let rest_fits : SFits w64 c.unwrap_or-rest.result = search rules in
-    let head : IsWithin 1003000000 c.unwrap_or-head.result = rw c.unwrap_or-head.ensures (weight_within c.get.result c.get.ensures.fits) in
-    let rest : IsWithin 1003000000 c.unwrap_or-rest.result = rw c.unwrap_or-rest.ensures (weight_within c.get-2.result c.get-2.ensures.fits) in
+    let head : IsWithin MAX_WALK_WEIGHT c.unwrap_or-head.result = rw c.unwrap_or-head.ensures (weight_within c.get.result c.get.ensures.fits) in
+    let rest : IsWithin MAX_WALK_WEIGHT c.unwrap_or-rest.result = rw c.unwrap_or-rest.ensures (weight_within c.get-2.result c.get-2.ensures.fits) in
     let fits : SFits w64 (c.unwrap_or-head.result +ℤ c.duration.result) = sum_fits c.unwrap_or-head.result c.duration.result head c.duration.ensures.amount in
     simp to_z-of_z (sums_fit c.unwrap_or-head.result c.duration.result c.unwrap_or-rest.result head c.duration.ensures.amount rest)
 
@@ -49,8 +51,8 @@ returns c s stands keeps =
     let head_fits : SFits w64 c.unwrap_or-head.result = search rules in
     let long_fits : SFits w64 c.duration.result = search rules in
     let rest_fits : SFits w64 c.unwrap_or-rest.result = search rules in
-    let head : IsWithin 1003000000 c.unwrap_or-head.result = rw c.unwrap_or-head.ensures (weight_within c.get.result c.get.ensures.fits) in
-    let rest : IsWithin 1003000000 c.unwrap_or-rest.result = rw c.unwrap_or-rest.ensures (weight_within c.get-2.result c.get-2.ensures.fits) in
+    let head : IsWithin MAX_WALK_WEIGHT c.unwrap_or-head.result = rw c.unwrap_or-head.ensures (weight_within c.get.result c.get.ensures.fits) in
+    let rest : IsWithin MAX_WALK_WEIGHT c.unwrap_or-rest.result = rw c.unwrap_or-rest.ensures (weight_within c.get-2.result c.get-2.ensures.fits) in
     let fits : SFits w64 (c.unwrap_or-head.result +ℤ c.duration.result) = sum_fits c.unwrap_or-head.result c.duration.result head c.duration.ensures.amount in
     let all_fits : SFits w64 ((c.unwrap_or-head.result +ℤ c.duration.result) +ℤ c.unwrap_or-rest.result) = sums_fit c.unwrap_or-head.result c.duration.result c.unwrap_or-rest.result head c.duration.ensures.amount rest in
-    simp to_z-of_z (rw (head_is, long, rest_is) (least_with_holds p c.args.self.now.pairs c.args.pair c.self.inside.matrix tied.limits c.requires tied.matrix s stands keeps))
+    simp to_z-of_z (rw (head_is, long, rest_is) (least_with_holds p c.args.self.now.pairs c.args.pair c.self.inside.matrix tied.matrix.limits c.requires tied.matrix.matrix s stands keeps))

@@ -34,4 +34,4 @@ returns-in-Err-clause-dead c =
     let long : c.duration-duration.result ≡ duration c.args.self.now.project c.args.pair.before = c.duration-duration.ensures.value ∙ ap (λ (p : Problem). duration p c.args.pair.before) same in
     let long_fits : SFits w64 c.duration-duration.result = search rules in
     let closes : ClosesCycle (arc_of c.args.pair.before c.args.pair.after c.duration-duration.result) c.in_ok-matrix.matrix = simp to_z-of_z at c.in-Err.ensures.cycle in
-    closes_with c.args.self.now.project c.args.self.now.pairs c.args.pair c.self.inside.matrix tied.matrix (rw (long, c.in_ok-matrix.ensures) at closes)
+    closes_with c.args.self.now.project c.args.self.now.pairs c.args.pair c.self.inside.matrix tied.matrix.matrix (rw (long, c.in_ok-matrix.ensures) at closes)

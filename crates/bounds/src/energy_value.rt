@@ -1,10 +1,10 @@
 ghost use Rattle.std.specs.Prelude.{◌≤◌, pos, IfOk};
 ghost use Rattle.network.specs.Problem.{activity_count};
-ghost use Rattle.network.specs.Limits.{IsProject};
 ghost use Rattle.bounds.specs.Energy.{IsEnergyValue};
 ghost use Rattle.bounds.specs.Windows.{AreEnds};
 ghost use Rattle.bounds.specs.Bound.{IsMatrixFor, IsTrueBoundFor, IsEnergyOf};
 
+use crate::limits::MAX_SHARE;
 use crate::load::take_loads;
 use crate::sweep::greatest_share;
 use crate::window::{distinct_tails, windows_by_head};
@@ -23,7 +23,7 @@ fn energy_between(
     requires heads { AreEnds (activity_count project.now) heads.now }
     requires tails { AreEnds (activity_count project.now) tails.now }
     ensures value { IfOk result (λ energy. IsEnergyValue project.now heads.now tails.now (pos energy)) }
-    ensures limit { IfOk result (λ energy. energy ≤ 4000000000000000) }
+    ensures limit { IfOk result (λ energy. energy ≤ MAX_SHARE) }
 {
     let distinct = distinct_tails(alloc, tails)?;
     let windows = windows_by_head(alloc, heads, tails, &distinct)?;
@@ -52,7 +52,6 @@ pub fn energy(alloc: Global, project: &Project, matrix: &Matrix) -> Result<i64, 
     requires { IsMatrixFor project.now matrix.now }
     ensures value { IfOk result (λ energy. IsEnergyOf project.now matrix.now energy) }
     ensures holds { IfOk result (λ energy. IsTrueBoundFor project.now matrix.now energy) }
-    ensures limits { IsProject project.now }
 {
     prove!(matrix.activity_count() == project.activity_count());
     let heads = heads(alloc, matrix)?;

@@ -1,0 +1,13 @@
+//! The limits of what the energy sweep adds up, within which no sum overflows.
+
+/// The greatest head or tail, in periods: no walk weighs more.
+pub(crate) const MAX_END: u64 = 1_003_000_000;
+
+/// The greatest capacity of a resource.
+pub(crate) const MAX_CAPACITY: u64 = 1_000_000;
+
+/// The greatest work of an activity: a duration times a demand.
+pub(crate) const MAX_WORK: u64 = 1_000_000_000_000;
+
+/// What no share is beyond: a capacity times a head and a tail, and the work of all activities.
+pub(crate) const MAX_SHARE: u64 = 4_000_000_000_000_000;
