@@ -4,7 +4,6 @@ use Rattle.std.proofs.lemmas.List.{take_all}
 use Rattle.std.proofs.Math.Seq.{take-append_seam}
 use Rattle.std.proofs.KnownBytes.{Appends-trans}
 use Rattle.std.specs.Io.KnownBytes.{Appends, Consumes, IsAtEnd, Keeps}
-use Rattle.solver_cli.specs.Devices.{GaveUpTo}
 
 abbrev none : List ℕ
 none = []
@@ -17,6 +16,10 @@ pub take-add : (xs : List ℕ) (i n : ℕ) → take (i + n) xs ≡ take i xs ++ 
 take-add xs zero n = let e : 0 + n ≡ n = omega arith in rw e refl
 take-add [] (suc i) n = let e : suc i + n ≡ suc (i + n) = omega arith in rw e (sym (take-none n))
 take-add (x ∷ xs) (suc i) n = let e : suc i + n ≡ suc (i + n) = omega arith in rw e (ap (λ (r : List ℕ). x ∷ r) (take-add xs i n))
+
+-- a front of the bytes was taken, and then a front of the rest
+pub taken_more : (old mid new : Option (List ℕ)) (bytes : List ℕ) (i n : ℕ) → Appends old mid (take i bytes) → Appends mid new (take n (drop i bytes)) → Appends old new (take (i + n) bytes)
+taken_more old mid new bytes i n p q = rw (take-add bytes i n) (Appends-trans old mid new (take i bytes) (take n (drop i bytes)) p q)
 
 -- a write that took nothing kept what was held
 pub Keeps-none : (old new : Option (List ℕ)) → Appends old new [] → Keeps old new

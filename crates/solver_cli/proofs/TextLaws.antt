@@ -1,6 +1,6 @@
 -- What was read of an input stands for all that it tells: a text within the limit is all of it, and a
 -- longer one is too long either way.
-use Rattle.std.proofs.Common.{◌≡◌, ◌≢◌, ℕ, ◌+◌, ◌<◌, List, length, take, refl, sym, ap, subst, ◌∙◌, arith, inl, inr, ◌⊎◌, Some, None}
+use Rattle.std.proofs.Common.{◌≡◌, ◌≢◌, ℕ, ◌+◌, ◌<◌, List, length, take, refl, sym, ap, subst, ◌∙◌, arith, inl, inr, ◌⊎◌, Some}
 use Rattle.std.proofs.lemmas.List.{length-take, take_all}
 use Rattle.std.proofs.lemmas.Bool.{cases_order, lt-ltb}
 use Rattle.network.specs.Problem.{Problem, activity_count}
@@ -9,20 +9,20 @@ use Rattle.schedule_check.specs.Starts.{starts_fault}
 use Rattle.network.specs.Limits.{IsProject}
 use Rattle.sch_reader.specs.declared.fault.SchFault.{SchFault}
 use Rattle.sch_reader.specs.declared.fault.SchFault.TheVariants as texts
-use Rattle.sch_reader.specs.Text.{Spells, IsFirstFault, text_limit}
-use Rattle.solver_cli.specs.declared.reading.TheConstants.{MAX_TEXT_BYTES}
+use Rattle.sch_reader.specs.Text.{Spells, IsFirstFault}
+use Rattle.words.specs.declared.TheConstants.{MAX_TEXT_BYTES}
 use Rattle.solver_cli.specs.declared.fault.Fault.{Fault}
 use Rattle.solver_cli.specs.declared.fault.Fault.TheVariants as faults
 use Rattle.solver_cli.specs.Faults.{fault_of}
 use Rattle.solver_cli.specs.Outcome.{HasFault, IsReadAndChecked, IsFirstStartsFault}
 
-same_or_long : (text bytes : List ℕ) → text ≡ take (MAX_TEXT_BYTES + 1) bytes → (text ≡ bytes) ⊎ ((text_limit < length text) × (text_limit < length bytes))
+same_or_long : (text bytes : List ℕ) → text ≡ take (MAX_TEXT_BYTES + 1) bytes → (text ≡ bytes) ⊎ ((MAX_TEXT_BYTES < length text) × (MAX_TEXT_BYTES < length bytes))
 same_or_long text bytes e = by_length (length bytes) refl
   where
     long : length text ≡ length (take (MAX_TEXT_BYTES + 1) bytes)
     long = ap length e
 
-    by_length : (n : ℕ) → length bytes ≡ n → (text ≡ bytes) ⊎ ((text_limit < length text) × (text_limit < length bytes))
+    by_length : (n : ℕ) → length bytes ≡ n → (text ≡ bytes) ⊎ ((MAX_TEXT_BYTES < length text) × (MAX_TEXT_BYTES < length bytes))
     by_length n is = elim (cases_order n (MAX_TEXT_BYTES + 1)) [
       | inl one_more ↦ inr (omega (arith, long, length-take (MAX_TEXT_BYTES + 1) bytes), omega arith)
       | inr apart ↦ elim apart [
@@ -60,8 +60,8 @@ refused_by text cause fault is only first other =
 
 -- ---- texts of starts
 
-long_starts : (n : ℕ) (text : List ℕ) → text_limit < length text → starts_fault n text ≡ Some starts.TooLong
-long_starts n text h = rw (lt-ltb text_limit (length text) h) refl
+long_starts : (n : ℕ) (text : List ℕ) → MAX_TEXT_BYTES < length text → starts_fault n text ≡ Some starts.TooLong
+long_starts n text h = rw (lt-ltb MAX_TEXT_BYTES (length text) h) refl
 
 -- the first fault of what was read is that of all that the input tells
 fault_of_all : (n : ℕ) (text bytes : List ℕ) → text ≡ take (MAX_TEXT_BYTES + 1) bytes → starts_fault n bytes ≡ starts_fault n text

@@ -1,10 +1,10 @@
 -- The texts of answers.
-use Rattle.std.specs.Prelude.{◌≡◌, ℕ, ◌+◌, List, [], ◌∷◌, ◌++◌, ℤ, ◌≤ℤ◌, ◌<ℤ◌, codes, ◌⊎◌}
+use Rattle.std.specs.Prelude.{◌≡◌, ℕ, ◌+◌, List, [], ◌∷◌, ◌++◌, ℤ, ◌<ℤ◌, codes, ◌⊎◌}
 use Rattle.std.specs.List.{flat_map}
 use Rattle.std.specs.Fmt.{decimal, signed_decimal}
 use Rattle.network.specs.Problem.{Problem, rules}
 use Rattle.network.specs.Schedule.{IsLeastSchedule, IsFeasible, makespan}
-use Rattle.network.specs.Verdict.{IsShortest, HasNoSchedule}
+use Rattle.network.specs.Verdict.{IsLowerBound, IsShortest, HasNoSchedule}
 use Rattle.network.specs.Walk.{IsLeastCycleTop}
 use Rattle.schedule_check.specs.declared.violation.Violation.{Violation}
 use Rattle.schedule_check.specs.declared.violation.Violation.TheVariants as violation
@@ -74,10 +74,6 @@ IsCheckText p starts exit written = IsFeasibleText p starts exit written ⊎ IsV
 
 abbrev pub bound_text : ℤ → List ℕ
 bound_text bound = codes " bound " ++ (signed_decimal bound ++ codes "\n")
-
--- no feasible schedule is shorter than c
-abbrev pub IsLowerBound : Problem → ℤ → Type 0
-IsLowerBound p c = (s : List ℤ) → IsFeasible p s → c ≤ℤ makespan s
 
 -- a makespan with a lower bound of all makespans, and the starts
 abbrev pub stopped_text : ℤ → ℤ → List ℤ → List ℕ

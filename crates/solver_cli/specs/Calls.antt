@@ -3,7 +3,7 @@ use Rattle.std.specs.Prelude.{◌≡◌, ◌≤◌, is_some, Bool, true, false}
 use Rattle.solver_cli.specs.declared.call.Job.{Job}
 use Rattle.solver_cli.specs.declared.call.Job.TheVariants as jobs
 use Rattle.solver_cli.specs.declared.call.Call.{Call}
-use Rattle.solver_cli.specs.declared.call.TheConstants.{MAX_TAKES}
+use Rattle.branching.specs.declared.search.TheConstants.{MAX_TAKES}
 
 -- the numbers of a job are within the limits
 abbrev pub IsJob : Job → Type 0

@@ -1,13 +1,11 @@
 ghost use Rattle.std.specs.Prelude.{◌≡◌, IfOk, IfSome};
 ghost use Rattle.solver_cli.specs.Calls.{IsCall};
 
+use branching::MAX_TAKES;
 use clap::error::ErrorKind;
 use clap::{Arg, ArgAction, ArgMatches, Command, value_parser};
 use std::alloc::{AllocError, Global};
 use thiserror::Error;
-
-/// How many nodes may be taken, at most.
-const MAX_TAKES: u64 = 1_000_000_000;
 
 /// How many are taken where nothing else is said.
 const DEFAULT_TAKES: &str = "1000000";

@@ -6,7 +6,7 @@ ghost use Rattle.solver_cli.specs.declared.fault.Fault.{Fault};
 ghost use Rattle.solver_cli.specs.declared.fault.Fault.TheVariants as faults;
 ghost use Rattle.solver_cli.specs.Answers.{IsEarliestText, IsSolveText};
 ghost use Rattle.solver_cli.specs.Calls.{IsJob};
-ghost use Rattle.solver_cli.specs.Faults.{exit_of};
+ghost use Rattle.solver_cli.specs.Faults.{exit_of, IsNoDeviceFault};
 ghost use Rattle.solver_cli.specs.Outcome.{IsReadAndChecked, IsFirstStartsFault};
 
 use crate::answer::Answer;
@@ -51,7 +51,7 @@ pub(crate) fn solve(alloc: Global, project: Project, takes: u64) -> Result<Answe
 pub(crate) fn check(alloc: Global, project: &Project, text: &[u8]) -> Result<Answer, Fault>
     ensures said { IfOk result (λ a. IsReadAndChecked project.now text.now a.exit (string_bytes a.text)) }
     ensures refused { IfErr result (λ fault. exit_of fault ≢ 1 → IsFirstStartsFault project.now text.now fault) }
-    ensures devices { IfErr result (λ fault. (fault ≢ faults.WriteFailed) × (fault ≢ faults.ReadFailed)) }
+    ensures devices { IfErr result IsNoDeviceFault }
 {
     let count = project.activity_count();
     let starts = read_starts(alloc, text, count)?;

@@ -13,9 +13,9 @@ mod reading;
 mod runs;
 mod solved;
 mod standard;
-mod texts;
 #[cfg(test)]
 mod tests;
+mod texts;
 
 use call::{Call, Job, WordsFault, call_of};
 use device::Input;

@@ -6,7 +6,7 @@ ghost use Rattle.sch_reader.specs.Text.{Spells};
 ghost use Rattle.solver_cli.specs.declared.fault.Fault.{Fault};
 ghost use Rattle.solver_cli.specs.declared.fault.Fault.TheVariants as faults;
 ghost use Rattle.solver_cli.specs.Devices.{CountsWhere, GaveUpTo, IfTold};
-ghost use Rattle.solver_cli.specs.Faults.{exit_of};
+ghost use Rattle.solver_cli.specs.Faults.{exit_of, IsNoDeviceFault};
 ghost use Rattle.solver_cli.specs.Outcome.{HasFault};
 
 use crate::device::Input;
@@ -14,9 +14,7 @@ use crate::fault::Fault;
 use network::Project;
 use sch_reader::read_sch;
 use std::alloc::Global;
-
-/// How many bytes a text may have.
-pub const MAX_TEXT_BYTES: usize = 16_777_216;
+use words::MAX_TEXT_BYTES;
 
 /// How many bytes are read at once, at most.
 const CHUNK: usize = 16_384;
@@ -51,7 +49,7 @@ pub(crate) fn read_text<I: Input>(alloc: Global, input: &mut I) -> Result<Vec<u8
 fn project_of(alloc: Global, text: &[u8]) -> Result<Project, Fault>
     ensures project { IfOk result (λ p. IsProject p × Spells text.now p) }
     ensures refused { IfErr result (λ fault. fault ≢ faults.Memory → HasFault text.now fault) }
-    ensures devices { IfErr result (λ fault. (fault ≢ faults.WriteFailed) × (fault ≢ faults.ReadFailed)) }
+    ensures devices { IfErr result IsNoDeviceFault }
 {
     Ok(read_sch(alloc, text)?)
 }

@@ -3,7 +3,7 @@
 ghost use Rattle.std.specs.Prelude.{◌≡◌, ◌≢◌, ◌<◌, ◌+◌, false, Some, Err, IfOk, IfErr, IfSome, IfNone, string_bytes};
 ghost use Rattle.solver_cli.specs.declared.fault.Fault.{Fault};
 ghost use Rattle.solver_cli.specs.declared.fault.Fault.TheVariants as faults;
-ghost use Rattle.solver_cli.specs.declared.reading.TheConstants.{MAX_TEXT_BYTES};
+ghost use Rattle.words.specs.declared.TheConstants.{MAX_TEXT_BYTES};
 ghost use Rattle.solver_cli.specs.Calls.{IsJob, reads_second, writes_record};
 ghost use Rattle.solver_cli.specs.Devices.{CountsWhere, GaveUpTo, OneCountsWhere};
 ghost use Rattle.solver_cli.specs.Faults.{exit_of};

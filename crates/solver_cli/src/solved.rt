@@ -3,7 +3,7 @@
 ghost use Rattle.std.specs.Prelude.{◌≡◌, ◌++◌, IfOk, OnOk, string_bytes, codes};
 ghost use Rattle.network.specs.Problem.{Problem};
 ghost use Rattle.network.specs.Schedule.{makespan};
-ghost use Rattle.branching.specs.Verdicts.{IsTrueOf};
+ghost use Rattle.branching.specs.Verdicts.{IsTrueOf, StopsBelowBest};
 ghost use Rattle.solver_cli.specs.Answers.{starts_text, stopped_text, bound_text, start_lines, IsSolveText};
 
 use crate::answer::Answer;
@@ -44,6 +44,7 @@ fn no_schedule_text(alloc: Global) -> Result<String, AllocError>
 
 /// The answer that an outcome makes, true of each project of which the outcome is.
 pub(crate) fn solved_answer(alloc: Global, outcome: &Outcome) -> Result<Answer, AllocError>
+    requires { StopsBelowBest outcome.now }
     ensures { IfOk result (λ a. (p : Problem) → IsTrueOf p outcome.now → IsSolveText p a.exit (string_bytes a.text)) }
 {
     let (text, exit) = match outcome {

@@ -4,5 +4,5 @@ use Rattle.solver_cli.proofs.jobs.solve.Goals as goal
 -- the search ran on this very project
 pub returns : goal.returns
 returns c =
-    let outcome = rw c.in_ok-project.ensures.ok at c.in_ok-outcome.ensures in
+    let outcome = rw c.in_ok-project.ensures.ok at c.in_ok-outcome.ensures.true_of in
     MatchResult-weaker c.solved_answer.result c.solved_answer.ensures (λ a said. said c.args.project outcome) (λ _ _. tt)

@@ -1,5 +1,5 @@
 use Rattle.std.proofs.Common.{◌∙◌, ap}
-use Rattle.std.proofs.lemmas.Result.{IfOk-weaker, MatchResult-weaker}
+use Rattle.std.proofs.lemmas.Result.{MatchResult-weaker}
 use Rattle.solver_cli.specs.Faults.{exit_of}
 use Rattle.solver_cli.proofs.TextLaws.{fault_whole, spells_whole}
 use Rattle.solver_cli.proofs.reading.read_project.Goals as goal

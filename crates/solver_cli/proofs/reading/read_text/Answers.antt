@@ -1,7 +1,7 @@
-use Rattle.std.proofs.Common.{◌≡◌, ◌+◌, ◌<◌, ◌≤◌, ◌++◌, take, vec_len, length, rules, arith}
+use Rattle.std.proofs.Common.{◌≡◌, ◌+◌, ◌<◌, ◌≤◌, ◌++◌, take, length, arith}
 use Rattle.std.proofs.lemmas.List.{length-take, length-append}
 use Rattle.std.proofs.KnownBytes.{Consumes-trans}
-use Rattle.solver_cli.specs.declared.reading.TheConstants.{MAX_TEXT_BYTES}
+use Rattle.words.specs.declared.TheConstants.{MAX_TEXT_BYTES}
 use Rattle.solver_cli.proofs.DeviceLaws.{whole_to_limit, whole_to_end}
 use Rattle.solver_cli.proofs.reading.read_text.Goals as goal
 use Rattle.solver_cli.proofs.reading.read_text.Goals.{else-loop-buffer-test, then-loop-buffer-test+in-Ok+then-n-eq0}
@@ -23,7 +23,7 @@ returns-clause-told g c = λ bytes e.
     elim c.loop-buffer-test.branch [
       | else-loop-buffer-test w ↦ whole_to_limit (left c.args.input.now) (left c.loop-buffer.input) c.loop-buffer.text.items bytes (MAX_TEXT_BYTES + 1) c.loop-buffer.invariant.given e (omega arith)
       | then-loop-buffer-test+in-Ok+then-n-eq0 w ↦
-        let none : w.in-Ok.n ≡ 0 = w.if-n-eq0.true in
-        let room : 0 < length w.pull.new.buffer = omega (arith, w.pull.auto.buffer, length-take w.min-room.result c.loop-buffer.buffer) in
-        whole_to_end (left c.args.input.now) (left c.loop-buffer.input) (left w.pull.new.self) c.loop-buffer.text.items bytes (MAX_TEXT_BYTES + 1) c.loop-buffer.invariant.given (rw none at w.in-Ok.ensures.told.0) (w.in-Ok.ensures.told.1 none room) e (omega arith)
+          let none : w.in-Ok.n ≡ 0 = w.if-n-eq0.true in
+          let room : 0 < length w.pull.new.buffer = omega (arith, w.pull.auto.buffer, length-take w.min-room.result c.loop-buffer.buffer) in
+          whole_to_end (left c.args.input.now) (left c.loop-buffer.input) (left w.pull.new.self) c.loop-buffer.text.items bytes (MAX_TEXT_BYTES + 1) c.loop-buffer.invariant.given (rw none at w.in-Ok.ensures.told.0) (w.in-Ok.ensures.told.1 none room) e (omega arith)
     ]

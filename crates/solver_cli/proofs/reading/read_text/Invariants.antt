@@ -1,6 +1,6 @@
 use Rattle.std.proofs.Common.{◌≡◌, ◌≤◌, ◌-◌, ◌+◌, vec_len}
 use Rattle.std.specs.Io.KnownBytes.{Consumes}
-use Rattle.solver_cli.specs.declared.reading.TheConstants.{MAX_TEXT_BYTES}
+use Rattle.words.specs.declared.TheConstants.{MAX_TEXT_BYTES}
 use Rattle.solver_cli.proofs.reading.read_text.Given as goal
 
 abbrev pub invariant-loop-buffer : goal.invariant-loop-buffer

@@ -19,7 +19,7 @@ returns-clause-answered c =
     let empty : c.new-out.result.inner.items ≡ [] = rw c.new-out.ensures.inner c.new.ensures.items in
     weaker c.run-ended.result.fault c.run-ended.ensures.answered
     (λ told. rw c.into_inner.ensures (all_written c.args.job c.args.text.now c.args.second.now c.run-ended.result.exit c.new-out.result.inner.items c.run-ended.new.out.inner.items empty
-      (told c.args.text.now c.args.second.now (rw c.new-input.ensures.inner refl) (λ _. rw c.new-second.ensures.inner refl))))
+    (told c.args.text.now c.args.second.now (rw c.new-input.ensures.inner refl) (λ _. rw c.new-second.ensures.inner refl))))
     (λ _ _. tt)
 
 pub returns-clause-refused : goal.returns-clause-refused
