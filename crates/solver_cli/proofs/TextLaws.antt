@@ -1,43 +1,43 @@
 -- What was read of an input stands for all that it tells: a text within the limit is all of it, and a
 -- longer one is too long either way.
-use Rattle.std.proofs.Common.{◌≡◌, ◌≢◌, ℕ, ◌<◌, List, length, take, refl, sym, ap, subst, ◌∙◌, arith, inl, inr, ◌⊎◌, Some, None}
+use Rattle.std.proofs.Common.{◌≡◌, ◌≢◌, ℕ, ◌+◌, ◌<◌, List, length, take, refl, sym, ap, subst, ◌∙◌, arith, inl, inr, ◌⊎◌, Some}
 use Rattle.std.proofs.lemmas.List.{length-take, take_all}
 use Rattle.std.proofs.lemmas.Bool.{cases_order, lt-ltb}
 use Rattle.network.specs.Problem.{Problem, activity_count}
 use Rattle.schedule_check.specs.declared.fault.StartsFault.TheVariants as starts
-use Rattle.schedule_check.specs.Starts.{starts_fault, starts_of}
-use Rattle.solver_cli.specs.Answers.{IsCheckText}
+use Rattle.schedule_check.specs.Starts.{starts_fault}
 use Rattle.network.specs.Limits.{IsProject}
 use Rattle.sch_reader.specs.declared.fault.SchFault.{SchFault}
 use Rattle.sch_reader.specs.declared.fault.SchFault.TheVariants as texts
-use Rattle.sch_reader.specs.Text.{Spells, IsFirstFault, text_limit}
+use Rattle.sch_reader.specs.Text.{Spells, IsFirstFault}
+use Rattle.words.specs.declared.TheConstants.{MAX_TEXT_BYTES}
 use Rattle.solver_cli.specs.declared.fault.Fault.{Fault}
 use Rattle.solver_cli.specs.declared.fault.Fault.TheVariants as faults
 use Rattle.solver_cli.specs.Faults.{fault_of}
-use Rattle.solver_cli.specs.Outcome.{HasFault, IsReadAndChecked}
+use Rattle.solver_cli.specs.Outcome.{HasFault, IsReadAndChecked, IsFirstStartsFault}
 
-same_or_long : (text bytes : List ℕ) → text ≡ take 16777217 bytes → (text ≡ bytes) ⊎ ((text_limit < length text) × (text_limit < length bytes))
+same_or_long : (text bytes : List ℕ) → text ≡ take (MAX_TEXT_BYTES + 1) bytes → (text ≡ bytes) ⊎ ((MAX_TEXT_BYTES < length text) × (MAX_TEXT_BYTES < length bytes))
 same_or_long text bytes e = by_length (length bytes) refl
   where
-    long : length text ≡ length (take 16777217 bytes)
+    long : length text ≡ length (take (MAX_TEXT_BYTES + 1) bytes)
     long = ap length e
 
-    by_length : (n : ℕ) → length bytes ≡ n → (text ≡ bytes) ⊎ ((text_limit < length text) × (text_limit < length bytes))
-    by_length n is = elim (cases_order n 16777217) [
-      | inl one_more ↦ inr (omega (arith, long, length-take 16777217 bytes), omega arith)
+    by_length : (n : ℕ) → length bytes ≡ n → (text ≡ bytes) ⊎ ((MAX_TEXT_BYTES < length text) × (MAX_TEXT_BYTES < length bytes))
+    by_length n is = elim (cases_order n (MAX_TEXT_BYTES + 1)) [
+      | inl one_more ↦ inr (omega (arith, long, length-take (MAX_TEXT_BYTES + 1) bytes), omega arith)
       | inr apart ↦ elim apart [
-        | inl small ↦ inl (e ∙ take_all 16777217 bytes (omega arith))
-        | inr large ↦ inr (omega (arith, long, length-take 16777217 bytes), omega arith)
+        | inl small ↦ inl (e ∙ take_all (MAX_TEXT_BYTES + 1) bytes (omega arith))
+        | inr large ↦ inr (omega (arith, long, length-take (MAX_TEXT_BYTES + 1) bytes), omega arith)
       ]
     ]
 
-pub spells_whole : (text bytes : List ℕ) (p : Problem) → text ≡ take 16777217 bytes → Spells text p → Spells bytes p
+pub spells_whole : (text bytes : List ℕ) (p : Problem) → text ≡ take (MAX_TEXT_BYTES + 1) bytes → Spells text p → Spells bytes p
 spells_whole text bytes p e h = elim (same_or_long text bytes e) [
   | inl same ↦ subst (λ (t : List ℕ). Spells t p) same h
   | inr long ↦ let size = h.size in absurd (omega (arith, long.0))
 ]
 
-pub fault_whole : (text bytes : List ℕ) (fault : Fault) → text ≡ take 16777217 bytes → HasFault text fault → HasFault bytes fault
+pub fault_whole : (text bytes : List ℕ) (fault : Fault) → text ≡ take (MAX_TEXT_BYTES + 1) bytes → HasFault text fault → HasFault bytes fault
 fault_whole text bytes fault e h = elim (same_or_long text bytes e) [
   | inl same ↦ subst (λ (t : List ℕ). HasFault t fault) same h
   | inr long ↦ record {
@@ -60,19 +60,25 @@ refused_by text cause fault is only first other =
 
 -- ---- texts of starts
 
-long_starts : (n : ℕ) (text : List ℕ) → text_limit < length text → starts_fault n text ≡ Some starts.TooLong
-long_starts n text h = rw (lt-ltb text_limit (length text) h) refl
+long_starts : (n : ℕ) (text : List ℕ) → MAX_TEXT_BYTES < length text → starts_fault n text ≡ Some starts.TooLong
+long_starts n text h = rw (lt-ltb MAX_TEXT_BYTES (length text) h) refl
 
 -- the first fault of what was read is that of all that the input tells
-pub starts_fault_whole : (n : ℕ) (text bytes : List ℕ) → text ≡ take 16777217 bytes → starts_fault n text ≡ starts_fault n bytes
-starts_fault_whole n text bytes e = elim (same_or_long text bytes e) [
-  | inl same ↦ ap (λ (t : List ℕ). starts_fault n t) same
-  | inr long ↦ long_starts n text long.0 ∙ sym (long_starts n bytes long.1)
+fault_of_all : (n : ℕ) (text bytes : List ℕ) → text ≡ take (MAX_TEXT_BYTES + 1) bytes → starts_fault n bytes ≡ starts_fault n text
+fault_of_all n text bytes e = elim (same_or_long text bytes e) [
+  | inl same ↦ ap (λ (t : List ℕ). starts_fault n t) (sym same)
+  | inr long ↦ long_starts n bytes long.1 ∙ sym (long_starts n text long.0)
 ]
 
-pub checked_whole : (p : Problem) (text bytes : List ℕ) (exit : ℕ) (written : List ℕ) → text ≡ take 16777217 bytes → starts_fault (activity_count p) text ≡ None → IsCheckText p (starts_of (activity_count p) text) exit written
-    → IsReadAndChecked p bytes exit written
-checked_whole p text bytes exit written e read h = elim (same_or_long text bytes e) [
-  | inl same ↦ subst (λ (t : List ℕ). IsReadAndChecked p t exit written) same (record { read = read; checked = h })
-  | inr long ↦ let long_is = long_starts (activity_count p) text long.0 in cc
+pub starts_fault_whole : (p : Problem) (text bytes : List ℕ) (fault : Fault) → text ≡ take (MAX_TEXT_BYTES + 1) bytes → IsFirstStartsFault p text fault → IsFirstStartsFault p bytes fault
+starts_fault_whole p text bytes fault e h = record {
+  cause = h.cause;
+  first = fault_of_all (activity_count p) text bytes e ∙ h.first;
+  told = h.told;
+}
+
+pub checked_whole : (p : Problem) (text bytes : List ℕ) (exit : ℕ) (written : List ℕ) → text ≡ take (MAX_TEXT_BYTES + 1) bytes → IsReadAndChecked p text exit written → IsReadAndChecked p bytes exit written
+checked_whole p text bytes exit written e h = elim (same_or_long text bytes e) [
+  | inl same ↦ subst (λ (t : List ℕ). IsReadAndChecked p t exit written) same h
+  | inr long ↦ let fault = long_starts (activity_count p) text long.0 in let none = h.read in cc
 ]

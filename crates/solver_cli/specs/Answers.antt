@@ -1,10 +1,10 @@
 -- The texts of answers.
-use Rattle.std.specs.Prelude.{◌≡◌, ℕ, ◌+◌, List, [], ◌∷◌, ◌++◌, ℤ, ◌≤ℤ◌, ◌<ℤ◌, codes, ◌⊎◌}
+use Rattle.std.specs.Prelude.{◌≡◌, ℕ, ◌+◌, List, [], ◌∷◌, ◌++◌, ℤ, ◌<ℤ◌, codes, ◌⊎◌}
 use Rattle.std.specs.List.{flat_map}
 use Rattle.std.specs.Fmt.{decimal, signed_decimal}
 use Rattle.network.specs.Problem.{Problem, rules}
 use Rattle.network.specs.Schedule.{IsLeastSchedule, IsFeasible, makespan}
-use Rattle.network.specs.Verdict.{IsShortest, HasNoSchedule}
+use Rattle.network.specs.Verdict.{IsLowerBound, IsShortest, HasNoSchedule}
 use Rattle.network.specs.Walk.{IsLeastCycleTop}
 use Rattle.schedule_check.specs.declared.violation.Violation.{Violation}
 use Rattle.schedule_check.specs.declared.violation.Violation.TheVariants as violation
@@ -19,20 +19,27 @@ start_lines i (start ∷ starts) = (decimal i ++ (codes " " ++ (signed_decimal s
 abbrev pub starts_text : List ℕ → ℤ → List ℤ → List ℕ
 starts_text word number starts = (word ++ (codes " " ++ (signed_decimal number ++ codes "\n"))) ++ start_lines 0 starts
 
+abbrev pub cycle_line : ℕ → List ℕ
+cycle_line top = codes "positive cycle " ++ (decimal top ++ codes "\n")
+
+-- ---- what `earliest` says
+
 -- the least schedule of the project
-pub record IsLeastText (p : Problem) (written : List ℕ) : Type 0 where
+pub record IsLeastText (p : Problem) (exit : ℕ) (written : List ℕ) : Type 0 where
   pub starts : List ℤ
   pub least : IsLeastSchedule p [] starts
   pub text : written ≡ starts_text (codes "earliest") (makespan starts) starts
+  pub status : exit ≡ 0
 
 -- or, where a closed walk of its arcs is positive, the least activity that tops such a walk
-pub record IsCycleText (p : Problem) (written : List ℕ) : Type 0 where
+pub record IsCycleText (p : Problem) (exit : ℕ) (written : List ℕ) : Type 0 where
   pub top : ℕ
   pub least_top : IsLeastCycleTop (rules p) top
-  pub text : written ≡ codes "positive cycle " ++ (decimal top ++ codes "\n")
+  pub text : written ≡ cycle_line top
+  pub status : exit ≡ 0
 
-abbrev pub IsEarliestText : Problem → List ℕ → Type 0
-IsEarliestText p written = IsLeastText p written ⊎ IsCycleText p written
+abbrev pub IsEarliestText : Problem → ℕ → List ℕ → Type 0
+IsEarliestText p exit written = IsLeastText p exit written ⊎ IsCycleText p exit written
 
 -- ---- what `check` says
 
@@ -67,10 +74,6 @@ IsCheckText p starts exit written = IsFeasibleText p starts exit written ⊎ IsV
 
 abbrev pub bound_text : ℤ → List ℕ
 bound_text bound = codes " bound " ++ (signed_decimal bound ++ codes "\n")
-
--- no feasible schedule is shorter than c
-abbrev pub IsLowerBound : Problem → ℤ → Type 0
-IsLowerBound p c = (s : List ℤ) → IsFeasible p s → c ≤ℤ makespan s
 
 -- a makespan with a lower bound of all makespans, and the starts
 abbrev pub stopped_text : ℤ → ℤ → List ℤ → List ℕ

@@ -3,12 +3,13 @@ use Rattle.std.specs.Prelude.{◌≡◌, ◌≤◌, is_some, Bool, true, false}
 use Rattle.solver_cli.specs.declared.call.Job.{Job}
 use Rattle.solver_cli.specs.declared.call.Job.TheVariants as jobs
 use Rattle.solver_cli.specs.declared.call.Call.{Call}
+use Rattle.branching.specs.declared.search.TheConstants.{MAX_TAKES}
 
 -- the numbers of a job are within the limits
 abbrev pub IsJob : Job → Type 0
 IsJob jobs.Earliest = Unit {0}
 IsJob jobs.Check = Unit {0}
-IsJob (jobs.Solve takes) = (1 ≤ takes) × (takes ≤ 1000000000)
+IsJob (jobs.Solve takes) = (1 ≤ takes) × (takes ≤ MAX_TAKES)
 
 -- whether a job reads a second input
 abbrev pub reads_second : Job → Bool

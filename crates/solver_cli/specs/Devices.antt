@@ -1,18 +1,28 @@
--- What an input gave and an output holds.
-use Rattle.std.specs.Prelude.{◌≡◌, ℕ, ◌≤◌, List, ◌++◌, length, take, drop, Option, Some}
+-- What an input gave and an output took, where they tell their bytes, and the failures that they count.
+use Rattle.std.specs.Prelude.{◌≡◌, ℕ, ◌+◌, ◌≤◌, List, length, take, Option, Some, ◌⊎◌}
+use Rattle.std.specs.Io.KnownBytes.{Appends, Consumes}
 
--- an input gave a front of what it tells
-abbrev pub Gave : Option (List ℕ) → Option (List ℕ) → List ℕ → Type 0
-Gave old new piece = (bytes : List ℕ) → old ≡ Some bytes → (piece ≡ take (length piece) bytes) × (new ≡ Some (drop (length piece) bytes))
-
--- an output that tells its bytes holds more of them
-abbrev pub Holds : Option (List ℕ) → Option (List ℕ) → List ℕ → Type 0
-Holds old new piece = (bytes : List ℕ) → old ≡ Some bytes → new ≡ Some (bytes ++ piece)
-
--- .. at least a front of these
-abbrev pub HoldsFront : Option (List ℕ) → Option (List ℕ) → List ℕ → Type 0
-HoldsFront old new piece = (taken : ℕ) × Holds old new (take taken piece)
+-- where the input tells its bytes, they have this property
+abbrev pub IfTold : Option (List ℕ) → (List ℕ → Type 0) → Type 0
+IfTold left P = (bytes : List ℕ) → left ≡ Some bytes → P bytes
 
 -- an input gave no more than so many bytes
 pub record GaveUpTo (most : ℕ) (old new : Option (List ℕ)) : Type 0 where
-  pub given : (bytes : List ℕ) → old ≡ Some bytes → (n : ℕ) × (n ≤ most) × (new ≡ Some (drop n bytes))
+  pub front : List ℕ
+  pub given : Consumes old new front
+  pub within : length front ≤ most
+
+-- an output took a beginning of these bytes
+pub record TookFront (old new : Option (List ℕ)) (bytes : List ℕ) : Type 0 where
+  pub taken : ℕ
+  pub appended : Appends old new (take taken bytes)
+
+-- a device counted a failure, once, where this is so, and else none
+pub record CountsWhere (Failed : Type 0) (old new : ℕ) : Type 0 where
+  pub grew : Failed → new ≡ old + 1
+  pub stayed : ¬ Failed → new ≡ old
+
+-- just one of two devices counted a failure, once, where this is so, and else neither
+pub record OneCountsWhere (Failed : Type 0) (old new second_old second_new : ℕ) : Type 0 where
+  pub grew : Failed → ((new ≡ old + 1) × (second_new ≡ second_old)) ⊎ ((new ≡ old) × (second_new ≡ second_old + 1))
+  pub stayed : ¬ Failed → (new ≡ old) × (second_new ≡ second_old)

@@ -1,5 +1,5 @@
 -- The faults of the program, and how it ends with each.
-use Rattle.std.specs.Prelude.{ℕ}
+use Rattle.std.specs.Prelude.{ℕ, ◌≢◌}
 use Rattle.sch_reader.specs.declared.fault.SchFault.{SchFault}
 use Rattle.sch_reader.specs.declared.fault.SchFault.TheVariants as texts
 use Rattle.schedule_check.specs.declared.fault.StartsFault.{StartsFault}
@@ -49,3 +49,7 @@ exit_of (faults.StartsToken line) = 2
 exit_of (faults.StartsActivity line) = 2
 exit_of (faults.Repeated line) = 2
 exit_of (faults.Missing activity) = 2
+
+-- it is not that a device failed
+abbrev pub IsNoDeviceFault : Fault → Type 0
+IsNoDeviceFault fault = (fault ≢ faults.ReadFailed) × (fault ≢ faults.WriteFailed)

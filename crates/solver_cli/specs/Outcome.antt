@@ -1,5 +1,6 @@
 -- What a run writes for the texts that it reads, and how it ends.
-use Rattle.std.specs.Prelude.{◌≡◌, ℕ, List, Option, None, Some, ◌⊎◌}
+use Rattle.std.specs.Prelude.{◌≡◌, ◌≢◌, ℕ, List, Option, None, Some, true, ◌⊎◌}
+use Rattle.std.specs.Io.KnownBytes.{Appends}
 use Rattle.network.specs.Problem.{Problem, activity_count}
 use Rattle.network.specs.Limits.{IsProject}
 use Rattle.sch_reader.specs.declared.fault.SchFault.{SchFault}
@@ -10,7 +11,8 @@ use Rattle.solver_cli.specs.declared.call.Job.{Job}
 use Rattle.solver_cli.specs.declared.call.Job.TheVariants as jobs
 use Rattle.solver_cli.specs.declared.fault.Fault.{Fault}
 use Rattle.solver_cli.specs.Answers.{IsEarliestText, IsCheckText, IsSolveText}
-use Rattle.solver_cli.specs.Devices.{Holds, HoldsFront}
+use Rattle.solver_cli.specs.Calls.{reads_second}
+use Rattle.solver_cli.specs.Devices.{TookFront}
 use Rattle.solver_cli.specs.Faults.{fault_of, starts_fault_of}
 
 -- the text spells a project, which has this property
@@ -20,26 +22,21 @@ pub record SpellsOne (text : List ℕ) (P : Problem → Type 0) : Type 0 where
   pub spells : Spells text project
   pub has : P project
 
--- the text spells no project, and this is its first fault
+-- the text spells no project
+abbrev pub SpellsNone : List ℕ → Type 0
+SpellsNone text = (p : Problem) → IsProject p → ¬ Spells text p
+
+-- and this is its first fault
 pub record HasFault (text : List ℕ) (fault : Fault) : Type 0 where
-  pub none : (p : Problem) → IsProject p → ¬ Spells text p
+  pub none : SpellsNone text
   pub cause : SchFault
   pub first : IsFirstFault text cause
   pub told : fault ≡ fault_of cause
-
--- what `earliest` writes for a text, and the exit status
-pub record IsEarliestAnswer (text : List ℕ) (exit : ℕ) (written : List ℕ) : Type 0 where
-  pub answers : SpellsOne text (λ p. IsEarliestText p written)
-  pub status : exit ≡ 0
 
 -- the text gives starts for the project, and this is written of them
 pub record IsReadAndChecked (p : Problem) (text : List ℕ) (exit : ℕ) (written : List ℕ) : Type 0 where
   pub read : starts_fault (activity_count p) text ≡ None
   pub checked : IsCheckText p (starts_of (activity_count p) text) exit written
-
--- what `check` writes for the starts in a text and the project in another, and the exit status
-abbrev pub IsCheckAnswer : List ℕ → List ℕ → ℕ → List ℕ → Type 0
-IsCheckAnswer text project exit written = SpellsOne project (λ p. IsReadAndChecked p text exit written)
 
 -- the text gives no starts for the project, and this is its first fault
 pub record IsFirstStartsFault (p : Problem) (text : List ℕ) (fault : Fault) : Type 0 where
@@ -47,35 +44,41 @@ pub record IsFirstStartsFault (p : Problem) (text : List ℕ) (fault : Fault) : 
   pub first : starts_fault (activity_count p) text ≡ Some cause
   pub told : fault ≡ starts_fault_of cause
 
--- the same, for the project that another text spells
-abbrev pub HasStartsFault : List ℕ → List ℕ → Fault → Type 0
-HasStartsFault text project fault = SpellsOne project (λ p. IsFirstStartsFault p text fault)
-
 -- what a job writes for its two texts, and the exit status
 abbrev pub IsAnswer : Job → List ℕ → List ℕ → ℕ → List ℕ → Type 0
-IsAnswer jobs.Earliest text second exit written = IsEarliestAnswer text exit written
+IsAnswer jobs.Earliest text second exit written = SpellsOne text (λ p. IsEarliestText p exit written)
 IsAnswer (jobs.Solve takes) text second exit written = SpellsOne text (λ p. IsSolveText p exit written)
-IsAnswer jobs.Check text second exit written = IsCheckAnswer text second exit written
+IsAnswer jobs.Check text second exit written = SpellsOne second (λ p. IsReadAndChecked p text exit written)
 
 -- why a job has no answer to its two texts
 abbrev pub IsRefusal : Job → List ℕ → List ℕ → Fault → Type 0
 IsRefusal jobs.Earliest text second fault = HasFault text fault
 IsRefusal (jobs.Solve takes) text second fault = HasFault text fault
-IsRefusal jobs.Check text second fault = HasFault second fault ⊎ HasStartsFault text second fault
+IsRefusal jobs.Check text second fault = HasFault second fault ⊎ SpellsOne second (λ p. IsFirstStartsFault p text fault)
 
 -- a job's answer to its two texts was written whole
 pub record IsAnswered (job : Job) (text second : List ℕ) (exit : ℕ) (before after : Option (List ℕ)) : Type 0 where
   pub written : List ℕ
   pub answer : IsAnswer job text second exit written
-  pub held : Holds before after written
+  pub held : Appends before after written
 
 -- a beginning of it was written
 pub record IsCutShort (job : Job) (text second : List ℕ) (before after : Option (List ℕ)) : Type 0 where
   pub exit : ℕ
   pub written : List ℕ
   pub answer : IsAnswer job text second exit written
-  pub front : HoldsFront before after written
+  pub front : TookFront before after written
 
--- what two inputs tell has this property
-abbrev pub Told : Option (List ℕ) → Option (List ℕ) → (List ℕ → List ℕ → Type 0) → Type 0
-Told left second P = (text more : List ℕ) → left ≡ Some text → second ≡ Some more → P text more
+-- where the inputs that a job reads tell their texts, these have this property
+abbrev pub IfTextsTold : Job → Option (List ℕ) → Option (List ℕ) → (List ℕ → List ℕ → Type 0) → Type 0
+IfTextsTold job left second P = (text more : List ℕ) → left ≡ Some text → (reads_second job ≡ true → second ≡ Some more) → P text more
+
+-- the input tells a text that spells no project
+pub record TellsNoProject (left : Option (List ℕ)) : Type 0 where
+  pub text : List ℕ
+  pub tells : left ≡ Some text
+  pub none : SpellsNone text
+
+-- a job's second input gave no project: it failed, or its text spells none
+abbrev pub HasNoProject : Job → Option (List ℕ) → ℕ → ℕ → Type 0
+HasNoProject job second failed failed_new = (reads_second job ≡ true) × ((failed_new ≢ failed) ⊎ TellsNoProject second)

@@ -1,16 +1,14 @@
 ghost use Rattle.std.specs.Prelude.{◌≡◌, IfOk, IfSome};
 ghost use Rattle.solver_cli.specs.Calls.{IsCall};
 
+use branching::MAX_TAKES;
 use clap::error::ErrorKind;
 use clap::{Arg, ArgAction, ArgMatches, Command, value_parser};
 use std::alloc::{AllocError, Global};
 use thiserror::Error;
 
-/// How many nodes may be taken, at most.
-const MAX_TAKES: u64 = 1_000_000_000;
-
 /// How many are taken where nothing else is said.
-const DEFAULT_TAKES: u64 = 1_000_000;
+const DEFAULT_TAKES: &str = "1000000";
 
 /// What the program is to do.
 #[derive(Clone, Copy, Debug, PartialEq, Eq)]
@@ -77,7 +75,8 @@ fn solve_command<'a>(alloc: Global) -> Result<Command<'a>, AllocError> {
     let nodes = Arg::new(alloc, "nodes")
         .long("nodes")
         .value_name("L")
-        .help("Stop once L nodes of the search were taken [default: 1000000]")
+        .help("Stop once L nodes of the search were taken")
+        .default_value(DEFAULT_TAKES)
         .value_parser(value_parser!(u64).range(1..=MAX_TAKES as i64));
     Command::new(alloc, "solve")
         .about("Print a shortest schedule of a project on standard input")
@@ -120,7 +119,7 @@ fn earliest_call() -> Call
 fn solve_call(matches: &ArgMatches<'_>) -> Option<Call>
     ensures { IfSome result IsCall }
 {
-    let takes = matches.get_one::<u64>("nodes").unwrap_or(DEFAULT_TAKES);
+    let takes = matches.get_one::<u64>("nodes")?;
     if takes < 1 || takes > MAX_TAKES {
         return None;
     }

@@ -4,38 +4,55 @@
 ghost use Rattle.std.specs.Prelude.{◌<◌};
 ghost use Rattle.solver_cli.specs.Calls.{IsCall, IsJob};
 
-mod answers;
+mod answer;
 mod call;
 mod device;
 mod fault;
 mod jobs;
+mod reading;
 mod runs;
 mod solved;
 mod standard;
 #[cfg(test)]
 mod tests;
+mod texts;
 
 use call::{Call, Job, WordsFault, call_of};
 use device::Input;
+use fault::Fault;
 use runs::{Ended, run};
 use standard::{NoInput, Reader, Writer};
+use std::io::ErrorKind;
 use std::process::ExitCode;
 use std::{env, fs, io};
 
+/// Prints how a run ended, where it has no answer.
+fn report(rt: &HostRuntime, ended: &Ended) -> ExitCode {
+    if let Some(fault) = ended.fault {
+        let _ = eprintln!(rt; "psmax: {fault}");
+    }
+    ExitCode::from(ended.exit)
+}
+
 /// Prints what words that are no call get: help to standard output, the rest to standard error.
 fn refuse(rt: &HostRuntime, fault: &WordsFault) -> ExitCode {
-    let (printed, status) = match fault {
-        WordsFault::Help { text } => (print!(rt; "{text}"), 0),
-        WordsFault::Bad { text } => (eprint!(rt; "{text}"), 2),
-        WordsFault::Memory => (eprintln!(rt; "psmax: {fault}"), 1),
-    };
-    ExitCode::from(if printed.is_ok() { status } else { 1 })
+    match fault {
+        WordsFault::Help { text } => match print!(rt; "{text}") {
+            Ok(()) => ExitCode::from(0),
+            Err(_) => report(rt, &Ended::with(Fault::WriteFailed)),
+        },
+        WordsFault::Bad { text } => {
+            let _ = eprint!(rt; "{text}");
+            ExitCode::from(2)
+        }
+        WordsFault::Memory => report(rt, &Ended::with(Fault::Memory)),
+    }
 }
 
 /// Runs the job on standard input and output and a second input, and prints its fault.
 fn perform<S: Input>(rt: &HostRuntime, job: Job, second: &mut S) -> ExitCode
     requires job { IsJob job }
-    requires second { S.failed second.old < 18446744073709551615 }
+    requires second { S.failed second.old < u64.MAX }
 {
     let mut input = Reader::new(rt.reader());
     let mut out = Writer::new(io::writer(rt));
@@ -53,6 +70,9 @@ fn start(rt: &HostRuntime, call: &Call) -> ExitCode
     };
     match fs::open(rt, name.as_str()) {
         Ok(file) => perform(rt, call.job, &mut Reader::new(file)),
+        Err(error) if error.kind() == ErrorKind::OutOfMemory => {
+            report(rt, &Ended::with(Fault::Memory))
+        }
         Err(_) => {
             let _ = eprintln!(rt; "psmax: cannot open {name}");
             ExitCode::from(1)
@@ -60,23 +80,21 @@ fn start(rt: &HostRuntime, call: &Call) -> ExitCode
     }
 }
 
-fn report(rt: &HostRuntime, ended: &Ended) -> ExitCode {
-    if let Some(fault) = ended.fault {
-        let _ = eprintln!(rt; "psmax: {fault}");
-    }
-    ExitCode::from(ended.exit)
-}
-
-/// The words of the command line; none where they are no text.
+/// The words of the command line.
 fn words(rt: &HostRuntime) -> io::Result<Vec<String>> {
-    let words: Vec<String> = env::args(rt)?.collect(rt.alloc())?;
-    Ok(words)
+    Ok(env::args(rt)?.collect(rt.alloc())?)
 }
 
 fn main(rt: HostRuntime) -> ExitCode {
-    let Ok(words) = words(&rt) else {
-        let _ = eprintln!(rt; "error: the words are no text");
-        return ExitCode::from(2);
+    let words = match words(&rt) {
+        Ok(words) => words,
+        Err(error) if error.kind() == ErrorKind::OutOfMemory => {
+            return report(&rt, &Ended::with(Fault::Memory));
+        }
+        Err(_) => {
+            let _ = eprintln!(&rt; "error: a word of the command line is not UTF-8");
+            return ExitCode::from(2);
+        }
     };
     match call_of(rt.alloc(), &words) {
         Ok(call) => start(&rt, &call),

@@ -1,18 +1,20 @@
 //! A run over devices.
 
-ghost use Rattle.std.specs.Prelude.{◌≡◌, ◌≢◌, ◌<◌, ◌+◌, ℕ, List, Option, Some, Err, IfOk, IfErr, IfSome, IfNone, ◌⊎◌, string_bytes};
+ghost use Rattle.std.specs.Prelude.{◌≡◌, ◌≢◌, ◌<◌, ◌+◌, false, Some, Err, IfOk, IfErr, IfSome, IfNone, string_bytes};
 ghost use Rattle.solver_cli.specs.declared.fault.Fault.{Fault};
 ghost use Rattle.solver_cli.specs.declared.fault.Fault.TheVariants as faults;
-ghost use Rattle.solver_cli.specs.Calls.{IsJob};
-ghost use Rattle.solver_cli.specs.Devices.{GaveUpTo};
+ghost use Rattle.words.specs.declared.TheConstants.{MAX_TEXT_BYTES};
+ghost use Rattle.solver_cli.specs.Calls.{IsJob, reads_second, writes_record};
+ghost use Rattle.solver_cli.specs.Devices.{CountsWhere, GaveUpTo, OneCountsWhere};
 ghost use Rattle.solver_cli.specs.Faults.{exit_of};
-ghost use Rattle.solver_cli.specs.Outcome.{IsAnswer, IsRefusal, IsAnswered, IsCutShort, Told};
+ghost use Rattle.solver_cli.specs.Outcome.{IsAnswer, IsRefusal, IsAnswered, IsCutShort, IfTextsTold, HasNoProject};
 
+use crate::answer::Answer;
 use crate::call::Job;
 use crate::device::{Failed, Input, Output, write_all};
 use crate::fault::Fault;
 use crate::jobs::{check, earliest, solve};
-use crate::solved::Answer;
+use crate::reading::{read_project, read_text};
 use std::alloc::Global;
 
 /// How a run ended: the exit status, and the fault that is printed, if any.
@@ -22,7 +24,23 @@ pub struct Ended {
     pub fault: Option<Fault>,
 }
 
-/// The answer of a job to what its inputs hold.
+impl Ended {
+    ghost use Rattle.std.specs.Prelude.{◌≡◌, Some};
+    ghost use Rattle.solver_cli.specs.Faults.{exit_of};
+
+    /// The end of a run that has no answer.
+    pub fn with(fault: Fault) -> Ended
+        ensures fault { result.fault ≡ Some fault }
+        ensures status { result.exit ≡ exit_of fault }
+    {
+        Ended {
+            exit: fault.exit(),
+            fault: Some(fault),
+        }
+    }
+}
+
+/// The answer of a job to what its inputs hold. A project is read and judged before starts are read.
 fn job_answer<I: Input, S: Input>(
     alloc: Global,
     job: Job,
@@ -30,27 +48,34 @@ fn job_answer<I: Input, S: Input>(
     second: &mut S,
 ) -> Result<Answer, Fault>
     requires job { IsJob job }
-    requires input { I.failed input.old < 18446744073709551615 }
-    requires second { S.failed second.old < 18446744073709551615 }
-    ensures said { IfOk result (λ a. Told (I.left input.old) (S.left second.old) (λ text more. IsAnswer job text more a.exit (string_bytes a.text))) }
-    ensures refused { IfErr result (λ fault. exit_of fault ≢ 1 → Told (I.left input.old) (S.left second.old) (λ text more. IsRefusal job text more fault)) }
+    requires input { I.failed input.old < u64.MAX }
+    requires second { S.failed second.old < u64.MAX }
+    ensures said { IfOk result (λ a. IfTextsTold job (I.left input.old) (S.left second.old)
+        (λ text more. IsAnswer job text more a.exit (string_bytes a.text))) }
+    ensures refused { IfErr result (λ fault. exit_of fault ≢ 1 → IfTextsTold job (I.left input.old) (S.left second.old)
+        (λ text more. IsRefusal job text more fault)) }
     ensures unwritten { IfErr result (λ fault. fault ≢ faults.WriteFailed) }
-    ensures failed { result ≡ Err faults.ReadFailed → (I.failed input.new ≡ I.failed input.old + 1) ⊎ (S.failed second.new ≡ S.failed second.old + 1) }
-    ensures within { GaveUpTo 16777217 (I.left input.old) (I.left input.new) }
-    ensures within_second { GaveUpTo 16777217 (S.left second.old) (S.left second.new) }
+    ensures count { OneCountsWhere (result ≡ Err faults.ReadFailed)
+        (I.failed input.old) (I.failed input.new) (S.failed second.old) (S.failed second.new) }
+    ensures within { GaveUpTo (MAX_TEXT_BYTES + 1) (I.left input.old) (I.left input.new) }
+    ensures within_second { GaveUpTo (MAX_TEXT_BYTES + 1) (S.left second.old) (S.left second.new) }
+    ensures unused_second { reads_second job ≡ false → second.new ≡ second.old }
+    ensures project_first { HasNoProject job (S.left second.old) (S.failed second.old) (S.failed second.new)
+        → input.new ≡ input.old }
 {
     match job {
         Job::Earliest => {
-            let answer = earliest(alloc, input)?;
-            Ok(answer)
+            let project = read_project(alloc, input)?;
+            Ok(earliest(alloc, &project)?)
         }
         Job::Solve { takes } => {
-            let answer = solve(alloc, input, takes)?;
-            Ok(answer)
+            let project = read_project(alloc, input)?;
+            Ok(solve(alloc, project, takes)?)
         }
         Job::Check => {
-            let answer = check(alloc, input, second)?;
-            Ok(answer)
+            let project = read_project(alloc, second)?;
+            let starts = read_text(alloc, input)?;
+            check(alloc, &project, &starts)
         }
     }
 }
@@ -66,33 +91,39 @@ pub fn run<I: Input, S: Input, O: Output, R: Output>(
     record_out: &mut R,
 ) -> Ended
     requires job { IsJob job }
-    requires input { I.failed input.old < 18446744073709551615 }
-    requires second { S.failed second.old < 18446744073709551615 }
-    requires out { O.failed out.old < 18446744073709551615 }
-    requires record_out { R.failed record_out.old < 18446744073709551615 }
+    requires input { I.failed input.old < u64.MAX }
+    requires second { S.failed second.old < u64.MAX }
+    requires out { O.failed out.old < u64.MAX }
+    requires record_out { R.failed record_out.old < u64.MAX }
 
     // No fault: the answer was written whole.
-    ensures answered { IfNone result.fault (Told (I.left input.old) (S.left second.old)
+    ensures answered { IfNone result.fault (IfTextsTold job (I.left input.old) (S.left second.old)
         (λ text more. IsAnswered job text more result.exit (O.held out.old) (O.held out.new))) }
 
     // A fault of a text comes where the text has no answer.
-    ensures refused { IfSome result.fault (λ fault. exit_of fault ≢ 1
-        → Told (I.left input.old) (S.left second.old) (λ text more. IsRefusal job text more fault)) }
+    ensures refused { IfSome result.fault (λ fault. exit_of fault ≢ 1 → IfTextsTold job (I.left input.old) (S.left second.old)
+        (λ text more. IsRefusal job text more fault)) }
 
-    // Where the output failed it holds a beginning of the answer; at any other fault, nothing more.
-    ensures cut_short { result.fault ≡ Some faults.WriteFailed → Told (I.left input.old) (S.left second.old)
+    // Where the output failed it holds a beginning of the answer; at any other fault it is as it was.
+    ensures cut_short { result.fault ≡ Some faults.WriteFailed → IfTextsTold job (I.left input.old) (S.left second.old)
         (λ text more. IsCutShort job text more (O.held out.old) (O.held out.new)) }
-    ensures silent { IfSome result.fault (λ fault. fault ≢ faults.WriteFailed → O.held out.new ≡ O.held out.old) }
-
+    ensures silent { IfSome result.fault (λ fault. fault ≢ faults.WriteFailed → out.new ≡ out.old) }
     ensures status { IfSome result.fault (λ fault. result.exit ≡ exit_of fault) }
-    ensures read { result.fault ≡ Some faults.ReadFailed
-        → (I.failed input.new ≡ I.failed input.old + 1) ⊎ (S.failed second.new ≡ S.failed second.old + 1) }
-    ensures written { result.fault ≡ Some faults.WriteFailed → O.failed out.new ≡ O.failed out.old + 1 }
-    ensures record { R.held record_out.new ≡ R.held record_out.old }
 
-    // No input is read beyond its limit and one byte.
-    ensures within { GaveUpTo 16777217 (I.left input.old) (I.left input.new) }
-    ensures within_second { GaveUpTo 16777217 (S.left second.old) (S.left second.new) }
+    // A failure that a device counted is told as that, and nothing else is.
+    ensures read { OneCountsWhere (result.fault ≡ Some faults.ReadFailed)
+        (I.failed input.old) (I.failed input.new) (S.failed second.old) (S.failed second.new) }
+    ensures written { CountsWhere (result.fault ≡ Some faults.WriteFailed) (O.failed out.old) (O.failed out.new) }
+
+    // No input is read beyond its limit and one byte, and what the job doesn't use not at all.
+    ensures within { GaveUpTo (MAX_TEXT_BYTES + 1) (I.left input.old) (I.left input.new) }
+    ensures within_second { GaveUpTo (MAX_TEXT_BYTES + 1) (S.left second.old) (S.left second.new) }
+    ensures unused_second { reads_second job ≡ false → second.new ≡ second.old }
+    ensures unused_record { writes_record job ≡ false → record_out.new ≡ record_out.old }
+
+    // The project of a second input is read and judged before the starts.
+    ensures project_first { HasNoProject job (S.left second.old) (S.failed second.old) (S.failed second.new)
+        → input.new ≡ input.old }
 {
     match job_answer(alloc, job, input, second) {
         Ok(answer) => match write_all(out, answer.text.as_bytes()) {
@@ -100,14 +131,8 @@ pub fn run<I: Input, S: Input, O: Output, R: Output>(
                 exit: answer.exit,
                 fault: None,
             },
-            Err(Failed) => Ended {
-                exit: 1,
-                fault: Some(Fault::WriteFailed),
-            },
+            Err(Failed) => Ended::with(Fault::WriteFailed),
         },
-        Err(fault) => Ended {
-            exit: fault.exit(),
-            fault: Some(fault),
-        },
+        Err(fault) => Ended::with(fault),
     }
 }

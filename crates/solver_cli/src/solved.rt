@@ -3,26 +3,19 @@
 ghost use Rattle.std.specs.Prelude.{◌≡◌, ◌++◌, IfOk, OnOk, string_bytes, codes};
 ghost use Rattle.network.specs.Problem.{Problem};
 ghost use Rattle.network.specs.Schedule.{makespan};
-ghost use Rattle.branching.specs.Verdicts.{IsTrueOf};
+ghost use Rattle.branching.specs.Verdicts.{IsTrueOf, StopsBelowBest};
 ghost use Rattle.solver_cli.specs.Answers.{starts_text, stopped_text, bound_text, start_lines, IsSolveText};
 
-use crate::answers::{put_starts, starts_text};
+use crate::answer::Answer;
+use crate::texts::{put_starts, starts_text};
 use branching::Outcome;
 use network::Schedule;
 use std::alloc::{AllocError, Global};
 
-/// What is to be written, and the exit status once it is.
-#[derive(Drop)]
-pub(crate) struct Answer {
-    pub(crate) text: String,
-    pub(crate) exit: u8,
-}
-
 fn optimal_text(alloc: Global, best: &Schedule) -> Result<String, AllocError>
     ensures { IfOk result (λ t. string_bytes t ≡ starts_text (codes "optimal") (makespan best.now.starts) best.now.starts) }
 {
-    let text = starts_text(alloc, "optimal", best.makespan(), best.starts())?;
-    Ok(text)
+    starts_text(alloc, "optimal", best.makespan(), best.starts())
 }
 
 fn feasible_bound_text(alloc: Global, best: &Schedule, bound: i64) -> Result<String, AllocError>
@@ -51,6 +44,7 @@ fn no_schedule_text(alloc: Global) -> Result<String, AllocError>
 
 /// The answer that an outcome makes, true of each project of which the outcome is.
 pub(crate) fn solved_answer(alloc: Global, outcome: &Outcome) -> Result<Answer, AllocError>
+    requires { StopsBelowBest outcome.now }
     ensures { IfOk result (λ a. (p : Problem) → IsTrueOf p outcome.now → IsSolveText p a.exit (string_bytes a.text)) }
 {
     let (text, exit) = match outcome {

@@ -1,9 +1,9 @@
-ghost use Rattle.std.specs.Prelude.{◌≡◌, None};
+ghost use Rattle.std.specs.Prelude.{◌≡◌};
 
 use crate::device::{Failed, Input, Output};
 use std::io::{Read, Write};
 
-/// An input over a reader, as a file. It tells no bytes.
+/// An input over a reader. It tells what the reader tells: a file nothing, a slice its bytes.
 #[derive(Drop)]
 pub(crate) struct Reader<R> {
     inner: R,
@@ -12,14 +12,15 @@ pub(crate) struct Reader<R> {
 
 impl<R> Reader<R> {
     pub(crate) fn new(inner: R) -> Reader<R>
-        ensures { result.failures ≡ 0 }
+        ensures inner { result.inner ≡ inner }
+        ensures failures { result.failures ≡ 0 }
     {
         Reader { inner, failures: 0 }
     }
 }
 
 impl<R: Read> Input for Reader<R> {
-    ghost left = { λ _. None };
+    ghost left = { λ device. R.remaining device.inner };
 
     ghost failed = { λ device. device.failures };
 
@@ -38,7 +39,7 @@ impl<R: Read> Input for Reader<R> {
     }
 }
 
-/// An output over a writer, as a file. A write that takes nothing counts as a failure.
+/// An output over a writer. A write that takes nothing counts as a failure.
 #[derive(Drop)]
 pub(crate) struct Writer<W> {
     inner: W,
@@ -47,14 +48,22 @@ pub(crate) struct Writer<W> {
 
 impl<W> Writer<W> {
     pub(crate) fn new(inner: W) -> Writer<W>
-        ensures { result.failures ≡ 0 }
+        ensures inner { result.inner ≡ inner }
+        ensures failures { result.failures ≡ 0 }
     {
         Writer { inner, failures: 0 }
+    }
+
+    #[cfg(test)]
+    pub(crate) fn into_inner(self) -> W
+        ensures { result ≡ self.inner }
+    {
+        self.inner
     }
 }
 
 impl<W: Write> Output for Writer<W> {
-    ghost held = { λ _. None };
+    ghost held = { λ device. W.contents device.inner };
 
     ghost failed = { λ device. device.failures };
 

@@ -1,11 +1,15 @@
-ghost use Rattle.std.specs.Prelude.{◌≡◌, ◌<◌, None};
+ghost use Rattle.std.specs.Prelude.{◌≡◌, ◌≢◌, ◌<◌, [], Some, IfNone, IfSome};
+ghost use Rattle.solver_cli.specs.declared.fault.Fault.TheVariants as faults;
+ghost use Rattle.solver_cli.specs.Calls.{IsJob};
+ghost use Rattle.solver_cli.specs.Faults.{exit_of};
+ghost use Rattle.solver_cli.specs.Outcome.{IsAnswer, IsRefusal};
 
 use crate::call::{Job, WordsFault, call_of};
-use crate::device::{Failed, Input, Output};
 use crate::fault::Fault;
 use crate::runs::{Ended, run};
-use crate::standard::NoInput;
+use crate::standard::{NoInput, Reader, Writer};
 use std::alloc::{AllocError, Global};
+use std::io::{self, ErrorKind, Read, Write};
 use std::test::Fail;
 
 /// Two activities of 3 and 4 periods that need the same machine.
@@ -14,151 +18,154 @@ const TWO_JOBS: &[u8] =
 
 /// Gives at most `chunk` bytes at once, and fails once it gave `room`.
 #[derive(Drop)]
-struct TextInput<'a> {
+struct Pieces<'a> {
     rest: &'a [u8],
     chunk: usize,
     room: usize,
-    failures: u64,
+    ghost some: { 0 < chunk },
 }
 
-impl<'a> Input for TextInput<'a> {
-    ghost left = { λ _. None };
+impl<'a> Read for Pieces<'a> {
+    ghost remaining = { λ pieces. Some pieces.rest.now };
 
-    ghost failed = { λ device. device.failures };
-
-    fn pull(&mut self, buffer: &mut [u8]) -> Result<usize, Failed> {
+    fn read(&mut self, buffer: &mut [u8]) -> io::Result<usize> {
         if self.room == 0 {
-            self.failures += 1;
-            return Err(Failed);
+            return Err(io::Error::from(ErrorKind::Other));
         }
-        let n = self
-            .rest
-            .len()
-            .min(self.chunk)
-            .min(self.room)
-            .min(buffer.len());
+        let most = self.chunk.min(self.room).min(buffer.len());
+        let n = self.rest.len().min(most);
         let (front, rest) = self.rest.split_at(n);
         buffer[..n].copy_from_slice(front);
         self.rest = rest;
         self.room -= n;
         Ok(n)
     }
-
-    fn failures(&self) -> u64 {
-        self.failures
-    }
 }
 
 /// Takes at most `chunk` bytes at once, and no more than `room` in all.
 #[derive(Drop)]
-struct TextOutput {
+struct Bounded {
     taken: Vec<u8>,
     chunk: usize,
     room: usize,
-    failures: u64,
 }
 
-impl Output for TextOutput {
-    ghost held = { λ _. None };
+impl Write for Bounded {
+    ghost contents = { λ bounded. Some bounded.taken.items };
 
-    ghost failed = { λ device. device.failures };
-
-    fn push(&mut self, bytes: &[u8]) -> Result<usize, Failed> {
+    fn write(&mut self, bytes: &[u8]) -> io::Result<usize> {
         let n = bytes.len().min(self.chunk).min(self.room);
-        if n == 0 || self.taken.extend_from_slice(&bytes[..n]).is_err() {
-            self.failures += 1;
-            return Err(Failed);
-        }
+        self.taken.extend_from_slice(&bytes[..n])?;
         self.room -= n;
         Ok(n)
     }
 
-    fn failures(&self) -> u64 {
-        self.failures
+    fn flush(&mut self) -> io::Result<()> {
+        Ok(())
     }
 }
 
-fn output(alloc: Global, chunk: usize, room: usize) -> TextOutput
-    ensures { result.failures ≡ 0 }
-{
-    TextOutput {
+/// Runs `earliest` on two jobs, with an input that gives so many bytes and an output that takes them in
+/// such pieces, and so many in all.
+fn earliest(alloc: Global, given: usize, chunk: usize, room: usize) -> (Ended, Vec<u8>) {
+    let pieces = Pieces {
+        rest: TWO_JOBS,
+        chunk: 1,
+        room: given,
+    };
+    let bounded = Bounded {
         taken: Vec::new(alloc),
         chunk,
         room,
-        failures: 0,
-    }
+    };
+    let mut out = Writer::new(bounded);
+    let mut record = Writer::new(io::sink());
+    let job = Job::Earliest;
+    let ended = run(
+        alloc,
+        job,
+        &mut Reader::new(pieces),
+        &mut NoInput,
+        &mut out,
+        &mut record,
+    );
+    (ended, out.into_inner().taken)
 }
 
-/// Runs `earliest` on two jobs, with an input that gives so many bytes.
-fn earliest(alloc: Global, room: usize, out: &mut TextOutput) -> Ended
-    requires { out.old.failures < 18446744073709551615 }
+/// What a job writes for its two texts, and how it ends.
+fn answer(alloc: Global, job: Job, text: &[u8], second: &[u8]) -> (Ended, Vec<u8>)
+    requires { IsJob job }
+    ensures answered { IfNone result.0.fault (IsAnswer job text.now second.now result.0.exit result.1.items) }
+    ensures refused { IfSome result.0.fault (λ fault. exit_of fault ≢ 1 → IsRefusal job text.now second.now fault) }
+    ensures silent { IfSome result.0.fault (λ fault. fault ≢ faults.WriteFailed → result.1.items ≡ []) }
+    ensures status { IfSome result.0.fault (λ fault. result.0.exit ≡ exit_of fault) }
 {
-    let mut input = TextInput {
-        rest: TWO_JOBS,
-        chunk: 1,
-        room,
-        failures: 0,
-    };
-    let mut record = output(alloc, 0, 0);
-    run(
-        alloc,
-        Job::Earliest,
-        &mut input,
-        &mut NoInput,
-        out,
-        &mut record,
-    )
+    let mut input = Reader::new(text);
+    let mut second = Reader::new(second);
+    let mut out = Writer::new(Vec::new(alloc));
+    let mut record = Writer::new(io::sink());
+    let ended = run(alloc, job, &mut input, &mut second, &mut out, &mut record);
+    (ended, out.into_inner())
 }
+
+const ANSWERED: Ended = Ended {
+    exit: 0,
+    fault: None,
+};
 
 const ANSWER: &[u8] = b"earliest 4\n0 0\n1 0\n2 0\n3 4\n";
 
 #[test]
-fn an_answer_goes_out_byte_by_byte(rt: HostRuntime) -> Result<(), Fail> {
-    let mut out = output(rt.alloc(), 1, 1_000);
-    let ended = earliest(rt.alloc(), 1_000, &mut out);
-    assert_eq!(rt;
-        ended,
-        Ended {
-            exit: 0,
-            fault: None
-        }
-    );
-    assert_eq!(rt; out.taken.as_slice(), ANSWER);
+fn answers_are_those_of_the_bytes(rt: HostRuntime) -> Result<(), Fail> {
+    let starts = b"0 0\n1 0\n2 3\n3 7\n";
+    let wanted: [(Job, &[u8], &[u8], &[u8]); 3] = [
+        (Job::Earliest, TWO_JOBS, b"", ANSWER),
+        (
+            Job::Solve { takes: 10 },
+            TWO_JOBS,
+            b"",
+            b"optimal 7\n0 0\n1 4\n2 0\n3 7\n",
+        ),
+        (Job::Check, starts, TWO_JOBS, b"feasible 7\n"),
+    ];
+    for (job, text, second, bytes) in wanted {
+        let (ended, written) = answer(rt.alloc(), job, text, second);
+        assert_eq!(rt; ended, ANSWERED);
+        assert_eq!(rt; written.as_slice(), bytes);
+    }
     Ok(())
 }
 
 #[test]
-fn a_failed_output_holds_a_beginning(rt: HostRuntime) -> Result<(), Fail> {
+fn a_text_that_is_none_gets_no_answer(rt: HostRuntime) {
+    let (ended, written) = answer(rt.alloc(), Job::Check, b"", b"2 1 0");
+    assert_eq!(rt; ended, Ended::with(Fault::Short { index: 3 }));
+    assert!(rt; written.is_empty());
+}
+
+#[test]
+fn an_answer_goes_out_byte_by_byte(rt: HostRuntime) {
+    let (ended, written) = earliest(rt.alloc(), 1_000, 1, 1_000);
+    assert_eq!(rt; ended, ANSWERED);
+    assert_eq!(rt; written.as_slice(), ANSWER);
+}
+
+#[test]
+fn a_failed_output_holds_a_beginning(rt: HostRuntime) {
     for room in 0..ANSWER.len() {
-        let mut out = output(rt.alloc(), 1_000, room);
-        let ended = earliest(rt.alloc(), 1_000, &mut out);
-        assert_eq!(rt;
-            ended,
-            Ended {
-                exit: 1,
-                fault: Some(Fault::WriteFailed)
-            }
-        );
-        assert_eq!(rt; out.taken.as_slice(), &ANSWER[..room]);
+        let (ended, written) = earliest(rt.alloc(), 1_000, 1_000, room);
+        assert_eq!(rt; ended, Ended::with(Fault::WriteFailed));
+        assert_eq!(rt; written.as_slice(), &ANSWER[..room]);
     }
-    Ok(())
 }
 
 #[test]
-fn a_failed_input_gives_no_answer(rt: HostRuntime) -> Result<(), Fail> {
-    for room in 0..TWO_JOBS.len() {
-        let mut out = output(rt.alloc(), 1_000, 1_000);
-        let ended = earliest(rt.alloc(), room, &mut out);
-        assert_eq!(rt;
-            ended,
-            Ended {
-                exit: 1,
-                fault: Some(Fault::ReadFailed)
-            }
-        );
-        assert!(rt; out.taken.is_empty());
+fn a_failed_input_gives_no_answer(rt: HostRuntime) {
+    for given in 0..TWO_JOBS.len() {
+        let (ended, written) = earliest(rt.alloc(), given, 1_000, 1_000);
+        assert_eq!(rt; ended, Ended::with(Fault::ReadFailed));
+        assert!(rt; written.is_empty());
     }
-    Ok(())
 }
 
 #[test]

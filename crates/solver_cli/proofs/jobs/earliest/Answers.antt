@@ -1,7 +1,22 @@
-use Rattle.std.proofs.lemmas.Result.{err_from_is_err_and}
+use Rattle.std.proofs.Common.{append-nil, rules, refl, inr}
+use mir.Val.{SFits}
+use mir.Syntax.{w64}
+use Rattle.std.proofs.lemmas.Int.{to_z-of_z}
+use Rattle.solver_cli.proofs.AnswerLaws.{least_said}
 use Rattle.solver_cli.proofs.jobs.earliest.Goals as goal
+use Rattle.solver_cli.proofs.jobs.earliest.Goals.{in-Ok+in_ok-starts-in-Ok+in_ok-text-in-Ok, in-Err-PositiveCycle+in_ok-text-in-Err-PositiveCycle}
 
-pub returns-in_err-project-clause-refused : goal.returns-in_err-project-clause-refused
-returns-in_err-project-clause-refused g c =
-    let p = err_from_is_err_and c.from_residual.result c.from_residual.ensures.1 in
-    rw (p.1, p.2) c.in_err-project.ensures.refused
+pub returns : goal.returns
+returns c = elim c.match-longest.branch [
+  | in-Ok+in_ok-starts-in-Ok+in_ok-text-in-Ok w ↦
+      let fits : SFits w64 w.index-makespan.result.now = search rules in
+      least_said c.args.project.now w.in-Ok.matrix w.in_ok-starts-in-Ok.starts.items w.activity_count.result w.index-makespan.result.now w.index-makespan.result.now _
+      w.activity_count.ensures.limits w.in-Ok.ensures.matrix w.in_ok-starts-in-Ok.ensures.earliest w.activity_count.ensures.value w.index-makespan.ensures
+      (rw w.text-is (rw (to_z-of_z w64 w.index-makespan.result.now fits, w.deref.ensures.value) at w.in_ok-text-in-Ok.ensures))
+  | in-Err-PositiveCycle+in_ok-text-in-Err-PositiveCycle w ↦ inr (record {
+    top = w.in-Err-PositiveCycle.at;
+    least_top = rw (w.in-Err-PositiveCycle.field-0-is, append-nil) at w.in-Err-PositiveCycle.ensures.fault;
+    text = rw w.text-is w.in_ok-text-in-Err-PositiveCycle.ensures;
+    status = refl;
+  })
+]

@@ -1,7 +1,8 @@
-use Rattle.std.proofs.lemmas.Result.{err_from_is_err_and}
+use Rattle.std.proofs.lemmas.Result.{MatchResult-weaker}
 use Rattle.solver_cli.proofs.jobs.solve.Goals as goal
 
-pub returns-in_err-project-clause-refused : goal.returns-in_err-project-clause-refused
-returns-in_err-project-clause-refused g c =
-    let p = err_from_is_err_and c.from_residual.result c.from_residual.ensures.1 in
-    rw (p.1, p.2) c.in_err-project.ensures.refused
+-- the search ran on this very project
+pub returns : goal.returns
+returns c =
+    let outcome = rw c.in_ok-project.ensures.ok at c.in_ok-outcome.ensures.true_of in
+    MatchResult-weaker c.solved_answer.result c.solved_answer.ensures (λ a said. said c.args.project outcome) (λ _ _. tt)

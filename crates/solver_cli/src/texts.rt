@@ -1,12 +1,9 @@
+//! The texts of answers.
+
 ghost use Rattle.std.specs.Prelude.{◌≡◌, ◌++◌, ◌∷◌, [], ◌<◌, length, OnOk, IfOk, string_bytes, codes};
 ghost use Rattle.std.specs.Fmt.{decimal};
-ghost use Rattle.network.specs.Limits.{IsProject};
-ghost use Rattle.network.specs.Schedule.{makespan};
-ghost use Rattle.solver_cli.specs.Answers.{starts_text, start_lines, feasible_line, violation_line, violations_text, IsEarliestText};
+ghost use Rattle.solver_cli.specs.Answers.{starts_text, cycle_line, start_lines, feasible_line, violation_line, violations_text};
 
-use earliest::least_starts;
-use longest_path::{PathFault, longest};
-use network::Project;
 use schedule_check::Violation;
 use std::alloc::{AllocError, Global};
 
@@ -41,27 +38,13 @@ pub(crate) fn starts_text(
     Ok(out)
 }
 
-fn cycle_text(alloc: Global, top: usize) -> Result<String, AllocError>
-    ensures { IfOk result (λ t. string_bytes t ≡ codes "positive cycle " ++ (decimal top ++ codes "\n")) }
+/// The least activity that tops a positive cycle.
+pub(crate) fn cycle_text(alloc: Global, top: usize) -> Result<String, AllocError>
+    ensures { IfOk result (λ t. string_bytes t ≡ cycle_line top) }
 {
     let mut out = String::new(alloc);
     writeln!(out, "positive cycle {top}")?;
     Ok(out)
-}
-
-/// The least schedule of a project, or the least activity that tops a positive cycle.
-pub(crate) fn earliest_text(alloc: Global, project: &Project) -> Result<String, AllocError>
-    ensures { IfOk result (λ t. IsEarliestText project.now (string_bytes t)) }
-{
-    let matrix = match longest(alloc, project, &[]) {
-        Ok(matrix) => matrix,
-        Err(PathFault::PositiveCycle { at }) => return cycle_text(alloc, at),
-        Err(PathFault::Memory) => return Err(AllocError),
-    };
-    let starts = least_starts(alloc, &matrix)?;
-    let end = project.activity_count() - 1;
-    let text = starts_text(alloc, "earliest", starts[end], &starts)?;
-    Ok(text)
 }
 
 /// That starts with this last one are a feasible schedule.
