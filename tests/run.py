@@ -5,9 +5,11 @@ Runs the program on every case of tests/cases.jsonl and examples/cases.jsonl, ea
 prints each failure, and last 'N passed, M failed'. With --counted, what the last such line of a log
 counts is added.
 
-A case is one line of JSON: name, args, exit, and, where they matter: stdin, files (made before the
-run), stdout, stdout_first (its first line alone), stderr, stdout_to (a device in place of a pipe). What is wanted of
-stdout and stderr is a text or an input. An input is one of
+A case is one line of JSON: name, args, exit, and, where they matter: stdin, stdin_pieces (standard input is then a
+pipe that holds at most so many bytes at once), files (made before the run), stdout, stdout_first (its first line
+alone), stderr, stdout_to (a device in place of a pipe), stdout_limit (standard output is then a file that may have so
+many bytes). What is wanted of stdout and stderr is a text or an input. A word that is not UTF-8 has its bytes as
+Python's os.fsdecode gives them. An input is one of
   {"text": TEXT}            this text
   {"file": NAME}            a file of inputs/ beside the cases, with "cut": its first so many bytes,
                             with "append": and then this text
@@ -16,13 +18,20 @@ stdout and stderr is a text or an input. An input is one of
   {"concat": [INPUT, ..]}   these one after another
   {"path": PATH}            this file or device itself"""
 import argparse
+import fcntl
 import json
 import os
 import pathlib
 import re
+import resource
+import select
+import signal
+import struct
 import subprocess
 import sys
 import tempfile
+import termios
+import threading
 
 TOP = pathlib.Path(__file__).resolve().parent.parent
 TIMEOUT = 60
@@ -49,6 +58,28 @@ def wanted(spec, inputs):
     return spec.encode() if isinstance(spec, str) else content(spec, inputs)
 
 
+def give(pipe, data, most):
+    """Writes the data into the pipe, each piece once the one before was read, and closes it."""
+    closed = select.poll()
+    closed.register(pipe, 0)
+    try:
+        for start in range(0, len(data), most):
+            os.write(pipe, data[start : start + most])
+            while struct.unpack("i", fcntl.ioctl(pipe, termios.FIONREAD, b"\0" * 4))[0]:
+                if closed.poll(1):  # a millisecond, or at once where the program reads no further
+                    return
+    except BrokenPipeError:
+        pass
+    finally:
+        os.close(pipe)
+
+
+def limit_files(most):
+    """No file may have more bytes; a write beyond fails, and kills nobody."""
+    signal.signal(signal.SIGXFSZ, signal.SIG_IGN)
+    resource.setrlimit(resource.RLIMIT_FSIZE, (most, most))
+
+
 def failures(program, case, inputs):
     with tempfile.TemporaryDirectory() as folder:
         folder = pathlib.Path(folder)
@@ -57,26 +88,40 @@ def failures(program, case, inputs):
         spec = case.get("stdin")
         if spec and "path" in spec:
             stdin = os.open(spec["path"], os.O_RDONLY)  # may be a folder, which `open` refuses
+        elif "stdin_pieces" in case:
+            stdin, pipe = os.pipe()
+            giver = threading.Thread(target=give, args=(pipe, content(spec, inputs), case["stdin_pieces"]))
         else:
             (folder / ".stdin").write_bytes(content(spec, inputs))
             stdin = os.open(folder / ".stdin", os.O_RDONLY)
             (folder / ".stdin").unlink()
-        stdout = open(case["stdout_to"], "wb") if "stdout_to" in case else subprocess.PIPE
+        limit = case.get("stdout_limit")
+        to = folder / ".stdout" if limit is not None else case.get("stdout_to")
+        stdout = open(to, "wb") if to else subprocess.PIPE
         try:
-            ran = subprocess.run([program, *case["args"]], stdin=stdin, stdout=stdout,
-                                 stderr=subprocess.PIPE, cwd=folder, timeout=TIMEOUT)
-        except subprocess.TimeoutExpired:
-            return [f"no answer in {TIMEOUT} s"]
+            ran = subprocess.Popen([program, *case["args"]], stdin=stdin, stdout=stdout,
+                                   stderr=subprocess.PIPE, cwd=folder,
+                                   preexec_fn=(lambda: limit_files(limit)) if limit is not None else None)
         finally:
             os.close(stdin)
+        if "stdin_pieces" in case:
+            giver.start()
+        try:
+            out, err = ran.communicate(timeout=TIMEOUT)
+        except subprocess.TimeoutExpired:
+            ran.kill()
+            ran.communicate()
+            return [f"no answer in {TIMEOUT} s"]
+        if limit is not None:
+            out = to.read_bytes()
     bad = []
     if ran.returncode != case["exit"]:
         bad.append(f"exit {ran.returncode}, not {case['exit']}")
-    for name, got in (("stdout", ran.stdout or b""), ("stderr", ran.stderr)):
+    for name, got in (("stdout", out or b""), ("stderr", err)):
         if name in case and got != wanted(case[name], inputs):
             bad.append(f"{name} {got[:300]!r}, not {wanted(case[name], inputs)[:300]!r}")
-    if "stdout_first" in case and (ran.stdout or b"").split(b"\n")[0] != case["stdout_first"].encode():
-        bad.append(f"first line {ran.stdout[:100]!r}, not {case['stdout_first']!r}")
+    if "stdout_first" in case and (out or b"").split(b"\n")[0] != case["stdout_first"].encode():
+        bad.append(f"first line {(out or b'')[:100]!r}, not {case['stdout_first']!r}")
     return bad
 
 
