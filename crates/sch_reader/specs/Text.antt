@@ -11,10 +11,6 @@ use Rattle.network.specs.Problem.{Problem}
 use Rattle.network.specs.Limits.{IsProject}
 use Rattle.sch_reader.specs.Layout.{Layout, done, place, misfit, project_text}
 
--- the limit on a text's bytes
-abbrev pub text_limit : ℕ
-text_limit = MAX_TEXT_BYTES
-
 -- the given arcs from an activity
 abbrev pub lags_from : ℕ → List Lag → List Lag
 lags_from i lags = filter (λ a. a.from == i) lags
