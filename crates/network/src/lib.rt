@@ -17,8 +17,7 @@ mod tests;
 
 pub use lag::{Lag, Pair};
 pub use limits::{
-    MAX_ACTIVITIES, MAX_AMOUNT, MAX_LAG_WEIGHT, MAX_LAGS, MAX_RESOURCES, MAX_START,
-    MAX_WALK_WEIGHT,
+    MAX_ACTIVITIES, MAX_AMOUNT, MAX_LAG_WEIGHT, MAX_LAGS, MAX_RESOURCES, MAX_START, MAX_WALK_WEIGHT,
 };
 pub use parts::{Parts, ProjectFault, Quantity};
 pub use project::Project;
