@@ -12,3 +12,4 @@ pub mod Terms
 pub mod Greatest
 pub mod LoadLimits
 pub mod Energies
+pub mod WithLaws

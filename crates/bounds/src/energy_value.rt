@@ -14,7 +14,7 @@ use network::Project;
 use std::alloc::{AllocError, Global};
 
 /// The energy value of heads and tails, in periods.
-fn energy_between(
+pub(crate) fn energy_between(
     alloc: Global,
     project: &Project,
     heads: &[i64],

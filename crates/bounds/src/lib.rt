@@ -3,7 +3,7 @@
 //! [`critical`] is the greatest weight from the start to the end, [`energy`] looks at how much work
 //! of one resource has to be done between a head and a tail, by the activities that lie there whole
 //! (in the manner of Carlier's bound by heads, work and tails of subsets: The one-machine sequencing
-//! problem, 1982), and [`bound`] is the greater of both.
+//! problem, 1982), and [`bound`] is the greater of both. [`bound_with`] is the bound with one pair more.
 #![tactic(auto)]
 
 ghost use Rattle.std.specs.Prelude.{◌≡◌, IfOk};
@@ -15,11 +15,13 @@ mod limits;
 mod load;
 mod sweep;
 mod window;
+mod with_pair;
 
 pub use energy_value::energy;
 use longest_path::Matrix;
 use network::Project;
 use std::alloc::{AllocError, Global};
+pub use with_pair::bound_with;
 
 /// The greatest weight from the start to the end in periods: the least makespan where resources
 /// don't count. Takes no memory.

@@ -45,6 +45,12 @@ drops_keep p best old new drops covered =
           (any_parts (λ n. NodeStandsFor n s) new drops.dropped some);
     }
 
+-- the last of the nodes that are left is one of the project
+pub last_is_node : (p : Problem) (ceiling : Option ℤ) (old rest : List Subproblem) (node : Subproblem) → DropsOver ceiling old (rest ++ node ∷ []) → All (IsNodeOf p) old → IsNodeOf p node
+last_is_node p ceiling old rest node drops known =
+    let nodes : All (IsNodeOf p) ((rest ++ node ∷ []) ++ drops.dropped) = rw drops.from_end at known in
+    All-contains (IsNodeOf p) (rest ++ node ∷ []) node (all_left (IsNodeOf p) (rest ++ node ∷ []) drops.dropped nodes) (Contains-push rest node)
+
 -- one node more was dropped
 pub drop_one : (ceiling : Option ℤ) (old new : List Subproblem) (node : Subproblem) → ¬ IsUnder ceiling node.bound → DropsOver ceiling old (new ++ node ∷ []) → DropsOver ceiling old new
 drop_one ceiling old new node over drops = record {

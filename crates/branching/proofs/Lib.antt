@@ -3,6 +3,8 @@ pub mod OrderedPairs
 pub mod Cover
 pub mod Together
 pub mod Nodes
+pub mod Paths
+pub mod Rebuilding
 pub mod Kids
 pub mod Covers
 pub mod Outcomes

@@ -1,5 +1,5 @@
 -- What a node's matrix says: of the schedules that keep its pairs, and of one pair more.
-use Rattle.std.proofs.Common.{◌≡◌, refl, sym, ap, subst, ℕ, ◌-◌, ◌<◌, ◌≤◌, arith, ℤ, pos, ◌+ℤ◌, ◌≤ℤ◌, ◌<ℤ◌, List, [], ◌∷◌, ◌++◌, length, Option, None, Some, true}
+use Rattle.std.proofs.Common.{◌≡◌, refl, sym, ap, subst, ℕ, ◌-◌, ◌<◌, ◌≤◌, arith, ℤ, pos, ◌+ℤ◌, ◌≤ℤ◌, ◌<ℤ◌, List, [], ◌∷◌, ◌++◌, length, Option, None, Some, true, false, ◌∙◌}
 use Rattle.std.specs.Option.{unwrap_or}
 use Rattle.std.specs.Prelude.{IfSome, FitsSigned, neg_ℤ}
 use Rattle.std.specs.Int.{w64}
@@ -15,23 +15,17 @@ use Rattle.network.specs.Schedule.{start, makespan, IsSchedule, Keeps, KeepsAll}
 use Rattle.network.specs.Walk.{Rows, weight, entry, IsMatrixOf, IsGreatestWeight, HasPositiveCycle}
 use Rattle.network.specs.Verdict.{StandsFor}
 use Rattle.network.proofs.Schedules.{walk_holds, arcs_met, arcs_of-push}
-use Rattle.longest_path.specs.Insert.{AddsArc, ClosesCycle}
-use Rattle.longest_path.proofs.Reach.{joined-some}
+use Rattle.longest_path.specs.Insert.{rows_over, ClosesNone}
+use Rattle.longest_path.proofs.Reach.{joined-some, same_some}
 use Rattle.longest_path.proofs.Inserted.{closes}
 use Rattle.earliest.proofs.Entries.{from_start, to_end, reached}
 use Rattle.bounds.specs.Bound.{IsBoundOf, IsTrueBoundFor}
+use Rattle.bounds.specs.With.{IsBoundWith, IsTrueBoundWith}
+use Rattle.bounds.proofs.WithLaws.{matrix_more}
+use Rattle.branching.specs.Covered.{IsRootOf}
+use Rattle.branching.specs.Fair.{IsUnder}
+use Rattle.branching.specs.Fate.{IsNodeWith}
 use Rattle.branching.specs.Subproblem.{Subproblem, IsNode, IsTiedTo}
-use Rattle.branching.specs.Fate.{IsMatrixWith}
-
--- what a node's type keeps is what it hands out
-pub is_node : (node : Subproblem) (rows : Rows) → IsTiedTo node rows → IsNode node
-is_node node rows tied = record {
-  limits = tied.matrix.limits;
-  named = tied.matrix.named;
-  is_live = tied.matrix.matrix.no_cycle;
-  bound_of = record { rows = rows; matrix = tied.matrix; bound_of = tied.bound_of };
-  true_bound = tied.true_bound;
-}
 
 -- both activities of the pair are there
 pub ends_of : (p : Problem) (pair : Pair) → NameActivities p (pair ∷ []) → (pair.before < activity_count p) × (pair.after < activity_count p)
@@ -53,23 +47,6 @@ closes_over p pairs pair rows back named m e positive =
     let ends = ends_of p pair named in
     let way = joined-some back (duration p pair.before) (entry rows pair.after pair.before) (Some (duration p pair.before)) e refl in
     let found = closes (activity_count p) (pair_arc p pair) rows ends.0 ends.1 (back +ℤ duration p pair.before, way, positive) (arcs_of p pairs) m in
-    rw (arcs_of-push p pairs pair) (pair.before, found.0, found.1)
-
--- the matrix with the pair's arc is that of the pairs and the pair
-pub matrix_with : (node : Subproblem) (pair : Pair) (old new : Rows) → IsTiedTo node old → NameActivities node.project (pair ∷ []) → AddsArc (pair_arc node.project pair) old new → IsMatrixWith node pair new
-matrix_with node pair old new tied named adds =
-    let long : length old ≡ activity_count node.project = tied.matrix.matrix.square.0 in
-    let more = adds (arcs_of node.project node.pairs) (rw long tied.matrix.matrix) in
-    record {
-      limits = tied.matrix.limits;
-      named = All-push (λ (q : Pair). (q.before < activity_count node.project) × (q.after < activity_count node.project)) node.pairs pair tied.matrix.named (ends_of node.project pair named);
-      matrix = rw (arcs_of-push node.project node.pairs pair) (rw long at more);
-    }
-
-pub closes_with : (p : Problem) (pairs : List Pair) (pair : Pair) (old : Rows) → IsMatrixOf (activity_count p) (arcs_of p pairs) old → ClosesCycle (pair_arc p pair) old → HasPositiveCycle (arcs_of p (pairs ++ pair ∷ []))
-closes_with p pairs pair old m closes =
-    let long : length old ≡ activity_count p = m.square.0 in
-    let found = closes (arcs_of p pairs) (rw long m) in
     rw (arcs_of-push p pairs pair) (pair.before, found.0, found.1)
 
 -- a schedule that keeps the pair lasts at least the way to it, its first activity, and the way from it
@@ -95,16 +72,11 @@ amount_within z amount =
     let high : z ≤ℤ MAX_AMOUNT = amount.at_most in
     record { at_least = omega (arith, ints); at_most = high }
 
--- ---- the same, of the value of a node
-
-pub tied_along : (node value : Subproblem) (rows : Rows) → node ≡ value → IsTiedTo node rows → IsTiedTo value rows
-tied_along node value rows view tied = subst (λ (v : Subproblem). IsTiedTo v rows) view tied
-
 -- both activities of the pair have a row and a column
-pub rows_of : (node : Subproblem) (rows : Rows) (pair : Pair) → IsTiedTo node rows → NameActivities node.project (pair ∷ []) → (pair.before < length rows) × (pair.after < length rows)
-rows_of node rows pair tied named =
-    let ends = ends_of node.project pair named in
-    let long : length rows ≡ activity_count node.project = tied.matrix.matrix.square.0 in
+pub rows_of : (p : Problem) (pairs : List Pair) (rows : Rows) (pair : Pair) → IsProjectMatrix p pairs rows → NameActivities p (pair ∷ []) → (pair.before < length rows) × (pair.after < length rows)
+rows_of p pairs rows pair m named =
+    let ends = ends_of p pair named in
+    let long : length rows ≡ activity_count p = m.matrix.square.0 in
     rw long ends
 
 pub weight_within : (o : Option ℤ) → IfSome o (λ w. IsWithin MAX_WALK_WEIGHT w) → IsWithin MAX_WALK_WEIGHT (unwrap_or o (pos 0))
@@ -132,19 +104,60 @@ sums_fit x y z within amount within_z =
 pub positive_from : (x : ℤ) → lt_z (pos 0) x ≡ true → pos 0 <ℤ x
 positive_from x h = grind (arith, ints)
 
--- the node with one pair more, by the matrix with the pair's arc
-pub tied_with : (node : Subproblem) (pair : Pair) (old rows : Rows) (bound : ℤ) → IsTiedTo node old → IsMatrixWith node pair rows → IsBoundOf node.project rows bound → IsTrueBoundFor node.project rows bound →
-    IsTiedTo (record { project = node.project; pairs = node.pairs ++ pair ∷ []; bound = bound }) rows
-tied_with node pair old rows bound tied with_pair bound_of holds = record {
-  matrix = with_pair;
-  bound_of = bound_of;
-  true_bound = holds (node.pairs ++ pair ∷ []) with_pair;
-}
+-- a way back that is not too long closes nothing
+pub closes_none : (p : Problem) (pair : Pair) (rows : Rows) (back : ℤ) → entry rows pair.after pair.before ≡ Some back → (back +ℤ duration p pair.before) ≤ℤ pos 0 → ClosesNone (pair_arc p pair) rows
+closes_none p pair rows back e low = λ x f.
+    let same : x ≡ back = same_some x back (entry rows pair.after pair.before) f e in
+    omega (arith, ints)
+
+pub closes_none_without : (p : Problem) (pair : Pair) (rows : Rows) → entry rows pair.after pair.before ≡ None → ClosesNone (pair_arc p pair) rows
+closes_none_without p pair rows e = λ x f. let bad : None ≡ Some x = sym e ∙ f in cc
+
+pub not_positive : (x : ℤ) → lt_z (pos 0) x ≡ false → x ≤ℤ pos 0
+not_positive x h = grind (arith, ints)
+
+-- the node with one pair more, by the node's own matrix
+pub kid_is_node : (node : Subproblem) (pair : Pair) (rows : Rows) (bound : ℤ) → IsTiedTo node rows → NameActivities node.project (pair ∷ []) → ClosesNone (pair_arc node.project pair) rows → IsBoundWith node.project rows pair bound → IsTrueBoundWith node.project rows pair bound →
+    IsNode (record { project = node.project; pairs = node.pairs ++ pair ∷ []; bound = bound })
+kid_is_node node pair rows bound tied named none value holds =
+    let m = matrix_more node.project node.pairs pair rows named none tied.matrix in
+    record {
+      limits = m.limits;
+      named = m.named;
+      is_live = m.matrix.no_cycle;
+      bound_of = record { rows = rows_over (pair_arc node.project pair) rows; matrix = m; bound_of = value node.pairs (rows_over (pair_arc node.project pair) rows) tied.matrix m };
+      true_bound = holds node.pairs tied.matrix;
+    }
+
+-- the node of these parts is the one with the pair added
+pub kid_under : (node kid : Subproblem) (pair : Pair) (bound : ℤ) (ceiling : Option ℤ) → kid ≡ record { project = node.project; pairs = node.pairs ++ pair ∷ []; bound = bound } → IsNode (record { project = node.project; pairs = node.pairs ++ pair ∷ []; bound = bound }) → IsUnder ceiling bound →
+    IsNodeWith node pair kid × IsUnder ceiling kid.bound
+kid_under node kid pair bound ceiling is is_node under = (
+  record {
+    project = ap (λ (k : Subproblem). k.project) is;
+    pairs = ap (λ (k : Subproblem). k.pairs) is;
+    is_node = subst (λ (k : Subproblem). IsNode k) (sym is) is_node;
+  },
+  subst (λ (b : ℤ). IsUnder ceiling b) (sym (ap (λ (k : Subproblem). k.bound) is)) under,
+)
 
 -- the node without pairs
-pub tied_root : (p : Problem) (rows : Rows) (bound : ℤ) → IsProjectMatrix p [] rows → IsBoundOf p rows bound → IsTrueBoundFor p rows bound → IsTiedTo (record { project = p; pairs = []; bound = bound }) rows
-tied_root p rows bound m bound_of holds = record { matrix = m; bound_of = bound_of; true_bound = holds [] m }
+pub root_is_node : (p : Problem) (rows : Rows) (bound : ℤ) → IsProjectMatrix p [] rows → IsBoundOf p rows bound → IsTrueBoundFor p rows bound → IsNode (record { project = p; pairs = []; bound = bound })
+root_is_node p rows bound m bound_of holds = record {
+  limits = m.limits;
+  named = m.named;
+  is_live = m.matrix.no_cycle;
+  bound_of = record { rows = rows; matrix = m; bound_of = bound_of };
+  true_bound = holds [] m;
+}
 
 -- the matrix of the project's rules, with no pair
 pub no_pairs : (p : Problem) (rows : Rows) → IsProject p → IsMatrixOf (activity_count p) (arcs_of p []) rows → IsProjectMatrix p [] rows
 no_pairs p rows is m = record { limits = is; named = All-nil (λ (q : Pair). (q.before < activity_count p) × (q.after < activity_count p)); matrix = m }
+
+-- a node that has just these parts is the root
+pub root_of : (p : Problem) (root : Subproblem) (bound : ℤ) → root ≡ record { project = p; pairs = []; bound = bound } → IsNode (record { project = p; pairs = []; bound = bound }) → IsRootOf p root
+root_of p root bound is is_node = record {
+  of_project = record { project = ap (λ (n : Subproblem). n.project) is; is_node = subst (λ (n : Subproblem). IsNode n) (sym is) is_node };
+  no_pairs = ap (λ (n : Subproblem). n.pairs) is;
+}

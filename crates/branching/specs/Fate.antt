@@ -3,9 +3,8 @@ use Rattle.std.specs.Prelude.{◌≡◌, ℤ, Option, List, [], ◌∷◌, ◌++
 use Rattle.std.specs.Arc.{arc_value}
 use Rattle.network.specs.declared.lag.Pair.{Pair}
 use Rattle.network.specs.Problem.{arcs_of}
-use Rattle.network.specs.ProjectMatrix.{IsProjectMatrix}
 use Rattle.network.specs.Schedule.{Keeps}
-use Rattle.network.specs.Walk.{Rows, HasPositiveCycle}
+use Rattle.network.specs.Walk.{HasPositiveCycle}
 use Rattle.branching.specs.Subproblem.{Subproblem, NodeStandsFor, IsNode}
 use Rattle.branching.specs.Fair.{IsBelow, IsUnder}
 use Rattle.branching.specs.declared.fate.Fate.{Fate}
@@ -16,10 +15,6 @@ pub record IsNodeWith (node : Subproblem) (pair : Pair) (kid : Subproblem) : Typ
   pub project : kid.project ≡ node.project
   pub pairs : kid.pairs ≡ node.pairs ++ pair ∷ []
   pub is_node : IsNode kid
-
--- the rows are the matrix of the node's project, its pairs and the pair
-abbrev pub IsMatrixWith : Subproblem → Pair → Rows → Type 0
-IsMatrixWith node pair rows = IsProjectMatrix node.project (node.pairs ++ pair ∷ []) rows
 
 -- the pair closes a walk of positive weight
 abbrev pub ClosesPositiveCycle : Subproblem → Pair → Type 0

@@ -1,5 +1,6 @@
 pub mod Subproblem
 pub mod NodeView
+pub mod Path
 pub mod Pairs
 pub mod Fate
 pub mod Fair

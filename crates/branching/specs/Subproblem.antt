@@ -1,5 +1,5 @@
 -- What a node of the search is: a project, the pairs that were added, and a lower bound.
-use Rattle.std.specs.Prelude.{ℤ, List}
+use Rattle.std.specs.Prelude.{ℤ, List, []}
 use Rattle.network.specs.declared.lag.Pair.{Pair}
 use Rattle.network.specs.Problem.{Problem, arcs_of, NameActivities}
 use Rattle.network.specs.ProjectMatrix.{IsProjectMatrix}
@@ -39,8 +39,12 @@ pub record IsNode (node : Subproblem) : Type 0 where
   pub bound_of : IsBoundOfPairs node.project node.pairs node.bound
   pub true_bound : HasTrueBound node
 
--- the rows are the matrix of the node's project and pairs, and its bound is the matrix's
+-- what a `Lean` keeps: it is a node, and the rows are the matrix of its project without pairs
+pub record IsLean (node : Subproblem) (base : Rows) : Type 0 where
+  pub is_node : IsNode node
+  pub of_base : IsProjectMatrix node.project [] base
+
+-- what a `Node` keeps: it is a node, and the rows are the matrix of its project and pairs
 pub record IsTiedTo (node : Subproblem) (rows : Rows) : Type 0 where
+  pub is_node : IsNode node
   pub matrix : IsProjectMatrix node.project node.pairs rows
-  pub bound_of : IsBoundOf node.project rows node.bound
-  pub true_bound : HasTrueBound node

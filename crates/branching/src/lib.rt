@@ -1,25 +1,33 @@
 //! Nodes of a branch and bound search over ordered pairs of activities, and what the expansion of a
 //! node gives (Bartusch, Möhring and Radermacher 1988).
 //!
-//! A [`Node`] stands for the feasible schedules of a project that keep its pairs. [`expand`] finds its
-//! least schedule; where that overloads a resource, the members of a minimal forbidden set can't all
-//! run together, so every feasible schedule keeps an ordered pair of two of them: each such pair gives
-//! a kid.
+//! A node stands for the feasible schedules of a project that keep its pairs. It waits as a [`Lean`],
+//! without a matrix; a [`Node`] has its own, and a [`Searcher`] moves one matrix from node to node.
+//! [`expand`] finds a node's least schedule; where that overloads a resource, the members of a minimal
+//! forbidden set can't all run together, so every feasible schedule keeps an ordered pair of two of
+//! them: each such pair gives a kid.
 #![tactic(auto)]
 
 mod expansion;
 mod fate;
+mod lean;
+mod marking;
 mod node;
 mod outcome;
+mod pair_list;
 mod pairs;
 mod report;
 mod search;
+mod searcher;
 
 pub use expansion::expand;
-pub use node::{Node, root};
+pub use lean::Lean;
+pub use node::{Node, rebuild, root};
 pub use outcome::Outcome;
+pub use pair_list::PairList;
 pub use report::{MAX_KIDS, Report};
 pub use search::{MAX_TAKES, search_alone};
+pub use searcher::Searcher;
 
 #[cfg(test)]
 mod tests;

@@ -1,90 +1,53 @@
-ghost use Rattle.std.specs.Prelude.{◌≡◌, ◌<◌, ◌≤◌, ◌≤ℤ◌, ◌<ℤ◌, ◌+ℤ◌, ℤ, List, [], ◌∷◌, ◌++◌, IfOk, IfErr, IfSome, IfNone, length};
+ghost use Rattle.std.specs.Prelude.{◌≡◌, [], IfOk, IfErr};
 ghost use Rattle.std.specs.Arc.{arc_value};
-ghost use Rattle.std.specs.Bool.{OnTrue};
-ghost use Rattle.network.specs.declared.lag.Pair.{Pair};
 ghost use Rattle.network.specs.Problem.{arcs_of, NameActivities};
-ghost use Rattle.network.specs.Limits.{IsProject};
-ghost use Rattle.network.specs.Schedule.{Keeps, makespan};
+ghost use Rattle.network.specs.ProjectMatrix.{IsProjectMatrix};
+ghost use Rattle.network.specs.Walk.{HasNoPositiveCycle};
 ghost use Rattle.longest_path.specs.Fault.{Explains};
-ghost use Rattle.earliest.specs.Starts.{AreEarliest};
-ghost use Rattle.bounds.specs.Bound.{IsBoundOf, IsTrueBoundFor};
-ghost use Rattle.branching.specs.Subproblem.{Subproblem, NodeStandsFor, IsNode, IsTiedTo};
+ghost use Rattle.branching.specs.Subproblem.{Subproblem, IsNode, IsTiedTo};
 ghost use Rattle.branching.specs.Covered.{IsRootOf};
-ghost use Rattle.branching.specs.Fate.{IsNodeWith, IsMatrixWith, ClosesPositiveCycle};
 
+use crate::lean::Lean;
+use crate::pair_list::PairList;
 use longest_path::{Matrix, PathFault, longest};
 use network::{Pair, Project};
 use std::alloc::{AllocError, Global};
 use std::marker::Model;
 use std::sync::Arc;
 
-/// A project and the pairs that were added to its rules, with the matrix of both and a lower bound: a
-/// node stands for the feasible schedules that keep its pairs.
+/// A node, and the matrix of its project and pairs.
 #[derive(Drop, Debug)]
 pub struct Node {
-    project: Arc<Project>,
-    pairs: Vec<Pair>,
+    lean: Arc<Lean>,
     matrix: Matrix,
-    bound: i64,
 }
 
 impl Model for Node {
+    ghost use Rattle.std.specs.Arc.{arc_value};
     ghost use Rattle.branching.specs.Subproblem.{Subproblem, IsTiedTo};
 
     ghost Value = { Subproblem };
 
-    ghost use Rattle.branching.specs.NodeView.{subproblem_of};
+    ghost view = { λ n. arc_value n.lean };
 
-    ghost view = { subproblem_of };
-
-    ghost invariant = { λ n. IsTiedTo (subproblem_of n) n.matrix };
+    ghost invariant = { λ n. IsTiedTo (arc_value n.lean) n.matrix };
 }
 
 impl Node {
     /// The node of these parts, to be shared.
-    fn shared(
-        alloc: Global,
-        project: Arc<Project>,
-        pairs: Vec<Pair>,
-        matrix: Matrix,
-        bound: i64,
-    ) -> Result<Arc<Node>, AllocError>
-        requires { IsTiedTo (record { project = arc_value project; pairs = pairs.items; bound = bound }) matrix }
-        ensures node { IfOk result (λ node. arc_value node ≡ record { project = arc_value project; pairs = pairs.items; bound = bound }) }
-        ensures is_node { IfOk result (λ node. IsNode (arc_value node)) }
+    fn shared(alloc: Global, lean: Arc<Lean>, matrix: Matrix) -> Result<Arc<Node>, AllocError>
+        requires { IsTiedTo (arc_value lean) matrix }
+        ensures { IfOk result (λ node. arc_value node ≡ arc_value lean) }
     {
-        let node = Node {
-            project,
-            pairs,
-            matrix,
-            bound,
-        };
-        let node = Arc::new(alloc, node)?;
-        Ok(node)
+        Ok(Arc::new(alloc, Node { lean, matrix })?)
     }
 
-    /// The project.
-    pub fn project(&self) -> &Arc<Project>
-        ensures project { arc_value result.now ≡ self.now.project }
-        ensures limits { IsProject self.now.project }
-    {
-        &self.project
-    }
-
-    /// The pairs, in the order in which they were added.
-    pub fn pairs(&self) -> &[Pair]
-        ensures pairs { result.now ≡ self.now.pairs }
+    /// The node without its matrix.
+    pub fn lean(&self) -> &Arc<Lean>
+        ensures lean { arc_value result.now ≡ self.now }
         ensures is_node { IsNode self.now }
     {
-        self.pairs.as_slice()
-    }
-
-    /// A lower bound of the makespans of the schedules that the node stands for, in periods.
-    pub fn bound(&self) -> i64
-        ensures bound { result ≡ self.now.bound }
-        ensures is_node { IsNode self.now }
-    {
-        self.bound
+        &self.lean
     }
 
     /// The matrix of the project and the pairs, of which the bound is.
@@ -93,79 +56,31 @@ impl Node {
     {
         &self.matrix
     }
+}
 
-    /// The starts of the least schedule that keeps the pairs, in periods.
-    pub(crate) fn least_starts(&self, alloc: Global) -> Result<Vec<i64>, AllocError>
-        ensures { IfOk result (λ starts. AreEarliest self.now.project self.now.pairs starts.items) }
-    {
-        let starts = earliest::least_starts(alloc, &self.matrix)?;
-        Ok(starts)
-    }
+/// A shared copy.
+fn shared_copy(alloc: Global, matrix: &Matrix) -> Result<Arc<Matrix>, AllocError>
+    ensures { IfOk result (λ copy. arc_value copy ≡ matrix.now) }
+{
+    let copy = matrix.try_copy(alloc)?;
+    Ok(Arc::new(alloc, copy)?)
+}
 
-    /// Whether the pair closes a walk of positive weight, by one entry of the matrix.
-    pub(crate) fn is_dead_with(&self, pair: Pair) -> bool
-        requires { NameActivities self.now.project (pair ∷ []) }
-        ensures { OnTrue result (ClosesPositiveCycle self.now pair) }
-    {
-        let duration = self.project.duration(pair.before);
-        match self.matrix.get(pair.after, pair.before) {
-            Some(back) => back + duration > 0,
-            None => false,
-        }
-    }
-
-    /// What a schedule that keeps the pair lasts at least by the walks to its first activity and from
-    /// its second, which are two entries of the matrix. It is at most the bound of the node with the
-    /// pair.
-    pub(crate) fn least_with(&self, pair: Pair) -> i64
-        requires { NameActivities self.now.project (pair ∷ []) }
-        ensures { (s : List ℤ) → NodeStandsFor self.now s → Keeps self.now.project s pair → result ≤ℤ makespan s }
-    {
-        let end = self.project.activity_count() - 1;
-        let head = self.matrix.get(0, pair.before).unwrap_or(0);
-        let rest = self.matrix.get(pair.after, end).unwrap_or(0);
-        head + self.project.duration(pair.before) + rest
-    }
-
-    /// The matrix with the pair's arc, none where it closes a walk of positive weight.
-    pub(crate) fn matrix_with(
-        &self,
-        alloc: Global,
-        pair: Pair,
-    ) -> Result<Option<Matrix>, AllocError>
-        requires { NameActivities self.now.project (pair ∷ []) }
-        ensures matrix { IfOk result (λ matrix. IfSome matrix (IsMatrixWith self.now pair)) }
-        ensures dead { IfOk result (λ matrix. IfNone matrix (ClosesPositiveCycle self.now pair)) }
-    {
-        let mut matrix = self.matrix.try_copy(alloc)?;
-        let duration = self.project.duration(pair.before);
-        match matrix.insert(pair.before, pair.after, duration) {
-            Ok(()) => Ok(Some(matrix)),
-            Err(_) => Ok(None),
-        }
-    }
-
-    /// The node with the pair added, which has this matrix and bound.
-    pub(crate) fn with_pair(
-        &self,
-        alloc: Global,
-        pair: Pair,
-        matrix: Matrix,
-        bound: i64,
-    ) -> Result<Arc<Node>, AllocError>
-        requires matrix { IsMatrixWith self.now pair matrix }
-        requires bound { IsBoundOf self.now.project matrix bound }
-        requires holds { IsTrueBoundFor self.now.project matrix bound }
-        ensures node { IfOk result (λ kid. IsNodeWith self.now pair (arc_value kid)) }
-        ensures bound { IfOk result (λ kid. (arc_value kid).bound ≡ bound) }
-    {
-        let mut pairs = Vec::with_capacity(alloc, self.pairs.len() + 1)?;
-        pairs.extend_from_slice(self.pairs.as_slice())?;
-        pairs.push(pair)?;
-        let project = Arc::try_clone(&self.project)?;
-        let kid = Node::shared(alloc, project, pairs, matrix, bound)?;
-        Ok(kid)
-    }
+/// The root of a project, which has no pairs and stands for all feasible schedules, and its matrix.
+pub(crate) fn root_and_matrix(
+    alloc: Global,
+    project: Arc<Project>,
+) -> Result<(Arc<Lean>, Matrix), PathFault>
+    ensures root { IfOk result (λ opened. IsRootOf (arc_value project) (arc_value opened.0)) }
+    ensures matrix { IfOk result (λ opened. IsProjectMatrix (arc_value project) [] opened.1) }
+    ensures fault { IfErr result (λ fault. Explains (arcs_of (arc_value project) []) fault) }
+{
+    prove!(project.activity_count() >= 2);
+    let matrix = longest(alloc, &project, &[])?;
+    let bound = bounds::bound(alloc, &project, &matrix)?;
+    let base = shared_copy(alloc, &matrix)?;
+    let root = Lean::shared(alloc, project, PairList::new(alloc)?, bound, base)?;
+    Ok((root, matrix))
 }
 
 /// The node without pairs, which stands for all feasible schedules of the project.
@@ -176,12 +91,37 @@ pub fn root(alloc: Global, project: Arc<Project>) -> Result<Arc<Node>, PathFault
     ensures root { IfOk result (λ node. IsRootOf (arc_value project) (arc_value node)) }
     ensures fault { IfErr result (λ fault. Explains (arcs_of (arc_value project) []) fault) }
 {
-    prove!(project.activity_count() >= 2);
-    let pairs = Vec::new(alloc);
-    let matrix = longest(alloc, &project, pairs.as_slice())?;
-    let bound = bounds::bound(alloc, &project, &matrix)?;
-    let node = Node::shared(alloc, project, pairs, matrix, bound)?;
-    Ok(node)
+    let (lean, matrix) = root_and_matrix(alloc, project)?;
+    Ok(Node::shared(alloc, lean, matrix)?)
+}
+
+/// Adds the arcs of the pairs to the matrix of the project without pairs, the last pair first: most of
+/// the earlier ones then change nothing, and cost one look.
+fn insert_pairs(matrix: &mut Matrix, project: &Project, pairs: &[Pair])
+    requires base { IsProjectMatrix project.now [] matrix.old }
+    requires named { NameActivities project.now pairs.now }
+    requires live { HasNoPositiveCycle (arcs_of project.now pairs.now) }
+    ensures { IsProjectMatrix project.now pairs.now matrix.new }
+{
+    let mut left = pairs.len();
+    while left > 0 {
+        left -= 1;
+        let arc = project.pair_arc(pairs[left]);
+        match matrix.insert(arc.from, arc.to, arc.weight) {
+            Ok(()) => {}
+            Err(_) => unreachable!(),
+        }
+    }
+}
+
+/// The node of the same project, pairs and bound, with its matrix.
+pub fn rebuild(alloc: Global, lean: &Arc<Lean>) -> Result<Arc<Node>, AllocError>
+    ensures { IfOk result (λ node. arc_value node ≡ arc_value lean.now) }
+{
+    let mut matrix = lean.base().try_copy(alloc)?;
+    let pairs = lean.pairs().to_vec(alloc)?;
+    insert_pairs(&mut matrix, lean.project(), &pairs);
+    Node::shared(alloc, Arc::try_clone(lean)?, matrix)
 }
 
 #[cfg(test)]

@@ -1,7 +1,7 @@
 ghost use Rattle.std.specs.Prelude.{◌≡◌, ◌≤◌, List, map, length, option_map};
 ghost use Rattle.std.specs.Arc.{arc_value};
 
-use crate::node::Node;
+use crate::lean::Lean;
 use network::Schedule;
 use std::marker::Model;
 use std::sync::Arc;
@@ -18,10 +18,10 @@ pub const MAX_KIDS: usize = 999_000;
 /// schedule is found there are no kids.
 #[derive(Drop, Debug)]
 pub struct Report {
-    node: Arc<Node>,
+    node: Arc<Lean>,
     ceiling: Option<i64>,
     found: Option<Schedule>,
-    kids: Vec<Arc<Node>>,
+    kids: Vec<Arc<Lean>>,
 }
 
 impl Model for Report {
@@ -41,10 +41,10 @@ impl Report {
 
     /// A report of these parts.
     pub(crate) fn new(
-        node: Arc<Node>,
+        node: Arc<Lean>,
         ceiling: Option<i64>,
         found: Option<Schedule>,
-        kids: Vec<Arc<Node>>,
+        kids: Vec<Arc<Lean>>,
     ) -> Report
         requires { IsReport (record { node = arc_value node; ceiling = ceiling; found = found; kids = map arc_value kids.items }) }
         ensures { result ≡ record { node = arc_value node; ceiling = ceiling; found = found; kids = map arc_value kids.items } }
@@ -58,7 +58,7 @@ impl Report {
     }
 
     /// The node that was expanded.
-    pub fn node(&self) -> &Arc<Node>
+    pub fn node(&self) -> &Arc<Lean>
         ensures node { arc_value result.now ≡ self.now.node }
         ensures report { IsReport self.now }
     {
@@ -82,7 +82,7 @@ impl Report {
     }
 
     /// The kids, by rising pairs; at most [`MAX_KIDS`].
-    pub fn kids(&self) -> &[Arc<Node>]
+    pub fn kids(&self) -> &[Arc<Lean>]
         ensures kids { map arc_value result.now ≡ self.now.kids }
         ensures report { IsReport self.now }
     {
@@ -90,7 +90,7 @@ impl Report {
     }
 
     /// What was found, and the kids in their order.
-    pub fn into_parts(self) -> (Option<Schedule>, Vec<Arc<Node>>)
+    pub fn into_parts(self) -> (Option<Schedule>, Vec<Arc<Lean>>)
         ensures found { result.0 ≡ self.found }
         ensures kids { map arc_value result.1.items ≡ self.kids }
         ensures report { IsReport self }

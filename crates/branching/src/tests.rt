@@ -1,8 +1,8 @@
 ghost use Rattle.std.specs.Prelude.{◌<◌, ◌≤◌};
 
-use crate::{Node, Outcome, Report, expand, root, search_alone};
+use crate::{Lean, Outcome, Report, expand, root, search_alone};
 use longest_path::PathFault;
-use network::Project;
+use network::{Pair, Project};
 use std::alloc::Global;
 use std::sync::Arc;
 use std::test::Fail;
@@ -17,6 +17,11 @@ fn expand_root(alloc: Global, project: Project, ceiling: Option<i64>) -> Result<
     Ok(expand(alloc, &root, ceiling)?)
 }
 
+/// The pairs of a node.
+fn pairs_of(alloc: Global, node: &Lean) -> Result<Vec<Pair>, Fail> {
+    Ok(node.pairs().to_vec(alloc)?)
+}
+
 #[test]
 fn both_orders_of_two_activities_are_kids(rt: HostRuntime) -> Result<(), Fail> {
     for ceiling in [None, Some(8)] {
@@ -26,8 +31,14 @@ fn both_orders_of_two_activities_are_kids(rt: HostRuntime) -> Result<(), Fail> {
         assert!(rt; report.found().is_none());
         let kids = report.kids();
         assert_eq!(rt; kids.len(), 2);
-        assert_eq!(rt; kids[0].pairs(), [pair(1, 2)].as_slice());
-        assert_eq!(rt; kids[1].pairs(), [pair(2, 1)].as_slice());
+        assert_eq!(rt;
+            pairs_of(rt.alloc(), &kids[0])?.as_slice(),
+            [pair(1, 2)].as_slice()
+        );
+        assert_eq!(rt;
+            pairs_of(rt.alloc(), &kids[1])?.as_slice(),
+            [pair(2, 1)].as_slice()
+        );
         assert_eq!(rt; [kids[0].bound(), kids[1].bound()], [7, 7]);
     }
     Ok(())
@@ -73,7 +84,7 @@ fn three_members_have_six_kids(rt: HostRuntime) -> Result<(), Fail> {
     ];
     assert_eq!(rt; report.kids().len(), 6);
     for (kid, pair) in report.kids().iter().zip(&pairs) {
-        assert_eq!(rt; kid.pairs(), [*pair].as_slice());
+        assert_eq!(rt; pairs_of(rt.alloc(), kid)?.as_slice(), [*pair].as_slice());
         assert_eq!(rt; kid.bound(), 4);
     }
     Ok(())
@@ -83,7 +94,7 @@ fn three_members_have_six_kids(rt: HostRuntime) -> Result<(), Fail> {
 fn a_least_schedule_without_overload_is_found(rt: HostRuntime) -> Result<(), Fail> {
     let apart = Arc::new(rt.alloc(), one_machine(rt.alloc(), &[lag(1, 2, 5)])?)?;
     let root = root(rt.alloc(), Arc::try_clone(&apart)?)?;
-    assert!(rt; root.project() == &apart);
+    assert!(rt; root.lean().project() == &apart);
     let (found, kids) = expand(rt.alloc(), &root, None)?.into_parts();
     assert!(rt; kids.is_empty());
     match found {

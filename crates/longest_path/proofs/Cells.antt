@@ -79,7 +79,7 @@ pub weight_at_far : (cells : List ℤ) (k : ℕ) → length cells ≤ k → weig
 weight_at_far cells k far = ap weight_of (get_or-eq_default cells nothing far)
 
 -- two lists of cells that agree at the places of an entry
-same_entry : (n a b : ℕ) (old new : List ℤ) → (a < n → b < n → get_or new (a * n + b) nothing ≡ get_or old (a * n + b) nothing) → entry (rows_of n new) a b ≡ entry (rows_of n old) a b
+pub same_entry : (n a b : ℕ) (old new : List ℤ) → (a < n → b < n → get_or new (a * n + b) nothing ≡ get_or old (a * n + b) nothing) → entry (rows_of n new) a b ≡ entry (rows_of n old) a b
 same_entry n a b old new same = elim (cases_lt a n) [
   | inl la ↦ elim (cases_lt b n) [
     | inl lb ↦ entry-rows_of n a b new la lb ∙ ap weight_of (same la lb) ∙ sym (entry-rows_of n a b old la lb)
@@ -101,7 +101,7 @@ raised_cell n e w cells whole lf lt new =
           (λ la lb. get_or-set_other cells (e.from * n + e.to) (a * n + b) w nothing (place_apart n e.from e.to a b lt lb ne));
     }
 
-outside_row : (n a x b : ℕ) → b < n → x ≢ a → (x * n + b < a * n) ⊎ (a * n + n ≤ x * n + b)
+pub outside_row : (n a x b : ℕ) → b < n → x ≢ a → (x * n + b < a * n) ⊎ (a * n + n ≤ x * n + b)
 outside_row n a x b lb ne = elim (cases_lt x a) [
   | inl less ↦
       let up : suc x * n ≤ a * n = mul-le-mul_right n less in
@@ -125,39 +125,52 @@ relaxed_rows n a first via old new la wide r = record {
   others = λ x b ne. same_entry n x b old new (λ lx lb. elim (outside_row n a x b lb ne) [ inl p ↦ r.before (x * n + b) p | inr p ↦ r.after (x * n + b) p ]);
 }
 
--- a part of a list written anew
-pub spliced_row : (n a : ℕ) (first : ℤ) (via old row new : List ℤ) → a * n + n ≤ length old → length row ≡ n →
-    ((k : ℕ) → weight_at row k ≡ greater (weight_at (take n (drop (a * n) old)) k) (joined (Some first) (weight_at via k))) →
-    new ≡ take (a * n) old ++ (row ++ drop (a * n + n) old) → IsRowRelaxed n a first via old new
-spliced_row n a first via old row new low long through is = record {
+-- a list whose part is written anew, cell by cell
+pub record IsSpliced (start n : ℕ) (old row new : List ℤ) : Type 0 where
+  pub inside : (k : ℕ) → k < n → get_or new (start + k) nothing ≡ get_or row k nothing
+  pub before : (k : ℕ) → k < start → get_or new k nothing ≡ get_or old k nothing
+  pub after : (k : ℕ) → start + n ≤ k → get_or new k nothing ≡ get_or old k nothing
+
+pub spliced : (start n : ℕ) (old row new : List ℤ) → start + n ≤ length old → length row ≡ n → new ≡ take start old ++ (row ++ drop (start + n) old) → IsSpliced start n old row new
+spliced start n old row new low long is = record {
   inside = λ k lk.
-      let read : get_or new (a * n + k) nothing ≡ get_or row k nothing =
-      ap (λ (l : List ℤ). get_or l (a * n + k) nothing) is
-      ∙ get_or-append_right (take (a * n) old) (row ++ drop (a * n + n) old) (a * n) (a * n + k) nothing front (omega arith)
-      ∙ ap (λ i. get_or (row ++ drop (a * n + n) old) i nothing) (gone k)
-      ∙ get_or_append_left row (drop (a * n + n) old) nothing k (omega arith) in
-      let was : get_or (take n (drop (a * n) old)) k nothing ≡ get_or old (a * n + k) nothing =
-      get_or-take n (drop (a * n) old) k nothing lk ∙ get_or-drop (a * n) old k nothing in
-      ap weight_of read ∙ through k ∙ ap (λ (z : ℤ). greater (weight_of z) (joined (Some first) (weight_at via k))) was;
+      ap (λ (l : List ℤ). get_or l (start + k) nothing) is
+      ∙ get_or-append_right (take start old) (row ++ drop (start + n) old) start (start + k) nothing front (omega arith)
+      ∙ ap (λ i. get_or (row ++ drop (start + n) old) i nothing) (gone k)
+      ∙ get_or_append_left row (drop (start + n) old) nothing k (omega arith);
   before = λ k lk.
-      let here : k < length (take (a * n) old) = omega (arith, front) in
+      let here : k < length (take start old) = omega (arith, front) in
       ap (λ (l : List ℤ). get_or l k nothing) is
-      ∙ get_or_append_left (take (a * n) old) (row ++ drop (a * n + n) old) nothing k here
-      ∙ get_or-take (a * n) old k nothing lk;
+      ∙ get_or_append_left (take start old) (row ++ drop (start + n) old) nothing k here
+      ∙ get_or-take start old k nothing lk;
   after = λ k lk.
-      let past : n ≤ k - a * n = omega arith in
-      let back : a * n + n + (k - a * n - n) ≡ k = omega arith in
+      let past : n ≤ k - start = omega arith in
+      let back : start + n + (k - start - n) ≡ k = omega arith in
       ap (λ (l : List ℤ). get_or l k nothing) is
-      ∙ get_or-append_right (take (a * n) old) (row ++ drop (a * n + n) old) (a * n) k nothing front (omega arith)
-      ∙ get_or-append_right row (drop (a * n + n) old) n (k - a * n) nothing long past
-      ∙ get_or-drop (a * n + n) old (k - a * n - n) nothing ∙ ap (λ i. get_or old i nothing) back;
+      ∙ get_or-append_right (take start old) (row ++ drop (start + n) old) start k nothing front (omega arith)
+      ∙ get_or-append_right row (drop (start + n) old) n (k - start) nothing long past
+      ∙ get_or-drop (start + n) old (k - start - n) nothing ∙ ap (λ i. get_or old i nothing) back;
 }
   where
-    front : length (take (a * n) old) ≡ a * n
-    front = length-take-le (a * n) old (omega arith)
+    front : length (take start old) ≡ start
+    front = length-take-le start old (omega arith)
 
-    gone : (k : ℕ) → a * n + k - a * n ≡ k
+    gone : (k : ℕ) → start + k - start ≡ k
     gone k = omega arith
+
+spliced_row : (n a : ℕ) (first : ℤ) (via old row new : List ℤ) → a * n + n ≤ length old → length row ≡ n →
+    ((k : ℕ) → weight_at row k ≡ greater (weight_at (take n (drop (a * n) old)) k) (joined (Some first) (weight_at via k))) →
+    new ≡ take (a * n) old ++ (row ++ drop (a * n + n) old) → IsRowRelaxed n a first via old new
+spliced_row n a first via old row new low long through is =
+    let cells = spliced (a * n) n old row new low long is in
+    record {
+      inside = λ k lk.
+          let was : get_or (take n (drop (a * n) old)) k nothing ≡ get_or old (a * n + k) nothing =
+          get_or-take n (drop (a * n) old) k nothing lk ∙ get_or-drop (a * n) old k nothing in
+          ap weight_of (cells.inside k lk) ∙ through k ∙ ap (λ (z : ℤ). greater (weight_of z) (joined (Some first) (weight_at via k))) was;
+      before = cells.before;
+      after = cells.after;
+    }
 
 pub copied_row : (n a : ℕ) (cells row : List ℤ) → length cells ≡ n * n → a < n → row ≡ take n (drop (a * n) cells) → IsRow a (rows_of n cells) row
 copied_row n a cells row whole la is =

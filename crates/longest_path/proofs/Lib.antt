@@ -11,3 +11,7 @@ pub mod Over
 pub mod Inserted
 pub mod OneMatrix
 pub mod Redundant
+pub mod PutBack
+pub mod Saving
+pub mod Marking
+pub mod RowsOver

@@ -1,5 +1,5 @@
 -- A row that takes the way over one arc, entry by entry.
-use Rattle.std.proofs.Common.{◌≡◌, ◌≢◌, refl, sym, ◌∙◌, ap, ℕ, ◌+◌, ◌<◌, ◌≤◌, Option, None, Some, inl, inr, arith, ℤ, pos, ◌+ℤ◌, List, ◌++◌, length, neg_ℤ}
+use Rattle.std.proofs.Common.{◌≡◌, ◌≢◌, refl, sym, ◌∙◌, ap, subst, ℕ, ◌+◌, ◌<◌, ◌≤◌, Option, None, Some, inl, inr, arith, ℤ, pos, ◌+ℤ◌, List, ◌++◌, length, neg_ℤ}
 use Rattle.std.proofs.lemmas.Bool.{cases_eq}
 use Rattle.network.specs.declared.lag.Lag.{Lag}
 use Rattle.network.specs.Walk.{entry, IsMatrixOf, weight, Rows}
@@ -17,7 +17,7 @@ use Rattle.std.specs.Int.{w64}
 use Rattle.std.specs.declared.alloc.Global.{Global}
 use Rattle.std.specs.Vec.{with_items}
 use Rattle.std.proofs.lemmas.List.{with_items_is}
-use Rattle.longest_path.proofs.Reach.{at_Reaches, Reaches-weaker, greater_same}
+use Rattle.longest_path.proofs.Reach.{at_Reaches, Reaches-weaker, greater_same, same_some, joined-some, joined-parts}
 use Rattle.longest_path.proofs.Span.{IsSquare-inside}
 use Rattle.network.specs.declared.limits.TheConstants.{MAX_LAG_WEIGHT, MAX_WALK_WEIGHT}
 use Rattle.network.specs.Limits.{IsWithin}
@@ -44,6 +44,12 @@ no_gain a to w via rows r closed = record {
 
 pub row_over : (a : ℕ) (first : ℤ) (via : List ℤ) (old new : Rows) → IsRelaxed a first via old new → IsRowOver a (Some first) via old new
 row_over a first via old new r = record { at = r.at; others = r.others }
+
+-- a row that no way over the arc gains for
+pub nothing_over : (a to : ℕ) (first : Option ℤ) (via : List ℤ) (rows : Rows) → ((w : ℤ) → first ≡ Some w → Reaches w (entry rows a to)) →
+    ((b : ℕ) (x y : ℤ) → entry rows a to ≡ Some x → weight_at via b ≡ Some y → Reaches (x +ℤ y) (entry rows a b)) → IsRowOver a first via rows rows
+nothing_over a to None via rows h closed = record { at = λ b. sym (greater_none (entry rows a b)); others = λ x b ne. refl }
+nothing_over a to (Some w) via rows h closed = no_gain a to w via rows (h w refl) closed
 
 -- the rows below a went over the arc, and the others are as they were
 pub record IsHalfOver (n : ℕ) (e : Lag) (a : ℕ) (old rows : Rows) : Type 0 where
@@ -169,3 +175,18 @@ ready_row n a e via old rows h low lf lt wide is light within transitive =
       fits = λ x p. small_over e.to x e.weight via old is (within a e.from x (sym (h.rest a e.from le) ∙ p)) light within;
       closed = λ b x y p q. rw (h.rest a b le) (transitive a e.to b x y (sym (h.rest a e.to le) ∙ p) (sym (is.says b) ∙ q));
     }
+
+-- the way to the arc's start and over it
+pub reached_at : (x w y : ℤ) (o p : Option ℤ) → o ≡ Some x → joined o (Some w) ≡ Some y → Reaches (x +ℤ w) p → Reaches y p
+reached_at x w y o p read e r = rw (same_some (x +ℤ w) y (joined o (Some w)) (joined-some x w o (Some w) read refl) e) at r
+
+first_is : (o : Option ℤ) (w first : ℤ) → joined o (Some w) ≡ Some first → (x : ℤ) × (o ≡ Some x) × (first ≡ x +ℤ w)
+first_is o w first e =
+    let parts = joined-parts first o (Some w) e in
+    (parts.0, parts.2, parts.4 ∙ ap (λ t. parts.0 +ℤ t) (same_some parts.1 w (Some w) parts.3 refl))
+
+pub first_small : (o : Option ℤ) (w first : ℤ) (via : List ℤ) → joined o (Some w) ≡ Some first → ((x : ℤ) → o ≡ Some x → HasSmallSums (x +ℤ w) via) → HasSmallSums first via
+first_small o w first via e fits = let is = first_is o w first e in let P : ℤ → Type 0 = λ z. HasSmallSums z via in subst P (sym is.2) (fits is.0 is.1)
+
+pub first_within : (o : Option ℤ) (w first : ℤ) → joined o (Some w) ≡ Some first → ((x : ℤ) → o ≡ Some x → IsWithin MAX_WALK_WEIGHT x) → IsWithin MAX_LAG_WEIGHT w → IsWithin MAX_FIRST_WEIGHT first
+first_within o w first e fits light = let is = first_is o w first e in let P : ℤ → Type 0 = λ z. IsWithin MAX_FIRST_WEIGHT z in subst P (sym is.2) (sum_within is.0 w (fits is.0 is.1) light)

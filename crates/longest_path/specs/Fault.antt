@@ -1,7 +1,8 @@
 -- When there is no matrix.
-use Rattle.std.specs.Prelude.{List}
+use Rattle.std.specs.Prelude.{◌≡◌, List}
 use Rattle.network.specs.declared.lag.Lag.{Lag}
-use Rattle.network.specs.Walk.{IsLeastCycleTop}
+use Rattle.network.specs.Walk.{IsLeastCycleTop, Rows}
+use Rattle.longest_path.specs.Insert.{ClosesCycle}
 use Rattle.longest_path.specs.declared.fault.PathFault.{PathFault}
 use Rattle.longest_path.specs.declared.fault.PathFault.TheVariants.{PositiveCycle, Memory}
 
@@ -10,3 +11,8 @@ use Rattle.longest_path.specs.declared.fault.PathFault.TheVariants.{PositiveCycl
 abbrev pub Explains : List Lag → PathFault → Type 0
 Explains arcs (PositiveCycle at) = IsLeastCycleTop arcs at
 Explains arcs Memory = Unit {0}
+
+-- an arc that isn't inserted closes a walk of positive weight, or there was no memory
+abbrev pub IsInsertFault : Lag → Rows → PathFault → Type 0
+IsInsertFault e rows (PositiveCycle at) = (at ≡ e.from) × ClosesCycle e rows
+IsInsertFault e rows Memory = Unit {0}

@@ -1,9 +1,9 @@
-ghost use Rattle.std.specs.Prelude.{◌≡◌, ◌+◌, ◌*◌, ◌+ℤ◌, ◌<◌, ◌≤◌, ℕ, length, take, drop, None, Some, IfOk, IfSome};
+ghost use Rattle.std.specs.Prelude.{◌≡◌, ◌++◌, map, slice_set, ◌+◌, ◌*◌, ◌+ℤ◌, ◌<◌, ◌≤◌, ℕ, length, take, drop, None, Some, IfOk, IfSome};
 ghost use Rattle.network.specs.Walk.{entry, Rows};
 ghost use Rattle.longest_path.specs.Relax.{greater, joined};
 ghost use Rattle.longest_path.specs.Rows.{IsSquare, IsWithoutArcs, IsRaised};
 ghost use Rattle.longest_path.specs.Grid.{weight_of, weight_at, IsRelaxed, IsRow, IsRowRelaxed, HasSmallSums};
-ghost use Rattle.network.specs.declared.limits.TheConstants.{MAX_ACTIVITIES, MAX_LAG_WEIGHT};
+ghost use Rattle.network.specs.declared.limits.TheConstants.{MAX_ACTIVITIES, MAX_LAG_WEIGHT, MAX_WALK_WEIGHT};
 ghost use Rattle.network.specs.Limits.{IsWithin};
 ghost use Rattle.longest_path.specs.declared.grid.TheConstants.{MAX_FIRST_WEIGHT, MAX_WAY_WEIGHT};
 
@@ -113,6 +113,19 @@ fn relax_part(cells: &mut [i32], size: usize, a: usize, first: i32, via: &[i32])
     relax(&mut cells[start..start + size], first, via);
 }
 
+/// Row `a` becomes other cells.
+fn put_part(cells: &mut [i32], size: usize, a: usize, row: &[i32])
+    requires few { size ≤ MAX_ACTIVITIES }
+    requires row { a < size }
+    requires whole { length cells.old ≡ size * size }
+    requires wide { length row.now ≡ size }
+    ensures long { length cells.new ≡ length cells.old }
+    ensures put { cells.new ≡ take (a * size) cells.old ++ (row.now ++ drop (a * size + size) cells.old) }
+{
+    let start = row_start(size, a);
+    cells[start..start + size].copy_from_slice(row);
+}
+
 /// A square of weights, row after row in one list of cells. Four bytes a cell, since the weights of
 /// walks that visit no activity twice, and the sums of two, are within i32.
 #[derive(Drop, Debug)]
@@ -196,6 +209,24 @@ impl Grid {
         ensures { IsRow a self.now row.new }
     {
         row.copy_from_slice(row_cells(self.cells.as_slice(), self.size, a));
+    }
+
+    /// The cells of a row.
+    pub(crate) fn row(&self, a: usize) -> &[i32]
+        requires row { a < length self.now }
+        ensures { IsRow a self.now result.now }
+    {
+        row_cells(self.cells.as_slice(), self.size, a)
+    }
+
+    /// Row `a` becomes other cells.
+    pub(crate) fn put_row(&mut self, a: usize, row: &[i32])
+        requires row { a < length self.old }
+        requires wide { length row.now ≡ length self.old }
+        ensures { self.new ≡ slice_set self.old a (map weight_of row.now) }
+    {
+        let size = self.size;
+        put_part(self.cells.as_mut_slice(), size, a, row);
     }
 
     /// Row `a` takes the way that begins with a walk of weight `first` and goes on by `via`.

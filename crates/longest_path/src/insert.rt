@@ -1,13 +1,11 @@
-ghost use Rattle.std.specs.Prelude.{◌≡◌, ◌<◌, ℕ, ℤ, ◌+ℤ◌, length, Some, FitsSigned, IfSome};
+ghost use Rattle.std.specs.Prelude.{◌≡◌, ◌<◌, ℕ, ℤ, ◌+ℤ◌, length, Some, FitsSigned, IfSome, MatchOption};
 ghost use Rattle.std.specs.Int.{w64};
 ghost use Rattle.std.specs.Bool.{MatchBool};
 ghost use Rattle.network.specs.Walk.{entry};
 ghost use Rattle.longest_path.specs.Relax.{joined, Reaches};
 ghost use Rattle.longest_path.specs.Rows.{IsSquare};
-ghost use Rattle.longest_path.specs.Grid.{weight_at, HasSmallSums};
 ghost use Rattle.longest_path.specs.Passes.{IsRowOver};
-ghost use Rattle.longest_path.specs.Matrix.{HasEntriesWithin};
-ghost use Rattle.longest_path.specs.Insert.{IsOver, IsTransitive, IsReadyRow};
+ghost use Rattle.longest_path.specs.Insert.{IsOver, IsReadyRow, IsReady};
 ghost use Rattle.network.specs.declared.limits.TheConstants.{MAX_LAG_WEIGHT, MAX_WALK_WEIGHT};
 ghost use Rattle.network.specs.Limits.{IsWithin};
 
@@ -35,31 +33,42 @@ pub(crate) fn is_reached(weight: i64, entry: Option<i64>) -> bool
     }
 }
 
-/// Row `a` takes the way over an arc and on by `via`, unless the arc's end gains nothing: then no
+/// The weight of the way from `a` over an arc, unless the arc's end gains nothing by it: then no
 /// other entry of the row does.
+pub(crate) fn first_over(grid: &Grid, a: usize, arc: Lag) -> Option<i64>
+    requires row { a < length grid.now }
+    requires from_vertex { arc.from < length grid.now }
+    requires to_vertex { arc.to < length grid.now }
+    requires light { IsWithin MAX_LAG_WEIGHT arc.weight }
+    requires entry_fits { (x : ℤ) → entry grid.now a arc.from ≡ Some x → IsWithin MAX_WALK_WEIGHT x }
+    ensures { MatchOption result
+        ((w : ℤ) → joined (entry grid.now a arc.from) (Some arc.weight) ≡ Some w → Reaches w (entry grid.now a arc.to))
+        (λ first. joined (entry grid.now a arc.from) (Some arc.weight) ≡ Some first) }
+{
+    let first = grid.get(a, arc.from)? + arc.weight;
+    if is_reached(first, grid.get(a, arc.to)) {
+        None
+    } else {
+        Some(first)
+    }
+}
+
+/// Row `a` takes the way over an arc and on by `via`.
 fn go_over_row(grid: &mut Grid, a: usize, arc: Lag, via: &[i32])
     requires { IsReadyRow a arc via.now grid.old }
     ensures square { IsSquare (length grid.old) grid.new }
     ensures over { IsRowOver a (joined (entry grid.old a arc.from) (Some arc.weight)) via.now grid.old grid.new }
 {
-    let Some(weight) = grid.get(a, arc.from) else {
+    let Some(first) = first_over(grid, a, arc) else {
         return;
     };
-    let first = weight + arc.weight;
-    if is_reached(first, grid.get(a, arc.to)) {
-        return;
-    }
     grid.relax_row(a, first, via);
 }
 
 /// Each row takes the way over an arc, where that is greater. `via` is room for a row.
 pub(crate) fn go_over(grid: &mut Grid, via: &mut [i32], arc: Lag)
     requires room { length via.old ≡ length grid.old }
-    requires from_vertex { arc.from < length grid.old }
-    requires to_vertex { arc.to < length grid.old }
-    requires light { IsWithin MAX_LAG_WEIGHT arc.weight }
-    requires fits { HasEntriesWithin MAX_WALK_WEIGHT grid.old }
-    requires transitive { IsTransitive grid.old }
+    requires ready { IsReady arc grid.old }
     ensures square { IsSquare (length grid.old) grid.new }
     ensures over { (a b : ℕ) → IsOver arc grid.old a b (entry grid.new a b) }
 {

@@ -1,16 +1,20 @@
 //! Greatest weights of walks between the activities of a project.
 //!
 //! [`longest`] makes the [`Matrix`] of a project and pairs by the recurrence of Floyd (1962) and
-//! Warshall (1962), and [`Matrix::insert`] adds one arc to it.
+//! Warshall (1962), and [`Matrix::insert`] adds one arc to it. A [`MarkedMatrix`] goes back to what it was.
 #![tactic(auto)]
 
 mod fault;
 mod grid;
 mod insert;
+mod marked;
 mod matrix;
 mod recurrence;
+mod saved_insert;
+mod saves;
 
 pub use fault::PathFault;
+pub use marked::MarkedMatrix;
 pub use matrix::Matrix;
 pub use recurrence::longest;
 

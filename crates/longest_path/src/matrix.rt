@@ -3,6 +3,7 @@ ghost use Rattle.network.specs.Walk.{entry, Rows};
 ghost use Rattle.longest_path.specs.Insert.{arc_of, AddsArc, ClosesCycle};
 ghost use Rattle.network.specs.declared.limits.TheConstants.{MAX_ACTIVITIES, MAX_LAG_WEIGHT, MAX_WALK_WEIGHT};
 ghost use Rattle.network.specs.Limits.{IsWithin};
+ghost use Rattle.longest_path.specs.Matrix.{IsMatrix};
 
 use crate::fault::PathFault;
 use crate::grid::Grid;
@@ -37,6 +38,7 @@ impl Matrix {
     pub fn activity_count(&self) -> usize
         ensures value { result ≡ length self.now }
         ensures limit { length self.now ≤ MAX_ACTIVITIES }
+        ensures law { IsMatrix self.now }
     {
         self.grid.size()
     }

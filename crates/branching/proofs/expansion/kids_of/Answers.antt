@@ -1,6 +1,6 @@
-use Rattle.std.proofs.Common.{arith, length, ◌<◌}
+use Rattle.std.proofs.Common.{arith, length, ◌<◌, ◌≤◌}
 use Rattle.std.specs.Arc.{arc_value}
-use Rattle.std.proofs.lemmas.List.{map-append}
+use Rattle.std.proofs.lemmas.List.{map-append, take_all}
 use Rattle.std.proofs.lemmas.List.Elements.{All-push}
 use Rattle.std.proofs.lemmas.Grind.{common_steps}
 use Rattle.branching.specs.Subproblem.{Subproblem}
@@ -14,7 +14,7 @@ pub loop-pair-preserved : goal.loop-pair-preserved
 loop-pair-preserved c =
     let none : Pair = record { before = 0; after = 0 } in
     let lt : c.loop-pair.pair-index < length c.args.pairs.now = omega arith in
-    elim c.match-branch-2.branch [
+    elim c.match-branch-4.branch [
       | in-Kid+in_ok-push-in-Kid w ↦ record {
         so_far = rw (w.kids-is, w.in_ok-push-in-Kid.ensures.items, map-append arc_value c.loop-pair.kids.items) (add_kid _ _ _ _ none _ _ lt (c.requires.new _ none lt) (rw w.in-Kid.is at c.in_ok-kid.ensures).0 c.loop-pair.invariant.so_far);
         under = rw (w.kids-is, w.in_ok-push-in-Kid.ensures.items, map-append arc_value c.loop-pair.kids.items) (All-push (λ (kid : Subproblem). IsUnder c.args.ceiling kid.bound) _ _ c.loop-pair.invariant.under (rw w.in-Kid.is at c.in_ok-kid.ensures).1);
@@ -31,3 +31,8 @@ loop-pair-preserved c =
         few = rw w.kids-is (omega (arith, c.loop-pair.invariant.few));
       }
     ]
+
+pub returns-clause-covers : goal.returns-clause-covers
+returns-clause-covers c s stands below keeps =
+    let past : length c.args.pairs.now ≤ c.loop-pair.pair-index = omega (arith, c.loop-pair-test.false) in
+    c.loop-pair.invariant.so_far.covers s stands below (rw (take_all c.loop-pair.pair-index c.args.pairs.now past) keeps)

@@ -21,8 +21,16 @@ returns-then-is_positive-clause-cycle c = λ arcs m.
     let old : IsMatrixOf (length c.self.inside.grid) arcs c.self.inside.grid = rw (size, sym c.self.view_is) at m in
     closes (length c.self.inside.grid) (arc_of c.args.i c.args.j c.args.w) c.self.inside.grid lf lt (rw sum_is at c.if-is_positive.ensures) arcs old
 
-pub go_over-requires-clause-transitive : goal.go_over-requires-clause-transitive
-go_over-requires-clause-transitive c = transitive (length c.self.inside.grid) c.self.invariant.matrix.arcs c.self.inside.grid c.self.invariant.matrix.matrix
+pub go_over-requires-clause-ready : goal.go_over-requires-clause-ready
+go_over-requires-clause-ready c =
+    let size : length c.args.self.now ≡ (length c.self.inside.grid) = ap length (sym c.self.view_is) in
+    record {
+      from_vertex = rw size at c.requires.from_activity;
+      to_vertex = rw size at c.requires.to_activity;
+      light = rw (to_z-of_z w64 c.args.w c.ranges.w) c.requires.limit;
+      fits = c.self.invariant.matrix.within;
+      transitive = transitive (length c.self.inside.grid) c.self.invariant.matrix.arcs c.self.inside.grid c.self.invariant.matrix.matrix;
+    }
 
 pub invariant_of-self : goal.invariant_of-self
 invariant_of-self c =

@@ -1,0 +1,154 @@
+-- The heads and tails of a matrix with one arc more, and its bound.
+use Rattle.std.proofs.Common.{◌≡◌, refl, sym, ap, ◌∙◌, subst, ℕ, ◌+◌, ◌-◌, ◌<◌, ◌≤◌, arith, neg_ℤ, inl, inr, set, ◌≢◌, ℤ, pos, ◌+ℤ◌, ◌-ℤ◌, ◌≤ℤ◌, List, [], ◌∷◌, ◌++◌, map, length, get_or, Option, None, Some}
+use Rattle.std.specs.Option.{unwrap_or}
+use Rattle.std.specs.Prelude.{IfSome, FitsSigned}
+use Rattle.std.specs.Int.{int_max, w64}
+use Rattle.std.proofs.lemmas.Int.{ints}
+use Rattle.std.specs.List.{All, range_with_len}
+use Rattle.std.proofs.lemmas.List.{ext_get_or, get_or-set_same, get_or-set_other}
+use Rattle.std.proofs.lemmas.Bool.{cases_eq}
+use Rattle.std.proofs.lemmas.List.Elements.{All-head, All-push}
+use Rattle.std.proofs.lemmas.List.FromFn.{get_or-map-range_with_len, length-map-range_with_len}
+use Rattle.network.specs.declared.lag.Lag.{Lag}
+use Rattle.network.specs.declared.lag.Pair.{Pair}
+use Rattle.network.specs.Problem.{Problem, activity_count, end_of, duration, pair_arc, arcs_of, NameActivities}
+use Rattle.network.specs.Limits.{IsAmount, IsWithin}
+use Rattle.network.specs.ProjectMatrix.{IsProjectMatrix}
+use Rattle.network.specs.Walk.{Rows, entry, IsMatrixOf, weights_from}
+use Rattle.network.specs.declared.limits.TheConstants.{MAX_AMOUNT}
+use Rattle.bounds.specs.declared.limits.TheConstants.{MAX_FIRST_WITH, MAX_WAY_WITH}
+use Rattle.network.proofs.Schedules.{arcs_of-push}
+use Rattle.longest_path.specs.Relax.{joined}
+use Rattle.longest_path.specs.Insert.{entry_over, rows_over, ClosesNone, AddsArc}
+use Rattle.longest_path.proofs.OneMatrix.{one_matrix}
+use Rattle.longest_path.proofs.RowsOver.{length-rows_over, entry-rows_over, AddsArc-rows_over}
+use Rattle.earliest.specs.Tails.{tail_weight, tail_weights}
+use Rattle.earliest.proofs.StartLaws.{AreEarliest-weights}
+use Rattle.earliest.proofs.TailLaws.{AreTails-weights}
+use Rattle.bounds.specs.Energy.{IsEnergyValue}
+use Rattle.bounds.specs.Windows.{AreEnds}
+use Rattle.bounds.specs.Bound.{critical_weight, IsEnergyOf, IsTrueBoundFor, IsBoundOf}
+use Rattle.bounds.specs.With.{IsBoundBetween, IsBoundWith, IsTrueBoundWith}
+use Rattle.bounds.proofs.BoundLaws.{IsBoundOf-max}
+use Rattle.bounds.proofs.TrueBounds.{IsTrueBoundFor-bound}
+
+-- a list that has f at each place
+made_by : (f : ℕ → ℤ) (n : ℕ) (xs : List ℤ) → length xs ≡ n → ((k : ℕ) → k < n → get_or xs k (pos 0) ≡ f k) → xs ≡ map f (range_with_len 0 n)
+made_by f n xs long each =
+    ext_get_or (pos 0) xs (map f (range_with_len 0 n)) (long ∙ sym (length-map-range_with_len f 0 n)) (λ k short.
+    let lt : k < n = rw long at short in
+    each k lt ∙ sym (get_or-map-range_with_len f 0 n k k (pos 0) lt (omega arith)))
+
+pub heads_over : (e : Lag) (rows : Rows) (heads : List ℤ) → length heads ≡ length rows → ((k : ℕ) → k < length rows → get_or heads k (pos 0) ≡ unwrap_or (entry_over e rows 0 k) (pos 0)) → heads ≡ weights_from 0 (rows_over e rows)
+heads_over e rows heads long each =
+    made_by (λ b. unwrap_or (entry (rows_over e rows) 0 b) (pos 0)) (length (rows_over e rows)) heads (long ∙ sym (length-rows_over e rows)) (λ k lt.
+    let short : k < length rows = rw (length-rows_over e rows) at lt in
+    each k short ∙ ap (λ (o : Option ℤ). unwrap_or o (pos 0)) (sym (entry-rows_over e rows 0 k (omega arith) short)))
+
+pub tails_over : (p : Problem) (e : Lag) (rows : Rows) (tails : List ℤ) → length rows ≡ activity_count p → length tails ≡ length rows → ((k : ℕ) → k < length rows → get_or tails k (pos 0) ≡ unwrap_or (entry_over e rows k (end_of p)) (pos 0) -ℤ duration p k) → tails ≡ tail_weights p (rows_over e rows)
+tails_over p e rows tails size long each =
+    made_by (tail_weight p (rows_over e rows)) (activity_count p) tails (long ∙ size) (λ k lt.
+    let short : k < length rows = rw size lt in
+    let last : end_of p < length rows = omega arith in
+    each k short ∙ ap (λ (o : Option ℤ). unwrap_or o (pos 0) -ℤ duration p k) (sym (entry-rows_over e rows k (end_of p) short last)))
+
+-- the arc may be joined to either part
+pub joined_late : (x y : Option ℤ) (w : ℤ) → joined x (joined y (Some w)) ≡ joined (joined x (Some w)) y
+joined_late None y w = refl
+joined_late (Some x) None w = refl
+joined_late (Some x) (Some y) w = let same : (x +ℤ (y +ℤ w)) ≡ ((x +ℤ w) +ℤ y) = omega (arith, ints) in ap Some same
+
+-- one place more
+pub set_more : (f : ℕ → ℤ) (xs : List ℤ) (i : ℕ) (v : ℤ) → i < length xs → ((k : ℕ) → k < i → get_or xs k (pos 0) ≡ f k) → v ≡ f i → (k : ℕ) → k < i + 1 → get_or (set xs i v) k (pos 0) ≡ f k
+set_more f xs i v lt done is k less =
+    elim (cases_eq k i) [
+      | inl e ↦ rw e (get_or-set_same xs i v (pos 0) lt ∙ is)
+      | inr ne ↦ get_or-set_other xs i k v (pos 0) ne ∙ done k (omega arith)
+    ]
+
+pub difference_small : (o : Option ℤ) (d : ℤ) → IfSome o (λ w. IsWithin MAX_WAY_WITH w) → IsAmount d → FitsSigned w64 (unwrap_or o (pos 0) -ℤ d)
+difference_small None d within amount =
+    let low : pos 0 ≤ℤ d = amount.at_least in
+    let high : d ≤ℤ MAX_AMOUNT = amount.at_most in
+    omega (arith, ints)
+difference_small (Some w) d within amount =
+    let low : pos 0 ≤ℤ d = amount.at_least in
+    let high : d ≤ℤ MAX_AMOUNT = amount.at_most in
+    let up : w ≤ℤ MAX_WAY_WITH = within.at_most in
+    let down : neg_ℤ MAX_WAY_WITH ≤ℤ w = within.at_least in
+    omega (arith, ints)
+
+pub way_small : (x y : ℤ) → IsWithin MAX_FIRST_WITH x → IsWithin MAX_FIRST_WITH y → IsWithin MAX_WAY_WITH (x +ℤ y)
+way_small x y p q =
+    let a : x ≤ℤ MAX_FIRST_WITH = p.at_most in
+    let b : neg_ℤ MAX_FIRST_WITH ≤ℤ x = p.at_least in
+    let c : y ≤ℤ MAX_FIRST_WITH = q.at_most in
+    let d : neg_ℤ MAX_FIRST_WITH ≤ℤ y = q.at_least in
+    record { at_most = omega (arith, ints); at_least = omega (arith, ints) }
+
+pub way_fits : (x y : ℤ) → IsWithin MAX_FIRST_WITH x → IsWithin MAX_FIRST_WITH y → FitsSigned w64 (x +ℤ y)
+way_fits x y p q =
+    let a : x ≤ℤ MAX_FIRST_WITH = p.at_most in
+    let b : neg_ℤ MAX_FIRST_WITH ≤ℤ x = p.at_least in
+    let c : y ≤ℤ MAX_FIRST_WITH = q.at_most in
+    let d : neg_ℤ MAX_FIRST_WITH ≤ℤ y = q.at_least in
+    omega (arith, ints)
+
+-- ---- the bound with a pair
+
+abbrev pub IsThere : Problem → Pair → Type 0
+IsThere p q = (q.before < activity_count p) × (q.after < activity_count p)
+
+pub ends_there : (p : Problem) (pair : Pair) → NameActivities p (pair ∷ []) → IsThere p pair
+ends_there p pair named = All-head (IsThere p) pair [] named
+
+pub adds_pair : (p : Problem) (pair : Pair) (rows : Rows) → length rows ≡ activity_count p → NameActivities p (pair ∷ []) → ClosesNone (pair_arc p pair) rows → AddsArc (pair_arc p pair) rows (rows_over (pair_arc p pair) rows)
+adds_pair p pair rows size named none =
+    let ends = ends_there p pair named in
+    AddsArc-rows_over (pair_arc p pair) rows (rw size ends.0) (rw size ends.1) none
+
+pub matrix_more : (p : Problem) (pairs : List Pair) (pair : Pair) (rows : Rows) → NameActivities p (pair ∷ []) → ClosesNone (pair_arc p pair) rows → IsProjectMatrix p pairs rows →
+    IsProjectMatrix p (pairs ++ pair ∷ []) (rows_over (pair_arc p pair) rows)
+matrix_more p pairs pair rows named none m =
+    let size : length rows ≡ activity_count p = m.matrix.square.0 in
+    let more = adds_pair p pair rows size named none (arcs_of p pairs) (rw size m.matrix) in
+    record {
+      limits = m.limits;
+      named = All-push (IsThere p) pairs pair m.named (ends_there p pair named);
+      matrix = rw (arcs_of-push p pairs pair) (subst (λ (n : ℕ). IsMatrixOf n (arcs_of p pairs ++ pair_arc p pair ∷ []) (rows_over (pair_arc p pair) rows)) size more);
+    }
+
+pub IsBoundWith-over : (p : Problem) (pair : Pair) (rows : Rows) (bound : ℤ) → NameActivities p (pair ∷ []) → ClosesNone (pair_arc p pair) rows → IsBoundOf p (rows_over (pair_arc p pair) rows) bound → IsBoundWith p rows pair bound
+IsBoundWith-over p pair rows bound named none is = λ pairs new m k.
+    let same : rows_over (pair_arc p pair) rows ≡ new = one_matrix (activity_count p) (arcs_of p (pairs ++ pair ∷ [])) (rows_over (pair_arc p pair) rows) new (matrix_more p pairs pair rows named none m).matrix k.matrix in
+    subst (λ (r : Rows). IsBoundOf p r bound) same is
+
+pub IsTrueBoundWith-over : (p : Problem) (pair : Pair) (rows : Rows) (bound : ℤ) → NameActivities p (pair ∷ []) → ClosesNone (pair_arc p pair) rows → IsBoundOf p (rows_over (pair_arc p pair) rows) bound → IsTrueBoundWith p rows pair bound
+IsTrueBoundWith-over p pair rows bound named none is = λ pairs m.
+    IsTrueBoundFor-bound p (rows_over (pair_arc p pair) rows) bound is (pairs ++ pair ∷ []) (matrix_more p pairs pair rows named none m)
+
+pub heads_are_ends : (p : Problem) (pairs : List Pair) (rows : Rows) → IsProjectMatrix p pairs rows → AreEnds (activity_count p) (weights_from 0 rows)
+heads_are_ends p pairs rows m = let are = AreEarliest-weights p pairs rows m in record { count = are.limits.count; within = are.range }
+
+pub tails_are_ends : (p : Problem) (pairs : List Pair) (rows : Rows) → IsProjectMatrix p pairs rows → AreEnds (activity_count p) (tail_weights p rows)
+tails_are_ends p pairs rows m = let are = AreTails-weights p pairs rows m in record { count = are.count; within = are.range }
+
+-- the last head is the critical weight
+pub last_head : (rows : Rows) → 0 < length rows → get_or (weights_from 0 rows) (length rows - 1) (pos 0) ≡ critical_weight rows
+last_head rows some = get_or-map-range_with_len (λ b. unwrap_or (entry rows 0 b) (pos 0)) 0 (length rows) (length rows - 1) (length rows - 1) (pos 0) (omega arith) (omega arith)
+
+IsBoundOf-between : (p : Problem) (pairs : List Pair) (rows : Rows) (heads tails : List ℤ) (bound : ℤ) → IsProjectMatrix p pairs rows → heads ≡ weights_from 0 rows → tails ≡ tail_weights p rows → IsBoundBetween p heads tails bound → IsBoundOf p rows bound
+IsBoundOf-between p pairs rows heads tails bound m heads_are tails_are is =
+    let two : 2 ≤ activity_count p = m.limits.two_dummies in
+    let size : length rows ≡ activity_count p = m.matrix.square.0 in
+    let last : get_or heads (end_of p) (pos 0) ≡ critical_weight rows = ap (λ (hs : List ℤ). get_or hs (end_of p) (pos 0)) heads_are ∙ ap (λ n. get_or (weights_from 0 rows) (n - 1) (pos 0)) (sym size) ∙ last_head rows (omega arith) in
+    let of_energy : IsEnergyOf p rows is.energy =
+    subst (λ (ts : List ℤ). IsEnergyValue p (weights_from 0 rows) ts is.energy) tails_are (subst (λ (hs : List ℤ). IsEnergyValue p hs tails is.energy) heads_are is.of_energy) in
+    let same : bound ≡ int_max (critical_weight rows) is.energy = is.is ∙ ap (λ (c : ℤ). int_max c is.energy) last in
+    subst (IsBoundOf p rows) (sym same) (IsBoundOf-max p pairs rows is.energy m of_energy)
+
+-- the bound of heads and tails that the matrix gives with the pair
+pub IsBoundOf-over : (p : Problem) (pairs : List Pair) (pair : Pair) (rows : Rows) (heads tails : List ℤ) (bound : ℤ) → IsProjectMatrix p pairs rows → NameActivities p (pair ∷ []) → ClosesNone (pair_arc p pair) rows →
+    heads ≡ weights_from 0 (rows_over (pair_arc p pair) rows) → tails ≡ tail_weights p (rows_over (pair_arc p pair) rows) → IsBoundBetween p heads tails bound → IsBoundOf p (rows_over (pair_arc p pair) rows) bound
+IsBoundOf-over p pairs pair rows heads tails bound m named none heads_are tails_are is =
+    IsBoundOf-between p (pairs ++ pair ∷ []) (rows_over (pair_arc p pair) rows) heads tails bound (matrix_more p pairs pair rows named none m) heads_are tails_are is

@@ -1,0 +1,119 @@
+ghost use Rattle.std.specs.Prelude.{◌≡◌, [], ◌<◌, ◌∷◌, length, Some, IfSome, IfOk};
+ghost use Rattle.network.specs.Problem.{activity_count, NameActivities, pair_arc};
+ghost use Rattle.network.specs.declared.limits.TheConstants.{MAX_LAG_WEIGHT, MAX_WALK_WEIGHT};
+ghost use Rattle.network.specs.Limits.{IsWithin};
+ghost use Rattle.network.specs.Walk.{weights_from};
+ghost use Rattle.bounds.specs.declared.limits.TheConstants.{MAX_FIRST_WITH, MAX_WAY_WITH};
+ghost use Rattle.longest_path.specs.Relax.{greater, joined};
+ghost use Rattle.earliest.specs.Tails.{tail_weights};
+ghost use Rattle.longest_path.specs.Insert.{rows_over, ClosesNone};
+ghost use Rattle.bounds.specs.Bound.{IsMatrixFor};
+ghost use Rattle.bounds.specs.Windows.{AreEnds};
+ghost use Rattle.bounds.specs.With.{IsBoundBetween, IsBoundWith, IsTrueBoundWith};
+
+use crate::energy_value::energy_between;
+use longest_path::Matrix;
+use network::{Lag, Pair, Project};
+use std::alloc::{AllocError, Global};
+
+/// The weight of a walk and then an arc.
+fn then_arc(weight: Option<i64>, arc: i64) -> Option<i64>
+    requires weight { IfSome weight (λ x. IsWithin MAX_WALK_WEIGHT x) }
+    requires arc { IsWithin MAX_LAG_WEIGHT arc }
+    ensures sum { result ≡ joined weight (Some arc) }
+    ensures small { IfSome result (λ x. IsWithin MAX_FIRST_WITH x) }
+{
+    match weight {
+        Some(weight) => Some(weight + arc),
+        None => None,
+    }
+}
+
+/// The weight of a walk, or of the way that has these two parts where that is greater.
+fn or_way(weight: Option<i64>, first: Option<i64>, last: Option<i64>) -> Option<i64>
+    requires weight { IfSome weight (λ x. IsWithin MAX_WALK_WEIGHT x) }
+    requires first { IfSome first (λ x. IsWithin MAX_FIRST_WITH x) }
+    requires last { IfSome last (λ x. IsWithin MAX_FIRST_WITH x) }
+    ensures value { result ≡ greater weight (joined first last) }
+    ensures small { IfSome result (λ x. IsWithin MAX_WAY_WITH x) }
+{
+    let (Some(first), Some(last)) = (first, last) else {
+        return weight;
+    };
+    let way = first + last;
+    match weight {
+        Some(weight) if weight >= way => Some(weight),
+        _ => Some(way),
+    }
+}
+
+/// Puts the heads that the matrix would give with the arc in place of others.
+fn take_heads_with(matrix: &Matrix, arc: Lag, heads: &mut [i64])
+    requires from_activity { arc.from < length matrix.now }
+    requires to_activity { arc.to < length matrix.now }
+    requires light { IsWithin MAX_LAG_WEIGHT arc.weight }
+    requires room { length heads.old ≡ length matrix.now }
+    ensures { heads.new ≡ weights_from 0 (rows_over arc matrix.now) }
+{
+    let first = then_arc(matrix.get(0, arc.from), arc.weight);
+    for i in 0..heads.len() {
+        heads[i] = or_way(matrix.get(0, i), first, matrix.get(arc.to, i)).unwrap_or(0);
+    }
+}
+
+/// Puts the tails that the matrix would give with the arc in place of others.
+fn take_tails_with(project: &Project, matrix: &Matrix, arc: Lag, tails: &mut [i64])
+    requires project { length matrix.now ≡ activity_count project.now }
+    requires from_activity { arc.from < length matrix.now }
+    requires to_activity { arc.to < length matrix.now }
+    requires light { IsWithin MAX_LAG_WEIGHT arc.weight }
+    requires room { length tails.old ≡ length matrix.now }
+    ensures { tails.new ≡ tail_weights project.now (rows_over arc matrix.now) }
+{
+    let end = project.activity_count() - 1;
+    let last = then_arc(matrix.get(arc.to, end), arc.weight);
+    for i in 0..tails.len() {
+        let to_end = or_way(matrix.get(i, end), matrix.get(i, arc.from), last).unwrap_or(0);
+        tails[i] = to_end - project.duration(i);
+    }
+}
+
+/// The greater of the last head and the energy value of heads and tails.
+fn bound_between(
+    alloc: Global,
+    project: &Project,
+    heads: &[i64],
+    tails: &[i64],
+) -> Result<i64, AllocError>
+    requires heads { AreEnds (activity_count project.now) heads.now }
+    requires tails { AreEnds (activity_count project.now) tails.now }
+    ensures { IfOk result (λ bound. IsBoundBetween project.now heads.now tails.now bound) }
+{
+    let critical = heads[project.activity_count() - 1];
+    let energy = energy_between(alloc, project, heads, tails)?;
+    Ok(critical.max(energy as i64))
+}
+
+/// The bound of the matrix with the pair's arc in periods, by entries of the matrix without it.
+pub fn bound_with(
+    alloc: Global,
+    project: &Project,
+    matrix: &Matrix,
+    pair: Pair,
+) -> Result<i64, AllocError>
+    requires matrix { IsMatrixFor project.now matrix.now }
+    requires named { NameActivities project.now (pair ∷ []) }
+    requires lives { ClosesNone (pair_arc project.now pair) matrix.now }
+    ensures value { IfOk result (λ bound. IsBoundWith project.now matrix.now pair bound) }
+    ensures holds { IfOk result (λ bound. IsTrueBoundWith project.now matrix.now pair bound) }
+{
+    prove!(matrix.activity_count() == project.activity_count());
+    let arc = project.pair_arc(pair);
+    let mut heads = vec![in alloc; 0; project.activity_count()]?;
+    let mut tails = vec![in alloc; 0; project.activity_count()]?;
+    let heads = heads.as_mut_slice();
+    let tails = tails.as_mut_slice();
+    take_heads_with(matrix, arc, heads);
+    take_tails_with(project, matrix, arc, tails);
+    bound_between(alloc, project, heads, tails)
+}

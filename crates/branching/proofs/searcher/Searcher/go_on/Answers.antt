@@ -1,0 +1,27 @@
+use Rattle.std.proofs.Common.{rules, ◌≡◌, ◌∷◌, [], ◌++◌, List, length, take, sym, ◌∙◌, ap, Some}
+use Rattle.std.specs.Prelude.{slice_get}
+use Rattle.branching.specs.Path.{Path}
+use Rattle.branching.proofs.Paths.{begun_more, one_more, all_there, named_at, no_cycle_before}
+use Rattle.branching.proofs.searcher.Searcher.go_on.Goals as goal
+
+pub loop-pair-preserved : goal.loop-pair-preserved
+loop-pair-preserved c =
+    let len : c.len.result ≡ length c.loop-pair.self.pairs = search rules in
+    let here : slice_get c.args.pairs.now (length c.loop-pair.self.pairs) ≡ Some c.in-Some.pair = rw len at (sym c.get.ensures ∙ c.in-Some.is) in
+    record {
+      project = c.add.ensures.project ∙ c.loop-pair.invariant.project;
+      begun = rw c.in-Ok.ensures.pairs (begun_more c.args.pairs.now c.loop-pair.self.pairs c.in-Some.pair c.loop-pair.invariant.begun here);
+    }
+
+pub unreachable-requires : goal.unreachable-requires
+unreachable-requires c =
+    let len : c.len.result ≡ length c.loop-pair.self.pairs = search rules in
+    let here : slice_get c.args.pairs.now (length c.loop-pair.self.pairs) ≡ Some c.in-Some.pair = rw len at (sym c.get.ensures ∙ c.in-Some.is) in
+    let fault = rw c.in-Err-PositiveCycle.field-0-is at c.in-Err-PositiveCycle.ensures.fault in
+    no_cycle_before c.args.self.now.project c.args.pairs.now (c.loop-pair.self.pairs ++ c.in-Some.pair ∷ []) _ c.requires.live (one_more c.args.pairs.now c.loop-pair.self.pairs c.in-Some.pair c.loop-pair.invariant.begun here)
+    (rw c.loop-pair.invariant.project at fault)
+
+pub returns-clause-pairs : goal.returns-clause-pairs
+returns-clause-pairs c =
+    let len : c.len.result ≡ length c.loop-pair.self.pairs = search rules in
+    all_there c.args.pairs.now c.loop-pair.self.pairs c.loop-pair.invariant.begun (rw len at (sym c.get.ensures ∙ c.in_default.is))

@@ -1,0 +1,39 @@
+-- A list of pairs that grows and goes back, with the matrix of the project and the pairs.
+use Rattle.std.specs.Prelude.{◌≡◌, ◌<◌, ◌-◌, ◌≤◌, ℕ, List, [], ◌∷◌, length, take}
+use Rattle.network.specs.declared.lag.Pair.{Pair}
+use Rattle.network.specs.Problem.{Problem, arcs_of}
+use Rattle.network.specs.Walk.{Rows, HasPositiveCycle}
+use Rattle.network.specs.ProjectMatrix.{IsProjectMatrix}
+use Rattle.longest_path.specs.Marked.{Marked}
+use Rattle.longest_path.specs.declared.fault.PathFault.{PathFault}
+use Rattle.longest_path.specs.declared.fault.PathFault.TheVariants.{PositiveCycle, Memory}
+
+-- a project, and the pairs that were added
+pub record Path : Type 0 where
+  pub project : Problem
+  pub pairs : List Pair
+
+-- all pairs but the last
+abbrev pub front : List Pair → List Pair
+front pairs = take (length pairs - 1) pairs
+
+-- a mark for each pair, the last one first, leads back to the matrix without that pair and those after it
+abbrev pub LeadBack : Problem → List Pair → List Rows → Type 0
+LeadBack p pairs [] = pairs ≡ []
+LeadBack p pairs (rows ∷ marks) = (0 < length pairs) × IsProjectMatrix p (front pairs) rows × LeadBack p (front pairs) marks
+
+-- the rows are the matrix of the project and the pairs, and the marks lead back
+pub record IsPath (p : Problem) (pairs : List Pair) (m : Marked) : Type 0 where
+  pub matrix : IsProjectMatrix p pairs m.rows
+  pub back : LeadBack p pairs m.marks
+
+-- a pair that isn't added closes a walk of positive weight, or there was no memory
+abbrev pub IsPairFault : Problem → List Pair → PathFault → Type 0
+IsPairFault p pairs (PositiveCycle at) = HasPositiveCycle (arcs_of p pairs)
+IsPairFault p pairs Memory = Unit {0}
+
+-- both lists begin with the same so many pairs
+pub record IsShared (count : ℕ) (left right : List Pair) : Type 0 where
+  pub in_left : count ≤ length left
+  pub in_right : count ≤ length right
+  pub same : take count left ≡ take count right

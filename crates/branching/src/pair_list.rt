@@ -1,0 +1,63 @@
+ghost use Rattle.std.specs.Prelude.{◌≡◌, [], IfOk, slice_get, ◌++◌};
+ghost use Rattle.std.specs.Arc.{arc_value};
+
+use network::Pair;
+use std::alloc::{AllocError, Global};
+use std::marker::Model;
+use std::sync::Arc;
+
+/// Pairs in the order in which they were added. The kids of a node share the list of that node.
+#[derive(Drop, Debug)]
+pub struct PairList {
+    before: Arc<Vec<Pair>>,
+    last: Vec<Pair>,
+}
+
+impl Model for PairList {
+    ghost use Rattle.std.specs.Prelude.{List, ◌++◌};
+    ghost use Rattle.std.specs.Arc.{arc_value};
+    ghost use Rattle.network.specs.declared.lag.Pair.{Pair};
+
+    ghost Value = { List Pair };
+
+    ghost view = { λ s. (arc_value s.before).items ++ s.last.items };
+}
+
+impl PairList {
+    /// No pair.
+    pub fn new(alloc: Global) -> Result<PairList, AllocError>
+        ensures { IfOk result (λ pairs. pairs ≡ []) }
+    {
+        let before = Arc::new(alloc, Vec::new(alloc))?;
+        Ok(PairList {
+            before,
+            last: Vec::new(alloc),
+        })
+    }
+
+    /// The shared pairs, and the last ones after them.
+    pub fn of(before: Arc<Vec<Pair>>, last: Vec<Pair>) -> PairList
+        ensures { result ≡ (arc_value before).items ++ last.items }
+    {
+        PairList { before, last }
+    }
+
+    /// The pair at a place, if there is one.
+    pub fn get(&self, place: usize) -> Option<Pair>
+        ensures { result ≡ slice_get self.now place }
+    {
+        match place.checked_sub(self.before.len()) {
+            Some(later) => self.last.get(later).copied(),
+            None => self.before.get(place).copied(),
+        }
+    }
+
+    /// The pairs as one list.
+    pub fn to_vec(&self, alloc: Global) -> Result<Vec<Pair>, AllocError>
+        ensures { IfOk result (λ pairs. pairs.items ≡ self.now) }
+    {
+        let mut pairs = Vec::from_slice(alloc, self.before.as_slice())?;
+        pairs.extend_from_slice(self.last.as_slice())?;
+        Ok(pairs)
+    }
+}

@@ -1,0 +1,147 @@
+ghost use Rattle.std.specs.Prelude.{◌≡◌, ◌<◌, ◌≤◌, [], ◌∷◌, ◌++◌, length, take, slice_get, Some, IfErr, OnOk, OnErr};
+ghost use Rattle.std.specs.Arc.{arc_value};
+ghost use Rattle.std.specs.Bool.{OnTrue};
+ghost use Rattle.network.specs.Problem.{arcs_of, NameActivities};
+ghost use Rattle.network.specs.Walk.{HasNoPositiveCycle};
+ghost use Rattle.network.specs.ProjectMatrix.{IsProjectMatrix};
+ghost use Rattle.branching.specs.Path.{front, IsPairFault, IsShared};
+
+use crate::marking::insert_under_mark;
+use crate::pair_list::PairList;
+use longest_path::{MarkedMatrix, Matrix, PathFault};
+use network::{Pair, Project};
+use std::alloc::{AllocError, Global};
+use std::marker::Model;
+use std::sync::Arc;
+
+/// Whether the pair at a place is this one.
+fn has_at(pairs: &PairList, place: usize, pair: Pair) -> bool
+    ensures { OnTrue result (slice_get pairs.now place ≡ Some pair) }
+{
+    match pairs.get(place) {
+        Some(other) => other.before == pair.before && other.after == pair.after,
+        None => false,
+    }
+}
+
+/// With how many pairs both lists begin.
+fn shared_count(left: &[Pair], right: &PairList) -> usize
+    ensures { IsShared result left.now right.now }
+{
+    for (place, pair) in left.iter().enumerate() {
+        if !has_at(right, place, *pair) {
+            return place;
+        }
+    }
+    left.len()
+}
+
+/// The matrix of a project and the pairs of the node that a search is at. It moves from node to node: back
+/// to where the pairs of both part, and then on by one insert a pair.
+#[derive(Drop, Debug)]
+pub struct Searcher {
+    project: Arc<Project>,
+    pairs: Vec<Pair>,
+    /// With a mark for each pair.
+    matrix: MarkedMatrix,
+}
+
+impl Model for Searcher {
+    ghost use Rattle.std.specs.Arc.{arc_value};
+    ghost use Rattle.branching.specs.Path.{Path, IsPath};
+
+    ghost Value = { Path };
+
+    ghost view = { λ s. record { project = arc_value s.project; pairs = s.pairs.items } };
+
+    ghost invariant = { λ s. IsPath (arc_value s.project) s.pairs.items s.matrix };
+}
+
+impl Searcher {
+    /// A searcher at the root, which has no pairs and this matrix.
+    pub fn new(alloc: Global, project: Arc<Project>, matrix: Matrix) -> Searcher
+        requires { IsProjectMatrix (arc_value project) [] matrix }
+        ensures { result ≡ record { project = arc_value project; pairs = [] } }
+    {
+        Searcher {
+            project,
+            pairs: Vec::new(alloc),
+            matrix: MarkedMatrix::new(alloc, matrix),
+        }
+    }
+
+    /// The matrix of the project and the pairs of the node that the searcher is at.
+    pub fn matrix(&self) -> &Matrix
+        ensures { IsProjectMatrix self.now.project self.now.pairs result.now }
+    {
+        self.matrix.matrix()
+    }
+
+    /// Adds a pair. A fault leaves all as it was.
+    fn add(&mut self, pair: Pair) -> Result<(), PathFault>
+        requires { NameActivities self.old.project (pair ∷ []) }
+        ensures project { self.new.project ≡ self.old.project }
+        ensures pairs { OnOk result (self.new.pairs ≡ self.old.pairs ++ pair ∷ []) }
+        ensures fault { IfErr result (IsPairFault self.old.project (self.old.pairs ++ pair ∷ [])) }
+        ensures unchanged { OnErr result (self.new ≡ self.old) }
+    {
+        self.pairs.reserve(1)?;
+        let arc = self.project.pair_arc(pair);
+        if let Err(fault) = insert_under_mark(&mut self.matrix, arc) {
+            return Err(fault);
+        }
+        self.pairs.push_reserved(pair);
+        Ok(())
+    }
+
+    /// Takes the last pair away.
+    fn drop_last(&mut self)
+        requires { 0 < length self.old.pairs }
+        ensures project { self.new.project ≡ self.old.project }
+        ensures pairs { self.new.pairs ≡ front self.old.pairs }
+    {
+        self.pairs.truncate(self.pairs.len() - 1);
+        self.matrix.go_back();
+    }
+
+    /// Keeps the first so many pairs.
+    fn keep(&mut self, count: usize)
+        requires { count ≤ length self.old.pairs }
+        ensures project { self.new.project ≡ self.old.project }
+        ensures pairs { self.new.pairs ≡ take count self.old.pairs }
+    {
+        while count < self.pairs.len() {
+            self.drop_last();
+        }
+    }
+
+    /// Adds those of the pairs that are still missing.
+    fn go_on(&mut self, pairs: &PairList) -> Result<(), AllocError>
+        requires begun { self.old.pairs ≡ take (length self.old.pairs) pairs.now }
+        requires named { NameActivities self.old.project pairs.now }
+        requires live { HasNoPositiveCycle (arcs_of self.old.project pairs.now) }
+        ensures project { self.new.project ≡ self.old.project }
+        ensures pairs { OnOk result (self.new.pairs ≡ pairs.now) }
+    {
+        while let Some(pair) = pairs.get(self.pairs.len()) {
+            match self.add(pair) {
+                Ok(()) => {}
+                Err(PathFault::Memory) => return Err(AllocError),
+                Err(PathFault::PositiveCycle { .. }) => unreachable!(),
+            }
+        }
+        Ok(())
+    }
+
+    /// Moves to the node of these pairs. Where memory runs out, the searcher stays at a node on the way.
+    pub fn move_to(&mut self, pairs: &PairList) -> Result<(), AllocError>
+        requires named { NameActivities self.old.project pairs.now }
+        requires live { HasNoPositiveCycle (arcs_of self.old.project pairs.now) }
+        ensures project { self.new.project ≡ self.old.project }
+        ensures pairs { OnOk result (self.new.pairs ≡ pairs.now) }
+    {
+        let shared = shared_count(self.pairs.as_slice(), pairs);
+        self.keep(shared);
+        self.go_on(pairs)
+    }
+}

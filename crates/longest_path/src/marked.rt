@@ -1,0 +1,102 @@
+ghost use Rattle.std.specs.Prelude.{◌≡◌, ◌<◌, [], ◌∷◌, length, IfErr, OnOk, OnErr};
+ghost use Rattle.longest_path.specs.Insert.{arc_of, AddsArc};
+ghost use Rattle.longest_path.specs.Fault.{IsInsertFault};
+ghost use Rattle.longest_path.specs.Marked.{Marked};
+ghost use Rattle.network.specs.declared.limits.TheConstants.{MAX_LAG_WEIGHT};
+ghost use Rattle.network.specs.Limits.{IsWithin};
+
+use crate::fault::PathFault;
+use crate::matrix::Matrix;
+use crate::saves::Saves;
+use std::alloc::{AllocError, Global};
+use std::marker::Model;
+
+/// A matrix that goes back to marks. Its value is its rows now and the rows at each mark, the last
+/// mark first.
+///
+/// What it keeps for the way back are the rows that have gained since the first mark, and no copy of
+/// the matrix.
+#[derive(Drop, Debug)]
+pub struct MarkedMatrix {
+    matrix: Matrix,
+    saves: Saves,
+    /// How many rows were saved when each mark was made.
+    marks: Vec<usize>,
+}
+
+impl Model for MarkedMatrix {
+    ghost use Rattle.std.specs.Prelude.{reverse};
+    ghost use Rattle.longest_path.specs.Marked.{Marked, marked_rows, IsMarked};
+
+    ghost Value = { Marked };
+
+    ghost view = { λ s. record { rows = s.matrix; marks = marked_rows s.saves.saves s.matrix (reverse s.marks.items) } };
+
+    ghost invariant = { λ s. IsMarked s.matrix s.saves (reverse s.marks.items) };
+}
+
+impl MarkedMatrix {
+    /// A matrix with no mark.
+    pub fn new(alloc: Global, matrix: Matrix) -> MarkedMatrix
+        ensures { result ≡ record { rows = matrix; marks = [] } }
+    {
+        let width = matrix.activity_count();
+        MarkedMatrix {
+            matrix,
+            saves: Saves::new(alloc, width),
+            marks: Vec::new(alloc),
+        }
+    }
+
+    /// The matrix as it is now.
+    pub fn matrix(&self) -> &Matrix
+        ensures { result.now ≡ self.now.rows }
+    {
+        &self.matrix
+    }
+
+    /// How many marks there are.
+    pub fn mark_count(&self) -> usize
+        ensures { result ≡ length self.now.marks }
+    {
+        self.marks.len()
+    }
+
+    /// Makes a mark. Where there is no memory, nothing changes.
+    pub fn mark(&mut self) -> Result<(), AllocError>
+        ensures ok { OnOk result (self.new ≡ record { rows = self.old.rows; marks = self.old.rows ∷ self.old.marks }) }
+        ensures unchanged { OnErr result (self.new ≡ self.old) }
+    {
+        self.marks.reserve(1)?;
+        self.marks.push_reserved(self.saves.len());
+        Ok(())
+    }
+
+    /// Goes back to the last mark, which is then no mark any more. Takes no memory.
+    pub fn go_back(&mut self)
+        requires { 0 < length self.old.marks }
+        ensures { self.old.marks ≡ self.new.rows ∷ self.new.marks }
+    {
+        let count = self.marks.pop().unwrap();
+        self.matrix.undo(count, &mut self.saves);
+    }
+
+    /// Adds the arc of weight `w` from activity `i` to activity `j`, as [`Matrix::insert`] does. The
+    /// marks stay.
+    ///
+    /// [`PathFault::PositiveCycle`] comes where the arc closes a walk of positive weight, and names
+    /// `i`. [`PathFault::Memory`] comes where there was none for the rows that gain. A fault leaves
+    /// the matrix as it was.
+    pub fn insert(&mut self, i: usize, j: usize, w: i64) -> Result<(), PathFault>
+        requires from_activity { i < length self.old.rows }
+        requires to_activity { j < length self.old.rows }
+        requires limit { IsWithin MAX_LAG_WEIGHT w }
+        ensures size { length self.new.rows ≡ length self.old.rows }
+        ensures marks { self.new.marks ≡ self.old.marks }
+        ensures ok { OnOk result (AddsArc (arc_of i j w) self.old.rows self.new.rows) }
+        ensures fault { IfErr result (IsInsertFault (arc_of i j w) self.old.rows) }
+        ensures unchanged { OnErr result (self.new ≡ self.old) }
+    {
+        self.matrix.insert_saved(i, j, w, &mut self.saves)
+    }
+}

@@ -1,0 +1,150 @@
+//! The steps of an insert that saves the rows that gain.
+
+ghost use Rattle.std.specs.Prelude.{◌≡◌, ◌<◌, ◌≤◌, ℕ, ℤ, ◌+ℤ◌, length, take, drop, Some, IfErr, OnOk, OnErr};
+ghost use Rattle.network.specs.Walk.{entry};
+ghost use Rattle.longest_path.specs.Relax.{joined};
+ghost use Rattle.longest_path.specs.Rows.{IsSquare};
+ghost use Rattle.longest_path.specs.Passes.{IsRowOver};
+ghost use Rattle.longest_path.specs.Matrix.{IsMatrix};
+ghost use Rattle.longest_path.specs.Insert.{arc_of, AddsArc, IsOver, IsReadyRow, IsReady};
+ghost use Rattle.longest_path.specs.Fault.{IsInsertFault};
+ghost use Rattle.longest_path.specs.Saved.{LeadsBack, undone};
+ghost use Rattle.network.specs.declared.limits.TheConstants.{MAX_LAG_WEIGHT};
+ghost use Rattle.network.specs.Limits.{IsWithin};
+
+use crate::fault::PathFault;
+use crate::grid::Grid;
+use crate::insert::{first_over, is_reached, sum};
+use crate::matrix::Matrix;
+use crate::recurrence::is_positive;
+use crate::saves::Saves;
+use network::Lag;
+use std::alloc::AllocError;
+
+/// As `go_over_row` of an insert, and saves the row if it gains.
+fn go_over_row_saved(
+    grid: &mut Grid,
+    a: usize,
+    arc: Lag,
+    via: &[i32],
+    saves: &mut Saves,
+) -> Result<(), AllocError>
+    requires ready { IsReadyRow a arc via.now grid.old }
+    requires width { saves.old.width ≡ length grid.old }
+    ensures square { IsSquare (length grid.old) grid.new }
+    ensures width { saves.new.width ≡ saves.old.width }
+    ensures over { OnOk result (IsRowOver a (joined (entry grid.old a arc.from) (Some arc.weight)) via.now grid.old grid.new) }
+    ensures back { LeadsBack saves.old.saves saves.new.saves grid.old grid.new }
+{
+    let Some(first) = first_over(grid, a, arc) else {
+        return Ok(());
+    };
+    saves.push(a, grid.row(a))?;
+    grid.relax_row(a, first, via);
+    Ok(())
+}
+
+/// As `go_over` of an insert, and saves each row that gains. Where there is no memory for a row, some rows may
+/// have gained.
+fn go_over_saved(
+    grid: &mut Grid,
+    via: &mut [i32],
+    arc: Lag,
+    saves: &mut Saves,
+) -> Result<(), AllocError>
+    requires room { length via.old ≡ length grid.old }
+    requires ready { IsReady arc grid.old }
+    requires width { saves.old.width ≡ length grid.old }
+    ensures square { IsSquare (length grid.old) grid.new }
+    ensures width { saves.new.width ≡ saves.old.width }
+    ensures over { OnOk result ((a b : ℕ) → IsOver arc grid.old a b (entry grid.new a b)) }
+    ensures back { LeadsBack saves.old.saves saves.new.saves grid.old grid.new }
+{
+    grid.copy_row(arc.to, via);
+    for a in 0..grid.size() {
+        go_over_row_saved(grid, a, arc, via, saves)?;
+    }
+    Ok(())
+}
+
+/// As `go_over` of an insert, and saves each row that gains. Where there is no memory for a row, nothing
+/// changes.
+fn go_over_or_stay(
+    grid: &mut Grid,
+    via: &mut [i32],
+    arc: Lag,
+    saves: &mut Saves,
+) -> Result<(), AllocError>
+    requires room { length via.old ≡ length grid.old }
+    requires ready { IsReady arc grid.old }
+    requires width { saves.old.width ≡ length grid.old }
+    ensures size { length grid.new ≡ length grid.old }
+    ensures width { saves.new.width ≡ saves.old.width }
+    ensures square { OnOk result (IsSquare (length grid.old) grid.new) }
+    ensures over { OnOk result ((a b : ℕ) → IsOver arc grid.old a b (entry grid.new a b)) }
+    ensures back { LeadsBack saves.old.saves saves.new.saves grid.old grid.new }
+    ensures same_grid { OnErr result (grid.new ≡ grid.old) }
+    ensures same_saves { OnErr result (saves.new ≡ saves.old) }
+{
+    let count = saves.len();
+    if go_over_saved(grid, via, arc, saves).is_err() {
+        saves.undo(count, grid);
+        return Err(AllocError);
+    }
+    Ok(())
+}
+
+impl Matrix {
+    /// As [`Matrix::insert`], and saves each row that gains.
+    ///
+    /// A fault leaves the matrix and what is saved as they were: a positive cycle as there, or no
+    /// memory for a row.
+    pub(crate) fn insert_saved(
+        &mut self,
+        i: usize,
+        j: usize,
+        w: i64,
+        saves: &mut Saves,
+    ) -> Result<(), PathFault>
+        requires from_activity { i < length self.old }
+        requires to_activity { j < length self.old }
+        requires limit { IsWithin MAX_LAG_WEIGHT w }
+        requires width { saves.old.width ≡ length self.old }
+        ensures size { length self.new ≡ length self.old }
+        ensures law { IsMatrix self.new }
+        ensures width { saves.new.width ≡ saves.old.width }
+        ensures ok { OnOk result (AddsArc (arc_of i j w) self.old self.new) }
+        ensures fault { IfErr result (IsInsertFault (arc_of i j w) self.old) }
+        ensures back { LeadsBack saves.old.saves saves.new.saves self.old self.new }
+        ensures unchanged { OnErr result (self.new ≡ self.old) }
+        ensures same_saves { OnErr result (saves.new ≡ saves.old) }
+    {
+        let arc = Lag {
+            from: i,
+            to: j,
+            weight: w,
+        };
+        let way_back = self.grid.get(j, i);
+        if is_positive(sum(way_back, Some(w))) {
+            return Err(PathFault::PositiveCycle { at: i });
+        }
+        if is_reached(w, self.grid.get(i, j)) {
+            return Ok(());
+        }
+        go_over_or_stay(&mut self.grid, self.via.as_mut_slice(), arc, saves)?;
+        Ok(())
+    }
+
+    /// Puts the rows back that were saved after the first `count`.
+    pub(crate) fn undo(&mut self, count: usize, saves: &mut Saves)
+        requires count { count ≤ length saves.old.saves }
+        requires width { saves.old.width ≡ length self.old }
+        requires law { IsMatrix (undone (drop count saves.old.saves) self.old) }
+        ensures size { length self.new ≡ length self.old }
+        ensures width { saves.new.width ≡ saves.old.width }
+        ensures kept { saves.new.saves ≡ take count saves.old.saves }
+        ensures back { self.new ≡ undone (drop count saves.old.saves) self.old }
+    {
+        saves.undo(count, &mut self.grid);
+    }
+}
