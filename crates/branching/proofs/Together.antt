@@ -8,7 +8,7 @@ use Rattle.std.proofs.lemmas.Int.{ints}
 use Rattle.std.proofs.lemmas.List.Elements.{All-nil, All-contains, All-weaker, Contains-get_or, filter_passes}
 use Rattle.std.proofs.Math.Nat.{mul-le-mul_left, mul-le-mul_right}
 use Rattle.network.specs.declared.lag.Pair.{Pair}
-use Rattle.network.specs.Forbidden.{IsForbidden}
+use Rattle.network.specs.Forbidden.{IsForbidden, IsMinimalForbidden}
 use Rattle.network.specs.Limits.{IsProject}
 use Rattle.network.specs.declared.limits.TheConstants.{MAX_ACTIVITIES}
 use Rattle.network.proofs.Running.{running_below}
@@ -49,7 +49,7 @@ takes_time p s t i h =
     let ends = ends_if (start s i) t (start s i +ℤ duration p i) h in
     omega (arith, ints)
 
-pub forbidden_together : (p : Problem) (s : List ℤ) (t : ℤ) (k : ℕ) (set : List ℕ) → k < resource_count p → RunTogether p s t set → IsStrictlyIncreasing set → IsForbidden p k set → AreForbiddenTogether p k set
+forbidden_together : (p : Problem) (s : List ℤ) (t : ℤ) (k : ℕ) (set : List ℕ) → k < resource_count p → RunTogether p s t set → IsStrictlyIncreasing set → IsForbidden p k set → AreForbiddenTogether p k set
 forbidden_together p s t k set in_range together rising forbidden = record {
   in_range = in_range;
   rising = rising;
@@ -57,6 +57,10 @@ forbidden_together p s t k set in_range together rising forbidden = record {
   take_time = All-weaker (λ i. is_running p s t i ≡ true) (λ i. pos 0 <ℤ duration p i) (λ i h. takes_time p s t i h) set together.run;
   forbidden = forbidden;
 }
+
+-- a minimal forbidden set of activities that run together
+pub minimal_together : (p : Problem) (s : List ℤ) (t : ℤ) (k : ℕ) (runs set : List ℕ) → k < resource_count p → runs ≡ running p s t → All (Contains runs) set → IsMinimalForbidden p k set → AreForbiddenTogether p k set
+minimal_together p s t k runs set in_range e within minimal = forbidden_together p s t k set in_range (run_together p s t runs set e within) minimal.rising minimal.forbidden
 
 -- ---- their pairs are new to the node
 
@@ -138,12 +142,12 @@ report_found node ceiling found project least within two = record {
 }
 
 -- a report with nothing found is fair where some pair is always kept
-pub report_kids : (node : Subproblem) (ceiling : Option ℤ) (pairs : List Pair) (kids : List Subproblem) → All (IsKidOf node) kids → ((s : List ℤ) → NodeStandsFor node s → IsBelow ceiling s → Any (Keeps node.project s) pairs → Any (λ kid. NodeStandsFor kid s) kids) → ((s : List ℤ) → IsFeasible node.project s → Any (Keeps node.project s) pairs) → length kids ≤ MAX_KIDS → All (λ kid. IsUnder ceiling kid.bound) kids → IsReport (record { node = node; ceiling = ceiling; found = None; kids = kids })
-report_kids node ceiling pairs kids of_node covers kept few under = record {
+pub report_kids : (node : Subproblem) (ceiling : Option ℤ) (kids : List Subproblem) → All (IsKidOf node) kids → ((s : List ℤ) → NodeStandsFor node s → IsBelow ceiling s → Any (λ kid. NodeStandsFor kid s) kids) → length kids ≤ MAX_KIDS → All (λ kid. IsUnder ceiling kid.bound) kids → IsReport (record { node = node; ceiling = ceiling; found = None; kids = kids })
+report_kids node ceiling kids of_node covers few under = record {
   fair = record {
     of_found = tt;
     of_kids = of_node;
-    covers = λ s stands below shorter. covers s stands below (kept s stands.feasible);
+    covers = λ s stands below shorter. covers s stands below;
     few = few;
   };
   under = under;

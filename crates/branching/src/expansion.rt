@@ -6,6 +6,7 @@ ghost use Rattle.network.specs.Problem.{NameActivities};
 ghost use Rattle.network.specs.Schedule.{Keeps, IsWithinCapacities, running};
 ghost use Rattle.earliest.specs.Starts.{AreEarliest};
 ghost use Rattle.profile.specs.Overloads.{IsFirstOverload};
+ghost use Rattle.branching.specs.declared.report.TheConstants.{MAX_KIDS};
 ghost use Rattle.branching.specs.Subproblem.{NodeStandsFor, IsTiedTo};
 ghost use Rattle.branching.specs.Fair.{IsBelow, IsUnder, IsNewTo, IsKidOf, IsReport, IsReportOn};
 
@@ -81,12 +82,14 @@ fn kids_at(
     requires earliest { AreEarliest (arc_value node.now).project (arc_value node.now).pairs starts.now }
     requires first { IsFirstOverload (arc_value node.now).project starts.now overload.now.time overload.now.resource }
     requires running { overload.now.running.items ≡ running (arc_value node.now).project starts.now overload.now.time }
-    ensures { IfOk result (λ kids. IsReport (record { node = arc_value node.now; ceiling = ceiling; found = None; kids = map arc_value kids.items })) }
+    ensures kids { IfOk result (λ kids. All (IsKidOf (arc_value node.now)) (map arc_value kids.items)) }
+    ensures covers { IfOk result (λ kids. (s : List ℤ) → NodeStandsFor (arc_value node.now) s → IsBelow ceiling s → Any (λ kid. NodeStandsFor kid s) (map arc_value kids.items)) }
+    ensures under { IfOk result (λ kids. All (λ kid. IsUnder ceiling kid.bound) (map arc_value kids.items)) }
+    ensures few { IfOk result (λ kids. length kids.items ≤ MAX_KIDS) }
 {
     let set = shrink(alloc, node.project(), overload)?;
     let pairs = ordered_pairs(alloc, set.members())?;
-    let kids = kids_of(alloc, node, matrix, ceiling, pairs.as_slice())?;
-    Ok(kids)
+    kids_of(alloc, node, matrix, ceiling, pairs.as_slice())
 }
 
 /// The report on a node whose least schedule has this first overload.
