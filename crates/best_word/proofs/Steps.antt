@@ -45,11 +45,11 @@ lowers slots seat number me s rule full read fits =
     let above = All-read (IsAbove found) s.views seat old read rule.at_most_each in
     let new : View = record { known = min (min old.known found) number; offered = min old.offered number } in
     let offered = ⊎_elim
-        (λ (kept : found < number). let same : min found number ≡ found = omega arith in
-            let was = Any-set_kept (λ view. view.offered ≡ found) s.views seat old new read (λ at. ap (λ n. min n number) at ∙ same) rule.was_offered in
-            subst (λ n. Any (λ view. view.offered ≡ n) (slice_set s.views seat new)) (sym same) was)
-        (λ (lowered : number ≤ found). Any-set_here (λ view. view.offered ≡ min found number) s.views seat old new read (omega arith))
-        (cases_lt found number) in
+    (λ (kept : found < number). let same : min found number ≡ found = omega arith in
+    let was = Any-set_kept (λ view. view.offered ≡ found) s.views seat old new read (λ at. ap (λ n. min n number) at ∙ same) rule.was_offered in
+    subst (λ n. Any (λ view. view.offered ≡ n) (slice_set s.views seat new)) (sym same) was)
+    (λ (lowered : number ≤ found). Any-set_here (λ view. view.offered ≡ min found number) s.views seat old new read (omega arith))
+    (cases_lt found number) in
     (new, keeps, tt, falls s seat old rule read (min found number) new (omega arith) (omega arith, omega arith) offered, (above.0, refl))
 
 pub splits : {S : Type 0} (seat : ℕ) (view : View) → Splits {S = S} HoldsLeast seat view view view
