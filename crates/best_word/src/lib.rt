@@ -1,9 +1,9 @@
-//! A number that threads share and that only falls: the makespan, in whole periods, of the best schedule
-//! that any of them has found.
+//! A number that threads share and that only falls. A search keeps the makespan of its best schedule in it, in
+//! whole periods, so that each of its threads can leave aside what another has already beaten.
 //!
-//! [`BestWord`] is the number, and a [`BestSeat`] is what one thread reaches it with. The word is always the
-//! least number that it was opened with or offered, and a seat knows a number that the word is never above.
-//! The word says how short a schedule was found, and not which one.
+//! [`BestWord`] is the number: the least of what it was opened with and of all that was offered since. A
+//! [`BestSeat`] is what one thread reaches it with, and knows a number that the word is never above. The word tells
+//! how short a schedule somebody found, and not which one.
 #![tactic(auto)]
 
 mod rule;

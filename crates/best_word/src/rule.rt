@@ -1,17 +1,17 @@
-//! What the table of the word is told: the rule between any two steps, and what each kind of step tells its seat.
-ghost use Rattle.best_word.specs.View.{Sees, Lowers, opened};
+//! The rule of the word, and what each kind of step on it tells the seat.
+ghost use Rattle.best_word.specs.View.{Sees, Lowers, opening_view};
 ghost use Rattle.best_word.specs.Word.{HoldsLeast};
 
 use crate::view::View;
 use atomic_table::{Play, Split, TableRule};
 
-/// The word is the least number that was offered.
+/// The word is the least number that was offered. It holds between any two steps, whatever threads take them.
 pub(crate) struct Least;
 
 impl TableRule<(), View, u64> for Least {
     ghost holds = { λ first s. HoldsLeast s };
 
-    ghost first = { opened };
+    ghost first = { opening_view };
 }
 
 pub(crate) struct Look;
@@ -26,7 +26,7 @@ impl Play<(), View> for Offer {
     ghost then = { λ step before found after. Lowers before.0 found step.first after.0 };
 }
 
-/// Two seats that know the same.
+/// Both seats have the view of the one that was split.
 pub(crate) struct Alike;
 
 impl Split<View> for Alike {

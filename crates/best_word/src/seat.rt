@@ -2,8 +2,8 @@ use crate::view::View;
 use atomic_table::Seat;
 use std::marker::Model;
 
-/// What one thread reaches a [`BestWord`](crate::BestWord) with. It takes no memory, and contracts see which
-/// word it is of and what its holder knows. It may be dropped at any time: what it offered stays offered.
+/// What one thread reaches a [`BestWord`](crate::BestWord) with. Contracts see of which word it is, what it knows and
+/// what it has offered; it has no bytes. It can be dropped at any time, and what it offered stays offered.
 #[derive(Drop)]
 pub struct BestSeat {
     pub(crate) seat: Seat<(), View>,

@@ -26,7 +26,7 @@ fn offer_falling(word: &BestWord, mut seat: BestSeat, from: u64)
 }
 
 #[test]
-fn no_offer_is_lost_among_threads(rt: HostRuntime) -> Result<(), Fail> {
+fn a_look_finds_what_other_threads_offered(rt: HostRuntime) -> Result<(), Fail> {
     let (word, mut seat) = BestWord::open(rt.alloc(), u64::MAX)?;
     let even = word.split(&mut seat);
     let odd = word.split(&mut seat);

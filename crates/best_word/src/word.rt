@@ -1,5 +1,5 @@
 ghost use Rattle.std.specs.Prelude.{◌≡◌, ℕ, IfOk};
-ghost use Rattle.best_word.specs.View.{Sees, Lowers, opened};
+ghost use Rattle.best_word.specs.View.{Sees, Lowers, opening_view};
 
 use crate::rule::{Alike, Least, Look, Offer};
 use crate::seat::BestSeat;
@@ -8,8 +8,7 @@ use atomic_table::Table;
 use std::alloc::{AllocError, Global};
 use std::marker::Model;
 
-/// The shared number. Contracts see which word it is, and of a seat that it is one of this word: what the word
-/// holds may change at any time.
+/// The shared number. Contracts see which word it is, and not what it holds, which any thread may lower at any time.
 #[derive(Drop)]
 pub struct BestWord {
     table: Table<(), View, u64, Least, Global>,
@@ -17,9 +16,10 @@ pub struct BestWord {
 
 impl Model for BestWord {
     ghost use Rattle.std.specs.Prelude.{◌≡◌};
-    ghost use Rattle.atomic_table.specs.Seated.{TableId, table_id_coded};
+    ghost use Rattle.atomic_table.specs.Seated.{table_id_coded};
+    ghost use Rattle.best_word.specs.Word.{Word};
 
-    ghost Value = { TableId };
+    ghost Value = { Word };
 
     ghost coded = { table_id_coded };
 
@@ -29,16 +29,16 @@ impl Model for BestWord {
 }
 
 impl BestWord {
-    /// A word that holds `first`, and its first seat.
+    /// A word that holds `first`, and its first seat. `u64::MAX` stands for no number yet.
     pub fn open(alloc: Global, first: u64) -> Result<(BestWord, BestSeat), AllocError>
         ensures word { IfOk result (λ r. r.1.word ≡ r.0) }
-        ensures view { IfOk result (λ r. r.1.view ≡ opened first) }
+        ensures view { IfOk result (λ r. r.1.view ≡ opening_view first) }
     {
         let (table, seat) = Table::of_words(alloc, &[first], &first)?;
         Ok((BestWord { table }, BestSeat { seat }))
     }
 
-    /// What the word holds: one load.
+    /// The number that the word holds: one load.
     pub fn look(&self, seat: &mut BestSeat) -> u64
         requires { seat.old.word ≡ self.now }
         ensures word { seat.new.word ≡ self.now }
@@ -57,7 +57,8 @@ impl BestWord {
         shared.fetch_min::<Offer>(&mut seat.seat, 0, number);
     }
 
-    /// A second seat, for another thread. Both then know what a look found.
+    /// A second seat, for another thread: one look, after which both seats know what it found. The new seat is told
+    /// by a second load, whose answer nobody reads.
     #[tactic(auto, using(crate::proofs::Steps::splits))]
     pub fn split(&self, seat: &mut BestSeat) -> BestSeat
         requires { seat.old.word ≡ self.now }
