@@ -11,7 +11,7 @@ use Rattle.best_word.specs.View.{Sees, Lowers}
 use Rattle.best_word.specs.Word.{HoldsLeast, number_of}
 use Rattle.best_word.proofs.Elements.{All-read, Any-set_here, Any-set_kept, Any-push_kept}
 
--- also where the table has no word at all
+-- a word that falls to n holds n, and so does the first of no words, which reads as 0
 slice_set-first : (words : List ℕ) (n : ℕ) → n ≤ slice_index words 0 → slice_index (slice_set words 0 n) 0 ≡ n
 slice_set-first [] n falls = omega arith
 slice_set-first (x ∷ xs) n falls = refl
@@ -27,12 +27,12 @@ module _ {S : Type 0} (s : State S View) (seat : ℕ) (old : View) (rule : Holds
   -- the word falls to n
   falls : (n : ℕ) (new : View) → n ≤ number_of s → n ≤ new.known → new.known ≤ new.offered → Any (λ view. view.offered ≡ n) (slice_set s.views seat new)
       → HoldsLeast record { words = slice_set s.words 0 n; homes = s.homes; views = slice_set s.views seat new }
-  falls n new down knows offers some_offered =
+  falls n new down below_known below_offered some_offered =
       let holds = slice_set-first s.words n down in
       let lower : All (λ view. n ≤ view.known) s.views = All-weaker (λ view. number_of s ≤ view.known) (λ view. n ≤ view.known) (λ view above. omega arith) s.views rule.at_most_known in
       record {
-        at_most_known = subst (λ number. All (λ view. number ≤ view.known) (slice_set s.views seat new)) (sym holds) (All-set (λ view. n ≤ view.known) s.views seat new knows lower);
-        known_at_most_offered = All-set (λ view. view.known ≤ view.offered) s.views seat new offers rule.known_at_most_offered;
+        at_most_known = subst (λ number. All (λ view. number ≤ view.known) (slice_set s.views seat new)) (sym holds) (All-set (λ view. n ≤ view.known) s.views seat new below_known lower);
+        known_at_most_offered = All-set (λ view. view.known ≤ view.offered) s.views seat new below_offered rule.known_at_most_offered;
         was_offered = subst (λ number. Any (λ view. view.offered ≡ number) (slice_set s.views seat new)) (sym holds) some_offered;
       }
 
