@@ -1,0 +1,74 @@
+ghost use Rattle.std.specs.Prelude.{◌≡◌, ℕ, IfOk};
+ghost use Rattle.best_word.specs.View.{Sees, Lowers, opening_view};
+
+use crate::rule::{Alike, Least, Look, Offer};
+use crate::seat::BestSeat;
+use crate::view::View;
+use atomic_table::Table;
+use std::alloc::{AllocError, Global};
+use std::marker::Model;
+
+/// The shared number. Contracts see which word it is, and not what it holds, which any thread may lower at any time.
+#[derive(Drop)]
+pub struct BestWord {
+    table: Table<(), View, u64, Least, Global>,
+}
+
+impl Model for BestWord {
+    ghost use Rattle.std.specs.Prelude.{◌≡◌};
+    ghost use Rattle.atomic_table.specs.Seated.{table_id_coded};
+    ghost use Rattle.best_word.specs.Word.{Word};
+
+    ghost Value = { Word };
+
+    ghost coded = { table_id_coded };
+
+    ghost view = { λ w. w.table.shared.table_id };
+
+    ghost invariant = { λ w. w.table.shared.table_id.words ≡ 1 };
+}
+
+impl BestWord {
+    /// A word that holds `first`, and its first seat. `u64::MAX` stands for no number yet.
+    pub fn open(alloc: Global, first: u64) -> Result<(BestWord, BestSeat), AllocError>
+        ensures word { IfOk result (λ r. r.1.word ≡ r.0) }
+        ensures view { IfOk result (λ r. r.1.view ≡ opening_view first) }
+    {
+        let (table, seat) = Table::of_words(alloc, &[first], &first)?;
+        Ok((BestWord { table }, BestSeat { seat }))
+    }
+
+    /// The number that the word holds: one load.
+    pub fn look(&self, seat: &mut BestSeat) -> u64
+        requires { seat.old.word ≡ self.now }
+        ensures word { seat.new.word ≡ self.now }
+        ensures seen { Sees seat.old.view result seat.new.view }
+    {
+        self.table.shared.load::<Look>(&mut seat.seat, 0)
+    }
+
+    /// Leaves in the word the lesser of what it holds and `number`: one fetch-and-least.
+    pub fn offer(&self, seat: &mut BestSeat, number: u64)
+        requires { seat.old.word ≡ self.now }
+        ensures word { seat.new.word ≡ self.now }
+        ensures lowered { (found : ℕ) × Lowers seat.old.view found number seat.new.view }
+    {
+        let shared = &self.table.shared;
+        shared.fetch_min::<Offer>(&mut seat.seat, 0, number);
+    }
+
+    /// A second seat, for another thread: one look, after which both seats know what it found. The new seat is told
+    /// by a second load, whose answer nobody reads.
+    #[tactic(auto, using(crate::proofs::Steps::splits))]
+    pub fn split(&self, seat: &mut BestSeat) -> BestSeat
+        requires { seat.old.word ≡ self.now }
+        ensures word { seat.new.word ≡ self.now }
+        ensures seen { (found : ℕ) × Sees seat.old.view found seat.new.view }
+        ensures alike { result ≡ seat.new }
+    {
+        self.look(seat);
+        let shared = &self.table.shared;
+        let second = shared.split_seat::<Alike>(&mut seat.seat);
+        BestSeat { seat: second }
+    }
+}
