@@ -1,5 +1,5 @@
 -- The entries of a matrix of a project and pairs, from the start and to the end.
-use Rattle.std.proofs.Common.{◌≡◌, refl, ℕ, ◌+◌, ◌*◌, ◌<◌, ◌≤◌, zero, suc, inl, inr, arith, ℤ, pos, ◌≤ℤ◌, List, [], ◌∷◌, map, Option, None, Some}
+use Rattle.std.proofs.Common.{◌≡◌, refl, ℕ, ◌+◌, ◌<◌, ◌≤◌, zero, suc, inl, inr, arith, ℤ, pos, ◌≤ℤ◌, List, [], ◌∷◌, map, Option, None, Some}
 use Rattle.std.proofs.lemmas.Int.{ints}
 use Rattle.std.specs.List.{Contains, range_with_len}
 use Rattle.std.proofs.lemmas.Bool.{cases_eq}
@@ -7,10 +7,10 @@ use Rattle.std.proofs.lemmas.List.Elements.{Contains-append_left, Contains-appen
 use Rattle.std.proofs.lemmas.List.FromFn.{get_or-map-range_with_len, length-map-range_with_len}
 use Rattle.network.specs.declared.lag.Lag.{Lag}
 use Rattle.network.specs.declared.lag.Pair.{Pair}
-use Rattle.network.specs.Problem.{Problem, activity_count, end_of, duration, start_arc, end_arc, pair_arc, implied_arcs, rules, arcs_of, NameActivities}
+use Rattle.network.specs.Problem.{Problem, activity_count, end_of, duration, start_arc, end_arc, pair_arc, implied_arcs, rules, arcs_of}
 use Rattle.network.specs.Limits.{IsProject, IsWithin}
 use Rattle.network.specs.ProjectMatrix.{IsProjectMatrix}
-use Rattle.network.specs.Walk.{IsWalk, weight, entry, IsGreatestWeight, IsMatrixOf, Rows}
+use Rattle.network.specs.Walk.{IsWalk, weight, entry, IsGreatestWeight, Rows}
 use Rattle.network.proofs.ArcLaws.{AreLight-arcs_of}
 use Rattle.longest_path.proofs.Bound.{IsMatrixOf-within}
 use Rattle.network.specs.declared.limits.TheConstants.{MAX_ACTIVITIES, MAX_WALK_WEIGHT}

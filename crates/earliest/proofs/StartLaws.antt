@@ -1,15 +1,15 @@
 -- The greatest weights from the start are the earliest starts.
-use Rattle.std.proofs.Common.{◌≡◌, ℕ, ◌<◌, arith, ℤ, pos, ◌≤ℤ◌, List, length, Option}
+use Rattle.std.proofs.Common.{◌≡◌, ℕ, ◌<◌, arith, ℤ, pos, ◌≤ℤ◌, List, length}
 use Rattle.std.proofs.lemmas.Int.{ints}
 use Rattle.std.specs.List.{All}
 use Rattle.std.specs.Option.{unwrap_or}
 use Rattle.std.proofs.lemmas.List.Elements.{All-from_get_or, All-weaker}
 use Rattle.std.proofs.lemmas.List.FromFn.{get_or-map-range_with_len, length-map-range_with_len}
 use Rattle.network.specs.declared.lag.Pair.{Pair}
-use Rattle.network.specs.Problem.{Problem, activity_count, arcs_of, NameActivities}
-use Rattle.network.specs.Limits.{IsProject, IsBetween, IsTime}
+use Rattle.network.specs.Problem.{Problem, activity_count, arcs_of}
+use Rattle.network.specs.Limits.{IsBetween, IsTime}
 use Rattle.network.specs.ProjectMatrix.{IsProjectMatrix}
-use Rattle.network.specs.Walk.{entry, IsMatrixOf, weights_from, Rows}
+use Rattle.network.specs.Walk.{entry, weights_from, Rows}
 use Rattle.network.proofs.Schedules.{IsLeastSchedule-weights}
 use Rattle.earliest.specs.Starts.{AreEarliest}
 use Rattle.earliest.proofs.Entries.{from_start, reached, entry_limit}

@@ -7,11 +7,11 @@ use Rattle.std.specs.Option.{unwrap_or}
 use Rattle.std.proofs.lemmas.List.Elements.{All-from_get_or, All-get_or}
 use Rattle.std.proofs.lemmas.List.FromFn.{get_or-map-range_with_len, length-map-range_with_len}
 use Rattle.network.specs.declared.lag.Pair.{Pair}
-use Rattle.network.specs.Problem.{Problem, activity_count, end_of, duration, arcs_of, NameActivities}
-use Rattle.network.specs.Limits.{IsProject, IsAmount, IsBetween, IsWithin}
+use Rattle.network.specs.Problem.{Problem, activity_count, end_of, duration, arcs_of}
+use Rattle.network.specs.Limits.{IsAmount, IsBetween, IsWithin}
 use Rattle.network.specs.Schedule.{start, makespan, IsSchedule, KeepsAll}
 use Rattle.network.specs.ProjectMatrix.{IsProjectMatrix}
-use Rattle.network.specs.Walk.{entry, weight, IsMatrixOf, Rows}
+use Rattle.network.specs.Walk.{entry, weight, Rows}
 use Rattle.network.proofs.Schedules.{walk_holds, arcs_met}
 use Rattle.earliest.specs.Tails.{tail, tail_weight, tail_weights, AreTails}
 use Rattle.earliest.proofs.Entries.{IsReachedBy, to_end, reached, entry_limit}

@@ -1,14 +1,13 @@
 -- The rows with an arc more are the matrix of the arcs with that arc.
-use Rattle.std.proofs.Common.{◌≡◌, refl, sym, ap, ◌∙◌, subst, ℕ, ◌+◌, ◌<◌, ◌≤◌, ⊎_elim, arith, ℤ, pos, ◌+ℤ◌, ◌≤ℤ◌, List, [], ◌∷◌, ◌++◌, map, length, get_or, Option, None, Some}
+use Rattle.std.proofs.Common.{◌≡◌, refl, sym, ap, ◌∙◌, ℕ, ◌<◌, ◌≤◌, ⊎_elim, arith, ℤ, pos, ◌+ℤ◌, ◌≤ℤ◌, List, [], length, get_or, Option, None, Some}
 use Rattle.std.proofs.lemmas.Int.{ints}
 use Rattle.std.proofs.lemmas.Bool.{cases_lt}
-use Rattle.std.specs.List.{All, range_with_len}
-use Rattle.std.proofs.lemmas.List.{ext_get_or, get_or_past}
+use Rattle.std.proofs.lemmas.List.{get_or_past}
 use Rattle.std.proofs.lemmas.List.Elements.{All-from_get_or, All-get_or}
 use Rattle.std.proofs.lemmas.List.FromFn.{get_or-map-range_with_len, length-map-range_with_len}
 use Rattle.network.specs.declared.lag.Lag.{Lag}
 use Rattle.network.specs.Walk.{Rows, entry}
-use Rattle.longest_path.specs.Relax.{greater, joined}
+use Rattle.longest_path.specs.Relax.{joined}
 use Rattle.longest_path.specs.Rows.{IsSquare}
 use Rattle.longest_path.specs.Insert.{entry_over, row_over, rows_over, ClosesNone, IsOver, AddsArc}
 use Rattle.longest_path.proofs.Reach.{joined-parts, same_some}

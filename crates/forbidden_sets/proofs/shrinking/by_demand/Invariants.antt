@@ -1,4 +1,4 @@
-use Rattle.std.proofs.Common.{◌≡◌, ◌≤◌, ℕ, length, take}
+use Rattle.std.proofs.Common.{◌≡◌, ℕ, length, take}
 use Rattle.std.specs.Prelude.{pos, ◌≤ℤ◌}
 use Rattle.network.specs.declared.limits.TheConstants.{MAX_AMOUNT}
 use Rattle.std.specs.List.{All, Contains, sum_by}
