@@ -79,6 +79,18 @@ def without(project: Project, place: int) -> Project:
     return replace(project, arcs=project.arcs[:place] + project.arcs[place + 1 :])
 
 
+def too_needy(project: Project) -> list[int]:
+    """The activities that need more of some resource than there is."""
+    inner = range(1, project.end)
+    return [i for i in inner if any(need > units for need, units in zip(project.demands[i], project.capacities))]
+
+
+def with_resources(project: Project, kept: tuple[int, ...]) -> Project:
+    """The project with these resources alone; of the others there is always enough."""
+    demands = tuple(tuple(row[k] for k in kept) for row in project.demands)
+    return replace(project, demands=demands, capacities=tuple(project.capacities[k] for k in kept))
+
+
 def alone(project: Project, activity: int) -> Project:
     """The project of one activity, with all the resources and no given arc."""
     none = (0,) * len(project.capacities)

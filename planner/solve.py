@@ -1,22 +1,26 @@
 """`plan solve`: a shorter and shorter schedule with a rising bound, until both meet or the time is over."""
 import sys
+from collections.abc import Callable
 
 from . import drawing, names, svg
 from .clock import Clock
-from .deadlines import Deadlines
+from .deadlines import Deadlines, with_fewer_resources
 from .errors import TimeUp
 from .files import must_be_writable, read_bytes, write_whole
 from .known import Known, tell
 from .lags import longest
-from .project import Project, parse
+from .neighbours import Neighbours
+from .project import Project, alone, parse, too_needy
 from .psmax import MOST_NODES, Psmax
 from .rule import LARGEST, Rule
 
 FIRST_NODES = 1_000
 GROWTH = 4  # each round allows so many times the nodes of the round before
-RULE_SHARE = 0.2  # of the time so far, that the priority rule may take
-RULE_LEAST = 0.2  # seconds
-RULE_IDLE = 200  # passes without a shorter schedule, after which the rule leaves the rest of its share
+RULE_SHARE = 0.1  # of the time so far, that the priority rule may take in a round
+NEIGHBOURS_SHARE = 0.3  # and the neighbourhoods of the best schedule
+EASED = 10  # one in so many of the nodes is what each choice of fewer resources may take
+LEAST = 0.2  # seconds, that they may take even when little time has gone
+MOST_IDLE = 200  # proposals in a row that are no shorter, after which they leave the rest of their share
 
 
 class Search:
@@ -51,18 +55,29 @@ class Search:
 
     def by_all(self, project: Project) -> None:
         nodes = FIRST_NODES
+        self.by_needs(project)
         self.plain(nodes)
         rule = None if self.known.settled else self.make_rule(project)
+        neighbours = Neighbours(project, self.known)
         deadlines = Deadlines(project, self.known)
+        eased = with_fewer_resources(project, self.known)
         while not self.known.settled:
             if rule is not None:
-                self.by_rule(rule)
-            if deadlines.possible():
-                deadlines.from_below(nodes)
-                deadlines.from_above(nodes)
+                self.for_a_share(RULE_SHARE, lambda: self.by_rule(rule))
+            if self.known.makespan is not None:
+                self.for_a_share(NEIGHBOURS_SHARE, neighbours.ask)
+            for one in eased:
+                one.from_below(max(FIRST_NODES, nodes // EASED))
             nodes = min(nodes * GROWTH, MOST_NODES)
-            if not deadlines.possible():
-                self.plain(nodes)
+            self.plain(nodes)
+            deadlines.from_below(nodes)
+            deadlines.from_above(nodes)
+
+    def by_needs(self, project: Project) -> None:
+        """Whether an activity needs more than there is, so that it has no schedule even alone."""
+        for activity in too_needy(project):
+            if not self.known.none and self.psmax.solve(alone(project, activity).text(), 1).none:
+                self.known.no_schedule(f"activity {activity} alone has none, solve --nodes 1")
 
     def plain(self, nodes: int) -> None:
         """psmax's search of the project as it stands."""
@@ -82,21 +97,22 @@ class Search:
         if len(project.durations) > LARGEST + 2:
             tell(self.clock, f"without the priority rule, which takes at most {LARGEST} activities")
             return None
-        if any(duration and any(map(int.__gt__, demands, project.capacities))
-               for duration, demands in zip(project.durations, project.demands)):
+        if too_needy(project):
             return None
         return Rule(project, longest(project, self.clock))
 
-    def by_rule(self, rule: Rule) -> None:
-        """The rule, for a share of the time so far or until it finds nothing more."""
-        until = self.clock.elapsed() + max(RULE_LEAST, RULE_SHARE * self.clock.elapsed())
+    def by_rule(self, rule: Rule) -> bool:
+        """One pass of the rule; says whether it made the shortest schedule so far."""
+        deadline = None if self.known.makespan is None else self.known.makespan - 1
+        starts = rule.propose(deadline, self.clock)
+        return starts is not None and self.known.offer(tuple(starts), f"pass {rule.passes} of the priority rule")
+
+    def for_a_share(self, share: float, improve: Callable[[], bool]) -> None:
+        """Improves the best schedule for a share of the time so far, or until that is idle."""
+        until = self.clock.elapsed() + max(LEAST, share * self.clock.elapsed())
         idle = 0
-        while not self.known.settled and idle < RULE_IDLE and self.clock.elapsed() < until:
-            deadline = None if self.known.makespan is None else self.known.makespan - 1
-            starts = rule.propose(deadline, self.clock)
-            idle += 1
-            if starts is not None and self.known.offer(tuple(starts), f"pass {rule.passes} of the priority rule"):
-                idle = 0
+        while not self.known.settled and idle < MOST_IDLE and self.clock.elapsed() < until:
+            idle = 0 if improve() else idle + 1
 
 
 def solve(path: str, seconds: float, out: str | None, chart: str | None) -> int:

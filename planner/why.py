@@ -7,7 +7,7 @@ from .files import read_bytes
 from .known import tell
 from .lags import positive_cycle
 from .names import Names
-from .project import Arc, Project, alone, lags_only, parse, without
+from .project import Arc, Project, alone, lags_only, parse, too_needy, without
 from .psmax import Psmax, Solved, starts_text
 
 FIRST_NODES = 200_000  # for the project as it stands
@@ -23,19 +23,22 @@ class Causes:
 
     def tell_all(self) -> int:
         """Prints why there is no schedule; the exit status is 3 where psmax can't say whether there is one."""
-        first = self.psmax.earliest(self.text)
+        cycle = self.psmax.earliest(self.text).cycle
         project = parse(self.text)
-        if first.cycle is None:
+        needy = [i for i in too_needy(project) if self.psmax.solve(alone(project, i).text(), 1).none]
+        if cycle is None and not needy:
             answer = self.psmax.solve(self.text, FIRST_NODES)
             if not answer.none:
                 return self.not_proved(answer)
         print("There is no schedule.")
-        if first.cycle is not None:
-            self.contradiction(project, first.cycle)
-        needy = self.too_needy(project)
-        if first.cycle is None and not needy:
+        for activity in needy:
+            print(f"Activity {self.called.activity(activity)} needs {self.needs(project, activity)}.")
+        if cycle is not None:
+            self.contradiction(project, cycle)
+        elif not needy:
             print("The lags alone can be kept, and each activity alone has what it needs; both together can't be.")
-        self.lags_that_open(project)
+        if not needy:
+            self.lags_that_open(project)
         return 0
 
     def not_proved(self, answer: Solved) -> int:
@@ -58,17 +61,11 @@ class Causes:
             print(f"  {lag_in_words(*arc, self.called)}")
         print(f"  Around that circle they add up to {sum(arc.lag for arc in cycle)}, and at most 0 can be kept.")
 
-    def too_needy(self, project: Project) -> bool:
-        """Tells each activity that needs more than there is, once psmax says that it alone has no schedule."""
-        found = False
-        for activity in range(1, project.end):
-            lacks = [k for k, units in enumerate(project.capacities) if project.demands[activity][k] > units]
-            if lacks and self.psmax.solve(alone(project, activity).text(), 1).none:
-                needs = ", ".join(f"{project.demands[activity][k]} of {self.called.resource(k)}, of which there are "
-                                  f"{project.capacities[k]}" for k in lacks)
-                print(f"Activity {self.called.activity(activity)} needs {needs}.")
-                found = True
-        return found
+    def needs(self, project: Project, activity: int) -> str:
+        """What this activity needs more of than there is."""
+        pairs = enumerate(zip(project.demands[activity], project.capacities))
+        return ", ".join(f"{need} of {self.called.resource(k)}, of which there are {units}"
+                         for k, (need, units) in pairs if need > units)
 
     def lags_that_open(self, project: Project) -> None:
         """Takes out each greatest lag alone, and tells with which of them gone there is a schedule."""
