@@ -39,11 +39,12 @@ def read_text(path: str) -> str:
 
 def must_be_writable(path: str) -> None:
     """Tells before long work is begun that its answer could not be written."""
-    folder = pathlib.Path(path).absolute().parent
+    target = pathlib.Path(path).resolve()
+    folder = target.parent
     if not folder.is_dir():
         raise Failed(f"cannot write {path}: no folder {folder}")
-    if pathlib.Path(path).is_dir():
-        raise Failed(f"cannot write {path}: it is a folder")
+    if target.exists() and not target.is_file():
+        raise Failed(f"cannot write {path}: it is no ordinary file")
     if not os.access(folder, os.W_OK):
         raise Failed(f"cannot write {path}: the folder {folder} may not be changed")
 
@@ -51,7 +52,7 @@ def must_be_writable(path: str) -> None:
 def write_whole(path: str, data: bytes) -> None:
     """Writes a file beside it and renames that, so the file is never half written."""
     must_be_writable(path)
-    target = pathlib.Path(path)
+    target = pathlib.Path(path).resolve()
     beside = ""
     try:
         with tempfile.NamedTemporaryFile(dir=target.parent, prefix=".plan-", delete=False) as file:

@@ -89,7 +89,8 @@ def gantt(path: str, given: str | None, chart: str | None, page: str | None, wid
         print(instead)
         return 0
     known = judged(project, answer, psmax, given or "standard input")
-    notes = tuple(in_words(violation, called) for violation in known.violations)
+    with_dummies = called.with_dummies(known.project.end)
+    notes = tuple(in_words(violation, with_dummies) for violation in known.violations)
     shown = drawing.make(known.project, known.starts, called, known.title(), notes)
     if chart is not None:
         write_whole(chart, svg.draw(shown).encode())

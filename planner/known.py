@@ -59,4 +59,8 @@ class Known:
 
 
 def tell(clock: Clock, text: str) -> None:
-    print(f"{clock.elapsed():7.2f} s  {text}", file=sys.stderr, flush=True)
+    """A line of progress; where nobody reads them any more, the search goes on without."""
+    try:
+        print(f"{clock.elapsed():7.2f} s  {text}", file=sys.stderr, flush=True)
+    except OSError:
+        pass

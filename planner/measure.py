@@ -3,8 +3,8 @@
 
 Prints the table of docs/PLANNER.md: what `plan solve --seconds S` knows at the end, beside what plain `psmax solve`
 does in the same time. The projects are those of planner/projects and examples if none are named. A search of psmax
-answers only when it ends, so plain psmax gets as many nodes as take about the time, by the pace of a first search of
-20,000 nodes."""
+answers only when it ends, so plain psmax gets as many nodes as take about the time, by the pace of shorter searches
+before."""
 import argparse
 import pathlib
 import re
@@ -18,6 +18,7 @@ sys.path.insert(0, str(TOP))
 from planner.psmax import MOST_NODES, find_program  # noqa: E402
 
 FIRST_NODES = 20_000
+SHARES = (0.2, 1.0)  # of the time, that the searches after the first are to take
 
 
 def known(out: str) -> tuple[str, str, str]:
@@ -41,10 +42,14 @@ def plain(text: bytes, nodes: int) -> tuple[str, float]:
 
 
 def plain_for(text: bytes, seconds: float) -> tuple[str, float]:
-    out, took = plain(text, FIRST_NODES)
-    if out.startswith(("optimal", "no schedule")):
-        return out, took
-    return plain(text, min(MOST_NODES, int(FIRST_NODES * seconds / took)))
+    """The answer of the last of some searches, of which the last takes about so many seconds, unless one before ends."""
+    nodes = FIRST_NODES
+    out, took = plain(text, nodes)
+    for share in SHARES:
+        if not out.startswith(("optimal", "no schedule")):
+            nodes = min(MOST_NODES, int(nodes * share * seconds / took))
+            out, took = plain(text, nodes)
+    return out, took
 
 
 def with_plan(path: pathlib.Path, seconds: float) -> tuple[str, float]:

@@ -22,6 +22,11 @@ class Names:
         return self.resources[number] if number < len(self.resources) else f"resource {number}"
 
 
+    def with_dummies(self, end: int) -> "Names":
+        """The same with names for the start and the end."""
+        return Names(self.activities | {0: "the start", end: "the end"}, self.resources)
+
+
 def beside(project_path: str) -> Names:
     """The names of the page beside the project (.md for .sch), or none."""
     return read_page(str(pathlib.Path(project_path).with_suffix(".md")))

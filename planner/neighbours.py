@@ -11,6 +11,7 @@ from .known import Known
 from .project import MOST_ARCS, Arc, Project, within
 
 NODES = 300
+LARGEST = 300  # activities; of more there are too many pairs to look at here
 LEAST_SHARE, MOST_SHARE = 0.2, 0.6  # of the time of the schedule, or of the activities, that are free
 
 
@@ -23,7 +24,7 @@ class Neighbours:
     def ask(self) -> bool:
         """Frees what runs in some stretch of the best schedule; says whether psmax found a shorter one."""
         starts, best = self.known.starts, self.known.makespan
-        if starts is None or best is None:
+        if starts is None or best is None or self.project.end > LARGEST:
             return False
         kept = self.choose(starts, best)
         limited = within(self.keeping(starts, kept), best - 1)

@@ -5,7 +5,7 @@ from collections.abc import Callable
 from . import drawing, names, svg
 from .clock import Clock
 from .deadlines import Deadlines, with_fewer_resources
-from .errors import TimeUp
+from .errors import Failed, TimeUp
 from .files import must_be_writable, read_bytes, write_whole
 from .known import Known, tell
 from .lags import longest
@@ -62,12 +62,11 @@ class Search:
         deadlines = Deadlines(project, self.known)
         eased = with_fewer_resources(project, self.known)
         while not self.known.settled:
-            if rule is not None:
-                self.for_a_share(RULE_SHARE, lambda: self.by_rule(rule))
-            if self.known.makespan is not None:
-                self.for_a_share(NEIGHBOURS_SHARE, neighbours.ask)
             for one in eased:
                 one.from_below(max(FIRST_NODES, nodes // EASED))
+            if rule is not None:
+                self.for_a_share(RULE_SHARE, lambda: self.by_rule(rule))
+            self.for_a_share(NEIGHBOURS_SHARE, neighbours.ask)
             nodes = min(nodes * GROWTH, MOST_NODES)
             self.plain(nodes)
             deadlines.from_below(nodes)
@@ -123,14 +122,23 @@ def solve(path: str, seconds: float, out: str | None, chart: str | None) -> int:
     text = read_bytes(path)
     search = Search(text, Psmax(clock, path))
     clock.listen()
-    search.run()
-    known = search.known
+    try:
+        search.run()
+    except Failed:
+        if search.known.starts is not None:
+            give(search.known, path, out, chart)
+        raise
+    give(search.known, path, out, chart)
+    return 0 if search.known.settled else 3
+
+
+def give(known: Known, path: str, out: str | None, chart: str | None) -> None:
+    """Prints what is known, and writes the files that were asked for."""
     if out is None or known.starts is None:
         sys.stdout.write(known.answer().decode())
     else:
         write_whole(out, known.answer())
         print(known.first_line())
     if chart is not None and known.starts is not None:
-        drawn = drawing.make(parse(text), known.starts, names.beside(path), known.first_line(), ())
+        drawn = drawing.make(parse(known.project), known.starts, names.beside(path), known.first_line(), ())
         write_whole(chart, svg.draw(drawn).encode())
-    return 0 if known.settled else 3

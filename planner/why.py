@@ -25,6 +25,7 @@ class Causes:
         """Prints why there is no schedule; the exit status is 3 where psmax can't say whether there is one."""
         cycle = self.psmax.earliest(self.text).cycle
         project = parse(self.text)
+        self.called = self.called.with_dummies(project.end)
         needy = [i for i in too_needy(project) if self.psmax.solve(alone(project, i).text(), 1).none]
         if cycle is None and not needy:
             answer = self.psmax.solve(self.text, FIRST_NODES)

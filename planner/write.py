@@ -74,6 +74,7 @@ def write(path: str, given: str | None, out: str | None, first: str | None, peri
         raise BadInput(f"{shown}: {instead}")
     known = judged(project, answer, Psmax(Clock(SECONDS), path), shown)
     if known.makespan is None:
+        called = called.with_dummies(known.project.end)
         more = f", and {len(known.violations) - 1} more" if len(known.violations) > 1 else ""
         raise BadInput(f"{shown}: not a schedule: {in_words(known.violations[0], called)}{more}")
     text = table(known, called, days)
