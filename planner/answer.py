@@ -73,10 +73,10 @@ def in_words(violation: str, names: Names) -> str:
     numbers = [int(word) for word in found[2].split()] if found else []
     if found and found[1] == "lag" and len(numbers) == 3:
         tail, head, lag = numbers
-        return f"{violation}: {lag_in_words(tail, head, lag, names)} is not kept"
+        return f"{violation} is not kept: {lag_in_words(tail, head, lag, names)}"
     if found and found[1] == "overload" and len(numbers) == 3:
         time, resource, used = numbers
-        return f"{violation}: at {time}, {used} of {names.resource(resource)} are in use"
+        return f"{violation}: at {time}, {used} units of {names.resource(resource)} are in use"
     if found and found[1] == "start" and len(numbers) == 1:
         return f"{violation}: the project does not start at 0"
     return violation

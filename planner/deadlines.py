@@ -4,8 +4,8 @@ resource-constrained project scheduling, European Journal of Operational Researc
 The project that must end by C has one arc more, from the end to the start of lag -C. Where psmax proves that it has no
 schedule, every schedule of the project takes at least C + 1. A schedule that it has is one of the project, too.
 
-The same with some of the resources alone: every schedule of the project is one of that project, which is often far easier
-to refute. Its own schedules say nothing."""
+The same with some of the resources alone: every schedule of the project is one of that project, too, which is often
+far easier to refute. Its own schedules say nothing."""
 from itertools import combinations
 
 from .known import Known

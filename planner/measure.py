@@ -42,7 +42,7 @@ def plain(text: bytes, nodes: int) -> tuple[str, float]:
 
 
 def plain_for(text: bytes, seconds: float) -> tuple[str, float]:
-    """The answer of the last of some searches, of which the last takes about so many seconds, unless one before ends."""
+    """The answer of the last of some searches; it takes about so many seconds, unless one before it ends."""
     nodes = FIRST_NODES
     out, took = plain(text, nodes)
     for share in SHARES:

@@ -15,10 +15,10 @@ from .psmax import MOST_NODES, Psmax
 from .rule import LARGEST, Rule
 
 FIRST_NODES = 1_000
+PLAIN = 2  # the project as it stands may take so many times the nodes of one deadline
 GROWTH = 4  # each round allows so many times the nodes of the round before
 RULE_SHARE = 0.1  # of the time so far, that the priority rule may take in a round
 NEIGHBOURS_SHARE = 0.3  # and the neighbourhoods of the best schedule
-EASED = 10  # one in so many of the nodes is what each choice of fewer resources may take
 LEAST = 0.2  # seconds, that they may take even when little time has gone
 MOST_IDLE = 200  # proposals in a row that are no shorter, after which they leave the rest of their share
 
@@ -62,13 +62,14 @@ class Search:
         deadlines = Deadlines(project, self.known)
         eased = with_fewer_resources(project, self.known)
         while not self.known.settled:
+            eased = [one for one in eased if not one.spent]
             for one in eased:
-                one.from_below(max(FIRST_NODES, nodes // EASED))
+                one.from_below(max(FIRST_NODES, nodes // len(eased)))
             if rule is not None:
                 self.for_a_share(RULE_SHARE, lambda: self.by_rule(rule))
             self.for_a_share(NEIGHBOURS_SHARE, neighbours.ask)
             nodes = min(nodes * GROWTH, MOST_NODES)
-            self.plain(nodes)
+            self.plain(PLAIN * nodes)
             deadlines.from_below(nodes)
             deadlines.from_above(nodes)
 

@@ -3,7 +3,7 @@ import shutil
 import subprocess
 import sys
 
-from .helpers import EXAMPLES, PLAN, PSMAX, InFolder, plan, started
+from .helpers import EXAMPLES, PLAN, PROJECTS, PSMAX, InFolder, plan, started
 
 COMMANDS = ("solve", "why", "where", "gantt", "write")
 SITE = EXAMPLES / "building-site.sch"
@@ -40,8 +40,19 @@ class Faults(InFolder):
         ran = plan("solve", SITE, "--seconds", "0.5", psmax=str(slow))
         self.assertEqual((ran.returncode, ran.stdout), (3, "unknown bound 0\n"))
 
+    def test_a_psmax_that_fails_later(self) -> None:
+        """What is known by then is printed, and the fault is told: this one answers six times."""
+        calls = self.file("calls", "")
+        tired = self.file("tired", f"#!/bin/sh\necho >> {calls}\n"
+                          f"test $(wc -l < {calls}) -le 6 && exec {PSMAX} \"$@\"\nexit 1\n")
+        tired.chmod(0o755)
+        ran = plan("solve", PROJECTS / "assay-lab.sch", psmax=str(tired))
+        self.assertEqual((ran.returncode, ran.stdout[:9]), (1, "feasible "))
+        self.assertEqual(ran.stderr.splitlines()[-1], "plan: psmax solve failed, exit status 1")
+
     def test_files_that_can_not_be_written(self) -> None:
-        for words in (("--out", self.folder / "no" / "x"), ("--svg", self.folder / "no" / "x"), ("--out", self.folder)):
+        for words in (("--out", self.folder / "no" / "x"), ("--svg", self.folder / "no" / "x"), ("--out", self.folder),
+                      ("--out", os.devnull)):
             with self.subTest(words):
                 self.refused(plan("solve", SITE, *words), 1, "cannot write")
         table, gone = self.file("t.csv", "activity,days\na,1\n"), self.folder / "no" / "x.sch"

@@ -45,7 +45,7 @@ class Charts(InFolder):
         """By hand: from 2 to 3 both jobs are on the machine, and 3 starts less than 3 after 1 when it starts at 2."""
         text = self.drawn(INPUTS / "two-jobs.sch", "0 0\n1 0\n2 2\n3 6\n")
         self.assertIn("check: not feasible", text)
-        self.assertIn("overload 2 0 2: at 2, 2 of resource 0 are in use", text)
+        self.assertIn("overload 2 0 2: at 2, 2 units of resource 0 are in use", text)
         self.assertIn("11!111", text)
         self.assertIn("2 (excavate) starts", self.drawn(EXAMPLES / "building-site.sch", "\n".join(f"{i} 0" for i in range(15))))
 
