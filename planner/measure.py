@@ -18,7 +18,8 @@ sys.path.insert(0, str(TOP))
 from planner.psmax import MOST_NODES, find_program  # noqa: E402
 
 FIRST_NODES = 20_000
-SHARES = (0.2, 1.0)  # of the time, that the searches after the first are to take
+GROWTH = 10  # a search gets so many times the nodes of the one before, at most
+ENOUGH = 0.8  # of the time, that the search in the table takes at least
 
 
 def known(out: str) -> tuple[str, str, str]:
@@ -42,13 +43,12 @@ def plain(text: bytes, nodes: int) -> tuple[str, float]:
 
 
 def plain_for(text: bytes, seconds: float) -> tuple[str, float]:
-    """The answer of the last of some searches; it takes about so many seconds, unless one before it ends."""
+    """The answer of the first search that takes about so many seconds, or that proves everything before."""
     nodes = FIRST_NODES
     out, took = plain(text, nodes)
-    for share in SHARES:
-        if not out.startswith(("optimal", "no schedule")):
-            nodes = min(MOST_NODES, int(nodes * share * seconds / took))
-            out, took = plain(text, nodes)
+    while took < ENOUGH * seconds and not out.startswith(("optimal", "no schedule")):
+        nodes = min(MOST_NODES, int(nodes * min(GROWTH, seconds / took)))
+        out, took = plain(text, nodes)
     return out, took
 
 

@@ -1,5 +1,6 @@
 import io
 import unittest
+from dataclasses import replace
 from unittest import mock
 
 from planner.clock import Clock
@@ -30,8 +31,8 @@ class Arcs(unittest.TestCase):
         project = parse(TWO_JOBS.encode())
         self.assertIsNotNone(within(project, 1_000_000))
         self.assertIsNone(within(project, 1_000_001))
-        arcs = "1 1 100000" + " 2" * 100_000 + " 0" * 100_000 + "\n"
-        self.assertIsNone(within(parse(TWO_JOBS.replace("1 1 0\n", arcs, 1).encode()), 6))
+        self.assertIsNotNone(within(replace(project, arcs=(Arc(1, 2, 0),) * 99_999), 6))
+        self.assertIsNone(within(replace(project, arcs=(Arc(1, 2, 0),) * 100_000), 6))
 
     def test_smaller_projects(self) -> None:
         project = parse((INPUTS / "two-jobs-close-lags.sch").read_bytes())

@@ -25,14 +25,16 @@ class Charts(InFolder):
     def test_by_hand(self) -> None:
         text = self.drawn(INPUTS / "two-jobs.sch", "optimal 7\n0 0\n1 4\n2 0\n3 7\n")
         self.assertEqual([line.split() for line in text.splitlines()], [line.split() for line in CHART.splitlines()])
-        column = {line.index(sign) for line, sign in zip(text.splitlines()[1:], ("0", "|", "....###", "####...", "1111111"))}
-        self.assertEqual(len(column), 1, text)
+        signs = ("0", "|", "....###", "####...", "1111111")
+        columns = {line.index(sign) for line, sign in zip(text.splitlines()[1:], signs)}
+        self.assertEqual(len(columns), 1, text)
 
     def test_names_and_use(self) -> None:
         """The building site: by hand, day 0 needs a crew of 1, and on day 12 all 5 pour."""
         site = EXAMPLES / "building-site.sch"
         text = self.drawn(site, psmax("solve", given=site.read_bytes()))
-        survey, crew = (next(line.split()[-1] for line in text.splitlines() if word in line) for word in ("survey", "Crew"))
+        rows = {line[5:].split()[0]: line.split()[-1] for line in text.splitlines()[3:]}
+        survey, crew = rows["survey"], rows["Crew"]
         self.assertEqual(survey, "##" + "." * 34)
         self.assertEqual((crew[:2], crew[12]), ("11", "5"))
 
@@ -47,16 +49,19 @@ class Charts(InFolder):
         self.assertIn("check: not feasible", text)
         self.assertIn("overload 2 0 2: at 2, 2 units of resource 0 are in use", text)
         self.assertIn("11!111", text)
-        self.assertIn("2 (excavate) starts", self.drawn(EXAMPLES / "building-site.sch", "\n".join(f"{i} 0" for i in range(15))))
+        at_once = "".join(f"{activity} 0\n" for activity in range(15))
+        self.assertIn("2 (excavate) starts", self.drawn(EXAMPLES / "building-site.sch", at_once))
 
     def test_odd_starts(self) -> None:
-        for starts in ("0 0\n1 0\n2 9999999999\n3 9999999999\n", "0 -50\n1 -9999999999\n2 4\n3 0\n", "0 0\n1 0\n2 0\n3 0\n"):
+        for starts in ("0 0\n1 0\n2 9999999999\n3 9999999999\n", "0 -50\n1 -9999999999\n2 4\n3 0\n",
+                       "0 0\n1 0\n2 0\n3 0\n"):
             with self.subTest(starts):
                 self.assertIn("not feasible", self.drawn(INPUTS / "two-jobs.sch", starts))
         self.assertIn("feasible 0", self.drawn(INPUTS / "empty-project.sch", "0 0\n1 0\n"))
 
     def test_answers_without_starts(self) -> None:
-        for answer in ("no schedule\n", "unknown bound 7\n", "positive cycle 2\n", "", "psmax: too long\n", "lag 2 3 4\n"):
+        for answer in ("no schedule\n", "unknown bound 7\n", "positive cycle 2\n", "", "psmax: too long\n",
+                       "lag 2 3 4\n"):
             with self.subTest(answer):
                 text = self.drawn(INPUTS / "two-jobs.sch", answer)
                 self.assertTrue(text.startswith("The answer is ") and len(text.splitlines()) == 1, text)
@@ -72,8 +77,8 @@ class Charts(InFolder):
         self.assertIn('1 a < b & "c"', [node.text for node in picture.iter("{http://www.w3.org/2000/svg}text")])
 
     def test_faults(self) -> None:
-        for given, text in (("hello\n", "line 1: not an activity and a start"), ("0 0\n4 0\n", "line 2: no such activity"),
-                            ("0 0\n1 0\n2 3\n", "activity 3: no start"), ('{"bound":7}\n', "line 1")):
+        for given, text in (("hello\n", "line 1: not an activity and a start"), ('{"bound":7}\n', "line 1"),
+                            ("0 0\n4 0\n", "line 2: no such activity"), ("0 0\n1 0\n2 3\n", "activity 3: no start")):
             with self.subTest(given):
                 self.refused(plan("gantt", INPUTS / "two-jobs.sch", given=given.encode()), 2, "standard input", text)
 
@@ -86,4 +91,5 @@ class Cells(unittest.TestCase):
         self.assertEqual(load_cells(load, 0, 2, 3), "59!")
 
     def test_round_step(self) -> None:
-        self.assertEqual([round_step(least) for least in (0.1, 1, 1.5, 3, 5.1, 11, 200, 201)], [1, 1, 2, 5, 10, 20, 200, 500])
+        for least, step in ((0.1, 1), (1, 1), (1.5, 2), (3, 5), (5.1, 10), (11, 20), (200, 200), (201, 500)):
+            self.assertEqual(round_step(least), step)

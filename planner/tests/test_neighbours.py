@@ -71,7 +71,7 @@ class FewerResources(Quiet):
         self.assertEqual((eased.arcs, eased.durations), (project.arcs, project.durations))
 
     def test_bounds_but_no_schedules(self) -> None:
-        """The wash bay alone needs 78 hours, which psmax proves; its schedules ask for too many fitters, and are no news."""
+        """psmax proves that the wash bay alone needs 78 hours; its schedules ask for too many fitters, and are no news."""
         text = (PROJECTS / "exchanger-turnaround.sch").read_bytes()
         known = known_of(text)
         known.offer(known.psmax.solve(text, 1000).starts or (), "a search")
