@@ -2,6 +2,7 @@
 import sys
 
 from .clock import Clock
+from .errors import Failed
 from .psmax import Psmax, starts_text
 
 
@@ -21,6 +22,8 @@ class Known:
         return self.none or self.makespan == self.bound
 
     def no_schedule(self, by: str) -> None:
+        if self.makespan is not None:
+            raise Failed(f"psmax contradicts itself: a schedule of {self.makespan}, and no schedule by {by}")
         self.none = True
         tell(self.psmax.clock, f"no schedule: {by}")
 
@@ -28,6 +31,8 @@ class Known:
         """Takes a bound that psmax proved; says whether it is greater than all before."""
         if bound <= self.bound:
             return False
+        if self.makespan is not None and bound > self.makespan:
+            raise Failed(f"psmax contradicts itself: a schedule of {self.makespan}, and at least {bound} by {by}")
         self.bound = bound
         tell(self.psmax.clock, f"at least {bound}: {by}")
         return True
@@ -40,6 +45,8 @@ class Known:
         if judged.makespan is None:
             tell(self.psmax.clock, f"passed over, since check found {judged.violations[0]}: {by}")
             return False
+        if judged.makespan < self.bound:
+            raise Failed(f"psmax contradicts itself: at least {self.bound}, and a schedule of {judged.makespan} by {by}")
         self.makespan, self.starts = judged.makespan, starts
         tell(self.psmax.clock, f"{judged.makespan} by check: {by}")
         return True

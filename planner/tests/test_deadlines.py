@@ -5,6 +5,7 @@ from unittest import mock
 
 from planner.clock import Clock
 from planner.deadlines import Deadlines
+from planner.errors import Failed
 from planner.known import Known
 from planner.project import Arc, alone, lags_only, parse, within, without
 from planner.psmax import Psmax
@@ -69,6 +70,17 @@ class Bounds(unittest.TestCase):
         deadlines = deadlines_of("three-jobs-capacity-two.sch")
         deadlines.ask(3, 1)
         self.assertLessEqual(deadlines.known.bound, 4)
+
+    def test_contradictions_are_no_answer(self) -> None:
+        """What psmax can't say: more at least than a schedule takes, or no schedule where there is one."""
+        known = deadlines_of("two-jobs.sch").known
+        known.offer((0, 4, 0, 7), "by hand")
+        self.assertEqual(known.makespan, 7)
+        for claim in (lambda: known.at_least(8, ""), lambda: known.no_schedule("")):
+            self.assertRaises(Failed, claim)
+        known = deadlines_of("two-jobs.sch").known
+        known.at_least(8, "")
+        self.assertRaises(Failed, known.offer, (0, 4, 0, 7), "by hand")
 
     def test_from_below_and_from_above(self) -> None:
         """Both ways end at 55, the optimum of Fisher and Thompson's first job shop."""

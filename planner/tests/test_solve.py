@@ -100,10 +100,14 @@ class Progress(InFolder):
     def test_interrupt(self) -> None:
         for sent in (signal.SIGINT, signal.SIGTERM):
             with self.subTest(sent), started("solve", HARD) as child:
-                time.sleep(1)
+                assert child.stdout is not None and child.stderr is not None
+                told = ""
+                while "by check" not in told:
+                    told += child.stderr.readline()
                 child.send_signal(sent)
-                out, told = child.communicate(timeout=10)
-                self.assertEqual(child.returncode, 3)
+                told += child.stderr.read()
+                out = child.stdout.read()
+                self.assertEqual(child.wait(timeout=10), 3)
                 self.assertTrue(told.endswith("stopped\n"), told)
                 self.held(out, HARD, told)
 
