@@ -1,6 +1,7 @@
 # make: prove and build the program. make test: everything that must hold. make bench: measure it.
 # make install PREFIX=..
 PREFIX ?= /usr/local
+MODULES := $(filter-out planner/measure.py,$(wildcard planner/*.py))
 SOURCES := crates.txt $(shell find crates -path '*/out' -prune -o \( -name '*.rt' -o -name '*.antt' \) -print)
 
 all: build/psmax
@@ -22,6 +23,10 @@ bench: build/psmax
 install:
 	test -x build/psmax || $(MAKE) build/psmax
 	install -D -m 755 build/psmax $(DESTDIR)$(PREFIX)/bin/psmax
+	install -D -m 755 planner/plan $(DESTDIR)$(PREFIX)/bin/plan
+	install -d $(DESTDIR)$(PREFIX)/share/psmax/planner
+	install -m 644 $(MODULES) $(DESTDIR)$(PREFIX)/share/psmax/planner
+	install -D -m 644 docs/psmax.1 $(DESTDIR)$(PREFIX)/share/man/man1/psmax.1
 
 clean:
 	rm -rf build crates/*/out

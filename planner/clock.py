@@ -1,0 +1,29 @@
+"""How much time is left."""
+import signal
+import time
+
+
+class Clock:
+    """Counts from when it is made; Ctrl-C stops it where `listen` was called."""
+
+    def __init__(self, seconds: float) -> None:
+        self.begun = time.monotonic()
+        self.seconds = seconds
+        self.stopped = False
+
+    def elapsed(self) -> float:
+        return time.monotonic() - self.begun
+
+    def left(self) -> float:
+        return 0.0 if self.stopped else max(0.0, self.seconds - self.elapsed())
+
+    def over(self) -> bool:
+        return self.left() == 0.0
+
+    def stop(self, *_: object) -> None:
+        self.stopped = True
+
+    def listen(self) -> None:
+        """From now on Ctrl-C and a request to end stop this clock, and interrupt nothing."""
+        signal.signal(signal.SIGINT, self.stop)
+        signal.signal(signal.SIGTERM, self.stop)

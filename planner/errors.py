@@ -1,0 +1,13 @@
+"""What can go wrong, each with the exit status that says so."""
+
+
+class BadInput(Exception):
+    """A file or a word of the command that isn't what it should be: exit status 2."""
+
+
+class Failed(Exception):
+    """Something that should have worked and did not: exit status 1."""
+
+
+class TimeUp(Exception):
+    """The time is over, or somebody pressed Ctrl-C."""

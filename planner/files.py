@@ -1,0 +1,78 @@
+"""Files: read with a clear fault, written whole or not at all."""
+import os
+import pathlib
+import sys
+import tempfile
+
+from .errors import BadInput, Failed
+
+LARGEST = 16_777_216  # bytes; psmax reads no longer text, so one byte more is enough to know
+
+
+def read_bytes(path: str) -> bytes:
+    """What the file holds, up to one byte more than psmax would read."""
+    try:
+        with open(path, "rb") as file:
+            return file.read(LARGEST + 1)
+    except (OSError, ValueError) as fault:
+        raise Failed(f"cannot read {path}: {reason(fault)}") from None
+
+
+def read_input(path: str | None) -> bytes:
+    """What the file holds, or standard input where there is no name."""
+    return read_bytes(path) if path is not None else sys.stdin.buffer.read(LARGEST + 1)
+
+
+def read_text(path: str) -> str:
+    """The text of a UTF-8 file; a byte order mark is dropped."""
+    data = read_bytes(path)
+    if len(data) > LARGEST:
+        raise BadInput(f"{path}: too long")
+    if data.startswith(b"PK\x03\x04"):
+        raise BadInput(f"{path}: a spreadsheet file, not a table in text; save it as CSV")
+    try:
+        return data.decode("utf-8-sig")
+    except UnicodeDecodeError as fault:
+        line = data.count(b"\n", 0, fault.start) + 1
+        raise BadInput(f"{path}: line {line} is not UTF-8; save the table as CSV in UTF-8") from None
+
+
+def must_be_writable(path: str) -> None:
+    """Tells before long work is begun that its answer could not be written."""
+    target = pathlib.Path(path).resolve()
+    folder = target.parent
+    if not folder.is_dir():
+        raise Failed(f"cannot write {path}: no folder {folder}")
+    if target.exists() and not target.is_file():
+        raise Failed(f"cannot write {path}: it is no ordinary file")
+    if not os.access(folder, os.W_OK):
+        raise Failed(f"cannot write {path}: the folder {folder} may not be changed")
+
+
+def write_whole(path: str, data: bytes) -> None:
+    """Writes a file beside it and renames that, so the file is never half written."""
+    must_be_writable(path)
+    target = pathlib.Path(path).resolve()
+    beside = ""
+    try:
+        with tempfile.NamedTemporaryFile(dir=target.parent, prefix=".plan-", delete=False) as file:
+            beside = file.name
+            file.write(data)
+        os.chmod(beside, 0o666 & ~mask())
+        os.replace(beside, target)
+    except OSError as fault:
+        if beside and os.path.exists(beside):
+            os.unlink(beside)
+        raise Failed(f"cannot write {path}: {reason(fault)}") from None
+
+
+def mask() -> int:
+    """The permissions that new files do not get."""
+    now = os.umask(0)
+    os.umask(now)
+    return now
+
+
+def reason(fault: Exception) -> str:
+    text = fault.strerror if isinstance(fault, OSError) and fault.strerror else str(fault)
+    return text[:1].lower() + text[1:]

@@ -1,0 +1,75 @@
+"""The page beside a project that names its activities and resources: a table like those of examples/*.md."""
+import pathlib
+import re
+from dataclasses import dataclass, field
+
+from .project import Project
+
+CELL = re.compile(r"(?<!\\)\|")
+
+
+@dataclass
+class Names:
+    activities: dict[int, str] = field(default_factory=dict)
+    resources: list[str] = field(default_factory=list)
+
+    def activity(self, number: int) -> str:
+        """The number of an activity, with its name where it has one."""
+        name = self.activities.get(number, "")
+        return f"{number} ({name})" if name else f"{number}"
+
+    def resource(self, number: int) -> str:
+        return self.resources[number] if number < len(self.resources) else f"resource {number}"
+
+
+    def with_dummies(self, end: int) -> "Names":
+        """The same with names for the start and the end."""
+        return Names(self.activities | {0: "the start", end: "the end"}, self.resources)
+
+
+def beside(project_path: str) -> Names:
+    """The names of the page beside the project (.md for .sch), or none."""
+    return read_page(str(pathlib.Path(project_path).with_suffix(".md")))
+
+
+def read_page(path: str) -> Names:
+    try:
+        text = pathlib.Path(path).read_text("utf-8", "replace")
+    except (OSError, ValueError):
+        return Names()
+    found = Names()
+    rows = [[cell_text(cell) for cell in CELL.split(line)[1:-1]] for line in text.splitlines() if line.startswith("|")]
+    for place, row in enumerate(rows):
+        if place > 0 and len(row) >= 3 and all(re.fullmatch(":?-+:?", cell) for cell in row) and not found.resources:
+            found.resources = rows[place - 1][3:]
+        elif len(row) >= 2 and re.fullmatch(r"\d+(, *\d+)*", row[0]):
+            found.activities |= {int(number): row[1] for number in row[0].split(",")}
+    return found
+
+
+def cell_text(cell: str) -> str:
+    """What a cell of a page says, with a blank for each sign that can't be printed."""
+    return "".join(sign if sign.isprintable() else " " for sign in cell.replace("\\|", "|")).strip()
+
+
+def page(title: str, source: str, project: Project, names: Names, unit: str) -> str:
+    """The page of a project that was read from a table."""
+    lines = [f"# {title}", "", f"The numbers, names and demands of `{title}.sch`. {made_from(source)}", ""]
+    lines.append(table_row(["", "Activity", unit.capitalize(), *names.resources]))
+    lines.append("|" + "---|" * (3 + len(names.resources)))
+    for activity in range(1, project.end):
+        demands = [f"{demand}" if demand else "" for demand in project.demands[activity]]
+        cells = [f"{activity}", names.activities[activity], f"{project.durations[activity]}", *demands]
+        lines.append(table_row(cells))
+    if names.resources:
+        units = (f"{units} {name}" for units, name in zip(project.capacities, names.resources))
+        lines += ["", f"Resources: {', '.join(units)}."]
+    return "\n".join(lines) + "\n"
+
+
+def made_from(source: str) -> str:
+    return f"Made by `plan read` from `{source}`; change that, and not this page."
+
+
+def table_row(cells: list[str]) -> str:
+    return "|" + "|".join(" " + cell.replace("|", "\\|") + " " if cell else " " for cell in cells) + "|"

@@ -1,0 +1,91 @@
+"""A chart as an SVG picture."""
+from html import escape
+
+from . import drawing
+from .drawing import Bar, Drawing, Load, Stretch
+
+ROW = 20  # pixels of an activity's row
+LOAD = 44  # pixels of a resource's row
+TOP = 56
+CHART = 900  # pixels of the time that is shown
+LETTER = 7  # pixels of a letter, about
+MARKS = 12  # about so many numbers on the ruler
+
+STYLE = """text { font: 12px sans-serif; fill: #222 } .title { font-weight: bold } .time { fill: #666 }
+.bar { fill: #3a7ca5 } .point { fill: #c0392b } .use { fill: #9bb8a0 } .over { fill: #c0392b }
+.grid { stroke: #ddd } .most { stroke: #555; stroke-dasharray: 4 3 }"""
+
+
+class Sheet:
+    """The lines of a picture, and where a time and a row stand on it."""
+
+    def __init__(self, shown: Drawing) -> None:
+        self.shown = shown
+        longest = max([len(bar.name) + 5 for bar in shown.bars] + [len(load.name) + 10 for load in shown.loads] + [10])
+        self.left = 16 + LETTER * longest
+        self.bottom = TOP + ROW * len(shown.bars) + LOAD * len(shown.loads)
+        self.lines: list[str] = []
+
+    def x(self, time: int) -> float:
+        share = (time - self.shown.begins) / (self.shown.ends - self.shown.begins)
+        return round(self.left + CHART * share, 2)
+
+    def add(self, line: str) -> None:
+        self.lines.append(line)
+
+    def words(self, x: float, y: float, text: str, kind: str = "") -> None:
+        self.add(f'<text x="{x}" y="{y}"' + (f' class="{kind}"' if kind else "") + f">{escape(text)}</text>")
+
+    def box(self, begins: int, ends: int, y: float, height: float, kind: str, tip: str) -> None:
+        width = round(max(self.x(ends) - self.x(begins), 1.5), 2)
+        place = f'x="{self.x(begins)}" y="{round(y, 2)}" width="{width}" height="{round(height, 2)}"'
+        self.add(f'<rect {place} class="{kind}"><title>{escape(tip)}</title></rect>')
+
+
+def draw(shown: Drawing) -> str:
+    sheet = Sheet(shown)
+    sheet.words(16, 20, shown.title, "title")
+    ruler(sheet)
+    for row, bar in enumerate(shown.bars):
+        bar_row(sheet, bar, TOP + ROW * row)
+    for row, load in enumerate(shown.loads):
+        load_row(sheet, load, TOP + ROW * len(shown.bars) + LOAD * row)
+    for row, note in enumerate(shown.notes):
+        sheet.words(16, sheet.bottom + 24 + ROW * row, note)
+    width, height = sheet.left + CHART + 24, sheet.bottom + 24 + ROW * len(shown.notes)
+    head = f'<svg xmlns="http://www.w3.org/2000/svg" width="{width}" height="{height}" viewBox="0 0 {width} {height}">'
+    return "\n".join([head, f"<style>{STYLE}</style>", *sheet.lines, "</svg>"]) + "\n"
+
+
+def ruler(sheet: Sheet) -> None:
+    step = drawing.round_step((sheet.shown.ends - sheet.shown.begins) / MARKS)
+    for time in range(-(-sheet.shown.begins // step) * step, sheet.shown.ends + 1, step):
+        x = sheet.x(time)
+        sheet.add(f'<line x1="{x}" y1="{TOP - 8}" x2="{x}" y2="{sheet.bottom}" class="grid"/>')
+        sheet.words(x, TOP - 12, f"{time}", "time")
+
+
+def bar_row(sheet: Sheet, bar: Bar, y: float) -> None:
+    sheet.words(16, y + 14, f"{bar.activity} {bar.name}".rstrip())
+    tip = f"{bar.activity} {bar.name}: {bar.begins} to {bar.ends}"
+    sheet.box(bar.begins, bar.ends, y + 3, ROW - 6, "bar" if bar.ends > bar.begins else "point", tip)
+
+
+def load_row(sheet: Sheet, load: Load, y: float) -> None:
+    """The use as a stepped area, red above the capacity, which is a dashed line."""
+    sheet.words(16, y + LOAD / 2 + 4, f"{load.name}, of {load.capacity}")
+    most = max([load.capacity, 1, *(stretch.units for stretch in load.stretches)])
+    floor, unit = y + LOAD - 4, (LOAD - 12) / most
+    for stretch in load.stretches:
+        load_box(sheet, load, stretch, floor, unit)
+    line = round(floor - unit * load.capacity, 2)
+    sheet.add(f'<line x1="{sheet.left}" y1="{line}" x2="{sheet.left + CHART}" y2="{line}" class="most"/>')
+
+
+def load_box(sheet: Sheet, load: Load, stretch: Stretch, floor: float, unit: float) -> None:
+    tip = f"{load.name}: {stretch.units} from {stretch.begins} to {stretch.ends}"
+    kept = min(stretch.units, load.capacity)
+    sheet.box(stretch.begins, stretch.ends, floor - unit * kept, unit * kept, "use", tip)
+    if stretch.units > load.capacity:
+        over = unit * (stretch.units - load.capacity)
+        sheet.box(stretch.begins, stretch.ends, floor - unit * stretch.units, over, "over", tip)

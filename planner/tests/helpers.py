@@ -1,0 +1,79 @@
+"""What the tests share. They call the built psmax, and take their expected values from the format's description, from
+calculation by hand, or from a proof of psmax."""
+import io
+import os
+import pathlib
+import signal
+import subprocess
+import sys
+import tempfile
+import unittest
+from unittest import mock
+
+from planner.main import main
+
+TOP = pathlib.Path(__file__).resolve().parents[2]
+PLAN = TOP / "planner" / "plan"
+INPUTS = TOP / "tests" / "inputs"
+EXAMPLES = TOP / "examples"
+PROJECTS = TOP / "planner" / "projects"
+PSMAX = os.environ.get("PSMAX") or str(TOP / "build" / "psmax")
+
+# Two jobs of 3 and 4 on one machine: the README's first project without its lag. Every schedule takes 7 at least.
+TWO_JOBS = "2 1 0 0\n0 1 0\n1 1 0\n2 1 0\n3 1 0\n0 1 0 0\n1 1 3 1\n2 1 4 1\n3 1 0 0\n1\n"
+
+
+Ran = subprocess.CompletedProcess[str]
+
+
+def plan(*words: object, given: bytes = b"", psmax: str = PSMAX) -> Ran:
+    """A run of the command, in this process, since a hundred starts of Python take long."""
+    source, out, told = (io.TextIOWrapper(io.BytesIO(data), "utf-8") for data in (given, b"", b""))
+    handlers = {number: signal.getsignal(number) for number in (signal.SIGINT, signal.SIGTERM)}
+    with (mock.patch("sys.stdin", source), mock.patch("sys.stdout", out), mock.patch("sys.stderr", told),
+          mock.patch.dict(os.environ, {"PSMAX": psmax})):
+        try:
+            status = main([*map(str, words)])
+        except SystemExit as ended:
+            status = int(ended.code or 0)
+        finally:
+            for number, handler in handlers.items():
+                signal.signal(number, handler)
+        out.flush()
+        told.flush()
+    return Ran(words, status, out.buffer.getvalue().decode(), told.buffer.getvalue().decode())
+
+
+def started(*words: object, **more: object) -> subprocess.Popen[str]:
+    """The command as a process of its own."""
+    environment = {**os.environ, "PSMAX": PSMAX}
+    return subprocess.Popen([sys.executable, PLAN, *map(str, words)], text=True, env=environment,
+                            **{"stdout": subprocess.PIPE, "stderr": subprocess.PIPE, **more})
+
+
+def psmax(*words: object, given: bytes = b"") -> str:
+    """What psmax itself answers."""
+    return subprocess.run([PSMAX, *map(str, words)], input=given, capture_output=True, timeout=60).stdout.decode()
+
+
+class InFolder(unittest.TestCase):
+    """A test with a new folder of its own."""
+
+    def setUp(self) -> None:
+        kept = tempfile.TemporaryDirectory()
+        self.addCleanup(kept.cleanup)
+        self.folder = pathlib.Path(kept.name)
+
+    def file(self, name: str, content: str | bytes) -> pathlib.Path:
+        path = self.folder / name
+        path.write_bytes(content.encode() if isinstance(content, str) else content)
+        return path
+
+    def refused(self, ran: Ran, status: int, *texts: str) -> None:
+        """One clear line on standard error, and nothing else."""
+        self.assertEqual(ran.returncode, status, ran.stderr)
+        self.assertEqual(ran.stdout, "")
+        self.assertEqual(len(ran.stderr.splitlines()), 1, ran.stderr)
+        self.assertTrue(ran.stderr.startswith("plan: "), ran.stderr)
+        for text in texts:
+            self.assertIn(text, ran.stderr)

@@ -1,0 +1,90 @@
+import os
+import shutil
+import subprocess
+import sys
+
+from .helpers import EXAMPLES, PLAN, PROJECTS, PSMAX, InFolder, plan, started
+
+COMMANDS = ("solve", "why", "where", "gantt", "write")
+SITE = EXAMPLES / "building-site.sch"
+
+
+class Faults(InFolder):
+    def test_vanished_files(self) -> None:
+        for command in (*COMMANDS, "read"):
+            with self.subTest(command):
+                self.refused(plan(command, self.folder / "gone.sch"), 1, "cannot read", "gone.sch", "no such file")
+        self.refused(plan("gantt", SITE, self.folder / "gone.starts"), 1, "gone.starts")
+        self.refused(plan("read", self.folder / "gone.csv"), 1, "gone.csv")
+        self.refused(plan("solve", self.folder), 1, "is a directory")
+
+    def test_bad_projects(self) -> None:
+        path = self.file("bad.sch", "2 1 0 0\nx")
+        for command in ("solve", "why", "gantt", "write", "read"):
+            with self.subTest(command):
+                self.refused(plan(command, path, given=b"0 0\n"), 2, "bad.sch: word 4: not a number")
+
+    def test_a_psmax_that_fails(self) -> None:
+        for program, text in (("/bin/false", "failed"), ("/bin/cat", ""), ("/bin/true", "does not know"),
+                              (str(self.folder / "gone"), "no program"), (str(self.folder), "no program")):
+            for command in COMMANDS:
+                with self.subTest(program=program, command=command):
+                    self.refused(plan(command, SITE, given=b"0 0\n", psmax=program), 1, text)
+        killed = self.file("killed", "#!/bin/sh\nkill -9 $$\n")
+        killed.chmod(0o755)
+        self.refused(plan("solve", SITE, psmax=str(killed)), 1, "signal 9")
+
+    def test_a_psmax_that_does_not_end(self) -> None:
+        slow = self.file("slow", "#!/bin/sh\nexec sleep 60\n")
+        slow.chmod(0o755)
+        ran = plan("solve", SITE, "--seconds", "0.5", psmax=str(slow))
+        self.assertEqual((ran.returncode, ran.stdout), (3, "unknown bound 0\n"))
+
+    def test_a_psmax_that_fails_later(self) -> None:
+        """What is known by then is printed, and the fault is told: this one answers six times."""
+        calls = self.file("calls", "")
+        tired = self.file("tired", f"#!/bin/sh\necho >> {calls}\n"
+                          f"test $(wc -l < {calls}) -le 6 && exec {PSMAX} \"$@\"\nexit 1\n")
+        tired.chmod(0o755)
+        ran = plan("solve", PROJECTS / "assay-lab.sch", psmax=str(tired))
+        self.assertEqual((ran.returncode, ran.stdout[:9]), (1, "feasible "))
+        self.assertEqual(ran.stderr.splitlines()[-1], "plan: psmax solve failed, exit status 1")
+
+    def test_files_that_can_not_be_written(self) -> None:
+        for words in (("--out", self.folder / "no" / "x"), ("--svg", self.folder / "no" / "x"), ("--out", self.folder),
+                      ("--out", os.devnull)):
+            with self.subTest(words):
+                self.refused(plan("solve", SITE, *words), 1, "cannot write")
+        table, gone = self.file("t.csv", "activity,days\na,1\n"), self.folder / "no" / "x.sch"
+        self.refused(plan("gantt", SITE, EXAMPLES / "building-site-feasible.starts", "--svg", gone), 1, "cannot write")
+        self.refused(plan("read", table, "--out", gone), 1, "cannot write")
+
+    def test_bad_words(self) -> None:
+        for words in ((), ("draw",), ("solve",), ("solve", SITE, "--seconds", "0"), ("solve", SITE, "--seconds", "nan"),
+                      ("gantt", SITE, "--width", "7"), ("write", SITE, "--period", "years")):
+            with self.subTest(words):
+                ran = plan(*words)
+                self.assertEqual((ran.returncode, ran.stdout), (2, ""))
+                self.assertNotIn("Traceback", ran.stderr)
+        self.assertEqual(plan("--help").returncode, 0)
+
+    def test_output_that_nobody_reads(self) -> None:
+        for target, status in ((os.devnull, 0), ("/dev/full", 1)):
+            with open(target, "wb") as out:
+                with started("solve", SITE, stdout=out) as child:
+                    told = child.communicate()[1]
+            self.assertEqual(child.returncode, status)
+            self.assertNotIn("Traceback", told)
+
+    def test_installed(self) -> None:
+        """As `make install` lays it out: plan finds its modules in share and psmax beside itself."""
+        (self.folder / "bin").mkdir()
+        shutil.copy(PLAN, self.folder / "bin" / "plan")
+        shutil.copy(PSMAX, self.folder / "bin" / "psmax")
+        (self.folder / "share" / "psmax" / "planner").mkdir(parents=True)
+        for path in PLAN.parent.glob("*.py"):
+            shutil.copy(path, self.folder / "share" / "psmax" / "planner")
+        given = {name: value for name, value in os.environ.items() if name != "PSMAX"}
+        words = [sys.executable, self.folder / "bin" / "plan", "solve", SITE]
+        ran = subprocess.run(words, capture_output=True, env=given)
+        self.assertEqual(ran.stdout.partition(b"\n")[0], b"optimal 36")

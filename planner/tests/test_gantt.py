@@ -1,0 +1,95 @@
+import unittest
+from xml.etree import ElementTree
+
+from planner.drawing import Load, Stretch, round_step
+from planner.gantt import load_cells
+
+from .helpers import EXAMPLES, INPUTS, TWO_JOBS, InFolder, plan, psmax
+
+# Two jobs of 3 and 4 on one machine, one after the other, drawn by hand.
+CHART = """check: feasible 7   (the answer says: optimal 7)
+             0
+             |
+   1             4 ....###
+   2             0 ####...
+     resource 0   of 1 1111111
+"""
+
+
+class Charts(InFolder):
+    def drawn(self, path: object, given: str, *words: str) -> str:
+        ran = plan("gantt", path, *words, given=given.encode())
+        self.assertEqual((ran.returncode, ran.stderr), (0, ""))
+        return ran.stdout
+
+    def test_by_hand(self) -> None:
+        text = self.drawn(INPUTS / "two-jobs.sch", "optimal 7\n0 0\n1 4\n2 0\n3 7\n")
+        self.assertEqual([line.split() for line in text.splitlines()], [line.split() for line in CHART.splitlines()])
+        signs = ("0", "|", "....###", "####...", "1111111")
+        columns = {line.index(sign) for line, sign in zip(text.splitlines()[1:], signs)}
+        self.assertEqual(len(columns), 1, text)
+
+    def test_names_and_use(self) -> None:
+        """The building site: by hand, day 0 needs a crew of 1, and on day 12 all 5 pour."""
+        site = EXAMPLES / "building-site.sch"
+        text = self.drawn(site, psmax("solve", given=site.read_bytes()))
+        rows = {line[5:].split()[0]: line.split()[-1] for line in text.splitlines()[3:]}
+        survey, crew = rows["survey"], rows["Crew"]
+        self.assertEqual(survey, "##" + "." * 34)
+        self.assertEqual((crew[:2], crew[12]), ("11", "5"))
+
+    def test_starts_file_and_wide_times(self) -> None:
+        text = self.drawn(EXAMPLES / "test-bench.sch", (EXAMPLES / "test-bench-feasible.starts").read_text())
+        self.assertIn("a column is 5 periods", text.splitlines()[0])
+        self.assertLess(max(map(len, text.splitlines())), 140)
+
+    def test_violations_are_told(self) -> None:
+        """By hand: from 2 to 3 both jobs are on the machine, and 3 starts less than 3 after 1 when it starts at 2."""
+        text = self.drawn(INPUTS / "two-jobs.sch", "0 0\n1 0\n2 2\n3 6\n")
+        self.assertIn("check: not feasible", text)
+        self.assertIn("overload 2 0 2: at 2, 2 units of resource 0 are in use", text)
+        self.assertIn("11!111", text)
+        at_once = "".join(f"{activity} 0\n" for activity in range(15))
+        self.assertIn("2 (excavate) starts", self.drawn(EXAMPLES / "building-site.sch", at_once))
+
+    def test_odd_starts(self) -> None:
+        for starts in ("0 0\n1 0\n2 9999999999\n3 9999999999\n", "0 -50\n1 -9999999999\n2 4\n3 0\n",
+                       "0 0\n1 0\n2 0\n3 0\n"):
+            with self.subTest(starts):
+                self.assertIn("not feasible", self.drawn(INPUTS / "two-jobs.sch", starts))
+        self.assertIn("feasible 0", self.drawn(INPUTS / "empty-project.sch", "0 0\n1 0\n"))
+
+    def test_answers_without_starts(self) -> None:
+        for answer in ("no schedule\n", "unknown bound 7\n", "positive cycle 2\n", "", "psmax: too long\n",
+                       "lag 2 3 4\n"):
+            with self.subTest(answer):
+                text = self.drawn(INPUTS / "two-jobs.sch", answer)
+                self.assertTrue(text.startswith("The answer is ") and len(text.splitlines()) == 1, text)
+
+    def test_svg(self) -> None:
+        self.file("p.sch", TWO_JOBS)
+        heads = "| | Activity | Days | Crane & <crew> |\n|---|---|---|---|\n"
+        self.file("p.md", f'{heads}| 1, 2 | a < b & "c" | 3 | 1 |\n')
+        self.drawn(self.folder / "p.sch", "0 0\n1 0\n2 2\n3 6\n", "--svg", str(self.folder / "c.svg"))
+        picture = ElementTree.parse(self.folder / "c.svg").getroot()
+        boxes = [node.get("class") for node in picture.iter("{http://www.w3.org/2000/svg}rect")]
+        self.assertEqual((boxes.count("bar"), boxes.count("over")), (2, 1))
+        self.assertIn('1 a < b & "c"', [node.text for node in picture.iter("{http://www.w3.org/2000/svg}text")])
+
+    def test_faults(self) -> None:
+        for given, text in (("hello\n", "line 1: not an activity and a start"), ('{"bound":7}\n', "line 1"),
+                            ("0 0\n4 0\n", "line 2: no such activity"), ("0 0\n1 0\n2 3\n", "activity 3: no start")):
+            with self.subTest(given):
+                self.refused(plan("gantt", INPUTS / "two-jobs.sch", given=given.encode()), 2, "standard input", text)
+
+
+class Cells(unittest.TestCase):
+    def test_use_in_ninths(self) -> None:
+        """By hand: 1, 10, 20 and 21 of 20 units are a ninth, five ninths, the whole, and too much."""
+        load = Load("", 20, (Stretch(0, 1, 1), Stretch(1, 2, 10), Stretch(3, 4, 20), Stretch(4, 5, 21)))
+        self.assertEqual(load_cells(load, 0, 1, 6), "15.9!.")
+        self.assertEqual(load_cells(load, 0, 2, 3), "59!")
+
+    def test_round_step(self) -> None:
+        for least, step in ((0.1, 1), (1, 1), (1.5, 2), (3, 5), (5.1, 10), (11, 20), (200, 200), (201, 500)):
+            self.assertEqual(round_step(least), step)

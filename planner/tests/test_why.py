@@ -1,0 +1,50 @@
+from .helpers import EXAMPLES, INPUTS, TWO_JOBS, InFolder, plan
+
+
+class Why(InFolder):
+    def told(self, path: object, *texts: str) -> str:
+        ran = plan("why", path)
+        self.assertEqual((ran.returncode, ran.stderr), (0, ""))
+        for text in texts:
+            self.assertIn(text, ran.stdout)
+        return ran.stdout
+
+    def test_positive_cycle(self) -> None:
+        """By hand: 2 at least 5 after 1, and at most 4 after it: 5 - 4 is 1 too much. Without the second there is one
+        of 9: 1 from 0 to 3, 2 from 5 to 9."""
+        self.told(INPUTS / "two-jobs-positive-cycle.sch", "There is no schedule.", "2 starts at least 5 after 1 starts",
+                  "2 starts at most 4 after 1 starts", "add up to 1",
+                  "a schedule of 9: 2 starts at most 4 after 1 starts")
+
+    def test_needs_more_than_there_is(self) -> None:
+        self.told(INPUTS / "one-job-too-big.sch", "There is no schedule.",
+                  "Activity 1 needs 2 of resource 0, of which there are 1")
+
+    def test_deadline_too_short(self) -> None:
+        """By hand: two jobs of 3 and 4 on one machine take 7, which the deadline of 6 forbids."""
+        self.told(INPUTS / "two-jobs-deadline-6.sch", "both together",
+                  "a schedule of 7: 3 (the end) starts at most 6 after 0 (the start) starts")
+
+    def test_either_lag(self) -> None:
+        """2 starts from 0 to 2 after 1, so neither can go first: without either lag one of them can."""
+        text = self.told(INPUTS / "two-jobs-close-lags.sch", "both together")
+        self.assertEqual(text.count("Without this lag there is a schedule of 7"), 2)
+
+    def test_no_lag_alone(self) -> None:
+        """By hand: the deadline of 6 stands twice, so taking one out leaves the other."""
+        text = TWO_JOBS.replace("3 1 0\n", "3 1 2 0 0 [-6] [-5]\n", 1)
+        self.told(self.file("p.sch", text), "No greatest lag, taken out alone, opens a schedule.")
+
+    def test_names(self) -> None:
+        """By hand: the ground stays firm for 3 days, and excavating takes 5."""
+        text = (EXAMPLES / "building-site.sch").read_text().replace("[-7] [1]", "[-3] [1]")
+        self.file("site.md", (EXAMPLES / "building-site.md").read_bytes())
+        self.told(self.file("site.sch", text), "add up to 2",
+                  "3 (blinding concrete) starts at most 3 after 2 (excavate) starts")
+
+    def test_there_is_one(self) -> None:
+        self.told(EXAMPLES / "building-site.sch", "There is a schedule: check says feasible 36.")
+
+    def test_time_is_over(self) -> None:
+        ran = plan("why", EXAMPLES / "building-site.sch", "--seconds", "0.0001")
+        self.assertEqual((ran.returncode, ran.stdout[:10]), (3, "Not known:"))
