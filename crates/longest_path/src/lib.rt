@@ -5,6 +5,7 @@
 #![tactic(auto)]
 
 mod columns;
+mod effect;
 mod fault;
 mod grid;
 mod insert;

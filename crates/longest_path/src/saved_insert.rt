@@ -14,11 +14,11 @@ ghost use Rattle.network.specs.declared.limits.TheConstants.{MAX_LAG_WEIGHT};
 ghost use Rattle.network.specs.Limits.{IsWithin};
 
 use crate::columns::gaining_columns;
+use crate::effect::Effect;
 use crate::fault::PathFault;
 use crate::grid::Grid;
-use crate::insert::{first_over, is_reached, sum};
+use crate::insert::first_over;
 use crate::matrix::Matrix;
-use crate::recurrence::is_positive;
 use crate::saves::Saves;
 use network::Lag;
 use std::alloc::AllocError;
@@ -128,14 +128,11 @@ impl Matrix {
             to: j,
             weight: w,
         };
-        let way_back = self.grid.get(j, i);
-        if is_positive(sum(way_back, Some(w))) {
-            return Err(PathFault::PositiveCycle { at: i });
+        match self.effect_of(arc) {
+            Effect::ClosesCycle => return Err(PathFault::PositiveCycle { at: i }),
+            Effect::Nothing => {}
+            Effect::Gains => go_over_or_stay(&mut self.grid, self.via.as_mut_slice(), arc, saves)?,
         }
-        if is_reached(w, self.grid.get(i, j)) {
-            return Ok(());
-        }
-        go_over_or_stay(&mut self.grid, self.via.as_mut_slice(), arc, saves)?;
         Ok(())
     }
 
