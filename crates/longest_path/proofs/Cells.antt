@@ -1,5 +1,5 @@
 -- The laws of rows that stand one after another in one list of cells.
-use Rattle.std.proofs.Common.{◌≡◌, ◌≢◌, refl, sym, ◌∙◌, ap, subst, ℕ, ◌+◌, ◌*◌, ◌-◌, ◌<◌, ◌≤◌, Option, None, Some, true, ◌⊎◌, inl, inr, arith, ℤ, pos, ◌+ℤ◌, ◌≤ℤ◌, ◌<ℤ◌, List, [], ◌++◌, length, get_or, set, take, drop, get_or-set_same, get_or-set_other, suc, ◌/◌, replicate, length-drop, neg_ℤ}
+use Rattle.std.proofs.Common.{◌≡◌, ◌≢◌, refl, sym, ◌∙◌, ap, subst, ℕ, ◌+◌, ◌*◌, ◌-◌, ◌<◌, ◌≤◌, Option, None, Some, true, ◌⊎◌, inl, inr, arith, ℤ, pos, ◌+ℤ◌, ◌≤ℤ◌, ◌<ℤ◌, List, [], ◌++◌, length, get_or, set, take, drop, get_or-set_same, get_or-set_other, suc, ◌/◌, replicate, length-append, length-drop, neg_ℤ}
 use Rattle.std.proofs.Math.Nat.{mul-le-mul_right, suc-mul}
 use Rattle.std.proofs.lemmas.Nat.{div-mul-add}
 use Rattle.std.proofs.Math.ListN.{get_or-eq_default}
@@ -15,7 +15,8 @@ use Rattle.network.specs.declared.lag.Lag.{Lag}
 use Rattle.network.specs.Walk.{entry, Rows}
 use Rattle.longest_path.specs.Relax.{greater, joined}
 use Rattle.longest_path.specs.Rows.{IsSquare, IsRaised}
-use Rattle.longest_path.specs.Grid.{IsRelaxed, IsRow, IsRowRelaxed, HasSmallSums, nothing, weight_of, weight_at, row_of, rows_of}
+use Rattle.longest_path.specs.Grid.{IsRelaxed, IsRow, IsRowRelaxed, HasSmallSums, nothing, weight_of, weight_at, placed_at, row_of, rows_of}
+use Rattle.longest_path.proofs.Reach.{greater_none}
 use Rattle.network.specs.declared.limits.TheConstants.{MAX_LAG_WEIGHT}
 use Rattle.network.specs.Limits.{IsWithin}
 use Rattle.longest_path.specs.declared.grid.TheConstants.{MAX_FIRST_WEIGHT, MAX_WAY_WEIGHT}
@@ -114,7 +115,7 @@ outside_row n a x b lb ne = elim (cases_lt x a) [
       inr (omega arith)
 ]
 
-pub relaxed_rows : (n a : ℕ) (first : ℤ) (via old new : List ℤ) → a < n → length via ≡ n → IsRowRelaxed n a first via old new → IsRelaxed a first via (rows_of n old) (rows_of n new)
+pub relaxed_rows : (n a : ℕ) (first : ℤ) (via old new : List ℤ) → a < n → length via ≤ n → IsRowRelaxed n a first via old new → IsRelaxed a first via (rows_of n old) (rows_of n new)
 relaxed_rows n a first via old new la wide r = record {
   at = λ b. elim (cases_lt b n) [
     | inl lb ↦ entry-rows_of n a b new la lb ∙ r.inside b lb ∙ ap (λ (o : Option ℤ). greater o (joined (Some first) (weight_at via b))) (sym (entry-rows_of n a b old la lb))
@@ -125,31 +126,31 @@ relaxed_rows n a first via old new la wide r = record {
   others = λ x b ne. same_entry n x b old new (λ lx lb. elim (outside_row n a x b lb ne) [ inl p ↦ r.before (x * n + b) p | inr p ↦ r.after (x * n + b) p ]);
 }
 
--- a list whose part is written anew, cell by cell
-pub record IsSpliced (start n : ℕ) (old row new : List ℤ) : Type 0 where
-  pub inside : (k : ℕ) → k < n → get_or new (start + k) nothing ≡ get_or row k nothing
-  pub before : (k : ℕ) → k < start → get_or new k nothing ≡ get_or old k nothing
-  pub after : (k : ℕ) → start + n ≤ k → get_or new k nothing ≡ get_or old k nothing
+-- a list whose part is written anew, place by place
+pub record IsSpliced (A : Type 0) (z : A) (start n : ℕ) (old part new : List A) : Type 0 where
+  pub inside : (k : ℕ) → k < n → get_or new (start + k) z ≡ get_or part k z
+  pub before : (k : ℕ) → k < start → get_or new k z ≡ get_or old k z
+  pub after : (k : ℕ) → start + n ≤ k → get_or new k z ≡ get_or old k z
 
-pub spliced : (start n : ℕ) (old row new : List ℤ) → start + n ≤ length old → length row ≡ n → new ≡ take start old ++ (row ++ drop (start + n) old) → IsSpliced start n old row new
-spliced start n old row new low long is = record {
+pub spliced : (A : Type 0) (z : A) (start n : ℕ) (old part new : List A) → start + n ≤ length old → length part ≡ n → new ≡ take start old ++ (part ++ drop (start + n) old) → IsSpliced A z start n old part new
+spliced A z start n old part new low long is = record {
   inside = λ k lk.
-      ap (λ (l : List ℤ). get_or l (start + k) nothing) is
-      ∙ get_or-append_right (take start old) (row ++ drop (start + n) old) start (start + k) nothing front (omega arith)
-      ∙ ap (λ i. get_or (row ++ drop (start + n) old) i nothing) (gone k)
-      ∙ get_or_append_left row (drop (start + n) old) nothing k (omega arith);
+      ap (λ (l : List A). get_or l (start + k) z) is
+      ∙ get_or-append_right (take start old) (part ++ drop (start + n) old) start (start + k) z front (omega arith)
+      ∙ ap (λ i. get_or (part ++ drop (start + n) old) i z) (gone k)
+      ∙ get_or_append_left part (drop (start + n) old) z k (omega arith);
   before = λ k lk.
       let here : k < length (take start old) = omega (arith, front) in
-      ap (λ (l : List ℤ). get_or l k nothing) is
-      ∙ get_or_append_left (take start old) (row ++ drop (start + n) old) nothing k here
-      ∙ get_or-take start old k nothing lk;
+      ap (λ (l : List A). get_or l k z) is
+      ∙ get_or_append_left (take start old) (part ++ drop (start + n) old) z k here
+      ∙ get_or-take start old k z lk;
   after = λ k lk.
       let past : n ≤ k - start = omega arith in
       let back : start + n + (k - start - n) ≡ k = omega arith in
-      ap (λ (l : List ℤ). get_or l k nothing) is
-      ∙ get_or-append_right (take start old) (row ++ drop (start + n) old) start k nothing front (omega arith)
-      ∙ get_or-append_right row (drop (start + n) old) n (k - start) nothing long past
-      ∙ get_or-drop (start + n) old (k - start - n) nothing ∙ ap (λ i. get_or old i nothing) back;
+      ap (λ (l : List A). get_or l k z) is
+      ∙ get_or-append_right (take start old) (part ++ drop (start + n) old) start k z front (omega arith)
+      ∙ get_or-append_right part (drop (start + n) old) n (k - start) z long past
+      ∙ get_or-drop (start + n) old (k - start - n) z ∙ ap (λ i. get_or old i z) back;
 }
   where
     front : length (take start old) ≡ start
@@ -158,19 +159,60 @@ spliced start n old row new low long is = record {
     gone : (k : ℕ) → start + k - start ≡ k
     gone k = omega arith
 
-spliced_row : (n a : ℕ) (first : ℤ) (via old row new : List ℤ) → a * n + n ≤ length old → length row ≡ n →
-    ((k : ℕ) → weight_at row k ≡ greater (weight_at (take n (drop (a * n) old)) k) (joined (Some first) (weight_at via k))) →
-    new ≡ take (a * n) old ++ (row ++ drop (a * n + n) old) → IsRowRelaxed n a first via old new
-spliced_row n a first via old row new low long through is =
-    let cells = spliced (a * n) n old row new low long is in
-    record {
-      inside = λ k lk.
-          let was : get_or (take n (drop (a * n) old)) k nothing ≡ get_or old (a * n + k) nothing =
-          get_or-take n (drop (a * n) old) k nothing lk ∙ get_or-drop (a * n) old k nothing in
-          ap weight_of (cells.inside k lk) ∙ through k ∙ ap (λ (z : ℤ). greater (weight_of z) (joined (Some first) (weight_at via k))) was;
-      before = cells.before;
-      after = cells.after;
-    }
+pub length-placed_at : (from : ℕ) (cells : List ℤ) → length (placed_at from cells) ≡ from + length cells
+length-placed_at from cells = length-append (replicate from nothing) cells ∙ ap (λ k. k + length cells) (length-replicate from nothing)
+
+pub placed_inside : (from k : ℕ) (cells : List ℤ) → weight_at (placed_at from cells) (from + k) ≡ weight_at cells k
+placed_inside from k cells =
+    let gone : from + k - from ≡ k = omega arith in
+    ap weight_of (get_or-append_right (replicate from nothing) cells from (from + k) nothing (length-replicate from nothing) (omega arith) ∙ ap (λ i. get_or cells i nothing) gone)
+
+pub placed_before : (from k : ℕ) (cells : List ℤ) → k < from → weight_at (placed_at from cells) k ≡ None
+placed_before from k cells lt =
+    let low : k < length (replicate from nothing) = omega (arith, length-replicate from nothing) in
+    ap weight_of (get_or_append_left (replicate from nothing) cells nothing k low ∙ get_or-replicate from k nothing nothing lt)
+
+pub placed_after : (from k : ℕ) (cells : List ℤ) → from + length cells ≤ k → weight_at (placed_at from cells) k ≡ None
+placed_after from k cells far = weight_at_far (placed_at from cells) k (omega (arith, length-placed_at from cells))
+
+-- a column on either side of the cells, or one of theirs
+pub column_cases : (from count b : ℕ) → ((b < from) ⊎ (from + count ≤ b)) ⊎ ((k : ℕ) × (k < count) × (b ≡ from + k))
+column_cases from count b = elim (cases_lt b from) [
+  | inl before ↦ inl (inl before)
+  | inr ge ↦ elim (cases_lt b (from + count)) [
+    | inl lt ↦ inr (b - from, omega arith, omega arith)
+    | inr after ↦ inl (inr after)
+  ]
+]
+
+pub placed_outside : (from b : ℕ) (cells : List ℤ) → ((b < from) ⊎ (from + length cells ≤ b)) → weight_at (placed_at from cells) b ≡ None
+placed_outside from b cells out = elim out [ inl before ↦ placed_before from b cells before | inr after ↦ placed_after from b cells after ]
+
+-- the cells that were relaxed, and those on either side of them
+spliced_row : (n a from : ℕ) (first : ℤ) (via old part new : List ℤ) → a * n + n ≤ length old → from + length via ≤ n → length part ≡ length via →
+    ((k : ℕ) → weight_at part k ≡ greater (weight_at (take (length via) (drop (a * n + from) old)) k) (joined (Some first) (weight_at via k))) →
+    new ≡ take (a * n + from) old ++ (part ++ drop (a * n + from + length via) old) → IsRowRelaxed n a first (placed_at from via) old new
+spliced_row n a from first via old part new low inside long through is = record {
+  inside = λ k lk. elim (column_cases from (length via) k) [
+    | inl out ↦ rw (placed_outside from k via out, greater_none (weight_at old (a * n + k)))
+        (ap weight_of (elim out [ inl before ↦ cells.before (a * n + k) (omega arith) | inr after ↦ cells.after (a * n + k) (omega arith) ]))
+    | inr p ↦
+        let at : a * n + from + p.0 ≡ a * n + k = omega (arith, p.2) in
+        let P : ℕ → Type 0 = λ i. weight_at new i ≡ greater (weight_at old i) (joined (Some first) (weight_at via p.0)) in
+        rw (p.2, placed_inside from p.0 via) (rw p.2 at (subst P at (each p.0 p.1)))
+  ];
+  before = λ k lk. cells.before k (omega arith);
+  after = λ k lk. cells.after k (omega arith);
+}
+  where
+    cells : IsSpliced ℤ nothing (a * n + from) (length via) old part new
+    cells = spliced ℤ nothing (a * n + from) (length via) old part new (omega arith) long is
+
+    each : (k : ℕ) → k < length via → weight_at new (a * n + from + k) ≡ greater (weight_at old (a * n + from + k)) (joined (Some first) (weight_at via k))
+    each k lk =
+        let was : get_or (take (length via) (drop (a * n + from) old)) k nothing ≡ get_or old (a * n + from + k) nothing =
+        get_or-take (length via) (drop (a * n + from) old) k nothing lk ∙ get_or-drop (a * n + from) old k nothing in
+        ap weight_of (cells.inside k lk) ∙ through k ∙ ap (λ (z : ℤ). greater (weight_of z) (joined (Some first) (weight_at via k))) was
 
 pub copied_row : (n a : ℕ) (cells row : List ℤ) → length cells ≡ n * n → a < n → row ≡ take n (drop (a * n) cells) → IsRow a (rows_of n cells) row
 copied_row n a cells row whole la is =
@@ -228,17 +270,17 @@ partly_more b first z via old row h low wide new = record {
   rest = λ k more. let ne : k ≢ b = omega arith in ap weight_of (get_or-set_other row b k z nothing ne) ∙ h.rest k (omega arith);
 }
 
-pub relaxed_part : (n a start count : ℕ) (first : ℤ) (via old row : List ℤ) → start ≡ a * n → count ≡ n → a * n + n ≤ length old → length row ≡ n →
-    ((k : ℕ) → weight_at row k ≡ greater (weight_at (take count (drop start old)) k) (joined (Some first) (weight_at via k))) → IsRowRelaxed n a first via old (put_mid start count old row)
-relaxed_part n a start count first via old row at all low long through =
-    let same : (k : ℕ) → weight_at row k ≡ greater (weight_at (take n (drop (a * n) old)) k) (joined (Some first) (weight_at via k)) = rw (at, all) at through in
-    let is : put_mid (a * n) n old row ≡ take (a * n) old ++ (row ++ drop (a * n + n) old) = ap (λ t. take (a * n) old ++ (row ++ t)) (drop-drop n (a * n) old) in
-    rw (at, all) (spliced_row n a first via old row (put_mid (a * n) n old row) low long same is)
+pub relaxed_part : (n a from start count : ℕ) (first : ℤ) (via old part : List ℤ) → start ≡ a * n + from → count ≡ length via → a * n + n ≤ length old → from + length via ≤ n → length part ≡ length via →
+    ((k : ℕ) → weight_at part k ≡ greater (weight_at (take count (drop start old)) k) (joined (Some first) (weight_at via k))) → IsRowRelaxed n a first (placed_at from via) old (put_mid start count old part)
+relaxed_part n a from start count first via old part at all low inside long through =
+    let same : (k : ℕ) → weight_at part k ≡ greater (weight_at (take (length via) (drop (a * n + from) old)) k) (joined (Some first) (weight_at via k)) = rw (at, all) at through in
+    let is : put_mid (a * n + from) (length via) old part ≡ take (a * n + from) old ++ (part ++ drop (a * n + from + length via) old) = ap (λ t. take (a * n + from) old ++ (part ++ t)) (drop-drop (length via) (a * n + from) old) in
+    rw (at, all) (spliced_row n a from first via old part (put_mid (a * n + from) (length via) old part) low inside long same is)
 
 pub copied_view : (n a : ℕ) (cells row : List ℤ) (rows : Rows) → rows_of n cells ≡ rows → length cells ≡ n * n → a < n → row ≡ take n (drop (a * n) cells) → IsRow a rows row
 copied_view n a cells row rows view whole la is = let P : Rows → Type 0 = λ r. IsRow a r row in subst P view (copied_row n a cells row whole la is)
 
-pub relaxed_view : (n a : ℕ) (first : ℤ) (via old new : List ℤ) (rows : Rows) → rows_of n old ≡ rows → a < n → length via ≡ n → IsRowRelaxed n a first via old new → IsRelaxed a first via rows (rows_of n new)
+pub relaxed_view : (n a : ℕ) (first : ℤ) (via old new : List ℤ) (rows : Rows) → rows_of n old ≡ rows → a < n → length via ≤ n → IsRowRelaxed n a first via old new → IsRelaxed a first via rows (rows_of n new)
 relaxed_view n a first via old new rows view la wide r = let P : Rows → Type 0 = λ r. IsRelaxed a first via r (rows_of n new) in subst P view (relaxed_rows n a first via old new la wide r)
 
 some_light : (w : ℤ) → IsWithin MAX_LAG_WEIGHT w → weight_of w ≡ Some w

@@ -8,6 +8,7 @@ pub mod Weights
 pub mod OneArc
 pub mod Bound
 pub mod Over
+pub mod Gains
 pub mod Inserted
 pub mod OneMatrix
 pub mod Redundant

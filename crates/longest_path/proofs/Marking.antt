@@ -4,17 +4,17 @@ use Rattle.std.proofs.Math.Seq.{drop-length}
 use Rattle.std.proofs.lemmas.List.{drop-append-le, take-append-drop, length-take-le, reverse-append}
 use Rattle.std.proofs.lemmas.List.Elements.{All-head, All-tail, All-same}
 use Rattle.longest_path.specs.Matrix.{IsMatrix}
-use Rattle.longest_path.specs.Saved.{SavedRow, SavedRows, undone, LeadsBack}
+use Rattle.longest_path.specs.Saved.{SavedPart, SavedParts, undone, LeadsBack}
 use Rattle.longest_path.specs.Marked.{marked_rows, AreNested, IsMarked}
 use Rattle.longest_path.proofs.Saving.{undone-append}
 use Rattle.network.specs.Walk.{Rows}
 
-mark_kept : (count : ℕ) (saves more : List SavedRow) (rows new : Rows) → count ≤ length saves → LeadsBack saves more rows new → undone (drop count more) new ≡ undone (drop count saves) rows
+mark_kept : (count : ℕ) (saves more : List SavedPart) (rows new : Rows) → count ≤ length saves → LeadsBack saves more rows new → undone (drop count more) new ≡ undone (drop count saves) rows
 mark_kept count saves more rows new low b =
-    ap (λ (l : List SavedRow). undone l new) (ap (λ (l : List SavedRow). drop count l) b.added ∙ drop-append-le count saves b.more low)
+    ap (λ (l : List SavedPart). undone l new) (ap (λ (l : List SavedPart). drop count l) b.added ∙ drop-append-le count saves b.more low)
     ∙ undone-append (drop count saves) b.more new ∙ ap (undone (drop count saves)) b.back
 
-pub marks_kept : (most : ℕ) (counts : List ℕ) (saves more : List SavedRow) (rows new : Rows) → most ≤ length saves → AreNested most counts → LeadsBack saves more rows new → marked_rows more new counts ≡ marked_rows saves rows counts
+pub marks_kept : (most : ℕ) (counts : List ℕ) (saves more : List SavedPart) (rows new : Rows) → most ≤ length saves → AreNested most counts → LeadsBack saves more rows new → marked_rows more new counts ≡ marked_rows saves rows counts
 marks_kept most [] saves more rows new low n b = refl
 marks_kept most (count ∷ counts) saves more rows new low n b =
     let le : count ≤ most = n.0 in
@@ -26,32 +26,32 @@ pub nested_weaker : (most n : ℕ) (counts : List ℕ) → most ≤ n → AreNes
 nested_weaker most n [] le h = tt
 nested_weaker most n (count ∷ counts) le h = let low : count ≤ most = h.0 in (omega arith, h.1)
 
-pub leads_from_take : (count : ℕ) (saves : List SavedRow) (rows : Rows) → LeadsBack (take count saves) saves (undone (drop count saves) rows) rows
+pub leads_from_take : (count : ℕ) (saves : List SavedPart) (rows : Rows) → LeadsBack (take count saves) saves (undone (drop count saves) rows) rows
 leads_from_take count saves rows = record { more = drop count saves; added = sym (take-append-drop count saves); back = refl }
 
 -- the marks before the last one, after going back to it
-pub gone_back : (count : ℕ) (counts : List ℕ) (saves : List SavedRow) (rows : Rows) → count ≤ length saves → AreNested count counts → marked_rows saves rows counts ≡ marked_rows (take count saves) (undone (drop count saves) rows) counts
+pub gone_back : (count : ℕ) (counts : List ℕ) (saves : List SavedPart) (rows : Rows) → count ≤ length saves → AreNested count counts → marked_rows saves rows counts ≡ marked_rows (take count saves) (undone (drop count saves) rows) counts
 gone_back count counts saves rows low n =
     let long : length (take count saves) ≡ count = length-take-le count saves low in
     marks_kept count counts (take count saves) saves (undone (drop count saves) rows) rows (omega arith) n (leads_from_take count saves rows)
 
-pub nothing_undone : (saves : List SavedRow) (rows : Rows) → undone (drop (length saves) saves) rows ≡ rows
-nothing_undone saves rows = ap (λ (l : List SavedRow). undone l rows) (drop-length saves)
+pub nothing_undone : (saves : List SavedPart) (rows : Rows) → undone (drop (length saves) saves) rows ≡ rows
+nothing_undone saves rows = ap (λ (l : List SavedPart). undone l rows) (drop-length saves)
 
 pub last_count : (counts before : List ℕ) (count : ℕ) → counts ≡ before ++ count ∷ [] → reverse counts ≡ count ∷ reverse before
 last_count counts before count is = ap (λ (l : List ℕ). reverse l) is ∙ reverse-append before (count ∷ [])
 
 -- the rows of the last mark
-pub at_mark : (rows : Rows) (saved : SavedRows) (count : ℕ) (counts : List ℕ) → IsMarked rows saved (count ∷ counts) → IsMatrix (undone (drop count saved.saves) rows)
+pub at_mark : (rows : Rows) (saved : SavedParts) (count : ℕ) (counts : List ℕ) → IsMarked rows saved (count ∷ counts) → IsMatrix (undone (drop count saved.saves) rows)
 at_mark rows saved count counts m = All-head IsMatrix (undone (drop count saved.saves) rows) (marked_rows saved.saves rows counts) m.matrices
 
-pub marks_before : (rows new : Rows) (saved fewer : SavedRows) (count : ℕ) (counts : List ℕ) → IsMarked rows saved (count ∷ counts) → fewer.saves ≡ take count saved.saves → new ≡ undone (drop count saved.saves) rows →
+pub marks_before : (rows new : Rows) (saved fewer : SavedParts) (count : ℕ) (counts : List ℕ) → IsMarked rows saved (count ∷ counts) → fewer.saves ≡ take count saved.saves → new ≡ undone (drop count saved.saves) rows →
     marked_rows saved.saves rows counts ≡ marked_rows fewer.saves new counts
 marks_before rows new saved fewer count counts m kept back =
     gone_back count counts saved.saves rows m.nested.0 m.nested.1
-    ∙ sym (ap (λ (l : List SavedRow). marked_rows l new counts) kept ∙ ap (λ (r : Rows). marked_rows (take count saved.saves) r counts) back)
+    ∙ sym (ap (λ (l : List SavedPart). marked_rows l new counts) kept ∙ ap (λ (r : Rows). marked_rows (take count saved.saves) r counts) back)
 
-pub went_back : (rows new : Rows) (saved fewer : SavedRows) (count : ℕ) (counts : List ℕ) → IsMarked rows saved (count ∷ counts) → fewer.width ≡ saved.width → fewer.saves ≡ take count saved.saves → new ≡ undone (drop count saved.saves) rows →
+pub went_back : (rows new : Rows) (saved fewer : SavedParts) (count : ℕ) (counts : List ℕ) → IsMarked rows saved (count ∷ counts) → fewer.width ≡ saved.width → fewer.saves ≡ take count saved.saves → new ≡ undone (drop count saved.saves) rows →
     length new ≡ length rows → IsMarked new fewer counts
 went_back rows new saved fewer count counts m width kept back size =
     let long : length fewer.saves ≡ count = ap length kept ∙ length-take-le count saved.saves m.nested.0 in
@@ -63,10 +63,10 @@ went_back rows new saved fewer count counts m width kept back size =
           (All-tail IsMatrix (undone (drop count saved.saves) rows) (marked_rows saved.saves rows counts) m.matrices);
     }
 
-pub still_there : (rows new : Rows) (saved more : SavedRows) (counts : List ℕ) → IsMarked rows saved counts → LeadsBack saved.saves more.saves rows new → marked_rows more.saves new counts ≡ marked_rows saved.saves rows counts
+pub still_there : (rows new : Rows) (saved more : SavedParts) (counts : List ℕ) → IsMarked rows saved counts → LeadsBack saved.saves more.saves rows new → marked_rows more.saves new counts ≡ marked_rows saved.saves rows counts
 still_there rows new saved more counts m b = marks_kept (length saved.saves) counts saved.saves more.saves rows new (omega arith) m.nested b
 
-pub still_marked : (rows new : Rows) (saved more : SavedRows) (counts : List ℕ) → IsMarked rows saved counts → IsMatrix new → more.width ≡ saved.width → length new ≡ length rows → LeadsBack saved.saves more.saves rows new → IsMarked new more counts
+pub still_marked : (rows new : Rows) (saved more : SavedParts) (counts : List ℕ) → IsMarked rows saved counts → IsMatrix new → more.width ≡ saved.width → length new ≡ length rows → LeadsBack saved.saves more.saves rows new → IsMarked new more counts
 still_marked rows new saved more counts m is width size b =
     let long : length more.saves ≡ length saved.saves + length b.more = ap length b.added ∙ length-append saved.saves b.more in
     record {

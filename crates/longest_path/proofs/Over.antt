@@ -5,9 +5,9 @@ use Rattle.network.specs.declared.lag.Lag.{Lag}
 use Rattle.network.specs.Walk.{entry, IsMatrixOf, weight, Rows}
 use Rattle.longest_path.specs.Relax.{greater, joined, Reaches}
 use Rattle.longest_path.specs.Rows.{IsSquare}
-use Rattle.longest_path.specs.Grid.{IsRow, IsRelaxed, HasSmallSums, weight_at}
+use Rattle.longest_path.specs.Grid.{IsRow, IsRelaxed, HasSmallSums, weight_at, placed_at}
 use Rattle.longest_path.specs.Passes.{IsRowOver}
-use Rattle.longest_path.specs.Insert.{IsOver, IsTransitive, IsReadyRow}
+use Rattle.longest_path.specs.Insert.{entry_over, IsOver, IsTransitive, IsReadyRow, IsReady, StartGainsNothing, HoldsGains}
 use Rattle.longest_path.specs.Matrix.{HasEntriesWithin}
 use Rattle.network.proofs.Walks.{IsWalk-append, weight-append}
 use Rattle.longest_path.proofs.OneArc.{IsGreatest-matrix}
@@ -17,20 +17,21 @@ use Rattle.std.specs.Int.{w64}
 use Rattle.std.specs.declared.alloc.Global.{Global}
 use Rattle.std.specs.Vec.{with_items}
 use Rattle.std.proofs.lemmas.List.{with_items_is}
-use Rattle.longest_path.proofs.Reach.{at_Reaches, Reaches-weaker, greater_same, same_some, joined-some, joined-parts}
+use Rattle.longest_path.proofs.Reach.{at_Reaches, Reaches-weaker, greater_none, joined_none, greater_same, same_some, joined-some, joined-parts}
 use Rattle.longest_path.proofs.Span.{IsSquare-inside}
+use Rattle.longest_path.proofs.Cells.{placed_inside}
 use Rattle.network.specs.declared.limits.TheConstants.{MAX_LAG_WEIGHT, MAX_WALK_WEIGHT}
 use Rattle.network.specs.Limits.{IsWithin}
 use Rattle.longest_path.specs.declared.grid.TheConstants.{MAX_FIRST_WEIGHT, MAX_WAY_WEIGHT}
-
-pub greater_none : (x : Option ℤ) → greater x None ≡ x
-greater_none None = refl
-greater_none (Some x) = refl
 
 pub kept_by : (w : ℤ) (o p : Option ℤ) → ((y : ℤ) → p ≡ Some y → Reaches (w +ℤ y) o) → o ≡ greater o (joined (Some w) p)
 kept_by w o None h = sym (greater_none o)
 kept_by w None (Some y) h = let r = h y refl in let bad : None ≡ Some r.0 = r.1 in cc
 kept_by w (Some x) (Some y) h = let le : (w +ℤ y) ≤ℤ x = at_Reaches (w +ℤ y) x (Some x) refl (h y refl) in sym (greater_same x (w +ℤ y) le)
+
+pub over_nothing : (w : ℤ) (o p q : Option ℤ) → ((x y : ℤ) → p ≡ Some x → q ≡ Some y → Reaches (x +ℤ w +ℤ y) o) → o ≡ greater o (joined (joined p (Some w)) q)
+over_nothing w o None q h = sym (greater_none o)
+over_nothing w o (Some x) q h = kept_by (x +ℤ w) o q (λ y e. h x y refl e)
 
 -- a row that the way's end gains nothing for stays
 pub no_gain : (a to : ℕ) (w : ℤ) (via : List ℤ) (rows : Rows) → Reaches w (entry rows a to) →
@@ -57,15 +58,29 @@ pub record IsHalfOver (n : ℕ) (e : Lag) (a : ℕ) (old rows : Rows) : Type 0 w
   pub done : (x b : ℕ) → x < a → IsOver e old x b (entry rows x b)
   pub rest : (x b : ℕ) → a ≤ x → entry rows x b ≡ entry old x b
 
-pub half_more : (n : ℕ) (e : Lag) (a : ℕ) (via : List ℤ) (old rows new : Rows) → IsHalfOver n e a old rows → IsRow e.to old via →
+-- a column in which the row of the arc's start gains nothing: no row does
+column_stays : (e : Lag) (a b : ℕ) (old : Rows) → IsTransitive old → StartGainsNothing e old b → entry old a b ≡ entry_over e old a b
+column_stays e a b old transitive none = over_nothing e.weight (entry old a b) (entry old a e.from) (entry old e.to b) (λ x y p q.
+    let r = none y q in
+    let le : (e.weight +ℤ y) ≤ℤ r.0 = r.2 in
+    Reaches-weaker (x +ℤ e.weight +ℤ y) (x +ℤ r.0) (entry old a b) (omega (arith, ints)) (transitive a e.from b x r.0 p r.1))
+
+entry_gained : (e : Lag) (a b : ℕ) (via : List ℤ) (old : Rows) → IsTransitive old → HoldsGains e via old →
+    greater (entry old a b) (joined (joined (entry old a e.from) (Some e.weight)) (weight_at via b)) ≡ entry_over e old a b
+entry_gained e a b via old transitive holds = elim (holds b) [
+  | inl is ↦ ap (λ (o : Option ℤ). greater (entry old a b) (joined (joined (entry old a e.from) (Some e.weight)) o)) is
+  | inr p ↦ rw (p.0, joined_none (joined (entry old a e.from) (Some e.weight)), greater_none (entry old a b)) (column_stays e a b old transitive p.1)
+]
+
+pub half_more : (n : ℕ) (e : Lag) (a : ℕ) (via : List ℤ) (old rows new : Rows) → IsHalfOver n e a old rows → IsTransitive old → HoldsGains e via old →
     IsSquare n new → IsRowOver a (joined (entry rows a e.from) (Some e.weight)) via rows new → IsHalfOver n e (a + 1) old new
-half_more n e a via old rows new h is square r = record {
+half_more n e a via old rows new h transitive holds square r = record {
   square = square;
   done = λ x b less. elim (cases_eq x a) [
     | inl p ↦ let le : a ≤ a = omega arith in
-        let whole : entry new a b ≡ greater (entry old a b) (joined (joined (entry old a e.from) (Some e.weight)) (entry old e.to b)) =
-        rw (h.rest a e.from le, h.rest a b le, is.says b) at (r.at b) in
-        rw p whole
+        let whole : entry new a b ≡ greater (entry old a b) (joined (joined (entry old a e.from) (Some e.weight)) (weight_at via b)) =
+        rw (h.rest a e.from le, h.rest a b le) at (r.at b) in
+        rw p (whole ∙ entry_gained e a b via old transitive holds)
     | inr ne ↦ let lt : x < a = omega arith in r.others x b ne ∙ h.done x b lt
   ];
   rest = λ x b more. let ne : x ≢ a = omega arith in let le : a ≤ x = omega arith in r.others x b ne ∙ h.rest x b le;
@@ -101,13 +116,12 @@ pub small_through : (m a : ℕ) (first : ℤ) (via : List ℤ) (old : Rows) → 
     ((a b : ℕ) (x y : ℤ) → entry old a m ≡ Some x → entry old m b ≡ Some y → IsWithin MAX_WAY_WEIGHT (x +ℤ y)) → HasSmallSums first via
 small_through m a first via old is at h = λ k y e. h a k first y at (sym (is.says k) ∙ e)
 
-pub small_over : (to : ℕ) (x w : ℤ) (via : List ℤ) (old : Rows) → IsRow to old via → IsWithin MAX_WALK_WEIGHT x → IsWithin MAX_LAG_WEIGHT w → HasEntriesWithin MAX_WALK_WEIGHT old → HasSmallSums (x +ℤ w) via
-small_over to x w via old is p light within = λ k y e.
-    let q : IsWithin MAX_WALK_WEIGHT y = within to k y (sym (is.says k) ∙ e) in
-    let a : x ≤ℤ MAX_WALK_WEIGHT = p.at_most in
-    let b : neg_ℤ MAX_WALK_WEIGHT ≤ℤ x = p.at_least in
-    let c : w ≤ℤ MAX_LAG_WEIGHT = light.at_most in
-    let d : neg_ℤ MAX_LAG_WEIGHT ≤ℤ w = light.at_least in
+pub small_over : (first : ℤ) (via : List ℤ) (old : Rows) → ((k : ℕ) (y : ℤ) → weight_at via k ≡ Some y → (a : ℕ) × (b : ℕ) × (entry old a b ≡ Some y)) → IsWithin MAX_FIRST_WEIGHT first → HasEntriesWithin MAX_WALK_WEIGHT old → HasSmallSums first via
+small_over first via old is p within = λ k y e.
+    let at = is k y e in
+    let q : IsWithin MAX_WALK_WEIGHT y = within at.0 at.1 y at.2 in
+    let a : first ≤ℤ MAX_FIRST_WEIGHT = p.at_most in
+    let b : neg_ℤ MAX_FIRST_WEIGHT ≤ℤ first = p.at_least in
     let f : y ≤ℤ MAX_WALK_WEIGHT = q.at_most in
     let g : neg_ℤ MAX_WALK_WEIGHT ≤ℤ y = q.at_least in
     record { at_most = omega (arith, ints); at_least = omega (arith, ints) }
@@ -158,22 +172,26 @@ pub some_sum_fits : (o : Option ℤ) (w : ℤ) → ((x : ℤ) → o ≡ Some x �
 some_sum_fits None w h light = tt
 some_sum_fits (Some x) w h light = one_sum_fits x w (h x refl) light
 
+-- what the cells say are entries of the row of the arc's end
+held : (e : Lag) (via : List ℤ) (rows : Rows) → HoldsGains e via rows → (b : ℕ) (y : ℤ) → weight_at via b ≡ Some y → entry rows e.to b ≡ Some y
+held e via rows holds b y h = elim (holds b) [ inl is ↦ sym is ∙ h | inr p ↦ let bad : None ≡ Some y = sym p.0 ∙ h in cc ]
+
 -- a row that was not gone over yet is ready
-pub ready_row : (n a : ℕ) (e : Lag) (via : List ℤ) (old rows : Rows) → IsHalfOver n e a old rows → a < n → e.from < n → e.to < n → length via ≡ n → IsRow e.to old via → IsWithin MAX_LAG_WEIGHT e.weight →
-    HasEntriesWithin MAX_WALK_WEIGHT old → IsTransitive old → IsReadyRow a e via rows
-ready_row n a e via old rows h low lf lt wide is light within transitive =
+pub ready_row : (n a : ℕ) (e : Lag) (from : ℕ) (via : List ℤ) (old rows : Rows) → IsHalfOver n e a old rows → a < n → from + length via ≤ n → HoldsGains e (placed_at from via) old → length old ≡ n → IsReady e old → IsReadyRow a e from via rows
+ready_row n a e from via old rows h low inside holds size ready =
     let le : a ≤ a = omega arith in
     let long : length rows ≡ n = h.square.rows_long in
     record {
       square = rw long h.square;
       row = rw long low;
-      from_vertex = rw long lf;
-      to_vertex = rw long lt;
-      wide = wide ∙ sym long;
-      light = light;
-      entry_fits = λ x p. within a e.from x (sym (h.rest a e.from le) ∙ p);
-      fits = λ x p. small_over e.to x e.weight via old is (within a e.from x (sym (h.rest a e.from le) ∙ p)) light within;
-      closed = λ b x y p q. rw (h.rest a b le) (transitive a e.to b x y (sym (h.rest a e.to le) ∙ p) (sym (is.says b) ∙ q));
+      from_vertex = rw (long, sym size) ready.from_vertex;
+      to_vertex = rw (long, sym size) ready.to_vertex;
+      inside = rw long inside;
+      light = ready.light;
+      entry_fits = λ x p. ready.fits a e.from x (sym (h.rest a e.from le) ∙ p);
+      fits = λ x p. small_over (x +ℤ e.weight) via old (λ k y q. (e.to, from + k, held e (placed_at from via) old holds (from + k) y (placed_inside from k via ∙ q)))
+          (sum_within x e.weight (ready.fits a e.from x (sym (h.rest a e.from le) ∙ p)) ready.light) ready.fits;
+      closed = λ b x y p q. rw (h.rest a b le) (ready.transitive a e.to b x y (sym (h.rest a e.to le) ∙ p) (held e (placed_at from via) old holds b y q));
     }
 
 -- the way to the arc's start and over it

@@ -1,13 +1,13 @@
 -- An arc whose entry is as great already changes nothing.
-use Rattle.std.proofs.Common.{◌≡◌, refl, sym, ℕ, ◌<◌, Option, None, Some, arith, ℤ, ◌+ℤ◌, ◌≤ℤ◌, List, [], ◌∷◌, ◌++◌}
+use Rattle.std.proofs.Common.{◌≡◌, ℕ, ◌<◌, Some, arith, ℤ, ◌+ℤ◌, ◌≤ℤ◌, List, [], ◌∷◌, ◌++◌}
 use Rattle.std.proofs.lemmas.Int.{ints}
 use Rattle.network.specs.declared.lag.Lag.{Lag}
 use Rattle.network.specs.Walk.{Rows, entry, IsMatrixOf}
-use Rattle.longest_path.specs.Relax.{joined, greater, Reaches}
+use Rattle.longest_path.specs.Relax.{Reaches}
 use Rattle.longest_path.specs.Rows.{IsSquare}
 use Rattle.longest_path.specs.Insert.{IsOver, IsTransitive}
 use Rattle.longest_path.proofs.Reach.{Reaches-weaker}
-use Rattle.longest_path.proofs.Over.{transitive, greater_none, kept_by}
+use Rattle.longest_path.proofs.Over.{transitive, over_nothing}
 use Rattle.longest_path.proofs.Inserted.{GainsNothing, adds}
 
 -- the way over the arc is at most the entry of its ends
@@ -18,10 +18,6 @@ over_at_most e rows t r a b x y p q =
     let h : e.weight ≤ℤ r.0 = r.2 in
     let k : (x +ℤ r.0) ≤ℤ first.0 = first.2 in
     Reaches-weaker (x +ℤ e.weight +ℤ y) (first.0 +ℤ y) (entry rows a b) (omega (arith, ints)) all
-
-over_nothing : (w : ℤ) (o p q : Option ℤ) → ((x y : ℤ) → p ≡ Some x → q ≡ Some y → Reaches (x +ℤ w +ℤ y) o) → o ≡ greater o (joined (joined p (Some w)) q)
-over_nothing w o None q h = sym (greater_none o)
-over_nothing w o (Some x) q h = kept_by (x +ℤ w) o q (λ y e. h x y refl e)
 
 -- whatever arcs the matrix is of, it is of these and the arc
 pub adds_nothing : (n : ℕ) (e : Lag) (rows : Rows) → e.from < n → e.to < n → GainsNothing e rows → Reaches e.weight (entry rows e.from e.to) → (arcs : List Lag) → IsMatrixOf n arcs rows → IsMatrixOf n (arcs ++ e ∷ []) rows

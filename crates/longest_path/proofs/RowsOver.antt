@@ -10,7 +10,7 @@ use Rattle.network.specs.Walk.{Rows, entry}
 use Rattle.longest_path.specs.Relax.{joined}
 use Rattle.longest_path.specs.Rows.{IsSquare}
 use Rattle.longest_path.specs.Insert.{entry_over, row_over, rows_over, ClosesNone, IsOver, AddsArc}
-use Rattle.longest_path.proofs.Reach.{joined-parts, same_some}
+use Rattle.longest_path.proofs.Reach.{joined-parts, joined_none, same_some}
 use Rattle.longest_path.proofs.Inserted.{GainsNothing, adds}
 
 pub length-rows_over : (e : Lag) (rows : Rows) → length (rows_over e rows) ≡ length rows
@@ -46,10 +46,6 @@ no_column n rows a b square high =
     get_or_past (get_or rows a []) b None (omega (arith, wide)))
     (λ (long : length rows ≤ a). no_row rows a b long)
     (cases_lt a (length rows))
-
-joined_none : (x : Option ℤ) → joined x None ≡ None
-joined_none None = refl
-joined_none (Some x) = refl
 
 over_outside_rows : (e : Lag) (rows : Rows) (a b : ℕ) → length rows ≤ a → entry_over e rows a b ≡ None
 over_outside_rows e rows a b high = rw (no_row rows a b high, no_row rows a e.from high) refl

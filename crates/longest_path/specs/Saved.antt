@@ -1,40 +1,52 @@
--- Rows that were saved before they gained, and the way back.
-use Rattle.std.specs.Prelude.{◌≡◌, ◌<◌, ◌*◌, ℕ, ℤ, List, [], ◌∷◌, ◌++◌, map, length, take, drop, slice_set}
+-- Parts of rows that were saved before they gained, and the way back.
+use Rattle.std.specs.Prelude.{◌≡◌, ◌<◌, ◌≤◌, ◌+◌, ℕ, ℤ, List, [], ◌∷◌, ◌++◌, length, take, drop, slice_index_or, slice_set}
 use Rattle.std.specs.List.{All}
-use Rattle.longest_path.specs.Grid.{weight_of}
+use Rattle.longest_path.specs.Grid.{written_at}
+use Rattle.longest_path.specs.declared.saves.Part.{Part}
 use Rattle.network.specs.Walk.{Rows}
 
--- a row, and the cells that it had
-pub record SavedRow : Type 0 where
+-- cells that a row had from some column on
+pub record SavedPart : Type 0 where
   pub row : ℕ
+  pub from : ℕ
   pub cells : List ℤ
 
--- rows of so many cells each, the first saved first
-pub record SavedRows : Type 0 where
+-- parts of the rows of a square of this width, the first saved first
+pub record SavedParts : Type 0 where
   pub width : ℕ
-  pub saves : List SavedRow
+  pub saves : List SavedPart
 
--- the saved rows, whose cells stand one after another
-abbrev pub saves_of : ℕ → List ℕ → List ℤ → List SavedRow
-saves_of width [] cells = []
-saves_of width (a ∷ others) cells = record { row = a; cells = take width cells } ∷ saves_of width others (drop width cells)
+-- the saved parts, whose cells stand one after another
+abbrev pub saves_of : List Part → List ℤ → List SavedPart
+saves_of [] cells = []
+saves_of (part ∷ others) cells = record { row = part.row; from = part.from; cells = take part.count cells } ∷ saves_of others (drop part.count cells)
 
--- each saved row is one of a square
-pub record AreSaved (width : ℕ) (rows : List ℕ) (cells : List ℤ) : Type 0 where
-  pub whole : length cells ≡ length rows * width
-  pub low : All (λ a. a < width) rows
+-- how many cells parts have
+abbrev pub cell_count : List Part → ℕ
+cell_count [] = 0
+cell_count (part ∷ others) = part.count + cell_count others
 
--- the rows with a saved row put back
-abbrev pub put_back : SavedRow → Rows → Rows
-put_back save rows = slice_set rows save.row (map weight_of save.cells)
+-- a part of a row of a square
+pub record IsPart (width : ℕ) (part : Part) : Type 0 where
+  pub low : part.row < width
+  pub inside : part.from + part.count ≤ width
 
--- the rows with all saved rows put back, the last saved first
-abbrev pub undone : List SavedRow → Rows → Rows
+-- each part is one of a row of a square, and all their cells are there
+pub record AreSaved (width : ℕ) (parts : List Part) (cells : List ℤ) : Type 0 where
+  pub whole : length cells ≡ cell_count parts
+  pub inside : All (IsPart width) parts
+
+-- the rows with a saved part put back
+abbrev pub put_back : SavedPart → Rows → Rows
+put_back save rows = slice_set rows save.row (written_at save.from save.cells (slice_index_or rows save.row []))
+
+-- the rows with all saved parts put back, the last saved first
+abbrev pub undone : List SavedPart → Rows → Rows
 undone [] rows = rows
 undone (save ∷ saves) rows = put_back save (undone saves rows)
 
 -- what was saved in between leads back to the old rows
-pub record LeadsBack (old_saves saves : List SavedRow) (old rows : Rows) : Type 0 where
-  pub more : List SavedRow
+pub record LeadsBack (old_saves saves : List SavedPart) (old rows : Rows) : Type 0 where
+  pub more : List SavedPart
   pub added : saves ≡ old_saves ++ more
   pub back : undone more rows ≡ old

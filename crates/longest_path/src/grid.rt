@@ -1,8 +1,8 @@
-ghost use Rattle.std.specs.Prelude.{◌≡◌, ◌++◌, map, slice_set, ◌+◌, ◌*◌, ◌+ℤ◌, ◌<◌, ◌≤◌, ℕ, length, take, drop, None, Some, IfOk, IfSome};
+ghost use Rattle.std.specs.Prelude.{◌≡◌, ◌++◌, [], slice_set, ◌+◌, ◌*◌, ◌+ℤ◌, ◌<◌, ◌≤◌, ℕ, length, slice_index_or, take, drop, None, Some, IfOk, IfSome};
 ghost use Rattle.network.specs.Walk.{entry, Rows};
 ghost use Rattle.longest_path.specs.Relax.{greater, joined};
 ghost use Rattle.longest_path.specs.Rows.{IsSquare, IsWithoutArcs, IsRaised};
-ghost use Rattle.longest_path.specs.Grid.{weight_of, weight_at, IsRelaxed, IsRow, IsRowRelaxed, HasSmallSums};
+ghost use Rattle.longest_path.specs.Grid.{weight_of, weight_at, placed_at, written_at, IsRelaxed, IsRow, IsRowRelaxed, HasSmallSums};
 ghost use Rattle.network.specs.declared.limits.TheConstants.{MAX_ACTIVITIES, MAX_LAG_WEIGHT, MAX_WALK_WEIGHT};
 ghost use Rattle.network.specs.Limits.{IsWithin};
 ghost use Rattle.longest_path.specs.declared.grid.TheConstants.{MAX_FIRST_WEIGHT, MAX_WAY_WEIGHT};
@@ -39,7 +39,7 @@ fn better(x: i32, y: i32) -> i32
 }
 
 /// The cell of the way whose first part weighs `first`.
-fn sum(first: i32, last: i32) -> i32
+pub(crate) fn sum(first: i32, last: i32) -> i32
     requires { IfSome (weight_of last) (λ y. IsWithin MAX_WAY_WEIGHT (first +ℤ y)) }
     ensures { weight_of result ≡ joined (Some first) (weight_of last) }
 {
@@ -99,31 +99,32 @@ fn row_cells(cells: &[i32], size: usize, a: usize) -> &[i32]
     &cells[start..start + size]
 }
 
-/// Row `a` takes the way that begins with a walk of weight `first` and goes on by `via`.
-fn relax_part(cells: &mut [i32], size: usize, a: usize, first: i32, via: &[i32])
+/// Row `a` takes the way that begins with a walk of weight `first` and goes on by `via`, from column
+/// `from` on.
+fn relax_part(cells: &mut [i32], size: usize, a: usize, from: usize, first: i32, via: &[i32])
     requires few { size ≤ MAX_ACTIVITIES }
     requires row { a < size }
     requires whole { length cells.old ≡ size * size }
-    requires wide { length via.now ≡ size }
+    requires inside { from + length via.now ≤ size }
     requires fits { HasSmallSums first via.now }
     ensures long { length cells.new ≡ length cells.old }
-    ensures relaxed { IsRowRelaxed size a first via.now cells.old cells.new }
+    ensures relaxed { IsRowRelaxed size a first (placed_at from via.now) cells.old cells.new }
 {
-    let start = row_start(size, a);
-    relax(&mut cells[start..start + size], first, via);
+    let start = row_start(size, a) + from;
+    relax(&mut cells[start..start + via.len()], first, via);
 }
 
-/// Row `a` becomes other cells.
-fn put_part(cells: &mut [i32], size: usize, a: usize, row: &[i32])
+/// Row `a` becomes other cells, from column `from` on.
+fn put_part(cells: &mut [i32], size: usize, a: usize, from: usize, part: &[i32])
     requires few { size ≤ MAX_ACTIVITIES }
     requires row { a < size }
     requires whole { length cells.old ≡ size * size }
-    requires wide { length row.now ≡ size }
+    requires inside { from + length part.now ≤ size }
     ensures long { length cells.new ≡ length cells.old }
-    ensures put { cells.new ≡ take (a * size) cells.old ++ (row.now ++ drop (a * size + size) cells.old) }
+    ensures put { cells.new ≡ take (a * size + from) cells.old ++ (part.now ++ drop (a * size + from + length part.now) cells.old) }
 {
-    let start = row_start(size, a);
-    cells[start..start + size].copy_from_slice(row);
+    let start = row_start(size, a) + from;
+    cells[start..start + part.len()].copy_from_slice(part);
 }
 
 /// A square of weights, row after row in one list of cells. Four bytes a cell, since the weights of
@@ -219,27 +220,28 @@ impl Grid {
         row_cells(self.cells.as_slice(), self.size, a)
     }
 
-    /// Row `a` becomes other cells.
-    pub(crate) fn put_row(&mut self, a: usize, row: &[i32])
+    /// Row `a` becomes other cells, from column `from` on.
+    pub(crate) fn put_row(&mut self, a: usize, from: usize, part: &[i32])
         requires row { a < length self.old }
-        requires wide { length row.now ≡ length self.old }
-        ensures { self.new ≡ slice_set self.old a (map weight_of row.now) }
+        requires inside { from + length part.now ≤ length self.old }
+        ensures { self.new ≡ slice_set self.old a (written_at from part.now (slice_index_or self.old a [])) }
     {
         let size = self.size;
-        put_part(self.cells.as_mut_slice(), size, a, row);
+        put_part(self.cells.as_mut_slice(), size, a, from, part);
     }
 
-    /// Row `a` takes the way that begins with a walk of weight `first` and goes on by `via`.
-    pub(crate) fn relax_row(&mut self, a: usize, first: i64, via: &[i32])
+    /// Row `a` takes the way that begins with a walk of weight `first` and goes on by `via`, from
+    /// column `from` on.
+    pub(crate) fn relax_row(&mut self, a: usize, from: usize, first: i64, via: &[i32])
         requires row { a < length self.old }
-        requires wide { length via.now ≡ length self.old }
+        requires inside { from + length via.now ≤ length self.old }
         requires small { IsWithin MAX_FIRST_WEIGHT first }
         requires fits { HasSmallSums first via.now }
         ensures square { IsSquare (length self.old) self.new }
-        ensures relaxed { IsRelaxed a first via.now self.old self.new }
+        ensures relaxed { IsRelaxed a first (placed_at from via.now) self.old self.new }
     {
         let size = self.size;
-        relax_part(self.cells.as_mut_slice(), size, a, first as i32, via);
+        relax_part(self.cells.as_mut_slice(), size, a, from, first as i32, via);
     }
 
     /// A copy with cells of its own.

@@ -4,11 +4,13 @@ ghost use Rattle.std.specs.Bool.{MatchBool};
 ghost use Rattle.network.specs.Walk.{entry};
 ghost use Rattle.longest_path.specs.Relax.{joined, Reaches};
 ghost use Rattle.longest_path.specs.Rows.{IsSquare};
+ghost use Rattle.longest_path.specs.Grid.{placed_at};
 ghost use Rattle.longest_path.specs.Passes.{IsRowOver};
 ghost use Rattle.longest_path.specs.Insert.{IsOver, IsReadyRow, IsReady};
 ghost use Rattle.network.specs.declared.limits.TheConstants.{MAX_LAG_WEIGHT, MAX_WALK_WEIGHT};
 ghost use Rattle.network.specs.Limits.{IsWithin};
 
+use crate::columns::gaining_columns;
 use crate::grid::Grid;
 use network::Lag;
 
@@ -53,16 +55,16 @@ pub(crate) fn first_over(grid: &Grid, a: usize, arc: Lag) -> Option<i64>
     }
 }
 
-/// Row `a` takes the way over an arc and on by `via`.
-fn go_over_row(grid: &mut Grid, a: usize, arc: Lag, via: &[i32])
-    requires { IsReadyRow a arc via.now grid.old }
+/// Row `a` takes the way over an arc and on by `via`, from column `from` on.
+fn go_over_row(grid: &mut Grid, a: usize, arc: Lag, from: usize, via: &[i32])
+    requires { IsReadyRow a arc from via.now grid.old }
     ensures square { IsSquare (length grid.old) grid.new }
-    ensures over { IsRowOver a (joined (entry grid.old a arc.from) (Some arc.weight)) via.now grid.old grid.new }
+    ensures over { IsRowOver a (joined (entry grid.old a arc.from) (Some arc.weight)) (placed_at from via.now) grid.old grid.new }
 {
     let Some(first) = first_over(grid, a, arc) else {
         return;
     };
-    grid.relax_row(a, first, via);
+    grid.relax_row(a, from, first, via);
 }
 
 /// Each row takes the way over an arc, where that is greater. `via` is room for a row.
@@ -73,7 +75,8 @@ pub(crate) fn go_over(grid: &mut Grid, via: &mut [i32], arc: Lag)
     ensures over { (a b : ℕ) → IsOver arc grid.old a b (entry grid.new a b) }
 {
     grid.copy_row(arc.to, via);
+    let (from, end) = gaining_columns(grid, arc, via);
     for a in 0..grid.size() {
-        go_over_row(grid, a, arc, via);
+        go_over_row(grid, a, arc, from, &via[from..end]);
     }
 }

@@ -4,6 +4,8 @@
 //! Warshall (1962), and [`Matrix::insert`] adds one arc to it. A [`MarkedMatrix`] goes back to what it was.
 #![tactic(auto)]
 
+mod columns;
+mod effect;
 mod fault;
 mod grid;
 mod insert;

@@ -14,13 +14,13 @@ use std::marker::Model;
 /// A matrix that goes back to marks. Its value is its rows now and the rows at each mark, the last
 /// mark first.
 ///
-/// What it keeps for the way back are the rows that have gained since the first mark, and no copy of
-/// the matrix.
+/// What it keeps for the way back are the parts of rows that may have gained since the first mark, and
+/// no copy of the matrix.
 #[derive(Drop, Debug)]
 pub struct MarkedMatrix {
     matrix: Matrix,
     saves: Saves,
-    /// How many rows were saved when each mark was made.
+    /// How many parts of rows were saved when each mark was made.
     marks: Vec<usize>,
 }
 
@@ -85,7 +85,7 @@ impl MarkedMatrix {
     /// marks stay.
     ///
     /// [`PathFault::PositiveCycle`] comes where the arc closes a walk of positive weight, and names
-    /// `i`. [`PathFault::Memory`] comes where there was none for the rows that gain. A fault leaves
+    /// `i`. [`PathFault::Memory`] comes where there was none for what may gain. A fault leaves
     /// the matrix as it was.
     pub fn insert(&mut self, i: usize, j: usize, w: i64) -> Result<(), PathFault>
         requires from_activity { i < length self.old.rows }

@@ -5,10 +5,10 @@ ghost use Rattle.network.specs.declared.limits.TheConstants.{MAX_ACTIVITIES, MAX
 ghost use Rattle.network.specs.Limits.{IsWithin};
 ghost use Rattle.longest_path.specs.Matrix.{IsMatrix};
 
+use crate::effect::Effect;
 use crate::fault::PathFault;
 use crate::grid::Grid;
-use crate::insert::{go_over, is_reached, sum};
-use crate::recurrence::is_positive;
+use crate::insert::go_over;
 use network::Lag;
 use std::alloc::{AllocError, Global};
 use std::marker::Model;
@@ -85,14 +85,13 @@ impl Matrix {
             to: j,
             weight: w,
         };
-        let way_back = self.grid.get(j, i);
-        if is_positive(sum(way_back, Some(w))) {
-            return Err(PathFault::PositiveCycle { at: i });
+        match self.effect_of(arc) {
+            Effect::ClosesCycle => Err(PathFault::PositiveCycle { at: i }),
+            Effect::Nothing => Ok(()),
+            Effect::Gains => {
+                go_over(&mut self.grid, self.via.as_mut_slice(), arc);
+                Ok(())
+            }
         }
-        if is_reached(w, self.grid.get(i, j)) {
-            return Ok(());
-        }
-        go_over(&mut self.grid, self.via.as_mut_slice(), arc);
-        Ok(())
     }
 }

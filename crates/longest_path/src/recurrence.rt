@@ -56,7 +56,7 @@ fn take_way(grid: &mut Grid, a: usize, first: Option<i64>, via: &[i32])
     let Some(first) = first else {
         return;
     };
-    grid.relax_row(a, first, via);
+    grid.relax_row(a, 0, first, via);
 }
 
 /// One pass of the recurrence: each row takes the way through the vertex `m`, whose row `via` is.

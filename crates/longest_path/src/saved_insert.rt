@@ -1,9 +1,10 @@
-//! The steps of an insert that saves the rows that gain.
+//! The steps of an insert that saves the cells that may gain.
 
 ghost use Rattle.std.specs.Prelude.{◌≡◌, ◌<◌, ◌≤◌, ℕ, ℤ, ◌+ℤ◌, length, take, drop, Some, IfErr, OnOk, OnErr};
 ghost use Rattle.network.specs.Walk.{entry};
 ghost use Rattle.longest_path.specs.Relax.{joined};
 ghost use Rattle.longest_path.specs.Rows.{IsSquare};
+ghost use Rattle.longest_path.specs.Grid.{placed_at};
 ghost use Rattle.longest_path.specs.Passes.{IsRowOver};
 ghost use Rattle.longest_path.specs.Matrix.{IsMatrix};
 ghost use Rattle.longest_path.specs.Insert.{arc_of, AddsArc, IsOver, IsReadyRow, IsReady};
@@ -12,40 +13,42 @@ ghost use Rattle.longest_path.specs.Saved.{LeadsBack, undone};
 ghost use Rattle.network.specs.declared.limits.TheConstants.{MAX_LAG_WEIGHT};
 ghost use Rattle.network.specs.Limits.{IsWithin};
 
+use crate::columns::gaining_columns;
+use crate::effect::Effect;
 use crate::fault::PathFault;
 use crate::grid::Grid;
-use crate::insert::{first_over, is_reached, sum};
+use crate::insert::first_over;
 use crate::matrix::Matrix;
-use crate::recurrence::is_positive;
 use crate::saves::Saves;
 use network::Lag;
 use std::alloc::AllocError;
 
-/// As `go_over_row` of an insert, and saves the row if it gains.
+/// As `go_over_row` of an insert, and saves the part of the row that may gain, if the row gains.
 fn go_over_row_saved(
     grid: &mut Grid,
     a: usize,
     arc: Lag,
+    from: usize,
     via: &[i32],
     saves: &mut Saves,
 ) -> Result<(), AllocError>
-    requires ready { IsReadyRow a arc via.now grid.old }
+    requires ready { IsReadyRow a arc from via.now grid.old }
     requires width { saves.old.width ≡ length grid.old }
     ensures square { IsSquare (length grid.old) grid.new }
     ensures width { saves.new.width ≡ saves.old.width }
-    ensures over { OnOk result (IsRowOver a (joined (entry grid.old a arc.from) (Some arc.weight)) via.now grid.old grid.new) }
+    ensures over { OnOk result (IsRowOver a (joined (entry grid.old a arc.from) (Some arc.weight)) (placed_at from via.now) grid.old grid.new) }
     ensures back { LeadsBack saves.old.saves saves.new.saves grid.old grid.new }
 {
     let Some(first) = first_over(grid, a, arc) else {
         return Ok(());
     };
-    saves.push(a, grid.row(a))?;
-    grid.relax_row(a, first, via);
+    saves.push(a, from, &grid.row(a)[from..from + via.len()])?;
+    grid.relax_row(a, from, first, via);
     Ok(())
 }
 
-/// As `go_over` of an insert, and saves each row that gains. Where there is no memory for a row, some rows may
-/// have gained.
+/// As `go_over` of an insert, and saves what may gain of each row that gains. Where there is no memory
+/// for it, some rows may have gained.
 fn go_over_saved(
     grid: &mut Grid,
     via: &mut [i32],
@@ -61,14 +64,15 @@ fn go_over_saved(
     ensures back { LeadsBack saves.old.saves saves.new.saves grid.old grid.new }
 {
     grid.copy_row(arc.to, via);
+    let (from, end) = gaining_columns(grid, arc, via);
     for a in 0..grid.size() {
-        go_over_row_saved(grid, a, arc, via, saves)?;
+        go_over_row_saved(grid, a, arc, from, &via[from..end], saves)?;
     }
     Ok(())
 }
 
-/// As `go_over` of an insert, and saves each row that gains. Where there is no memory for a row, nothing
-/// changes.
+/// As `go_over` of an insert, and saves what may gain of each row that gains. Where there is no memory
+/// for it, nothing changes.
 fn go_over_or_stay(
     grid: &mut Grid,
     via: &mut [i32],
@@ -95,10 +99,10 @@ fn go_over_or_stay(
 }
 
 impl Matrix {
-    /// As [`Matrix::insert`], and saves each row that gains.
+    /// As [`Matrix::insert`], and saves what may gain of each row that gains.
     ///
     /// A fault leaves the matrix and what is saved as they were: a positive cycle as there, or no
-    /// memory for a row.
+    /// memory for what is saved.
     pub(crate) fn insert_saved(
         &mut self,
         i: usize,
@@ -124,18 +128,15 @@ impl Matrix {
             to: j,
             weight: w,
         };
-        let way_back = self.grid.get(j, i);
-        if is_positive(sum(way_back, Some(w))) {
-            return Err(PathFault::PositiveCycle { at: i });
+        match self.effect_of(arc) {
+            Effect::ClosesCycle => return Err(PathFault::PositiveCycle { at: i }),
+            Effect::Nothing => {}
+            Effect::Gains => go_over_or_stay(&mut self.grid, self.via.as_mut_slice(), arc, saves)?,
         }
-        if is_reached(w, self.grid.get(i, j)) {
-            return Ok(());
-        }
-        go_over_or_stay(&mut self.grid, self.via.as_mut_slice(), arc, saves)?;
         Ok(())
     }
 
-    /// Puts the rows back that were saved after the first `count`.
+    /// Puts the parts of rows back that were saved after the first `count`.
     pub(crate) fn undo(&mut self, count: usize, saves: &mut Saves)
         requires count { count ≤ length saves.old.saves }
         requires width { saves.old.width ≡ length self.old }

@@ -1,87 +1,96 @@
-ghost use Rattle.std.specs.Prelude.{◌≡◌, ◌++◌, ◌∷◌, [], ◌<◌, ◌≤◌, ◌-◌, length, take, drop, OnOk, OnErr};
-ghost use Rattle.longest_path.specs.Grid.{IsRow};
-ghost use Rattle.longest_path.specs.Saved.{SavedRow, put_back, undone};
+ghost use Rattle.std.specs.Prelude.{◌≡◌, ◌++◌, ◌∷◌, [], ◌<◌, ◌≤◌, ◌+◌, ◌-◌, length, take, drop, OnOk, OnErr};
+ghost use Rattle.longest_path.specs.Saved.{SavedPart, put_back, undone};
 ghost use Rattle.network.specs.Walk.{Rows};
 
 use crate::grid::Grid;
 use std::alloc::{AllocError, Global};
 use std::marker::Model;
 
-/// The last cells of a list, as many as a row has.
-fn last_cells(cells: &[i32], width: usize) -> &[i32]
-    requires { width ≤ length cells.now }
-    ensures { result.now ≡ drop (length cells.now - width) cells.now }
+/// The last `count` cells of a list.
+fn last_cells(cells: &[i32], count: usize) -> &[i32]
+    requires { count ≤ length cells.now }
+    ensures { result.now ≡ drop (length cells.now - count) cells.now }
 {
-    let start = cells.len() - width;
+    let start = cells.len() - count;
     &cells[start..]
 }
 
-/// Rows of a grid as they were before they gained, in the order in which they were saved. The cells
-/// stand one after another in one list.
+/// Where a part of a row stands: its row, its first column, and how many columns it has.
+#[derive(Clone, Copy, Debug)]
+pub(crate) struct Part {
+    row: usize,
+    from: usize,
+    count: usize,
+}
+
+/// Parts of the rows of a grid as they were before the rows gained, in the order in which they were
+/// saved. The cells stand one after another in one list.
 #[derive(Drop, Debug)]
 pub(crate) struct Saves {
     width: usize,
-    rows: Vec<usize>,
+    parts: Vec<Part>,
     cells: Vec<i32>,
 }
 
 impl Model for Saves {
-    ghost use Rattle.longest_path.specs.Saved.{SavedRows, saves_of, AreSaved};
+    ghost use Rattle.longest_path.specs.Saved.{SavedParts, saves_of, AreSaved};
 
-    ghost Value = { SavedRows };
+    ghost Value = { SavedParts };
 
-    ghost view = { λ s. record { width = s.width; saves = saves_of s.width s.rows.items s.cells.items } };
+    ghost view = { λ s. record { width = s.width; saves = saves_of s.parts.items s.cells.items } };
 
-    ghost invariant = { λ s. AreSaved s.width s.rows.items s.cells.items };
+    ghost invariant = { λ s. AreSaved s.width s.parts.items s.cells.items };
 }
 
 impl Saves {
-    /// No row of `width` cells.
+    /// No part of the rows of a grid of `width` columns.
     pub(crate) fn new(alloc: Global, width: usize) -> Saves
         ensures { result ≡ record { width = width; saves = [] } }
     {
         Saves {
             width,
-            rows: Vec::new(alloc),
+            parts: Vec::new(alloc),
             cells: Vec::new(alloc),
         }
     }
 
-    /// How many rows there are.
+    /// How many parts there are.
     pub(crate) fn len(&self) -> usize
         ensures { result ≡ length self.now.saves }
     {
-        self.rows.len()
+        self.parts.len()
     }
 
-    /// Saves the cells of row `a`. Where there is no memory, nothing changes.
-    pub(crate) fn push(&mut self, a: usize, row: &[i32]) -> Result<(), AllocError>
-        requires low { a < self.old.width }
-        requires wide { length row.now ≡ self.old.width }
+    /// Saves the cells of a row from column `from` on. Where there is no memory, nothing changes.
+    pub(crate) fn push(&mut self, row: usize, from: usize, cells: &[i32]) -> Result<(), AllocError>
+        requires low { row < self.old.width }
+        requires inside { from + length cells.now ≤ self.old.width }
         ensures width { self.new.width ≡ self.old.width }
-        ensures added { OnOk result (self.new.saves ≡ self.old.saves ++ record { row = a; cells = row.now } ∷ []) }
+        ensures added { OnOk result (self.new.saves ≡ self.old.saves ++ record { row = row; from = from; cells = cells.now } ∷ []) }
         ensures unchanged { OnErr result (self.new ≡ self.old) }
     {
-        self.rows.reserve(1)?;
-        self.cells.extend_from_slice(row)?;
-        self.rows.push_reserved(a);
+        self.parts.reserve(1)?;
+        self.cells.extend_from_slice(cells)?;
+        let count = cells.len();
+        self.parts.push_reserved(Part { row, from, count });
         Ok(())
     }
 
-    /// Puts the row that was saved last back.
+    /// Puts the part that was saved last back.
     fn put_back(&mut self, grid: &mut Grid)
         requires some { 0 < length self.old.saves }
         requires wide { length grid.old ≡ self.old.width }
         ensures width { self.new.width ≡ self.old.width }
-        ensures last { (save : SavedRow) × (self.old.saves ≡ self.new.saves ++ save ∷ []) × (grid.new ≡ put_back save grid.old) }
+        ensures last { (save : SavedPart) × (self.old.saves ≡ self.new.saves ++ save ∷ []) × (grid.new ≡ put_back save grid.old) }
         ensures size { length grid.new ≡ length grid.old }
     {
-        let row = self.rows.pop().unwrap();
-        grid.put_row(row, last_cells(self.cells.as_slice(), self.width));
-        self.cells.truncate(self.cells.len() - self.width);
+        let part = self.parts.pop().unwrap();
+        let cells = last_cells(self.cells.as_slice(), part.count);
+        grid.put_row(part.row, part.from, cells);
+        self.cells.truncate(self.cells.len() - part.count);
     }
 
-    /// Puts the rows back that were saved after the first `count`, the last one first.
+    /// Puts the parts back that were saved after the first `count`, the last one first.
     pub(crate) fn undo(&mut self, count: usize, grid: &mut Grid)
         requires count { count ≤ length self.old.saves }
         requires wide { length grid.old ≡ self.old.width }
