@@ -1,10 +1,11 @@
 #!/usr/bin/env python3
-"""bench/run.py PROGRAM
+"""bench/run.py PROGRAM [OTHER]
 
-Measures the built program on projects of bench/projects.py, and prints a table: how many nodes it takes in
-a second where a search is stopped by --nodes, the peak memory, and how long `earliest` and `check` take at
-the limits of the format. Each time is the best of three runs; rates are also given as a ratio to that of the
-first row, since machines differ."""
+Measures the built program on projects of bench/projects.py, and prints two tables: how long `earliest` and `check`
+take at the limits of the format; and how many nodes a search takes in a second where it is stopped by --nodes, with
+the peak memory. Times are processor time, the best of five runs, so that other work disturbs them little; they are
+also given as a ratio to the first row, since machines differ. With a second program, say one built before a change,
+each row has its rate and memory too, measured in turn with the first one's."""
 import os
 import pathlib
 import random
@@ -18,72 +19,79 @@ import projects
 # activities, takes, how many that use a resource fit at once, how many use it, projects
 SEARCHES = (
     (10, 100, 2, 0.5, 5),
-    (20, 1_000, 2, 0.5, 5),
-    (30, 1_000, 2, 0.5, 5),
-    (45, 1_000, 2, 0.5, 5),
-    (100, 500, 2, 0.5, 3),
+    (20, 10_000, 2, 0.5, 5),
+    (30, 10_000, 2, 0.5, 5),
+    (45, 10_000, 2, 0.5, 5),
+    (100, 5_000, 2, 0.5, 3),
     (1000, 300, 2, 0.05, 2),
 )
 
 
 # A child counts its parent's memory as its own until it starts the program, so a small parent does it.
 STARTER = """
-import os, sys, time
-begun = time.perf_counter()
+import os, sys
 child = os.posix_spawn(sys.argv[1], sys.argv[1:], os.environ)
 _, status, usage = os.wait4(child, 0)
-print(os.waitstatus_to_exitcode(status), time.perf_counter() - begun, usage.ru_maxrss / 1024, file=sys.stderr)
+print(os.waitstatus_to_exitcode(status), usage.ru_utime + usage.ru_stime, usage.ru_maxrss / 1024, file=sys.stderr)
 """
+RUNS = 5
 
 
-def run(program, args, stdin, files=()):
-    """The exit status, the seconds and the peak memory in MiB of the best of three runs."""
+def run(programs, args, stdin, files=()):
+    """For each program, the exit status, the seconds and the peak memory in MiB of the best of its runs."""
     with tempfile.TemporaryDirectory() as folder:
         for name, content in files:
             pathlib.Path(folder, name).write_bytes(content)
         source = pathlib.Path(folder, ".stdin")
         source.write_bytes(stdin)
-        best = None
-        for _ in range(3):
-            with open(source, "rb") as given:
-                told = subprocess.run([sys.executable, "-I", "-S", "-c", STARTER, program, *args], stdin=given,
-                                      stdout=subprocess.DEVNULL, stderr=subprocess.PIPE, cwd=folder, check=True)
-            status, seconds, memory = told.stderr.decode().splitlines()[-1].split()
-            if best is None or float(seconds) < best[1]:
-                best = (int(status), float(seconds), float(memory))
+        best = [None] * len(programs)
+        for _ in range(RUNS):
+            for place, program in enumerate(programs):
+                with open(source, "rb") as given:
+                    told = subprocess.run([sys.executable, "-I", "-S", "-c", STARTER, program, *args], stdin=given,
+                                          stdout=subprocess.DEVNULL, stderr=subprocess.PIPE, cwd=folder, check=True)
+                status, seconds, memory = told.stderr.decode().splitlines()[-1].split()
+                if best[place] is None or float(seconds) < best[place][1]:
+                    best[place] = (int(status), float(seconds), float(memory))
         return best
 
 
-def stopped(program, n, takes, tight, busy, count):
-    """So many projects whose search is stopped after all its takes."""
+def stopped(programs, n, takes, tight, busy, count):
+    """So many projects whose search is stopped after all its takes: for each program the seconds of the takes after
+    the first, the peak memory, and the seconds up to the first."""
     found, seed = [], 0
     while len(found) < count and seed < 400:
         text = projects.text(*projects.project(n, seed, 5, tight, busy)).encode()
-        status, seconds, memory = run(program, ["solve", "--nodes", str(takes)], text)
-        if status == 3:
-            _, opening, _ = run(program, ["solve", "--nodes", "1"], text)
-            found.append((max(seconds - opening, 1e-6), memory, opening))
         seed += 1
+        if subprocess.run([programs[0], "solve", "--nodes", str(takes)], input=text, capture_output=True).returncode != 3:
+            continue
+        whole = run(programs, ["solve", "--nodes", str(takes)], text)
+        first = run(programs, ["solve", "--nodes", "1"], text)
+        found.append([(max(a[1] - b[1], 1e-6), a[2], b[1]) for a, b in zip(whole, first)])
     return found
 
 
-def searches(program):
-    print("| Activities | Projects | Takes each | Takes a second | Ratio | First take, ms | Peak memory, MiB |")
-    print("|---|---|---|---|---|---|---|")
+def searches(programs):
+    others = "".join(" | Other: takes a second | peak memory, MiB" for _ in programs[1:])
+    print(f"| Activities | Projects | Takes each | Takes a second | Ratio | First take, ms | Peak memory, MiB{others} |")
+    print("|---" * (7 + 2 * len(programs[1:])) + "|")
     first = None
     for n, takes, tight, busy, count in SEARCHES:
-        found = stopped(program, n, takes, tight, busy, count)
+        found = stopped(programs, n, takes, tight, busy, count)
         if not found:
-            print(f"| {n} | 0 | {takes} | none of 400 was stopped | | | |")
+            print(f"| {n} | 0 | {takes} | none of 400 was stopped" + " |" * (3 + 2 * len(programs[1:])) + " |")
             continue
-        rate = len(found) * (takes - 1) / sum(seconds for seconds, _, _ in found)
-        first = first or rate
-        opening = 1000 * max(opening for _, _, opening in found)
-        memory = max(memory for _, memory, _ in found)
-        print(f"| {n} | {len(found)} | {takes} | {rate:,.0f} | {rate / first:.4f} | {opening:.1f} | {memory:.0f} |")
+        rates = [len(found) * (takes - 1) / sum(one[place][0] for one in found) for place in range(len(programs))]
+        memory = [max(one[place][1] for one in found) for place in range(len(programs))]
+        first = first or rates[0]
+        opening = 1000 * max(one[0][2] for one in found)
+        cells = [n, len(found), takes, f"{rates[0]:,.0f}", f"{rates[0] / first:.4f}", f"{opening:.1f}", f"{memory[0]:.0f}"]
+        for rate, most in zip(rates[1:], memory[1:]):
+            cells += [f"{rate:,.0f}", f"{most:.0f}"]
+        print("| " + " | ".join(map(str, cells)) + " |", flush=True)
 
 
-def limits(program):
+def limits(programs):
     rng = random.Random(7)
     n, arcs = 1000, []
     for _ in range(100_000):
@@ -94,7 +102,7 @@ def limits(program):
     demands = [[0] * 32] + [[rng.randint(0, 3) for _ in range(32)] for _ in range(n)] + [[0] * 32]
     text = projects.text(durations, demands, [30] * 32, arcs).encode()
     padded = text + b" " * (16_777_216 - len(text))
-    answer = subprocess.run([program, "earliest"], input=text, capture_output=True).stdout
+    answer = subprocess.run([programs[0], "earliest"], input=text, capture_output=True).stdout
     tiny = projects.text(*projects.project(10, 0)).encode()
     rows = (
         ("`earliest`, 10 activities", ["earliest"], tiny, ()),
@@ -106,16 +114,16 @@ def limits(program):
     print("|---|---|---|---|")
     first = None
     for name, args, stdin, files in rows:
-        _, seconds, memory = run(program, args, stdin, files)
+        _, seconds, memory = run(programs[:1], args, stdin, files)[0]
         first = first or seconds
         print(f"| {name} | {1000 * seconds:.1f} | {seconds / first:.1f} | {memory:.0f} |")
 
 
 def main():
-    program = str(pathlib.Path(sys.argv[1]).resolve())
-    limits(program)
+    programs = [str(pathlib.Path(word).resolve()) for word in sys.argv[1:]]
+    limits(programs)
     print()
-    searches(program)
+    searches(programs)
 
 
 main()
