@@ -56,7 +56,8 @@ impl PairList {
     pub fn to_vec(&self, alloc: Global) -> Result<Vec<Pair>, AllocError>
         ensures { IfOk result (λ pairs. pairs.items ≡ self.now) }
     {
-        let mut pairs = Vec::from_slice(alloc, self.before.as_slice())?;
+        let mut pairs = Vec::with_capacity(alloc, self.before.len() + self.last.len())?;
+        pairs.extend_from_slice(self.before.as_slice())?;
         pairs.extend_from_slice(self.last.as_slice())?;
         Ok(pairs)
     }
