@@ -1,10 +1,10 @@
 -- The heads and tails of a matrix with one arc more, and its bound.
-use Rattle.std.proofs.Common.{◌≡◌, refl, sym, ap, ◌∙◌, subst, ℕ, ◌+◌, ◌-◌, ◌<◌, ◌≤◌, arith, neg_ℤ, inl, inr, set, ◌≢◌, ℤ, pos, ◌+ℤ◌, ◌-ℤ◌, ◌≤ℤ◌, List, [], ◌∷◌, ◌++◌, map, length, get_or, Option, None, Some}
+use Rattle.std.proofs.Common.{◌≡◌, refl, sym, ap, ◌∙◌, subst, ℕ, ◌+◌, ◌-◌, ◌<◌, ◌≤◌, arith, neg_ℤ, inl, inr, set, ℤ, pos, ◌+ℤ◌, ◌-ℤ◌, ◌≤ℤ◌, List, [], ◌∷◌, ◌++◌, map, length, get_or, Option, None, Some}
 use Rattle.std.specs.Option.{unwrap_or}
 use Rattle.std.specs.Prelude.{IfSome, FitsSigned}
 use Rattle.std.specs.Int.{int_max, w64}
 use Rattle.std.proofs.lemmas.Int.{ints}
-use Rattle.std.specs.List.{All, range_with_len}
+use Rattle.std.specs.List.{range_with_len}
 use Rattle.std.proofs.lemmas.List.{ext_get_or, get_or-set_same, get_or-set_other}
 use Rattle.std.proofs.lemmas.Bool.{cases_eq}
 use Rattle.std.proofs.lemmas.List.Elements.{All-head, All-push}
@@ -27,7 +27,7 @@ use Rattle.earliest.proofs.StartLaws.{AreEarliest-weights}
 use Rattle.earliest.proofs.TailLaws.{AreTails-weights}
 use Rattle.bounds.specs.Energy.{IsEnergyValue}
 use Rattle.bounds.specs.Windows.{AreEnds}
-use Rattle.bounds.specs.Bound.{critical_weight, IsEnergyOf, IsTrueBoundFor, IsBoundOf}
+use Rattle.bounds.specs.Bound.{critical_weight, IsEnergyOf, IsBoundOf}
 use Rattle.bounds.specs.With.{IsBoundBetween, IsBoundWith, IsTrueBoundWith}
 use Rattle.bounds.proofs.BoundLaws.{IsBoundOf-max}
 use Rattle.bounds.proofs.TrueBounds.{IsTrueBoundFor-bound}

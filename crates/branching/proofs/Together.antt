@@ -13,7 +13,7 @@ use Rattle.network.specs.Limits.{IsProject}
 use Rattle.network.specs.declared.limits.TheConstants.{MAX_ACTIVITIES}
 use Rattle.network.proofs.Running.{running_below}
 use Rattle.network.specs.Problem.{Problem, activity_count, end_of, resource_count, activities, duration, NameActivities}
-use Rattle.network.specs.Schedule.{start, makespan, is_running, running, Keeps, IsFeasible, IsWithinCapacities, IsLeastSchedule, ScheduleOf}
+use Rattle.network.specs.Schedule.{start, makespan, is_running, running, IsWithinCapacities, IsLeastSchedule, ScheduleOf}
 use Rattle.branching.specs.Subproblem.{Subproblem, NodeStandsFor}
 use Rattle.branching.specs.Fair.{IsReport, IsBelow, IsUnder, IsNewTo, IsKidOf}
 use Rattle.branching.specs.declared.report.TheConstants.{MAX_KIDS}

@@ -105,8 +105,7 @@ fn least_needed(
 {
     let loads = by_demand(alloc, project, overload.resource, &overload.running)?;
     let kept = needed(alloc, &loads, project.capacity(overload.resource))?;
-    let members = in_order(alloc, &kept)?;
-    Ok(members)
+    in_order(alloc, &kept)
 }
 
 /// What each of the members needs.

@@ -1,4 +1,4 @@
-use Rattle.std.proofs.Common.{rules, refl, ◌≡◌, ◌∙◌, ap, length, pos, w64, FitsSigned, Option, ℤ, arith, to_z, of_z}
+use Rattle.std.proofs.Common.{rules, refl, ◌≡◌, ◌∙◌, ap, pos, w64, FitsSigned, Option, ℤ, arith, to_z, of_z}
 use Rattle.std.specs.Option.{unwrap_or}
 use Rattle.std.proofs.lemmas.Int.{to_z-of_z}
 use Rattle.longest_path.specs.Insert.{entry_over}

@@ -1,4 +1,4 @@
-use Rattle.std.proofs.Common.{rules, refl, ◌≡◌, ◌-◌, ◌∙◌, sym, ap, length, pos, w64, FitsSigned, Option, Some, ℤ, ◌-ℤ◌, arith, to_z, of_z}
+use Rattle.std.proofs.Common.{rules, refl, ◌≡◌, ◌∙◌, ap, pos, w64, FitsSigned, Option, Some, ℤ, ◌-ℤ◌, arith, to_z, of_z}
 use Rattle.std.specs.Option.{unwrap_or}
 use Rattle.std.proofs.lemmas.Int.{to_z-of_z}
 use Rattle.network.specs.Problem.{duration, end_of}

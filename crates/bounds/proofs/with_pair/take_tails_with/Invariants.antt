@@ -1,4 +1,4 @@
-use Rattle.std.proofs.Common.{◌≡◌, ◌-◌, ℕ, ◌<◌, pos, ◌-ℤ◌, get_or}
+use Rattle.std.proofs.Common.{◌≡◌, ℕ, ◌<◌, pos, ◌-ℤ◌, get_or}
 use Rattle.std.specs.Option.{unwrap_or}
 use Rattle.network.specs.Problem.{duration, end_of}
 use Rattle.longest_path.specs.Insert.{entry_over}

@@ -1,11 +1,8 @@
-use Rattle.std.proofs.Common.{◌≡◌, ◌≤◌, length, map, ap, ◌∙◌, arith, List, ℤ, Vec}
+use Rattle.std.proofs.Common.{◌≡◌, ◌≤◌, length, ap, ◌∙◌, arith, List, ℤ}
 use Rattle.std.specs.Arc.{arc_value}
-use Rattle.std.specs.List.{Any}
 use Rattle.std.proofs.lemmas.Result.{IfOk-weaker}
 use Rattle.network.specs.Forbidden.{IsMinimalForbidden}
-use Rattle.network.specs.Schedule.{Keeps}
-use Rattle.branching.specs.Subproblem.{Subproblem, NodeStandsFor}
-use Rattle.branching.specs.Fair.{IsBelow}
+use Rattle.branching.specs.Subproblem.{Subproblem}
 use Rattle.branching.specs.declared.report.TheConstants.{MAX_KIDS}
 use Rattle.branching.specs.Pairs.{ordered_pairs}
 use Rattle.branching.proofs.Cover.{some_kept}

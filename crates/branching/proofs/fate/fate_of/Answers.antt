@@ -1,14 +1,10 @@
-use Rattle.std.proofs.Common.{◌≡◌, ◌∙◌, rules, ◌≤ℤ◌, ◌∷◌, ◌++◌, [], w64, subst, sym, ap}
+use Rattle.std.proofs.Common.{◌≡◌, ◌∙◌, rules, ◌≤ℤ◌, ◌∷◌, ◌++◌, [], w64}
 use Rattle.std.specs.Arc.{arc_value}
 use Rattle.std.proofs.lemmas.Int.{to_z-of_z}
 use Rattle.std.proofs.lemmas.List.Elements.{All-push}
 use mir.Val.{SFits}
-use Rattle.network.specs.Problem.{Problem, pair_arc}
 use Rattle.network.specs.Schedule.{Keeps, makespan}
-use Rattle.longest_path.specs.Insert.{ClosesNone}
-use Rattle.bounds.specs.Bound.{IsMatrixFor}
 use Rattle.bounds.specs.With.{IsBoundWith, IsTrueBoundWith}
-use Rattle.branching.specs.Subproblem.{Subproblem, IsNode}
 use Rattle.branching.specs.Fair.{IsUnder}
 use Rattle.branching.proofs.Nodes.{kid_is_node, kid_under}
 use Rattle.branching.proofs.fate.fate_of.Goals as goal

@@ -2,7 +2,7 @@ use Rattle.std.proofs.Common.{◌≡◌, ◌+◌, ◌-◌, ◌<◌, ◌≤◌, s
 use Rattle.std.proofs.lemmas.Int.{to_z-of_z}
 use mir.Val.{SFits}
 use Rattle.longest_path.specs.Insert.{AddsArc, ClosesCycle}
-use Rattle.branching.proofs.Rebuilding.{IsPartlyRebuilt, none_added, one_added, none_closes, all_added}
+use Rattle.branching.proofs.Rebuilding.{IsPartlyRebuilt, one_added, none_closes, all_added}
 use Rattle.branching.proofs.node.insert_pairs.Goals as goal
 
 pub unreachable-requires : goal.unreachable-requires

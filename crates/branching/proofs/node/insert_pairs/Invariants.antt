@@ -1,4 +1,3 @@
-use Rattle.std.proofs.Common.{ℕ}
 use Rattle.branching.proofs.Rebuilding.{IsPartlyRebuilt}
 use Rattle.branching.proofs.node.insert_pairs.Given as goal
 

@@ -1,13 +1,11 @@
-use Rattle.std.proofs.Common.{◌≡◌, sym, ap, subst, rules, [], w64}
+use Rattle.std.proofs.Common.{◌≡◌, sym, subst, rules, [], w64}
 use Rattle.std.specs.Arc.{arc_value}
 use Rattle.std.proofs.lemmas.Int.{to_z-of_z}
 use mir.Val.{SFits}
 use Rattle.network.specs.Limits.{IsProject}
 use Rattle.network.specs.Problem.{Problem, activity_count, arcs_of}
-use Rattle.network.specs.ProjectMatrix.{IsProjectMatrix}
 use Rattle.network.specs.Walk.{IsMatrixOf}
 use Rattle.bounds.specs.Bound.{IsMatrixFor, IsBoundOf, IsTrueBoundFor}
-use Rattle.branching.specs.Subproblem.{Subproblem, IsNode}
 use Rattle.branching.proofs.Nodes.{no_pairs, root_is_node, root_of}
 use Rattle.branching.proofs.node.root_and_matrix.Goals as goal
 

@@ -1,7 +1,6 @@
-use Rattle.std.proofs.Common.{rules, ◌≡◌, ◌∷◌, [], ◌++◌, List, length, take, sym, ◌∙◌, ap, Some}
+use Rattle.std.proofs.Common.{rules, ◌≡◌, ◌∷◌, [], ◌++◌, length, sym, ◌∙◌, Some}
 use Rattle.std.specs.Prelude.{slice_get}
-use Rattle.branching.specs.Path.{Path}
-use Rattle.branching.proofs.Paths.{begun_more, one_more, all_there, named_at, no_cycle_before}
+use Rattle.branching.proofs.Paths.{begun_more, one_more, all_there, no_cycle_before}
 use Rattle.branching.proofs.searcher.Searcher.go_on.Goals as goal
 
 pub loop-pair-preserved : goal.loop-pair-preserved

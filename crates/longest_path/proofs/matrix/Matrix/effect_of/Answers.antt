@@ -1,7 +1,7 @@
 use Rattle.std.proofs.Common.{refl, ◌≡◌, ◌<◌, length, sym, ◌∙◌, ap, w64, rules, Some}
 use Rattle.std.proofs.lemmas.Int.{to_z-of_z}
 use mir.Val.{SFits}
-use Rattle.network.specs.Walk.{entry, IsMatrixOf}
+use Rattle.network.specs.Walk.{entry}
 use Rattle.longest_path.specs.Relax.{joined, Reaches}
 use Rattle.longest_path.proofs.Over.{transitive, some_sum_fits}
 use Rattle.longest_path.proofs.Inserted.{GainsNothing, adds, still_matrix, closes}

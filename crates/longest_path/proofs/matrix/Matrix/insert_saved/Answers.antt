@@ -1,4 +1,4 @@
-use Rattle.std.proofs.Common.{◌≡◌, refl, length, sym, ◌∙◌, ap, w64, ℕ}
+use Rattle.std.proofs.Common.{◌≡◌, refl, length, sym, ◌∙◌, w64, ℕ}
 use Rattle.std.proofs.lemmas.Int.{to_z-of_z}
 use Rattle.network.specs.Walk.{entry}
 use Rattle.longest_path.specs.Insert.{arc_of, IsOver}
