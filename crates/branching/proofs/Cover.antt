@@ -1,16 +1,15 @@
 -- A feasible schedule keeps some ordered pair of any forbidden set whose members take time: at the
 -- greatest of their starts they don't all run, so one of them has ended.
-use Rattle.std.proofs.Common.{◌≡◌, ◌≢◌, ℕ, ◌<◌, true, ◌&&◌, List, [], ◌∷◌, get_or, subst, ◌⊎◌, inl, inr, arith}
+use Rattle.std.proofs.Common.{◌≡◌, ◌≢◌, ℕ, true, ◌&&◌, List, [], ◌∷◌, get_or, subst, ◌⊎◌, inl, inr, arith}
 use Rattle.std.specs.Prelude.{ℤ, pos, ◌+ℤ◌, ◌≤ℤ◌, ◌<ℤ◌, int_le, int_lt}
 use Rattle.std.specs.List.{All, Any, Contains}
-use Rattle.std.specs.List.Sorted.{IsStrictlyIncreasing}
 use Rattle.std.proofs.lemmas.Int.{ints, by_lt_z}
 use Rattle.std.proofs.lemmas.List.Elements.{All-nil, All-cons, All-contains}
 use Rattle.network.specs.declared.lag.Pair.{Pair}
-use Rattle.network.specs.Forbidden.{IsForbidden}
-use Rattle.network.specs.Problem.{Problem, activity_count, resource_count, duration, demand}
+use Rattle.network.specs.Problem.{Problem, activity_count, duration, demand}
 use Rattle.network.specs.Schedule.{start, is_running, Keeps, IsFeasible}
 use Rattle.branching.specs.Pairs.{pair_of, ordered_pairs}
+use Rattle.branching.specs.Right.{IsRightSet}
 use Rattle.branching.proofs.Lists.{here, there, BeginsFrom, rising_sum}
 use Rattle.branching.proofs.OrderedPairs.{contains_pair}
 
@@ -52,20 +51,12 @@ some_ends p s u (x ∷ xs) = longer (some_ends p s u xs)
 pub runs_when : (s u e : ℤ) → s ≤ℤ u → u <ℤ e → (int_le s u && int_lt u e) ≡ true
 runs_when s u e h k = grind (arith, ints)
 
--- members of a forbidden set, rising, that take time
-pub record AreForbiddenTogether (p : Problem) (k : ℕ) (set : List ℕ) : Type 0 where
-  pub in_range : k < resource_count p
-  pub rising : IsStrictlyIncreasing set
-  pub known : All (λ i. i < activity_count p) set
-  pub take_time : All (λ i. pos 0 <ℤ duration p i) set
-  pub forbidden : IsForbidden p k set
-
 -- they can't all run at the greatest of their starts
-not_all_run : (p : Problem) (s : List ℤ) (k : ℕ) (set : List ℕ) (m : ℕ) → IsFeasible p s → AreForbiddenTogether p k set → StartsLast s set m → All (EndsAfter p s (start s m)) set → ⊥
+not_all_run : (p : Problem) (s : List ℤ) (k : ℕ) (set : List ℕ) (m : ℕ) → IsFeasible p s → IsRightSet p k set → StartsLast s set m → All (EndsAfter p s (start s m)) set → ⊥
 not_all_run p s k set m feasible together last after =
     let u : ℤ = start s m in
     let run : All (λ i. is_running p s u i ≡ true) set = λ j d l. runs_when (start s (get_or set j d)) u (start s (get_or set j d) +ℤ duration p (get_or set j d)) (last.last j d l) (after j d l) in
-    let used = rising_sum (demand p k) (is_running p s u) 0 (activity_count p) set (begins set) together.rising (λ j d l. omega (arith, together.known j d l)) run in
+    let used = rising_sum (demand p k) (is_running p s u) 0 (activity_count p) set (begins set) together.rising (λ j d l. omega (arith, together.named j d l)) run in
     let fits = feasible.within u k together.in_range in
     let exceeds = together.forbidden in
     omega (arith, used, fits, exceeds)
@@ -75,7 +66,7 @@ not_all_run p s k set m feasible together last after =
     begins (x ∷ xs) = omega arith
 
 -- so two of them are disjoint, and one ordered pair is kept
-pub some_pair_kept : (p : Problem) (s : List ℤ) (k : ℕ) (set : List ℕ) → IsFeasible p s → AreForbiddenTogether p k set → (pair : Pair) × (Contains (ordered_pairs set) pair × Keeps p s pair)
+pub some_pair_kept : (p : Problem) (s : List ℤ) (k : ℕ) (set : List ℕ) → IsFeasible p s → IsRightSet p k set → (pair : Pair) × (Contains (ordered_pairs set) pair × Keeps p s pair)
 some_pair_kept p s k [] feasible together = absurd (let exceeds = together.forbidden in omega arith)
 some_pair_kept p s k (x ∷ xs) feasible together = by_last (starts_last s x xs)
   where
@@ -92,7 +83,7 @@ some_pair_kept p s k (x ∷ xs) feasible together = by_last (starts_last s x xs)
         by_ends (inr after) = absurd (not_all_run p s k (x ∷ xs) m feasible together last after)
 
 -- each feasible schedule keeps one of the ordered pairs
-pub some_kept : (p : Problem) (k : ℕ) (set : List ℕ) → AreForbiddenTogether p k set → (s : List ℤ) → IsFeasible p s → Any (Keeps p s) (ordered_pairs set)
+pub some_kept : (p : Problem) (k : ℕ) (set : List ℕ) → IsRightSet p k set → (s : List ℤ) → IsFeasible p s → Any (Keeps p s) (ordered_pairs set)
 some_kept p k set together s feasible = as_any (some_pair_kept p s k set feasible together)
   where
     as_any : (pair : Pair) × (Contains (ordered_pairs set) pair × Keeps p s pair) → Any (Keeps p s) (ordered_pairs set)

@@ -8,7 +8,8 @@ use Rattle.std.proofs.lemmas.List.Elements.{All-nil, All-cons, All-push, All-app
 use Rattle.network.specs.Problem.{Problem}
 use Rattle.network.specs.Schedule.{ScheduleOf, IsFeasible, Keeps, makespan}
 use Rattle.branching.specs.Subproblem.{Subproblem, NodeStandsFor}
-use Rattle.branching.specs.Fair.{Expansion, IsFair, IsBelow, IsUnder, IsShorterThan, IsFoundFor, IsKidOf}
+use Rattle.branching.specs.Fair.{Expansion, IsFair, IsShorterThan, IsFoundFor, IsKidOf}
+use Rattle.branching.specs.Ceiling.{IsBelow, IsUnder}
 use Rattle.branching.specs.Covered.{IsNodeOf, IsRootOf, IsScheduleFor, IsCovered, IsLeastBound, SearchState, IsSoundState, ceiling_of}
 use Rattle.branching.specs.Takes.{DropsOver, IsShorterOf, IsTake}
 use Rattle.branching.proofs.Lists.{here, any_cases, any_parts, any_left, any_right}
@@ -67,7 +68,7 @@ below_from_shorter None ceiling s e shorter = rw e tt
 below_from_shorter (Some best) ceiling s e shorter = rw e shorter
 
 kid_is_node : (p : Problem) (node kid : Subproblem) → node.project ≡ p → IsKidOf node kid → IsNodeOf p kid
-kid_is_node p node kid e kid_of = record { project = kid_of.project ∙ e; is_node = kid_of.is_node }
+kid_is_node p node kid e kid_of = record { project = kid_of.adds.project ∙ e; is_node = kid_of.adds.is_node }
 
 best_after : (p : Problem) (best after : Option ScheduleOf) (found : Option ScheduleOf) (node : Subproblem) → node.project ≡ p → IfSome best (IsScheduleFor p) → IfSome found (IsFoundFor node) → IfSome after (λ s. (Some s ≡ best) ⊎ (Some s ≡ found)) → IfSome after (IsScheduleFor p)
 best_after p best None found node e of_best of_found from = tt

@@ -1,10 +1,14 @@
 pub mod Lists
 pub mod OrderedPairs
 pub mod Cover
-pub mod Together
 pub mod Nodes
 pub mod Paths
 pub mod Rebuilding
-pub mod Kids
+pub mod Forced
+pub mod ForcedMatrices
+pub mod Rounds
+pub mod Forcings
+pub mod Fates
+pub mod Together
 pub mod Covers
 pub mod Outcomes

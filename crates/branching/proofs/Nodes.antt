@@ -1,30 +1,30 @@
 -- What a node's matrix says: of the schedules that keep its pairs, and of one pair more.
 use Rattle.std.proofs.Common.{◌≡◌, refl, sym, ap, subst, ℕ, ◌-◌, ◌<◌, ◌≤◌, arith, ℤ, pos, ◌+ℤ◌, ◌≤ℤ◌, ◌<ℤ◌, List, [], ◌∷◌, ◌++◌, length, Option, None, Some, true, false, ◌∙◌}
 use Rattle.std.specs.Option.{unwrap_or}
-use Rattle.std.specs.Prelude.{IfSome, FitsSigned, neg_ℤ}
+use Rattle.std.specs.Prelude.{IfSome, FitsSigned, neg_ℤ, int_lt, if◌then◌else◌}
 use Rattle.std.specs.Int.{w64}
-use Rattle.std.specs.Int.Signed.{lt_z}
+use Rattle.std.specs.Int.Signed.{le_z, lt_z}
 use Rattle.std.proofs.lemmas.Int.{ints}
 use Rattle.std.proofs.lemmas.List.Elements.{All-nil, All-head}
+use Rattle.network.specs.declared.lag.Lag.{Lag}
 use Rattle.network.specs.declared.lag.Pair.{Pair}
 use Rattle.network.specs.Problem.{Problem, activity_count, end_of, duration, pair_arc, arcs_of, NameActivities}
 use Rattle.network.specs.Limits.{IsProject, IsAmount, IsWithin}
 use Rattle.network.specs.ProjectMatrix.{IsProjectMatrix}
 use Rattle.network.specs.declared.limits.TheConstants.{MAX_AMOUNT, MAX_LAG_WEIGHT, MAX_WALK_WEIGHT}
-use Rattle.network.specs.Schedule.{start, makespan, IsSchedule, Keeps, KeepsAll}
+use Rattle.branching.specs.declared.with_arc.TheConstants.{MAX_WAY_WITH}
+use Rattle.network.specs.Schedule.{start, IsSchedule, KeepsAll}
 use Rattle.network.specs.Walk.{Rows, weight, entry, IsMatrixOf, IsGreatestWeight, HasPositiveCycle}
-use Rattle.network.specs.Verdict.{StandsFor}
 use Rattle.network.proofs.Schedules.{walk_holds, arcs_met, arcs_of-push}
-use Rattle.longest_path.specs.Insert.{rows_over, ClosesNone}
+use Rattle.longest_path.specs.Insert.{entry_over, rows_over, ClosesNone}
+use Rattle.longest_path.specs.Relax.{greater, joined}
+use Rattle.longest_path.proofs.RowsOver.{length-rows_over, entry-rows_over}
 use Rattle.longest_path.proofs.Reach.{joined-some, same_some}
 use Rattle.longest_path.proofs.Inserted.{closes}
 use Rattle.earliest.proofs.Entries.{from_start, to_end, reached}
-use Rattle.bounds.specs.Bound.{IsBoundOf, IsTrueBoundFor}
-use Rattle.bounds.specs.With.{IsBoundWith, IsTrueBoundWith}
+use Rattle.bounds.specs.Bound.{critical_weight, IsBoundOf, IsTrueBoundFor}
 use Rattle.bounds.proofs.WithLaws.{matrix_more}
 use Rattle.branching.specs.Covered.{IsRootOf}
-use Rattle.branching.specs.Fair.{IsUnder}
-use Rattle.branching.specs.Fate.{IsNodeWith}
 use Rattle.branching.specs.Subproblem.{Subproblem, IsNode, IsTiedTo}
 
 -- both activities of the pair are there
@@ -49,22 +49,32 @@ closes_over p pairs pair rows back named m e positive =
     let found = closes (activity_count p) (pair_arc p pair) rows ends.0 ends.1 (back +ℤ duration p pair.before, way, positive) (arcs_of p pairs) m in
     rw (arcs_of-push p pairs pair) (pair.before, found.0, found.1)
 
--- a schedule that keeps the pair lasts at least the way to it, its first activity, and the way from it
-pub least_with_holds : (p : Problem) (pairs : List Pair) (pair : Pair) (rows : Rows) → IsProject p → NameActivities p (pair ∷ []) → IsMatrixOf (activity_count p) (arcs_of p pairs) rows → (s : List ℤ) → StandsFor p pairs s → Keeps p s pair →
-    ((unwrap_or (entry rows 0 pair.before) (pos 0) +ℤ duration p pair.before) +ℤ unwrap_or (entry rows pair.after (end_of p)) (pos 0)) ≤ℤ makespan s
-least_with_holds p pairs pair rows is named m s stands keeps =
+-- the way over an arc weighs at most the greater of it and another
+way_at_most : (other first last : Option ℤ) (d head rest : ℤ) → first ≡ Some head → last ≡ Some rest →
+    ((unwrap_or first (pos 0) +ℤ d) +ℤ unwrap_or last (pos 0)) ≤ℤ unwrap_or (greater other (joined (joined first (Some d)) last)) (pos 0)
+way_at_most other None last d head rest e f = cc
+way_at_most other (Some x) None d head rest e f = cc
+way_at_most None (Some x) (Some y) d head rest e f = omega (arith, ints)
+way_at_most (Some z) (Some x) (Some y) d head rest e f = by_lt z ((x +ℤ d) +ℤ y)
+  where
+    by_lt : (z w : ℤ) → w ≤ℤ (if int_lt z w then w else z)
+    by_lt z w = grind (arith, ints)
+
+-- the way to the pair, its first activity, and the way from it weigh at most the critical weight with the pair
+pub least_with_critical : (p : Problem) (pairs : List Pair) (pair : Pair) (rows : Rows) → IsProjectMatrix p pairs rows → NameActivities p (pair ∷ []) →
+    ((unwrap_or (entry rows 0 pair.before) (pos 0) +ℤ duration p pair.before) +ℤ unwrap_or (entry rows pair.after (end_of p)) (pos 0)) ≤ℤ critical_weight (rows_over (pair_arc p pair) rows)
+least_with_critical p pairs pair rows m named =
     let ends = ends_of p pair named in
-    let two : 2 ≤ activity_count p = is.two_dummies in
+    let two : 2 ≤ activity_count p = m.limits.two_dummies in
+    let size : length rows ≡ activity_count p = m.matrix.square.0 in
     let first : 0 < activity_count p = omega arith in
     let last : end_of p < activity_count p = omega arith in
-    let head = reached (arcs_of p pairs) 0 pair.before (entry rows 0 pair.before) (pos 0) (m.greatest 0 pair.before first ends.0) (from_start p pairs pair.before ends.0) in
-    let rest = reached (arcs_of p pairs) pair.after (end_of p) (entry rows pair.after (end_of p)) (duration p pair.after) (m.greatest pair.after (end_of p) ends.1 last) (to_end p pairs pair.after is ends.1) in
-    let before : (start s 0 +ℤ head.value) ≤ℤ start s pair.before = entry_holds p pairs rows m 0 pair.before head.value first ends.0 head.is s stands.feasible.schedule stands.keeps in
-    let after : (start s pair.after +ℤ rest.value) ≤ℤ start s (end_of p) = entry_holds p pairs rows m pair.after (end_of p) rest.value ends.1 last rest.is s stands.feasible.schedule stands.keeps in
-    let between : (start s pair.before +ℤ duration p pair.before) ≤ℤ start s pair.after = keeps in
-    let zero_start : start s 0 ≡ pos 0 = stands.feasible.schedule.from_zero in
-    let whole : start s (end_of p) ≡ makespan s = ap (λ n. start s (n - 1)) (sym stands.feasible.schedule.whole) in
-    rw (head.is, rest.is) (omega (arith, ints))
+    let e : Lag = pair_arc p pair in
+    let head = reached (arcs_of p pairs) 0 pair.before (entry rows 0 pair.before) (pos 0) (m.matrix.greatest 0 pair.before first ends.0) (from_start p pairs pair.before ends.0) in
+    let rest = reached (arcs_of p pairs) pair.after (end_of p) (entry rows pair.after (end_of p)) (duration p pair.after) (m.matrix.greatest pair.after (end_of p) ends.1 last) (to_end p pairs pair.after m.limits ends.1) in
+    let whole : critical_weight (rows_over e rows) ≡ unwrap_or (entry_over e rows 0 (end_of p)) (pos 0) =
+    ap (λ n. unwrap_or (entry (rows_over e rows) 0 (n - 1)) (pos 0)) (length-rows_over e rows ∙ size) ∙ ap (λ (o : Option ℤ). unwrap_or o (pos 0)) (entry-rows_over e rows 0 (end_of p) (omega arith) (omega arith)) in
+    rw whole (way_at_most (entry rows 0 (end_of p)) (entry rows 0 pair.before) (entry rows pair.after (end_of p)) (duration p pair.before) head.value rest.value head.is rest.is)
 
 pub amount_within : (z : ℤ) → IsAmount z → IsWithin MAX_LAG_WEIGHT z
 amount_within z amount =
@@ -91,6 +101,14 @@ sum_fits x y within amount =
     let high : y ≤ℤ MAX_AMOUNT = amount.at_most in
     omega (arith, ints)
 
+pub way_amount_fits : (x y : ℤ) → IsWithin MAX_WAY_WITH x → IsAmount y → FitsSigned w64 (x +ℤ y)
+way_amount_fits x y within amount =
+    let up : x ≤ℤ MAX_WAY_WITH = within.at_most in
+    let down : neg_ℤ MAX_WAY_WITH ≤ℤ x = within.at_least in
+    let low : pos 0 ≤ℤ y = amount.at_least in
+    let high : y ≤ℤ MAX_AMOUNT = amount.at_most in
+    omega (arith, ints)
+
 pub sums_fit : (x y z : ℤ) → IsWithin MAX_WALK_WEIGHT x → IsAmount y → IsWithin MAX_WALK_WEIGHT z → FitsSigned w64 ((x +ℤ y) +ℤ z)
 sums_fit x y z within amount within_z =
     let up : x ≤ℤ MAX_WALK_WEIGHT = within.at_most in
@@ -100,6 +118,9 @@ sums_fit x y z within amount within_z =
     let up_z : z ≤ℤ MAX_WALK_WEIGHT = within_z.at_most in
     let down_z : neg_ℤ MAX_WALK_WEIGHT ≤ℤ z = within_z.at_least in
     omega (arith, ints)
+
+pub positive_unless : (x : ℤ) → le_z x (pos 0) ≡ false → pos 0 <ℤ x
+positive_unless x h = grind (arith, ints)
 
 pub positive_from : (x : ℤ) → lt_z (pos 0) x ≡ true → pos 0 <ℤ x
 positive_from x h = grind (arith, ints)
@@ -116,30 +137,10 @@ closes_none_without p pair rows e = λ x f. let bad : None ≡ Some x = sym e �
 pub not_positive : (x : ℤ) → lt_z (pos 0) x ≡ false → x ≤ℤ pos 0
 not_positive x h = grind (arith, ints)
 
--- the node with one pair more, by the node's own matrix
-pub kid_is_node : (node : Subproblem) (pair : Pair) (rows : Rows) (bound : ℤ) → IsTiedTo node rows → NameActivities node.project (pair ∷ []) → ClosesNone (pair_arc node.project pair) rows → IsBoundWith node.project rows pair bound → IsTrueBoundWith node.project rows pair bound →
-    IsNode (record { project = node.project; pairs = node.pairs ++ pair ∷ []; bound = bound })
-kid_is_node node pair rows bound tied named none value holds =
-    let m = matrix_more node.project node.pairs pair rows named none tied.matrix in
-    record {
-      limits = m.limits;
-      named = m.named;
-      is_live = m.matrix.no_cycle;
-      bound_of = record { rows = rows_over (pair_arc node.project pair) rows; matrix = m; bound_of = value node.pairs (rows_over (pair_arc node.project pair) rows) tied.matrix m };
-      true_bound = holds node.pairs tied.matrix;
-    }
-
--- the node of these parts is the one with the pair added
-pub kid_under : (node kid : Subproblem) (pair : Pair) (bound : ℤ) (ceiling : Option ℤ) → kid ≡ record { project = node.project; pairs = node.pairs ++ pair ∷ []; bound = bound } → IsNode (record { project = node.project; pairs = node.pairs ++ pair ∷ []; bound = bound }) → IsUnder ceiling bound →
-    IsNodeWith node pair kid × IsUnder ceiling kid.bound
-kid_under node kid pair bound ceiling is is_node under = (
-  record {
-    project = ap (λ (k : Subproblem). k.project) is;
-    pairs = ap (λ (k : Subproblem). k.pairs) is;
-    is_node = subst (λ (k : Subproblem). IsNode k) (sym is) is_node;
-  },
-  subst (λ (b : ℤ). IsUnder ceiling b) (sym (ap (λ (k : Subproblem). k.bound) is)) under,
-)
+-- the matrix with one pair more that closes nothing
+pub matrix_with : (node : Subproblem) (pair : Pair) (rows : Rows) → IsTiedTo node rows → NameActivities node.project (pair ∷ []) → ClosesNone (pair_arc node.project pair) rows →
+    IsProjectMatrix node.project (node.pairs ++ pair ∷ []) (rows_over (pair_arc node.project pair) rows)
+matrix_with node pair rows tied named none = matrix_more node.project node.pairs pair rows named none tied.matrix
 
 -- the node without pairs
 pub root_is_node : (p : Problem) (rows : Rows) (bound : ℤ) → IsProjectMatrix p [] rows → IsBoundOf p rows bound → IsTrueBoundFor p rows bound → IsNode (record { project = p; pairs = []; bound = bound })

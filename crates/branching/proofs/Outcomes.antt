@@ -10,7 +10,8 @@ use Rattle.network.specs.Verdict.{HasNoSchedule}
 use Rattle.network.specs.Walk.{HasPositiveCycle}
 use Rattle.network.proofs.Schedules.{no_schedule_on_cycle}
 use Rattle.branching.specs.Subproblem.{Subproblem, NodeStandsFor}
-use Rattle.branching.specs.Fair.{IsUnder, IsShorterThan}
+use Rattle.branching.specs.Ceiling.{IsUnder}
+use Rattle.branching.specs.Fair.{IsShorterThan}
 use Rattle.branching.specs.Covered.{IsNodeOf, IsRootOf, IsScheduleFor, IsLeastBound, SearchState, IsSoundState, ceiling_of}
 use Rattle.branching.specs.Takes.{IsTake, Takes, no_take, one_more, IsLeft, IsOutcomeOf, StopsOnlyAfter, first_state}
 use Rattle.branching.specs.Verdicts.{IsStoppedAt, IsTrueOf, StopsBelowBest}

@@ -2,7 +2,7 @@
 -- pairs that are new to the node.
 use Rattle.std.proofs.Common.{◌≡◌, refl, sym, ap, ℕ, ◌-◌, ◌<◌, ◌≤◌, true, ◌&&◌, List, [], ◌∷◌, length, get_or, arith, Option, Some, None}
 use Rattle.std.specs.Prelude.{ℤ, pos, ◌+ℤ◌, ◌≤ℤ◌, ◌<ℤ◌, int_le, int_lt}
-use Rattle.std.specs.List.{All, Any, Contains}
+use Rattle.std.specs.List.{All, Contains}
 use Rattle.std.specs.List.Sorted.{IsStrictlyIncreasing}
 use Rattle.std.proofs.lemmas.Int.{ints}
 use Rattle.std.proofs.lemmas.List.Elements.{All-nil, All-contains, All-weaker, Contains-get_or, filter_passes}
@@ -14,13 +14,18 @@ use Rattle.network.specs.declared.limits.TheConstants.{MAX_ACTIVITIES}
 use Rattle.network.proofs.Running.{running_below}
 use Rattle.network.specs.Problem.{Problem, activity_count, end_of, resource_count, activities, duration, NameActivities}
 use Rattle.network.specs.Schedule.{start, makespan, is_running, running, IsWithinCapacities, IsLeastSchedule, ScheduleOf}
-use Rattle.branching.specs.Subproblem.{Subproblem, NodeStandsFor}
-use Rattle.branching.specs.Fair.{IsReport, IsBelow, IsUnder, IsNewTo, IsKidOf}
+use Rattle.forbidden_sets.specs.MinimalSet.{MinimalSet}
+use Rattle.branching.specs.Subproblem.{Subproblem, NodeStandsFor, IsNode}
 use Rattle.branching.specs.declared.report.TheConstants.{MAX_KIDS}
 use Rattle.branching.specs.Pairs.{pair_of, ordered_pairs}
+use Rattle.branching.specs.Right.{IsRightSet, IsCutUnder}
+use Rattle.branching.specs.Ceiling.{IsBelow, Reaches}
+use Rattle.branching.specs.Fates.{FateOf, AreFates}
+use Rattle.branching.specs.Fair.{IsNewTo, IsKidOf, IsReport}
 use Rattle.branching.proofs.Lists.{here, BeginsFrom, rising_length}
 use Rattle.branching.proofs.OrderedPairs.{all_pairs, count_pairs}
-use Rattle.branching.proofs.Cover.{AreForbiddenTogether}
+use Rattle.branching.proofs.Cover.{some_kept}
+use Rattle.branching.proofs.Fates.{fates_kids, fates_cover, fates_few}
 
 -- ---- the running activities
 
@@ -49,17 +54,17 @@ takes_time p s t i h =
     let ends = ends_if (start s i) t (start s i +ℤ duration p i) h in
     omega (arith, ints)
 
-forbidden_together : (p : Problem) (s : List ℤ) (t : ℤ) (k : ℕ) (set : List ℕ) → k < resource_count p → RunTogether p s t set → IsStrictlyIncreasing set → IsForbidden p k set → AreForbiddenTogether p k set
+forbidden_together : (p : Problem) (s : List ℤ) (t : ℤ) (k : ℕ) (set : List ℕ) → k < resource_count p → RunTogether p s t set → IsStrictlyIncreasing set → IsForbidden p k set → IsRightSet p k set
 forbidden_together p s t k set in_range together rising forbidden = record {
   in_range = in_range;
   rising = rising;
-  known = together.known;
+  named = together.known;
   take_time = All-weaker (λ i. is_running p s t i ≡ true) (λ i. pos 0 <ℤ duration p i) (λ i h. takes_time p s t i h) set together.run;
   forbidden = forbidden;
 }
 
 -- a minimal forbidden set of activities that run together
-pub minimal_together : (p : Problem) (s : List ℤ) (t : ℤ) (k : ℕ) (runs set : List ℕ) → k < resource_count p → runs ≡ running p s t → All (Contains runs) set → IsMinimalForbidden p k set → AreForbiddenTogether p k set
+pub minimal_together : (p : Problem) (s : List ℤ) (t : ℤ) (k : ℕ) (runs set : List ℕ) → k < resource_count p → runs ≡ running p s t → All (Contains runs) set → IsMinimalForbidden p k set → IsRightSet p k set
 minimal_together p s t k runs set in_range e within minimal = forbidden_together p s t k set in_range (run_together p s t runs set e within) minimal.rising minimal.forbidden
 
 -- ---- their pairs are new to the node
@@ -98,10 +103,10 @@ lies_between p i is known long =
     let not_end : i ≡ end_of p → ⊥ = λ e. let same : duration p i ≡ duration p (end_of p) = ap (duration p) e in omega (arith, ints) in
     (omega (arith, not_start), omega (arith, not_end))
 
-pub few_pairs : (p : Problem) (k : ℕ) (set : List ℕ) → IsProject p → AreForbiddenTogether p k set → length (ordered_pairs set) ≤ MAX_KIDS
+pub few_pairs : (p : Problem) (k : ℕ) (set : List ℕ) → IsProject p → IsRightSet p k set → length (ordered_pairs set) ≤ MAX_KIDS
 few_pairs p k set is together =
     let between : (i : ℕ) → Contains set i → (1 ≤ i) × (i < 1001) = λ i c.
-    lies_between p i is (All-contains (λ a. a < activity_count p) set i together.known c) (All-contains (λ a. pos 0 <ℤ duration p a) set i together.take_time c) in
+    lies_between p i is (All-contains (λ a. a < activity_count p) set i together.named c) (All-contains (λ a. pos 0 <ℤ duration p a) set i together.take_time c) in
     let members : length set ≤ 1000 = rising_length 1 1000 set (begins set (λ i c. (between i c).0)) together.rising (λ j d l. (between (get_or set j d) (Contains-get_or set j d l)).1) in
     let fewer : length set - 1 ≤ 999 = omega arith in
     omega (arith, count_pairs set, mul-le-mul_left (length set) fewer, mul-le-mul_right 999 members)
@@ -112,24 +117,33 @@ few_pairs p k set is together =
 
 -- ---- reports
 
-pub report_cut : (node : Subproblem) (ceiling : Option ℤ) → ((s : List ℤ) → NodeStandsFor node s → ¬ IsBelow ceiling s) → IsReport (record { node = node; ceiling = ceiling; found = None; kids = [] })
-report_cut node ceiling none = record {
+-- a bound at the ceiling cuts the node
+pub node_cut : (node : Subproblem) (ceiling : Option ℤ) → IsNode node → Reaches ceiling node.bound → IsCutUnder node.project node.pairs ceiling
+node_cut node None is reaches = reaches
+node_cut node (Some limit) is reaches = record { is_live = is.is_live; bound = node.bound; bound_of = is.bound_of; reaches = reaches }
+
+pub report_cut : (node : Subproblem) (ceiling : Option ℤ) → IsNode node → Reaches ceiling node.bound → ((s : List ℤ) → NodeStandsFor node s → ¬ IsBelow ceiling s) →
+    IsReport (record { node = node; ceiling = ceiling; found = None; split = None; fates = []; kids = [] })
+report_cut node ceiling is reaches none = record {
+  is_node = is;
   fair = record {
     of_found = tt;
     of_kids = All-nil (IsKidOf node);
     covers = λ s stands below shorter. absurd (none s stands below);
     few = omega arith;
   };
-  under = All-nil (λ (kid : Subproblem). IsUnder ceiling kid.bound);
-  found_alone = tt;
+  told = record { no_fates = refl; no_kids = refl; of_found = node_cut node ceiling is reaches };
 }
 
-pub report_found : (node : Subproblem) (ceiling : Option ℤ) (found : ScheduleOf) → found.project ≡ node.project → IsLeastSchedule node.project node.pairs found.starts → IsWithinCapacities node.project found.starts → 2 ≤ activity_count node.project → IsReport (record { node = node; ceiling = ceiling; found = Some found; kids = [] })
-report_found node ceiling found project least within two = record {
+pub report_found : (node : Subproblem) (ceiling : Option ℤ) (found : ScheduleOf) → IsNode node → found.project ≡ node.project → IsLeastSchedule node.project node.pairs found.starts → IsWithinCapacities node.project found.starts →
+    IsReport (record { node = node; ceiling = ceiling; found = Some found; split = None; fates = []; kids = [] })
+report_found node ceiling found is project least within = record {
+  is_node = is;
   fair = record {
     of_found = record { project = project; stands = record { feasible = record { schedule = least.schedule; within = within }; keeps = least.keeps } };
     of_kids = All-nil (IsKidOf node);
     covers = λ s stands below shorter.
+        let two : 2 ≤ activity_count node.project = is.limits.two_dummies in
         let last : end_of node.project < activity_count node.project = omega arith in
         let long : start found.starts (end_of node.project) ≤ℤ start s (end_of node.project) = least.least s stands.feasible.schedule stands.keeps (end_of node.project) last in
         let here : start found.starts (end_of node.project) ≡ makespan found.starts = ap (λ n. start found.starts (n - 1)) (sym least.schedule.whole) in
@@ -137,19 +151,23 @@ report_found node ceiling found project least within two = record {
         absurd (omega (arith, ints, shorter));
     few = omega arith;
   };
-  under = All-nil (λ (kid : Subproblem). IsUnder ceiling kid.bound);
-  found_alone = refl;
+  told = record { no_fates = refl; no_kids = refl; of_found = least };
 }
 
--- a report with nothing found is fair where some pair is always kept
-pub report_kids : (node : Subproblem) (ceiling : Option ℤ) (kids : List Subproblem) → All (IsKidOf node) kids → ((s : List ℤ) → NodeStandsFor node s → IsBelow ceiling s → Any (λ kid. NodeStandsFor kid s) kids) → length kids ≤ MAX_KIDS → All (λ kid. IsUnder ceiling kid.bound) kids → IsReport (record { node = node; ceiling = ceiling; found = None; kids = kids })
-report_kids node ceiling kids of_node covers few under = record {
-  fair = record {
-    of_found = tt;
-    of_kids = of_node;
-    covers = λ s stands below shorter. covers s stands below;
-    few = few;
-  };
-  under = under;
-  found_alone = tt;
-}
+-- fates of the ordered pairs of a set make a fair report, since some pair is always kept
+pub report_split : (node : Subproblem) (ceiling : Option ℤ) (set : MinimalSet) (fates : List FateOf) (kids : List Subproblem) → IsNode node → IsRightSet node.project set.resource set.members → All (IsNewTo node) (ordered_pairs set.members) →
+    AreFates node ceiling (ordered_pairs set.members) fates kids →
+    IsReport (record { node = node; ceiling = ceiling; found = None; split = Some set; fates = fates; kids = kids })
+report_split node ceiling set fates kids is right new are =
+    let pairs : List Pair = ordered_pairs set.members in
+    let most : length pairs ≤ MAX_KIDS = few_pairs node.project set.resource set.members is.limits right in
+    record {
+      is_node = is;
+      fair = record {
+        of_found = tt;
+        of_kids = fates_kids node ceiling pairs fates kids are new;
+        covers = λ s stands below shorter. fates_cover node ceiling pairs fates kids are s stands below (some_kept node.project set.resource set.members right s stands.feasible);
+        few = omega (arith, fates_few node ceiling pairs fates kids are, most);
+      };
+      told = record { right_set = right; none_found = refl; fates = are };
+    }

@@ -1,25 +1,25 @@
 -- What the expansion of a node gives, and when a report on it is fair.
-use Rattle.std.specs.Prelude.{◌≡◌, ◌≤◌, ℤ, ◌<ℤ◌, Option, IfSome, List, [], ◌∷◌, ◌++◌, length}
+use Rattle.std.specs.Prelude.{◌≡◌, ◌≤◌, ℤ, ◌<ℤ◌, Option, None, IfSome, MatchOption, List, [], length}
 use Rattle.std.specs.List.{All, Any}
 use Rattle.network.specs.declared.lag.Pair.{Pair}
 use Rattle.network.specs.Schedule.{ScheduleOf, Keeps, IsLeastSchedule, makespan}
+use Rattle.forbidden_sets.specs.MinimalSet.{MinimalSet}
 use Rattle.branching.specs.declared.report.TheConstants.{MAX_KIDS}
 use Rattle.branching.specs.Subproblem.{Subproblem, NodeStandsFor, IsNode}
+use Rattle.branching.specs.Right.{IsRightSet, IsCutUnder}
+use Rattle.branching.specs.Pairs.{ordered_pairs}
+use Rattle.branching.specs.Ceiling.{IsBelow, IsUnder}
+use Rattle.branching.specs.Fates.{FateOf, IsKidBy, AreFates}
 
--- what a `Report` is: a node, the ceiling it was expanded under, a schedule if one was found, and kids
+-- what a `Report` is: a node, the ceiling it was expanded under, a schedule if one was found, the set that
+-- was split if one was, what became of its ordered pairs, and kids
 pub record Expansion : Type 0 where
   pub node : Subproblem
   pub ceiling : Option ℤ
   pub found : Option ScheduleOf
+  pub split : Option MinimalSet
+  pub fates : List FateOf
   pub kids : List Subproblem
-
--- the makespan is below the ceiling, if there is one
-abbrev pub IsBelow : Option ℤ → List ℤ → Type 0
-IsBelow ceiling s = IfSome ceiling (λ c. makespan s <ℤ c)
-
--- the bound is below the ceiling, if there is one
-abbrev pub IsUnder : Option ℤ → ℤ → Type 0
-IsUnder ceiling bound = IfSome ceiling (λ c. bound <ℤ c)
 
 -- the schedule is shorter than the best, if there is one
 abbrev pub IsShorterThan : Option ScheduleOf → List ℤ → Type 0
@@ -29,14 +29,11 @@ IsShorterThan best s = IfSome best (λ best. makespan s <ℤ makespan best.start
 abbrev pub IsNewTo : Subproblem → Pair → Type 0
 IsNewTo node pair = (s : List ℤ) → IsLeastSchedule node.project node.pairs s → ¬ Keeps node.project s pair
 
--- a kid adds pairs at the end of its node's, the first of them new to the node
+-- a kid adds a pair that is new to the node at the end of its pairs, and then forced pairs
 pub record IsKidOf (node kid : Subproblem) : Type 0 where
-  pub project : kid.project ≡ node.project
   pub first : Pair
-  pub forced : List Pair
-  pub pairs : kid.pairs ≡ node.pairs ++ first ∷ forced
   pub is_new : IsNewTo node first
-  pub is_node : IsNode kid
+  pub adds : IsKidBy node first kid
 
 -- what is found is a schedule of the project that the node stands for
 pub record IsFoundFor (node : Subproblem) (found : ScheduleOf) : Type 0 where
@@ -51,15 +48,30 @@ pub record IsFair (report : Expansion) : Type 0 where
   pub covers : (s : List ℤ) → NodeStandsFor report.node s → IsBelow report.ceiling s → IsShorterThan report.found s → Any (λ kid. NodeStandsFor kid s) report.kids
   pub few : length report.kids ≤ MAX_KIDS
 
--- what a `Report` keeps: it is fair, each kid's bound is below the ceiling, and where a schedule is found
--- there are no kids
+-- a set was split: it may be, nothing is found, and there is a right fate for each of its ordered pairs
+pub record IsSplitBy (report : Expansion) (set : MinimalSet) : Type 0 where
+  pub right_set : IsRightSet report.node.project set.resource set.members
+  pub none_found : report.found ≡ None
+  pub fates : AreFates report.node report.ceiling (ordered_pairs set.members) report.fates report.kids
+
+-- no set was split: what is found is the node's least schedule, or nothing is and the node is cut
+pub record IsUnsplit (report : Expansion) : Type 0 where
+  pub no_fates : report.fates ≡ []
+  pub no_kids : report.kids ≡ []
+  pub of_found : MatchOption report.found (IsCutUnder report.node.project report.node.pairs report.ceiling) (λ found. IsLeastSchedule report.node.project report.node.pairs found.starts)
+
+-- what a `Report` keeps: it is fair, and tells how
 pub record IsReport (report : Expansion) : Type 0 where
+  pub is_node : IsNode report.node
   pub fair : IsFair report
-  pub under : All (λ kid. IsUnder report.ceiling kid.bound) report.kids
-  pub found_alone : IfSome report.found (λ found. report.kids ≡ [])
+  pub told : MatchOption report.split (IsUnsplit report) (IsSplitBy report)
 
 -- a report on this node under this ceiling, which finds nothing but the node's least schedule
 pub record IsReportOn (node : Subproblem) (ceiling : Option ℤ) (report : Expansion) : Type 0 where
   pub node_is : report.node ≡ node
   pub ceiling_is : report.ceiling ≡ ceiling
   pub found_is : IfSome report.found (λ found. IsLeastSchedule node.project node.pairs found.starts)
+
+-- where the node's bound is at least the ceiling, the report finds nothing and has no kids
+abbrev pub FindsNothingOver : Subproblem → Option ℤ → Expansion → Type 0
+FindsNothingOver node ceiling report = ¬ IsUnder ceiling node.bound → (report.found ≡ None) × (report.kids ≡ [])

@@ -1,30 +1,23 @@
--- What becomes of an ordered pair of a forbidden set.
-use Rattle.std.specs.Prelude.{◌≡◌, ℤ, Option, List, [], ◌∷◌, ◌++◌}
+-- What becomes of one ordered pair, as the types of this crate tell it.
+use Rattle.std.specs.Prelude.{ℤ, Option}
 use Rattle.std.specs.Arc.{arc_value}
 use Rattle.network.specs.declared.lag.Pair.{Pair}
-use Rattle.network.specs.Problem.{arcs_of}
-use Rattle.network.specs.Schedule.{Keeps}
-use Rattle.network.specs.Walk.{HasPositiveCycle}
-use Rattle.branching.specs.Subproblem.{Subproblem, NodeStandsFor, IsNode}
-use Rattle.branching.specs.Fair.{IsBelow, IsUnder}
+use Rattle.branching.specs.Subproblem.{Subproblem}
+use Rattle.branching.specs.Ceiling.{IsUnder}
+use Rattle.branching.specs.Fates.{FateOf, is_kid, is_dead, is_cut, IsKidBy, IsDeadBy, IsCutBy}
 use Rattle.branching.specs.declared.fate.Fate.{Fate}
 use Rattle.branching.specs.declared.fate.Fate.TheVariants.{Kid, Dead, Cut}
+use Rattle.branching.specs.declared.branch.Branch.{Branch}
+use Rattle.branching.specs.declared.branch.Branch.TheVariants as branch
 
--- the node with just this pair added
-pub record IsNodeWith (node : Subproblem) (pair : Pair) (kid : Subproblem) : Type 0 where
-  pub project : kid.project ≡ node.project
-  pub pairs : kid.pairs ≡ node.pairs ++ pair ∷ []
-  pub is_node : IsNode kid
+-- a fate's value
+abbrev pub fate_value : Fate → FateOf
+fate_value Kid = is_kid
+fate_value (Dead forced) = is_dead forced.items
+fate_value (Cut forced) = is_cut forced.items
 
--- the pair closes a walk of positive weight
-abbrev pub ClosesPositiveCycle : Subproblem → Pair → Type 0
-ClosesPositiveCycle node pair = HasPositiveCycle (arcs_of node.project (node.pairs ++ pair ∷ []))
-
--- no schedule that the node stands for and that keeps the pair is below the ceiling
-abbrev pub HasNoneBelow : Subproblem → Option ℤ → Pair → Type 0
-HasNoneBelow node ceiling pair = (s : List ℤ) → NodeStandsFor node s → Keeps node.project s pair → ¬ IsBelow ceiling s
-
-abbrev pub IsFateOf : Subproblem → Option ℤ → Pair → Fate → Type 0
-IsFateOf node ceiling pair (Kid kid) = IsNodeWith node pair (arc_value kid) × IsUnder ceiling (arc_value kid).bound
-IsFateOf node ceiling pair Dead = ClosesPositiveCycle node pair
-IsFateOf node ceiling pair Cut = HasNoneBelow node ceiling pair
+-- what one pair gives
+abbrev pub IsBranchOf : Subproblem → Option ℤ → Pair → Branch → Type 0
+IsBranchOf node ceiling pair (branch.Kid kid) = IsKidBy node pair (arc_value kid) × IsUnder ceiling (arc_value kid).bound
+IsBranchOf node ceiling pair (branch.Dead forced) = IsDeadBy node pair forced.items
+IsBranchOf node ceiling pair (branch.Cut forced) = IsCutBy node ceiling pair forced.items

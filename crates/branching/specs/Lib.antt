@@ -1,8 +1,15 @@
+pub mod Incompatible
 pub mod Subproblem
+pub mod Base
+pub mod BaseView
 pub mod NodeView
 pub mod Path
 pub mod Pairs
+pub mod Right
+pub mod Ceiling
+pub mod Fates
 pub mod Fate
+pub mod Forcing
 pub mod Fair
 pub mod ReportView
 pub mod Covered

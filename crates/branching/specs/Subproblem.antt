@@ -1,5 +1,5 @@
 -- What a node of the search is: a project, the pairs that were added, and a lower bound.
-use Rattle.std.specs.Prelude.{ℤ, List, []}
+use Rattle.std.specs.Prelude.{ℤ, List}
 use Rattle.network.specs.declared.lag.Pair.{Pair}
 use Rattle.network.specs.Problem.{Problem, arcs_of, NameActivities}
 use Rattle.network.specs.ProjectMatrix.{IsProjectMatrix}
@@ -38,11 +38,6 @@ pub record IsNode (node : Subproblem) : Type 0 where
   pub is_live : IsLive node.project node.pairs
   pub bound_of : IsBoundOfPairs node.project node.pairs node.bound
   pub true_bound : HasTrueBound node
-
--- what a `Lean` keeps: it is a node, and the rows are the matrix of its project without pairs
-pub record IsLean (node : Subproblem) (base : Rows) : Type 0 where
-  pub is_node : IsNode node
-  pub of_base : IsProjectMatrix node.project [] base
 
 -- what a `Node` keeps: it is a node, and the rows are the matrix of its project and pairs
 pub record IsTiedTo (node : Subproblem) (rows : Rows) : Type 0 where

@@ -4,7 +4,8 @@ use Rattle.std.specs.List.{All}
 use Rattle.network.specs.Problem.{Problem}
 use Rattle.network.specs.Schedule.{ScheduleOf}
 use Rattle.branching.specs.Subproblem.{Subproblem}
-use Rattle.branching.specs.Fair.{Expansion, IsUnder, IsShorterThan, IsReport, IsReportOn}
+use Rattle.branching.specs.Ceiling.{IsUnder}
+use Rattle.branching.specs.Fair.{Expansion, IsShorterThan, IsReport, IsReportOn}
 use Rattle.branching.specs.Covered.{SearchState, IsRootOf, IsLeastBound, ceiling_of}
 use Rattle.branching.specs.declared.outcome.Outcome.{Outcome}
 use Rattle.branching.specs.declared.outcome.Outcome.TheVariants.{Optimal, NoSchedule, Stopped}

@@ -1,13 +1,10 @@
 ghost use Rattle.std.specs.Prelude.{◌≡◌, ◌∷◌, ◌++◌, [], IfOk};
 ghost use Rattle.std.specs.Arc.{arc_value};
-ghost use Rattle.network.specs.declared.lag.Pair.{Pair};
-ghost use Rattle.network.specs.Problem.{NameActivities};
 ghost use Rattle.network.specs.Limits.{IsProject};
-ghost use Rattle.network.specs.ProjectMatrix.{IsProjectMatrix};
 ghost use Rattle.branching.specs.Subproblem.{Subproblem, IsNode};
 
+use crate::base::Base;
 use crate::pair_list::PairList;
-use longest_path::Matrix;
 use network::{Pair, Project};
 use std::alloc::{AllocError, Global};
 use std::marker::Model;
@@ -17,16 +14,13 @@ use std::sync::Arc;
 /// bound. It stands for the feasible schedules that keep its pairs.
 #[derive(Drop, Debug)]
 pub struct Lean {
-    project: Arc<Project>,
+    base: Arc<Base>,
     pairs: PairList,
     bound: i64,
-    /// The matrix of the project without pairs, which all nodes of a search share.
-    base: Arc<Matrix>,
 }
 
 impl Model for Lean {
-    ghost use Rattle.std.specs.Arc.{arc_value};
-    ghost use Rattle.branching.specs.Subproblem.{Subproblem, IsLean};
+    ghost use Rattle.branching.specs.Subproblem.{Subproblem, IsNode};
 
     ghost Value = { Subproblem };
 
@@ -34,29 +28,21 @@ impl Model for Lean {
 
     ghost view = { lean_of };
 
-    ghost invariant = { λ n. IsLean (lean_of n) (arc_value n.base) };
+    ghost invariant = { λ n. IsNode (lean_of n) };
 }
 
 impl Lean {
     /// The node of these parts, to be shared.
     pub(crate) fn shared(
         alloc: Global,
-        project: Arc<Project>,
+        base: Arc<Base>,
         pairs: PairList,
         bound: i64,
-        base: Arc<Matrix>,
     ) -> Result<Arc<Lean>, AllocError>
-        requires node { IsNode (record { project = arc_value project; pairs = pairs; bound = bound }) }
-        requires base { IsProjectMatrix (arc_value project) [] (arc_value base) }
-        ensures { IfOk result (λ node. arc_value node ≡ record { project = arc_value project; pairs = pairs; bound = bound }) }
+        requires { IsNode (record { project = (arc_value base).project; pairs = pairs; bound = bound }) }
+        ensures { IfOk result (λ node. arc_value node ≡ record { project = (arc_value base).project; pairs = pairs; bound = bound }) }
     {
-        let node = Lean {
-            project,
-            pairs,
-            bound,
-            base,
-        };
-        Ok(Arc::new(alloc, node)?)
+        Ok(Arc::new(alloc, Lean { base, pairs, bound })?)
     }
 
     /// The project.
@@ -64,7 +50,7 @@ impl Lean {
         ensures project { arc_value result.now ≡ self.now.project }
         ensures limits { IsProject self.now.project }
     {
-        &self.project
+        self.base.project()
     }
 
     /// The pairs, in the order in which they were added.
@@ -83,27 +69,31 @@ impl Lean {
         self.bound
     }
 
-    /// The matrix of the project without pairs.
-    pub(crate) fn base(&self) -> &Matrix
-        ensures { IsProjectMatrix self.now.project [] result.now }
+    /// What all nodes of the search share.
+    pub(crate) fn base(&self) -> &Base
+        ensures { result.now.project ≡ self.now.project }
     {
         &self.base
     }
 
-    /// The node with one pair more and this bound. `before` is the list of this node's pairs.
-    pub(crate) fn with_pair(
+    /// The node with one pair more, pairs that it forced, and this bound. `before` is the list of this
+    /// node's pairs.
+    pub(crate) fn with_pairs(
         &self,
         alloc: Global,
         before: &Arc<Vec<Pair>>,
-        pair: Pair,
+        first: Pair,
+        mut forced: Vec<Pair>,
         bound: i64,
     ) -> Result<Arc<Lean>, AllocError>
         requires before { (arc_value before.now).items ≡ self.now.pairs }
-        requires node { IsNode (record { project = self.now.project; pairs = self.now.pairs ++ pair ∷ []; bound = bound }) }
-        ensures { IfOk result (λ kid. arc_value kid ≡ record { project = self.now.project; pairs = self.now.pairs ++ pair ∷ []; bound = bound }) }
+        requires node { IsNode (record { project = self.now.project; pairs = self.now.pairs ++ first ∷ forced.items; bound = bound }) }
+        ensures { IfOk result (λ kid. arc_value kid ≡ record { project = self.now.project; pairs = self.now.pairs ++ first ∷ forced.items; bound = bound }) }
     {
-        let pairs = PairList::of(Arc::try_clone(before)?, vec![in alloc; pair]?);
-        let project = Arc::try_clone(&self.project)?;
-        Lean::shared(alloc, project, pairs, bound, Arc::try_clone(&self.base)?)
+        let mut last = Vec::with_capacity(alloc, 1 + forced.len())?;
+        last.push(first)?;
+        last.append(&mut forced)?;
+        let pairs = PairList::of(Arc::try_clone(before)?, last);
+        Lean::shared(alloc, Arc::try_clone(&self.base)?, pairs, bound)
     }
 }

@@ -5,11 +5,15 @@
 //! without a matrix; a [`Node`] has its own, and a [`Searcher`] moves one matrix from node to node.
 //! [`expand`] finds a node's least schedule; where that overloads a resource, the members of a minimal
 //! forbidden set can't all run together, so every feasible schedule keeps an ordered pair of two of
-//! them: each such pair gives a kid.
+//! them: each such pair gives a kid, with the pairs that it forces.
 #![tactic(auto)]
 
+mod base;
+mod branch;
 mod expansion;
 mod fate;
+mod forcing;
+mod incompatible;
 mod lean;
 mod marking;
 mod node;
@@ -19,8 +23,10 @@ mod pairs;
 mod report;
 mod search;
 mod searcher;
+mod with_arc;
 
 pub use expansion::expand;
+pub use fate::Fate;
 pub use lean::Lean;
 pub use node::{Node, rebuild, root};
 pub use outcome::Outcome;

@@ -7,6 +7,7 @@ ghost use Rattle.longest_path.specs.Fault.{Explains};
 ghost use Rattle.branching.specs.Subproblem.{Subproblem, IsNode, IsTiedTo};
 ghost use Rattle.branching.specs.Covered.{IsRootOf};
 
+use crate::base::Base;
 use crate::lean::Lean;
 use crate::pair_list::PairList;
 use longest_path::{Matrix, PathFault, longest};
@@ -58,14 +59,6 @@ impl Node {
     }
 }
 
-/// A shared copy.
-fn shared_copy(alloc: Global, matrix: &Matrix) -> Result<Arc<Matrix>, AllocError>
-    ensures { IfOk result (λ copy. arc_value copy ≡ matrix.now) }
-{
-    let copy = matrix.try_copy(alloc)?;
-    Ok(Arc::new(alloc, copy)?)
-}
-
 /// The root of a project, which has no pairs and stands for all feasible schedules, and its matrix.
 pub(crate) fn root_and_matrix(
     alloc: Global,
@@ -78,8 +71,8 @@ pub(crate) fn root_and_matrix(
     prove!(project.activity_count() >= 2);
     let matrix = longest(alloc, &project, &[])?;
     let bound = bounds::bound(alloc, &project, &matrix)?;
-    let base = shared_copy(alloc, &matrix)?;
-    let root = Lean::shared(alloc, project, PairList::new(alloc)?, bound, base)?;
+    let base = Base::shared(alloc, project, matrix.try_copy(alloc)?)?;
+    let root = Lean::shared(alloc, base, PairList::new(alloc)?, bound)?;
     Ok((root, matrix))
 }
 
@@ -118,7 +111,7 @@ fn insert_pairs(matrix: &mut Matrix, project: &Project, pairs: &[Pair])
 pub fn rebuild(alloc: Global, lean: &Arc<Lean>) -> Result<Arc<Node>, AllocError>
     ensures { IfOk result (λ node. arc_value node ≡ arc_value lean.now) }
 {
-    let mut matrix = lean.base().try_copy(alloc)?;
+    let mut matrix = lean.base().matrix().try_copy(alloc)?;
     let pairs = lean.pairs().to_vec(alloc)?;
     insert_pairs(&mut matrix, lean.project(), &pairs);
     Node::shared(alloc, Arc::try_clone(lean)?, matrix)

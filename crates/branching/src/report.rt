@@ -1,7 +1,10 @@
 ghost use Rattle.std.specs.Prelude.{◌≡◌, ◌≤◌, List, map, length, option_map};
 ghost use Rattle.std.specs.Arc.{arc_value};
+ghost use Rattle.branching.specs.Fate.{fate_value};
 
+use crate::fate::Fate;
 use crate::lean::Lean;
+use forbidden_sets::ForbiddenSet;
 use network::Schedule;
 use std::marker::Model;
 use std::sync::Arc;
@@ -11,16 +14,18 @@ pub const MAX_KIDS: usize = 999_000;
 
 /// What the expansion of a node gave: a schedule, or kids that stand for all that is left.
 ///
-/// A report is fair: what is found is a schedule that the node stands for; each kid adds pairs at the
-/// end of the node's, the first of which the node's least schedule doesn't keep; and each schedule that
-/// the node stands for, below the ceiling and shorter than what is found, is one that some kid stands
-/// for. There are at most [`MAX_KIDS`] kids. Besides, each kid's bound is below the ceiling, and where a
-/// schedule is found there are no kids.
+/// A report is fair: what is found is a schedule that the node stands for; each kid adds a pair at the
+/// end of the node's that the node's least schedule doesn't keep, and then forced pairs; and each schedule
+/// that the node stands for, below the ceiling and shorter than what is found, is one that some kid stands
+/// for. There are at most [`MAX_KIDS`] kids. A report tells how it came about: by the set that was split,
+/// and the fate of each ordered pair of its members.
 #[derive(Drop, Debug)]
 pub struct Report {
     node: Arc<Lean>,
     ceiling: Option<i64>,
     found: Option<Schedule>,
+    split: Option<ForbiddenSet>,
+    fates: Vec<Fate>,
     kids: Vec<Arc<Lean>>,
 }
 
@@ -44,15 +49,19 @@ impl Report {
         node: Arc<Lean>,
         ceiling: Option<i64>,
         found: Option<Schedule>,
+        split: Option<ForbiddenSet>,
+        fates: Vec<Fate>,
         kids: Vec<Arc<Lean>>,
     ) -> Report
-        requires { IsReport (record { node = arc_value node; ceiling = ceiling; found = found; kids = map arc_value kids.items }) }
-        ensures { result ≡ record { node = arc_value node; ceiling = ceiling; found = found; kids = map arc_value kids.items } }
+        requires { IsReport (record { node = arc_value node; ceiling = ceiling; found = found; split = split; fates = map fate_value fates.items; kids = map arc_value kids.items }) }
+        ensures { result ≡ record { node = arc_value node; ceiling = ceiling; found = found; split = split; fates = map fate_value fates.items; kids = map arc_value kids.items } }
     {
         Report {
             node,
             ceiling,
             found,
+            split,
+            fates,
             kids,
         }
     }
@@ -81,6 +90,24 @@ impl Report {
         self.found.as_ref()
     }
 
+    /// The set whose ordered pairs gave the kids. Where there is none, the node's least schedule is found, or
+    /// its bound is at least the ceiling.
+    pub fn split(&self) -> Option<&ForbiddenSet>
+        ensures split { option_map (λ set. set.now) result ≡ self.now.split }
+        ensures report { IsReport self.now }
+    {
+        self.split.as_ref()
+    }
+
+    /// What became of each ordered pair of the split set's members, by rising pairs; empty where no set was
+    /// split. Those that are [`Fate::Kid`] are the kids in their order.
+    pub fn fates(&self) -> &[Fate]
+        ensures fates { map fate_value result.now ≡ self.now.fates }
+        ensures report { IsReport self.now }
+    {
+        self.fates.as_slice()
+    }
+
     /// The kids, by rising pairs; at most [`MAX_KIDS`].
     pub fn kids(&self) -> &[Arc<Lean>]
         ensures kids { map arc_value result.now ≡ self.now.kids }
@@ -99,6 +126,8 @@ impl Report {
             node: _,
             ceiling: _,
             found,
+            split: _,
+            fates: _,
             kids,
         } = self;
         (found, kids)

@@ -1,13 +1,17 @@
-ghost use Rattle.std.specs.Prelude.{◌≡◌, ◌<◌, ◌≤◌, [], ◌∷◌, ◌++◌, length, take, slice_get, Some, IfErr, OnOk, OnErr};
+ghost use Rattle.std.specs.Prelude.{◌≡◌, ◌<◌, ◌≤◌, [], ◌∷◌, ◌++◌, length, take, slice_get, Some, IfOk, IfErr, OnOk, OnErr};
 ghost use Rattle.std.specs.Arc.{arc_value};
 ghost use Rattle.std.specs.Bool.{OnTrue};
 ghost use Rattle.network.specs.Problem.{arcs_of, NameActivities};
 ghost use Rattle.network.specs.Walk.{HasNoPositiveCycle};
 ghost use Rattle.network.specs.ProjectMatrix.{IsProjectMatrix};
+ghost use Rattle.branching.specs.Fair.{IsReportOn, FindsNothingOver};
 ghost use Rattle.branching.specs.Path.{front, IsPairFault, IsShared};
 
+use crate::expansion::expand_by;
+use crate::lean::Lean;
 use crate::marking::insert_under_mark;
 use crate::pair_list::PairList;
+use crate::report::Report;
 use longest_path::{MarkedMatrix, Matrix, PathFault};
 use network::{Pair, Project};
 use std::alloc::{AllocError, Global};
@@ -143,5 +147,20 @@ impl Searcher {
         let shared = shared_count(self.pairs.as_slice(), pairs);
         self.keep(shared);
         self.go_on(pairs)
+    }
+    /// Moves to a node and expands it under a ceiling, as [`expand`](crate::expand) does.
+    pub fn expand(
+        &mut self,
+        alloc: Global,
+        node: &Arc<Lean>,
+        ceiling: Option<i64>,
+    ) -> Result<Report, AllocError>
+        requires { self.old.project ≡ (arc_value node.now).project }
+        ensures project { self.new.project ≡ self.old.project }
+        ensures report { IfOk result (IsReportOn (arc_value node.now) ceiling) }
+        ensures over { IfOk result (FindsNothingOver (arc_value node.now) ceiling) }
+    {
+        self.move_to(node.pairs())?;
+        expand_by(alloc, node, &mut self.matrix, ceiling)
     }
 }

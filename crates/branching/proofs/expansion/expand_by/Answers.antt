@@ -5,7 +5,8 @@ use Rattle.std.specs.Arc.{arc_value}
 use Rattle.branching.specs.Subproblem.{Subproblem, IsNode}
 use Rattle.std.specs.Prelude.{Result, Ok, Err, IfOk}
 use Rattle.std.specs.declared.alloc.AllocError.{AllocError}
-use Rattle.branching.specs.Fair.{Expansion, IsUnder}
+use Rattle.branching.specs.Ceiling.{IsUnder, Reaches}
+use Rattle.branching.specs.Fair.{Expansion}
 use Rattle.branching.proofs.Together.{report_cut}
 use Rattle.branching.proofs.expansion.expand_by.Goals as goal
 
@@ -14,27 +15,28 @@ not_over : {P : Type 0} (result : Result Expansion AllocError) → P → IfOk re
 not_over (Ok report) under = λ over. absurd (over under)
 not_over (Err e) under = tt
 
-pub new-requires-then-is_over : goal.new-requires-then-is_over
-new-requires-then-is_over c =
+pub new-requires : goal.new-requires
+new-requires c =
     let node : Subproblem = arc_value c.args.node.now in
     let is : IsNode node = rw c.deref.ensures at c.bound.ensures.is_node in
     let bound_is : c.bound.result ≡ node.bound = c.bound.ensures.bound ∙ ap (λ (n : Subproblem). n.bound) c.deref.ensures in
     let fits : SFits w64 c.bound.result = search rules in
     let over = simp to_z-of_z at c.if-is_over.ensures.over in
-    rw (c.new.ensures.items, c.in_ok-node.ensures)
-    (report_cut node c.args.ceiling (λ s stands. over s (rw bound_is (is.true_bound s stands))))
+    let reaches : Reaches c.args.ceiling c.bound.result = simp to_z-of_z at c.if-is_over.ensures.reaches in
+    rw (c.new-fates.ensures.items, c.new-kids.ensures.items, c.in_ok-node.ensures)
+    (report_cut node c.args.ceiling is (rw bound_is at reaches) (λ s stands. over s (rw bound_is (is.true_bound s stands))))
 
 pub first_overload-requires : goal.first_overload-requires
 first_overload-requires c =
     let same : c.deref-3.result.now ≡ (arc_value c.args.node.now).project = c.deref-3.ensures ∙ c.project.ensures.project ∙ ap (λ (n : Subproblem). n.project) c.deref-2.ensures in
-    let earliest = c.in_ok-starts.ensures.earliest (arc_value c.args.node.now).project (arc_value c.args.node.now).pairs c.requires.matrix in
+    let earliest = c.in_ok-starts.ensures.earliest (arc_value c.args.node.now).project (arc_value c.args.node.now).pairs (rw c.matrix.ensures c.requires.matrix) in
     rw (same, c.as_slice.ensures.value) (record { starts = earliest.limits })
 
-pub report_kids-requires-clause-earliest : goal.report_kids-requires-clause-earliest
-report_kids-requires-clause-earliest c = rw c.as_slice-in-Some.ensures.value (c.in_ok-starts.ensures.earliest (arc_value c.args.node.now).project (arc_value c.args.node.now).pairs c.requires.matrix)
+pub report_split-requires-clause-earliest : goal.report_split-requires-clause-earliest
+report_split-requires-clause-earliest c = rw c.as_slice-in-Some.ensures.value (c.in_ok-starts.ensures.earliest (arc_value c.args.node.now).project (arc_value c.args.node.now).pairs (rw c.matrix.ensures c.requires.matrix))
 
 pub report_found-requires-clause-earliest : goal.report_found-requires-clause-earliest
-report_found-requires-clause-earliest c = c.in_ok-starts.ensures.earliest (arc_value c.args.node.now).project (arc_value c.args.node.now).pairs c.requires.matrix
+report_found-requires-clause-earliest c = c.in_ok-starts.ensures.earliest (arc_value c.args.node.now).project (arc_value c.args.node.now).pairs (rw c.matrix.ensures c.requires.matrix)
 
 pub returns-in-Some-clause-over : goal.returns-in-Some-clause-over
 returns-in-Some-clause-over c =

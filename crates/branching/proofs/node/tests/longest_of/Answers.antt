@@ -1,4 +1,3 @@
-use Rattle.std.proofs.Common.{◌∙◌}
 use Rattle.branching.proofs.node.tests.longest_of.Goals as goal
 
 pub longest-requires : goal.longest-requires

@@ -7,29 +7,11 @@ use Rattle.branching.specs.Takes.{DropsOver, IsTake}
 use Rattle.branching.proofs.Covers.{drops_keep, take_keeps, last_is_node}
 use Rattle.branching.proofs.search.Search.take.Goals as goal
 
-pub move_to-requires-clause-named : goal.move_to-requires-clause-named
-move_to-requires-clause-named c =
+pub expand-requires : goal.expand-requires
+expand-requires c =
     let node : Subproblem = arc_value c.in-Some.node in
     let of : IsNodeOf c.self.inside.project.value node = last_is_node c.self.inside.project.value _ _ _ node c.in-Some.ensures.drops c.self.invariant.of_nodes in
-    let project : c.args.searcher.now.project ≡ node.project = c.requires ∙ sym (ap (λ (s : SearchState). s.project) c.self.view_is) ∙ sym of.project in
-    let pairs : c.pairs.result.now ≡ node.pairs = c.pairs.ensures.pairs ∙ ap (λ (n : Subproblem). n.pairs) c.deref.ensures in
-    rw (project, pairs) of.is_node.named
-
-pub move_to-requires-clause-live : goal.move_to-requires-clause-live
-move_to-requires-clause-live c =
-    let node : Subproblem = arc_value c.in-Some.node in
-    let of : IsNodeOf c.self.inside.project.value node = last_is_node c.self.inside.project.value _ _ _ node c.in-Some.ensures.drops c.self.invariant.of_nodes in
-    let project : c.args.searcher.now.project ≡ node.project = c.requires ∙ sym (ap (λ (s : SearchState). s.project) c.self.view_is) ∙ sym of.project in
-    let pairs : c.pairs.result.now ≡ node.pairs = c.pairs.ensures.pairs ∙ ap (λ (n : Subproblem). n.pairs) c.deref.ensures in
-    rw (project, pairs) of.is_node.is_live
-
-pub expand_by-requires : goal.expand_by-requires
-expand_by-requires c =
-    let node : Subproblem = arc_value c.in-Some.node in
-    let of : IsNodeOf c.self.inside.project.value node = last_is_node c.self.inside.project.value _ _ _ node c.in-Some.ensures.drops c.self.invariant.of_nodes in
-    let project : c.args.searcher.now.project ≡ node.project = c.requires ∙ sym (ap (λ (s : SearchState). s.project) c.self.view_is) ∙ sym of.project in
-    let pairs : c.pairs.result.now ≡ node.pairs = c.pairs.ensures.pairs ∙ ap (λ (n : Subproblem). n.pairs) c.deref.ensures in
-    record { is_node = of.is_node; matrix = rw (c.move_to.ensures.project ∙ project, c.in_ok-move_to.ensures.pairs ∙ pairs) at c.matrix.ensures }
+    c.requires ∙ sym (ap (λ (s : SearchState). s.project) c.self.view_is) ∙ sym of.project
 
 pub invariant_of-result : goal.invariant_of-result
 invariant_of-result c =

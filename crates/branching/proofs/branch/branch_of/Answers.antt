@@ -1,0 +1,85 @@
+use Rattle.std.proofs.Common.{◌≡◌, ◌∙◌, rules, ◌≤ℤ◌, ◌∷◌, ◌++◌, [], w64}
+use Rattle.std.specs.Arc.{arc_value}
+use Rattle.std.proofs.lemmas.Int.{to_z-of_z}
+use mir.Val.{SFits}
+use Rattle.network.specs.declared.lag.Pair.{Pair}
+use Rattle.network.specs.Problem.{pair_arc}
+use Rattle.network.specs.ProjectMatrix.{IsProjectMatrix}
+use Rattle.network.specs.Walk.{Rows}
+use Rattle.longest_path.specs.Insert.{rows_over, ClosesNone}
+use Rattle.bounds.specs.Bound.{critical_weight, IsBoundOf}
+use Rattle.bounds.specs.With.{IsBoundWith}
+use Rattle.branching.specs.Subproblem.{Subproblem}
+use Rattle.branching.specs.Ceiling.{IsUnder, Reaches}
+use Rattle.branching.specs.Forcing.{IsForcedMatrix}
+use Rattle.branching.proofs.Nodes.{matrix_with}
+use Rattle.branching.proofs.ForcedMatrices.{none_forced, cut_at, cut_by_least, node_at, kid_at}
+use Rattle.branching.proofs.branch.branch_of.Goals as goal
+
+pub returns-then-is_over-clause-branch : goal.returns-then-is_over-clause-branch
+returns-then-is_over-clause-branch c =
+    let node : Subproblem = c.args.node.now in
+    let rows : Rows = c.args.matrix.now.rows in
+    let pair : Pair = c.args.pair in
+    let over : Rows = rows_over (pair_arc node.project pair) rows in
+    let none : ClosesNone (pair_arc node.project pair) rows = rw c.matrix-rows.ensures at c.if-is_dead_with.ensures.live in
+    let m : IsProjectMatrix node.project (node.pairs ++ pair ∷ []) over = matrix_with node pair rows c.requires.tied c.requires.named none in
+    let forced : IsForcedMatrix node.project (node.pairs ++ pair ∷ []) [] over = none_forced node.project (node.pairs ++ pair ∷ []) over m in
+    let fits : SFits w64 c.least_with.result = search rules in
+    let low : c.least_with.result ≤ℤ critical_weight over = rw c.matrix-rows.ensures at c.least_with.ensures in
+    let reaches : Reaches c.args.ceiling c.least_with.result = simp to_z-of_z at c.if-is_over.ensures.reaches in
+    rw c.new-then-is_over.ensures.items (cut_by_least node c.args.ceiling pair over c.least_with.result forced low reaches)
+
+pub bound_with-requires-clause-named : goal.bound_with-requires-clause-named
+bound_with-requires-clause-named c = rw (c.deref.ensures ∙ c.project.ensures.project) c.requires.named
+
+pub returns-then-is_over-2-clause-branch : goal.returns-then-is_over-2-clause-branch
+returns-then-is_over-2-clause-branch c =
+    let node : Subproblem = c.args.node.now in
+    let rows : Rows = c.args.matrix.now.rows in
+    let pair : Pair = c.args.pair in
+    let over : Rows = rows_over (pair_arc node.project pair) rows in
+    let none : ClosesNone (pair_arc node.project pair) rows = rw c.matrix-rows.ensures at c.if-is_dead_with.ensures.live in
+    let m : IsProjectMatrix node.project (node.pairs ++ pair ∷ []) over = matrix_with node pair rows c.requires.tied c.requires.named none in
+    let forced : IsForcedMatrix node.project (node.pairs ++ pair ∷ []) [] over = none_forced node.project (node.pairs ++ pair ∷ []) over m in
+    let fits : SFits w64 c.in_ok-bound.bound = search rules in
+    let with_pair : IsBoundWith node.project rows pair c.in_ok-bound.bound = rw (c.deref.ensures ∙ c.project.ensures.project, c.matrix-rows.ensures) at c.in_ok-bound.ensures.value in
+    let of : IsBoundOf node.project over c.in_ok-bound.bound = with_pair node.pairs over c.requires.tied.matrix m in
+    let reaches : Reaches c.args.ceiling c.in_ok-bound.bound = simp to_z-of_z at c.if-is_over-2.ensures.reaches in
+    rw c.new-then-is_over-2.ensures.items (cut_at node c.args.ceiling pair [] over c.in_ok-bound.bound forced of reaches)
+
+pub forces_some-requires-clause-incompatible : goal.forces_some-requires-clause-incompatible
+forces_some-requires-clause-incompatible c = rw (c.deref-2.ensures ∙ c.project-2.ensures.project) (rw c.base.ensures at c.incompatible.ensures)
+
+pub forces_some-requires-clause-named : goal.forces_some-requires-clause-named
+forces_some-requires-clause-named c = rw (c.deref-2.ensures ∙ c.project-2.ensures.project) c.requires.named
+
+pub with_pairs-requires-clause-node : goal.with_pairs-requires-clause-node
+with_pairs-requires-clause-node c =
+    let node : Subproblem = c.args.node.now in
+    let rows : Rows = c.args.matrix.now.rows in
+    let pair : Pair = c.args.pair in
+    let over : Rows = rows_over (pair_arc node.project pair) rows in
+    let none : ClosesNone (pair_arc node.project pair) rows = rw c.matrix-rows.ensures at c.if-is_dead_with.ensures.live in
+    let m : IsProjectMatrix node.project (node.pairs ++ pair ∷ []) over = matrix_with node pair rows c.requires.tied c.requires.named none in
+    let forced : IsForcedMatrix node.project (node.pairs ++ pair ∷ []) [] over = none_forced node.project (node.pairs ++ pair ∷ []) over m in
+    let fits : SFits w64 c.in_ok-bound.bound = search rules in
+    let with_pair : IsBoundWith node.project rows pair c.in_ok-bound.bound = rw (c.deref.ensures ∙ c.project.ensures.project, c.matrix-rows.ensures) at c.in_ok-bound.ensures.value in
+    let of : IsBoundOf node.project over c.in_ok-bound.bound = with_pair node.pairs over c.requires.tied.matrix m in
+    simp to_z-of_z (rw c.new-2.ensures.items (node_at node pair [] over c.in_ok-bound.bound forced of))
+
+pub returns-clause-branch : goal.returns-clause-branch
+returns-clause-branch c =
+    let node : Subproblem = c.args.node.now in
+    let rows : Rows = c.args.matrix.now.rows in
+    let pair : Pair = c.args.pair in
+    let over : Rows = rows_over (pair_arc node.project pair) rows in
+    let none : ClosesNone (pair_arc node.project pair) rows = rw c.matrix-rows.ensures at c.if-is_dead_with.ensures.live in
+    let m : IsProjectMatrix node.project (node.pairs ++ pair ∷ []) over = matrix_with node pair rows c.requires.tied c.requires.named none in
+    let forced : IsForcedMatrix node.project (node.pairs ++ pair ∷ []) [] over = none_forced node.project (node.pairs ++ pair ∷ []) over m in
+    let fits : SFits w64 c.in_ok-bound.bound = search rules in
+    let with_pair : IsBoundWith node.project rows pair c.in_ok-bound.bound = rw (c.deref.ensures ∙ c.project.ensures.project, c.matrix-rows.ensures) at c.in_ok-bound.ensures.value in
+    let of : IsBoundOf node.project over c.in_ok-bound.bound = with_pair node.pairs over c.requires.tied.matrix m in
+    let under : IsUnder c.args.ceiling c.in_ok-bound.bound = simp to_z-of_z at c.if-is_over-2.ensures.under in
+    let made : arc_value c.in_ok-kid.kid ≡ record { project = node.project; pairs = node.pairs ++ pair ∷ []; bound = c.in_ok-bound.bound } = simp (to_z-of_z, c.new-2.ensures.items) at c.in_ok-kid.ensures in
+    kid_at node (arc_value c.in_ok-kid.kid) c.args.ceiling pair [] over c.in_ok-bound.bound forced of under made

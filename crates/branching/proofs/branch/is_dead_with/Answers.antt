@@ -1,0 +1,47 @@
+use Rattle.std.proofs.Common.{◌≡◌, sym, ap, ◌∙◌, rules, pos, ◌+ℤ◌, ◌<ℤ◌, ◌≤ℤ◌, Some, true, false, ◌∷◌, ◌++◌, [], w64}
+use Rattle.std.specs.Int.Signed.{lt_z}
+use Rattle.std.proofs.lemmas.Int.{to_z-of_z}
+use Rattle.std.proofs.lemmas.Bool.{OnTrue_from, OnFalse_from}
+use mir.Val.{SFits}
+use Rattle.network.specs.Problem.{Problem, duration, pair_arc}
+use Rattle.network.specs.Walk.{entry}
+use Rattle.longest_path.specs.Insert.{ClosesNone}
+use Rattle.branching.specs.Right.{IsDead}
+use Rattle.branching.proofs.Nodes.{rows_of, ends_of, closes_over, closes_none, closes_none_without, sum_fits, positive_from, not_positive}
+use Rattle.branching.proofs.branch.is_dead_with.Goals as goal
+
+pub duration-duration-requires : goal.duration-duration-requires
+duration-duration-requires c = rw (c.deref.ensures ∙ c.project.ensures.project) ((ends_of c.args.node.now.project c.args.pair c.requires.named).0)
+
+pub get-requires-clause-from_activity : goal.get-requires-clause-from_activity
+get-requires-clause-from_activity c = (rows_of c.args.node.now.project c.args.node.now.pairs c.args.matrix.now c.args.pair c.requires.tied.matrix c.requires.named).1
+
+pub get-requires-clause-to_activity : goal.get-requires-clause-to_activity
+get-requires-clause-to_activity c = (rows_of c.args.node.now.project c.args.node.now.pairs c.args.matrix.now c.args.pair c.requires.tied.matrix c.requires.named).0
+
+pub returns-in-Some-clause-dead : goal.returns-in-Some-clause-dead
+returns-in-Some-clause-dead c =
+    let long : c.duration-duration.result ≡ duration c.args.node.now.project c.args.pair.before = c.duration-duration.ensures.value ∙ ap (λ (p : Problem). duration p c.args.pair.before) (c.deref.ensures ∙ c.project.ensures.project) in
+    let back_fits : SFits w64 c.in-Some.back = search rules in
+    let long_fits : SFits w64 c.duration-duration.result = search rules in
+    let fits : SFits w64 (c.in-Some.back +ℤ c.duration-duration.result) = sum_fits c.in-Some.back c.duration-duration.result c.in-Some.ensures.fits c.duration-duration.ensures.amount in
+    let read : entry c.args.matrix.now c.args.pair.after c.args.pair.before ≡ Some c.in-Some.back = sym c.get.ensures.value ∙ c.in-Some.is in
+    OnTrue_from _ (IsDead c.args.node.now.project (c.args.node.now.pairs ++ c.args.pair ∷ [])) (λ test.
+    let sum : lt_z (pos 0) (c.in-Some.back +ℤ c.duration-duration.result) ≡ true = simp to_z-of_z at test in
+    let positive : pos 0 <ℤ (c.in-Some.back +ℤ c.duration-duration.result) = positive_from (c.in-Some.back +ℤ c.duration-duration.result) sum in
+    closes_over c.args.node.now.project c.args.node.now.pairs c.args.pair c.args.matrix.now c.in-Some.back c.requires.named c.requires.tied.matrix.matrix read (rw long at positive))
+
+pub returns-in-Some-clause-live : goal.returns-in-Some-clause-live
+returns-in-Some-clause-live c =
+    let long : c.duration-duration.result ≡ duration c.args.node.now.project c.args.pair.before = c.duration-duration.ensures.value ∙ ap (λ (p : Problem). duration p c.args.pair.before) (c.deref.ensures ∙ c.project.ensures.project) in
+    let back_fits : SFits w64 c.in-Some.back = search rules in
+    let long_fits : SFits w64 c.duration-duration.result = search rules in
+    let fits : SFits w64 (c.in-Some.back +ℤ c.duration-duration.result) = sum_fits c.in-Some.back c.duration-duration.result c.in-Some.ensures.fits c.duration-duration.ensures.amount in
+    let read : entry c.args.matrix.now c.args.pair.after c.args.pair.before ≡ Some c.in-Some.back = sym c.get.ensures.value ∙ c.in-Some.is in
+    OnFalse_from _ (ClosesNone (pair_arc c.args.node.now.project c.args.pair) c.args.matrix.now) (λ test.
+    let sum : lt_z (pos 0) (c.in-Some.back +ℤ c.duration-duration.result) ≡ false = simp to_z-of_z at test in
+    let low : (c.in-Some.back +ℤ c.duration-duration.result) ≤ℤ pos 0 = not_positive (c.in-Some.back +ℤ c.duration-duration.result) sum in
+    closes_none c.args.node.now.project c.args.pair c.args.matrix.now c.in-Some.back read (rw long at low))
+
+pub returns-in-None-clause-live : goal.returns-in-None-clause-live
+returns-in-None-clause-live c = closes_none_without c.args.node.now.project c.args.pair c.args.matrix.now (sym c.get.ensures.value ∙ c.in-None.is)

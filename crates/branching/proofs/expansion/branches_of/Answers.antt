@@ -1,0 +1,29 @@
+use Rattle.std.proofs.Common.{length, ◌<◌, ◌∙◌}
+use Rattle.std.specs.Arc.{arc_value}
+use Rattle.std.proofs.lemmas.List.{map-append, take_more}
+use Rattle.network.specs.declared.lag.Pair.{Pair}
+use Rattle.branching.specs.Fate.{fate_value}
+use Rattle.branching.proofs.Fates.{fate_kid, fate_dead, fate_cut}
+use Rattle.branching.proofs.expansion.branches_of.Goals as goal
+use Rattle.branching.proofs.expansion.branches_of.Goals.{in-Kid+in_ok-push-in-Kid, in-Dead, in-Cut}
+
+pub loop-pair-preserved : goal.loop-pair-preserved
+loop-pair-preserved c =
+    let none : Pair = record { before = 0; after = 0 } in
+    let lt : c.loop-pair.pair-index < length c.args.pairs.now = c.loop-pair-test.true in
+    let more = take_more c.args.pairs.now c.loop-pair.pair-index none lt in
+    let pushed = c.in_ok-push.ensures.items in
+    record {
+      unchanged = c.branch_of.ensures.unchanged ∙ c.loop-pair.invariant.unchanged;
+      fates = elim c.match-branch-5.branch [
+        | in-Kid+in_ok-push-in-Kid w ↦
+            let made = rw w.in-Kid.is at c.in_ok-kid.ensures.branch in
+            rw (more, pushed, w.fate-is, w.kids-is, w.in_ok-push-in-Kid.ensures.items, map-append fate_value c.loop-pair.fates.items, map-append arc_value c.loop-pair.kids.items) (fate_kid _ _ _ _ _ _ _ c.loop-pair.invariant.fates made.0 made.1)
+        | in-Dead w ↦
+            let made = rw w.in-Dead.is at c.in_ok-kid.ensures.branch in
+            rw (more, pushed, w.fate-is, w.kids-is, map-append fate_value c.loop-pair.fates.items) (fate_dead _ _ _ _ _ _ _ c.loop-pair.invariant.fates made)
+        | in-Cut w ↦
+            let made = rw w.in-Cut.is at c.in_ok-kid.ensures.branch in
+            rw (more, pushed, w.fate-is, w.kids-is, map-append fate_value c.loop-pair.fates.items) (fate_cut _ _ _ _ _ _ _ c.loop-pair.invariant.fates made)
+      ];
+    }

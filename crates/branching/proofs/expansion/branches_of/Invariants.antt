@@ -1,0 +1,11 @@
+use Rattle.std.proofs.Common.{◌≡◌, take, map}
+use Rattle.std.specs.Arc.{arc_value}
+use Rattle.branching.specs.Fate.{fate_value}
+use Rattle.branching.specs.Fates.{AreFates}
+use Rattle.branching.proofs.expansion.branches_of.Given as goal
+
+abbrev pub invariant-loop-pair : goal.invariant-loop-pair
+invariant-loop-pair l = record {
+  unchanged : l.matrix ≡ l.initial.matrix;
+  fates : AreFates l.node l.ceiling (take l.pair-index l.pairs) (map fate_value l.fates.items) (map arc_value l.kids.items);
+}

@@ -1,0 +1,44 @@
+use Rattle.std.proofs.Common.{ℕ, map, ◌≡◌, ap, ◌∙◌}
+use Rattle.std.specs.Arc.{arc_value}
+use Rattle.std.specs.List.{All}
+use Rattle.network.specs.Forbidden.{IsMinimalForbidden}
+use Rattle.forbidden_sets.specs.MinimalSet.{MinimalSet}
+use Rattle.branching.specs.Subproblem.{Subproblem}
+use Rattle.branching.specs.Right.{IsRightSet}
+use Rattle.branching.specs.Fate.{fate_value}
+use Rattle.branching.specs.Fates.{AreFates}
+use Rattle.branching.specs.Fair.{IsNewTo}
+use Rattle.branching.specs.Pairs.{ordered_pairs}
+use Rattle.network.proofs.Running.{running_below, running_rising}
+use Rattle.branching.proofs.Together.{run_together, minimal_together, new_pairs, named_pairs, report_split}
+use Rattle.branching.proofs.expansion.report_split.Goals as goal
+
+pub shrink-requires-clause-running : goal.shrink-requires-clause-running
+shrink-requires-clause-running c =
+    let same : c.deref-2.result.now ≡ (arc_value c.args.node.now).project = c.deref-2.ensures ∙ c.project.ensures.project ∙ ap (λ (n : Subproblem). n.project) c.deref.ensures in
+    rw same (running_below (arc_value c.args.node.now).project c.args.starts.now c.args.overload.now.time _ c.requires.running)
+
+pub shrink-requires-clause-rising : goal.shrink-requires-clause-rising
+shrink-requires-clause-rising c = running_rising (arc_value c.args.node.now).project c.args.starts.now c.args.overload.now.time _ c.requires.running
+
+pub branches_of-requires-clause-named : goal.branches_of-requires-clause-named
+branches_of-requires-clause-named c =
+    let pairs : c.as_slice.result.now ≡ ordered_pairs c.in_ok-set.set.members = c.as_slice.ensures.value ∙ c.in_ok-pairs.ensures ∙ ap ordered_pairs c.members.ensures.members in
+    let together = run_together (arc_value c.args.node.now).project c.args.starts.now c.args.overload.now.time _ c.in_ok-set.set.members c.requires.running c.in_ok-set.ensures.running in
+    rw (c.deref-3.ensures, pairs) (named_pairs (arc_value c.args.node.now).project c.args.starts.now c.args.overload.now.time c.in_ok-set.set.members together)
+
+pub new-requires : goal.new-requires
+new-requires c =
+    let node : Subproblem = arc_value c.args.node.now in
+    let t = c.args.overload.now.time in
+    let k : ℕ = c.args.overload.now.resource in
+    let set : MinimalSet = c.in_ok-set.set in
+    let same : c.deref-2.result.now ≡ node.project = c.deref-2.ensures ∙ c.project.ensures.project ∙ ap (λ (n : Subproblem). n.project) c.deref.ensures in
+    let pairs : c.as_slice.result.now ≡ ordered_pairs set.members = c.as_slice.ensures.value ∙ c.in_ok-pairs.ensures ∙ ap ordered_pairs c.members.ensures.members in
+    let minimal : IsMinimalForbidden node.project k set.members = rw same at c.in_ok-set.ensures.minimal in
+    let run = run_together node.project c.args.starts.now t _ set.members c.requires.running c.in_ok-set.ensures.running in
+    let together : IsRightSet node.project k set.members = minimal_together node.project c.args.starts.now t k _ set.members c.requires.first.least_resource.in_range c.requires.running c.in_ok-set.ensures.running minimal in
+    let right : IsRightSet node.project set.resource set.members = rw c.in_ok-set.ensures.resource together in
+    let new : All (IsNewTo node) (ordered_pairs set.members) = new_pairs node c.args.starts.now t set.members c.requires.earliest.least run in
+    let are : AreFates node c.args.ceiling (ordered_pairs set.members) (map fate_value c.in_ok-made.made.fates.items) (map arc_value c.in_ok-made.made.kids.items) = rw (c.deref-3.ensures, pairs) at c.in_ok-made.ensures.fates in
+    rw c.in_ok-node.ensures (report_split node c.args.ceiling set _ _ c.requires.tied.is_node right new are)

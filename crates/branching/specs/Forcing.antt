@@ -1,0 +1,46 @@
+-- Pairs that are forced, one after the other, by the matrix of a node and a pair.
+use Rattle.std.specs.Prelude.{◌≡◌, ℕ, ℤ, neg_ℤ, ◌<ℤ◌, Option, Some, List, [], ◌∷◌, ◌++◌, take, slice_get}
+use Rattle.std.specs.List.{All}
+use Rattle.network.specs.declared.lag.Pair.{Pair}
+use Rattle.network.specs.Problem.{Problem, duration, pair_arc}
+use Rattle.network.specs.ProjectMatrix.{IsProjectMatrix}
+use Rattle.network.specs.Walk.{Rows, entry}
+use Rattle.longest_path.specs.Insert.{entry_over}
+use Rattle.branching.specs.Subproblem.{Subproblem}
+use Rattle.branching.specs.Right.{AllForced}
+use Rattle.branching.specs.Fates.{IsDeadBy}
+use Rattle.branching.specs.declared.forcing.Forcing.{Forcing}
+use Rattle.branching.specs.declared.forcing.Forcing.TheVariants.{Live, Dead}
+
+-- by this greatest weight from the pair's first activity to its second, the second can't end before the
+-- first starts, and doesn't wait yet until the first has ended
+pub record IsForcedAt (p : Problem) (pair : Pair) (greatest : Option ℤ) : Type 0 where
+  pub weight : ℤ
+  pub is : greatest ≡ Some weight
+  pub above : neg_ℤ (duration p pair.after) <ℤ weight
+  pub below : weight <ℤ duration p pair.before
+
+-- by its entry of the matrix
+abbrev pub IsForcedIn : Problem → Rows → Pair → Type 0
+IsForcedIn p rows pair = IsForcedAt p pair (entry rows pair.before pair.after)
+
+-- by the entry that the matrix would have with the arc of one pair more
+abbrev pub IsForcedWith : Problem → Rows → Pair → Pair → Type 0
+IsForcedWith p rows added pair = IsForcedAt p pair (entry_over (pair_arc p added) rows pair.before pair.after)
+
+-- the first of the pairs that is forced in the matrix
+pub record IsFirstForced (p : Problem) (rows : Rows) (pairs : List Pair) (pair : Pair) : Type 0 where
+  pub place : ℕ
+  pub is : slice_get pairs place ≡ Some pair
+  pub forced : IsForcedIn p rows pair
+  pub none_before : All (λ other. ¬ IsForcedIn p rows other) (take place pairs)
+
+-- forced pairs were added after these, and the rows are the matrix of them all
+pub record IsForcedMatrix (p : Problem) (pairs forced : List Pair) (rows : Rows) : Type 0 where
+  pub all_forced : AllForced p pairs forced
+  pub matrix : IsProjectMatrix p (pairs ++ forced) rows
+
+-- what forcing made of a node and a pair, and these are the rows where it lives
+abbrev pub IsForcingOf : Subproblem → Pair → Rows → Forcing → Type 0
+IsForcingOf node first rows (Live forced) = IsForcedMatrix node.project (node.pairs ++ first ∷ []) forced.items rows
+IsForcingOf node first rows (Dead forced) = IsDeadBy node first forced.items

@@ -1,0 +1,173 @@
+ghost use Rattle.std.specs.Prelude.{◌≡◌, [], ◌∷◌, ◌++◌, ◌≤ℤ◌, ℤ, List, IfOk};
+ghost use Rattle.std.specs.Arc.{arc_value};
+ghost use Rattle.std.specs.Bool.{MatchBool, OnTrue, OnFalse};
+ghost use Rattle.network.specs.Problem.{NameActivities, pair_arc};
+ghost use Rattle.network.specs.ProjectMatrix.{IsProjectMatrix};
+ghost use Rattle.network.specs.Schedule.{makespan};
+ghost use Rattle.longest_path.specs.Insert.{ClosesNone, rows_over};
+ghost use Rattle.bounds.specs.Bound.{critical_weight};
+ghost use Rattle.branching.specs.Subproblem.{IsTiedTo};
+ghost use Rattle.branching.specs.Ceiling.{IsBelow, IsUnder, Reaches};
+ghost use Rattle.branching.specs.Right.{IsDead};
+ghost use Rattle.branching.specs.Forcing.{IsForcedMatrix};
+ghost use Rattle.branching.specs.Fate.{IsBranchOf};
+
+use crate::forcing::{Forcing, force, forces_some};
+use crate::lean::Lean;
+use crate::marking::insert_under_mark;
+use bounds::bound_with;
+use longest_path::{MarkedMatrix, Matrix, PathFault};
+use network::Pair;
+use std::alloc::{AllocError, Global};
+use std::sync::Arc;
+
+/// What an ordered pair of a forbidden set gives: a kid, or nothing, with the pairs that were forced
+/// by then.
+#[derive(Drop)]
+pub(crate) enum Branch {
+    Kid(Arc<Lean>),
+    Dead(Vec<Pair>),
+    Cut(Vec<Pair>),
+}
+
+/// Whether the bound is at least the ceiling.
+pub(crate) fn is_over(bound: i64, ceiling: Option<i64>) -> bool
+    ensures over { OnTrue result ((s : List ℤ) → bound ≤ℤ makespan s → ¬ IsBelow ceiling s) }
+    ensures reaches { OnTrue result (Reaches ceiling bound) }
+    ensures under { MatchBool result (¬ IsUnder ceiling bound) (IsUnder ceiling bound) }
+{
+    match ceiling {
+        Some(ceiling) => bound >= ceiling,
+        None => false,
+    }
+}
+
+/// Whether the pair closes a walk of positive weight, by one entry of the node's matrix.
+fn is_dead_with(node: &Lean, matrix: &Matrix, pair: Pair) -> bool
+    requires tied { IsTiedTo node.now matrix.now }
+    requires named { NameActivities node.now.project (pair ∷ []) }
+    ensures dead { OnTrue result (IsDead node.now.project (node.now.pairs ++ pair ∷ [])) }
+    ensures live { OnFalse result (ClosesNone (pair_arc node.now.project pair) matrix.now) }
+{
+    let duration = node.project().duration(pair.before);
+    match matrix.get(pair.after, pair.before) {
+        Some(back) => back + duration > 0,
+        None => false,
+    }
+}
+
+/// What a schedule that keeps the pair lasts at least by the walks to its first activity and from its
+/// second, which are two entries of the node's matrix: at most the critical weight with the pair.
+fn least_with(node: &Lean, matrix: &Matrix, pair: Pair) -> i64
+    requires tied { IsTiedTo node.now matrix.now }
+    requires named { NameActivities node.now.project (pair ∷ []) }
+    ensures { result ≤ℤ critical_weight (rows_over (pair_arc node.now.project pair) matrix.now) }
+{
+    let end = node.project().activity_count() - 1;
+    let head = matrix.get(0, pair.before).unwrap_or(0);
+    let rest = matrix.get(pair.after, end).unwrap_or(0);
+    head + node.project().duration(pair.before) + rest
+}
+
+/// What a pair gives whose forced pairs were added: a kid, or nothing where its bound is at least the
+/// ceiling.
+fn bounded(
+    alloc: Global,
+    node: &Lean,
+    matrix: &Matrix,
+    before: &Arc<Vec<Pair>>,
+    ceiling: Option<i64>,
+    first: Pair,
+    forced: Vec<Pair>,
+) -> Result<Branch, AllocError>
+    requires before { (arc_value before.now).items ≡ node.now.pairs }
+    requires matrix { IsForcedMatrix node.now.project (node.now.pairs ++ first ∷ []) forced.items matrix.now }
+    ensures { IfOk result (IsBranchOf node.now ceiling first) }
+{
+    let bound = bounds::bound(alloc, node.project(), matrix)?;
+    if is_over(bound, ceiling) {
+        return Ok(Branch::Cut(forced));
+    }
+    let kid = node.with_pairs(alloc, before, first, forced, bound)?;
+    Ok(Branch::Kid(kid))
+}
+
+/// What a pair gives by the matrix with its arc. The matrix is left as the last forced pair makes it.
+fn branch_at(
+    alloc: Global,
+    node: &Lean,
+    matrix: &mut MarkedMatrix,
+    before: &Arc<Vec<Pair>>,
+    ceiling: Option<i64>,
+    first: Pair,
+) -> Result<Branch, AllocError>
+    requires before { (arc_value before.now).items ≡ node.now.pairs }
+    requires matrix { IsProjectMatrix node.now.project (node.now.pairs ++ first ∷ []) matrix.old.rows }
+    ensures marks { matrix.new.marks ≡ matrix.old.marks }
+    ensures branch { IfOk result (IsBranchOf node.now ceiling first) }
+{
+    match force(alloc, node, first, matrix)? {
+        Forcing::Dead(forced) => Ok(Branch::Dead(forced)),
+        Forcing::Live(forced) => {
+            bounded(alloc, node, matrix.matrix(), before, ceiling, first, forced)
+        }
+    }
+}
+
+/// What a pair gives that forces others: their arcs are added to the matrix, which then goes back.
+fn branch_with_forced(
+    alloc: Global,
+    node: &Lean,
+    matrix: &mut MarkedMatrix,
+    before: &Arc<Vec<Pair>>,
+    ceiling: Option<i64>,
+    first: Pair,
+) -> Result<Branch, AllocError>
+    requires tied { IsTiedTo node.now matrix.old.rows }
+    requires before { (arc_value before.now).items ≡ node.now.pairs }
+    requires named { NameActivities node.now.project (first ∷ []) }
+    ensures unchanged { matrix.new ≡ matrix.old }
+    ensures branch { IfOk result (IsBranchOf node.now ceiling first) }
+{
+    match insert_under_mark(matrix, node.project().pair_arc(first)) {
+        Ok(()) => {}
+        Err(PathFault::PositiveCycle { .. }) => return Ok(Branch::Dead(Vec::new(alloc))),
+        Err(PathFault::Memory) => return Err(AllocError),
+    }
+    let branch = branch_at(alloc, node, matrix, before, ceiling, first);
+    matrix.go_back();
+    branch
+}
+
+/// What a pair gives under a ceiling. Where the node's own matrix tells it, nothing is inserted.
+pub(crate) fn branch_of(
+    alloc: Global,
+    node: &Lean,
+    matrix: &mut MarkedMatrix,
+    before: &Arc<Vec<Pair>>,
+    ceiling: Option<i64>,
+    pair: Pair,
+) -> Result<Branch, AllocError>
+    requires tied { IsTiedTo node.now matrix.old.rows }
+    requires before { (arc_value before.now).items ≡ node.now.pairs }
+    requires named { NameActivities node.now.project (pair ∷ []) }
+    ensures unchanged { matrix.new ≡ matrix.old }
+    ensures branch { IfOk result (IsBranchOf node.now ceiling pair) }
+{
+    let rows = matrix.matrix();
+    if is_dead_with(node, rows, pair) {
+        return Ok(Branch::Dead(Vec::new(alloc)));
+    }
+    if is_over(least_with(node, rows, pair), ceiling) {
+        return Ok(Branch::Cut(Vec::new(alloc)));
+    }
+    let bound = bound_with(alloc, node.project(), rows, pair)?;
+    if is_over(bound, ceiling) {
+        return Ok(Branch::Cut(Vec::new(alloc)));
+    }
+    if forces_some(node.project(), rows, node.base().incompatible(), pair) {
+        return branch_with_forced(alloc, node, matrix, before, ceiling, pair);
+    }
+    let kid = node.with_pairs(alloc, before, pair, Vec::new(alloc), bound)?;
+    Ok(Branch::Kid(kid))
+}

@@ -1,0 +1,102 @@
+ghost use Rattle.std.specs.Prelude.{◌≡◌, ◌↔◌, ◌<◌, [], ◌∷◌, ◌++◌, length, Some, IsTrue, IfOk, IfSome, MatchOption};
+ghost use Rattle.std.specs.List.{All, Any};
+ghost use Rattle.network.specs.Limits.{IsWithin};
+ghost use Rattle.network.specs.Problem.{activity_count, pair_arc, NameActivities};
+ghost use Rattle.network.specs.ProjectMatrix.{IsProjectMatrix};
+ghost use Rattle.branching.specs.declared.with_arc.TheConstants.{MAX_WAY_WITH};
+ghost use Rattle.branching.specs.Incompatible.{AllIncompatible};
+ghost use Rattle.branching.specs.Subproblem.{Subproblem};
+ghost use Rattle.branching.specs.Forcing.{IsForcedAt, IsForcedIn, IsForcedWith, IsFirstForced, IsForcingOf};
+
+use crate::lean::Lean;
+use crate::with_arc::weight_with;
+use longest_path::{MarkedMatrix, Matrix, PathFault};
+use network::{Pair, Project};
+use std::alloc::{AllocError, Global};
+
+/// What the pairs that a kid's first one forces make of the kid.
+#[derive(Drop)]
+pub(crate) enum Forcing {
+    /// These pairs were forced, and no other one is.
+    Live(Vec<Pair>),
+    /// The last of these pairs closed a walk of positive weight.
+    Dead(Vec<Pair>),
+}
+
+/// Whether this greatest weight from a pair's first activity to its second forces the pair: the second
+/// can't end before the first starts, and doesn't wait yet until the first has ended.
+fn is_forced_at(project: &Project, pair: Pair, greatest: Option<i64>) -> bool
+    requires named { NameActivities project.now (pair ∷ []) }
+    requires small { IfSome greatest (λ w. IsWithin MAX_WAY_WITH w) }
+    ensures { IsTrue result ↔ IsForcedAt project.now pair greatest }
+{
+    let Some(weight) = greatest else {
+        return false;
+    };
+    if weight + project.duration(pair.after) <= 0 {
+        return false;
+    }
+    weight < project.duration(pair.before)
+}
+
+/// The first of the pairs that is forced in the matrix.
+fn next_forced(project: &Project, matrix: &Matrix, incompatible: &[Pair]) -> Option<Pair>
+    requires size { length matrix.now ≡ activity_count project.now }
+    requires incompatible { AllIncompatible project.now incompatible.now }
+    ensures { MatchOption result (All (λ pair. ¬ IsForcedIn project.now matrix.now pair) incompatible.now) (IsFirstForced project.now matrix.now incompatible.now) }
+{
+    for pair in incompatible {
+        if is_forced_at(project, *pair, matrix.get(pair.before, pair.after)) {
+            return Some(*pair);
+        }
+    }
+    None
+}
+
+/// Whether some of the pairs is forced once one more is added, by entries of the matrix without that.
+pub(crate) fn forces_some(
+    project: &Project,
+    matrix: &Matrix,
+    incompatible: &[Pair],
+    added: Pair,
+) -> bool
+    requires size { length matrix.now ≡ activity_count project.now }
+    requires incompatible { AllIncompatible project.now incompatible.now }
+    requires named { NameActivities project.now (added ∷ []) }
+    ensures { IsTrue result ↔ Any (IsForcedWith project.now matrix.now added) incompatible.now }
+{
+    let arc = project.pair_arc(added);
+    for pair in incompatible {
+        let greatest = weight_with(matrix, arc, pair.before, pair.after);
+        if is_forced_at(project, *pair, greatest) {
+            return true;
+        }
+    }
+    false
+}
+
+/// Adds the first pair that is forced, again and again until none is, or until one closes a walk of
+/// positive weight. A pair that was added isn't forced again.
+pub(crate) fn force(
+    alloc: Global,
+    node: &Lean,
+    first: Pair,
+    matrix: &mut MarkedMatrix,
+) -> Result<Forcing, AllocError>
+    requires { IsProjectMatrix node.now.project (node.now.pairs ++ first ∷ []) matrix.old.rows }
+    ensures marks { matrix.new.marks ≡ matrix.old.marks }
+    ensures forcing { IfOk result (IsForcingOf node.now first matrix.new.rows) }
+{
+    let incompatible = node.base().incompatible();
+    let mut forced = Vec::new(alloc);
+    while let Some(pair) = next_forced(node.project(), matrix.matrix(), incompatible) {
+        forced.push(pair)?;
+        let arc = node.project().pair_arc(pair);
+        match matrix.insert(arc.from, arc.to, arc.weight) {
+            Ok(()) => {}
+            Err(PathFault::PositiveCycle { .. }) => return Ok(Forcing::Dead(forced)),
+            Err(PathFault::Memory) => return Err(AllocError),
+        }
+    }
+    Ok(Forcing::Live(forced))
+}
