@@ -70,8 +70,8 @@ impl Lean {
     }
 
     /// What all nodes of the search share.
-    pub(crate) fn base(&self) -> &Base
-        ensures { result.now.project ≡ self.now.project }
+    pub(crate) fn base(&self) -> &Arc<Base>
+        ensures { (arc_value result.now).project ≡ self.now.project }
     {
         &self.base
     }

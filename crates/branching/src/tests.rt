@@ -1,9 +1,10 @@
 ghost use Rattle.std.specs.Prelude.{◌<◌, ◌≤◌};
 
-use crate::{Lean, Outcome, Report, expand, root, search_alone};
+use crate::{Fate, Lean, Outcome, Report, expand, root, search_alone};
 use longest_path::PathFault;
-use network::{Pair, Project};
+use network::{Lag, Pair, Project};
 use std::alloc::Global;
+use std::process::Abort;
 use std::sync::Arc;
 use std::test::Fail;
 use test_projects::{
@@ -90,6 +91,89 @@ fn three_members_have_six_kids(rt: HostRuntime) -> Result<(), Fail> {
     Ok(())
 }
 
+/// Three activities of 3, 4 and 2 periods that ask for the one unit of a resource.
+fn three_in_turn(alloc: Global, lags: &[Lag]) -> Result<Project, Fail> {
+    with_one_resource(alloc, &[0, 3, 4, 2, 0], &[0, 1, 1, 1, 0], 1, lags)
+}
+
+/// That a kid has these pairs.
+fn assert_pairs(rt: &impl Abort, alloc: Global, kid: &Lean, pairs: &[Pair]) -> Result<(), Fail> {
+    assert_eq!(rt; pairs_of(alloc, kid)?.as_slice(), pairs);
+    Ok(())
+}
+
+#[test]
+fn kids_get_the_pairs_that_are_forced(rt: HostRuntime) -> Result<(), Fail> {
+    let alloc = rt.alloc();
+    let report = expand_root(alloc, three_in_turn(alloc, &[lag(3, 1, 0)])?, None)?;
+    let kids = report.kids();
+    assert_eq!(rt; kids.len(), 2);
+    assert_pairs(&rt, alloc, &kids[0], &[pair(2, 3), pair(3, 1)])?;
+    assert_pairs(&rt, alloc, &kids[1], &[pair(3, 2), pair(3, 1)])?;
+    assert_eq!(rt; [kids[0].bound(), kids[1].bound()], [9, 9]);
+    Ok(())
+}
+
+#[test]
+fn a_weight_of_minus_the_duration_forces_nothing(rt: HostRuntime) -> Result<(), Fail> {
+    let alloc = rt.alloc();
+    let report = expand_root(alloc, three_in_turn(alloc, &[lag(3, 1, -3)])?, None)?;
+    let kids = report.kids();
+    assert_eq!(rt; kids.len(), 2);
+    assert_pairs(&rt, alloc, &kids[0], &[pair(2, 3), pair(2, 1)])?;
+    assert_pairs(&rt, alloc, &kids[1], &[pair(3, 2)])?;
+    Ok(())
+}
+
+/// That the fate is dead, with these forced pairs.
+fn assert_dead(rt: &impl Abort, fate: &Fate, pairs: &[Pair]) -> Result<(), Fail> {
+    match fate {
+        Fate::Dead { forced } => assert_eq!(rt; forced.as_slice(), pairs),
+        _ => return Err("the pair isn't dead".into()),
+    }
+    Ok(())
+}
+
+#[test]
+fn forced_pairs_leave_no_kid(rt: HostRuntime) -> Result<(), Fail> {
+    let alloc = rt.alloc();
+    let lags = [lag(1, 3, -1), lag(3, 1, 0)];
+    let report = expand_root(alloc, three_in_turn(alloc, &lags)?, None)?;
+    assert!(rt; report.kids().is_empty());
+    match report.split() {
+        Some(set) => assert_eq!(rt; set.members(), [2, 3].as_slice()),
+        None => return Err("no set was split".into()),
+    }
+    let fates = report.fates();
+    assert_eq!(rt; fates.len(), 2);
+    assert_dead(&rt, &fates[0], &[pair(1, 3)])?;
+    assert_dead(&rt, &fates[1], &[pair(1, 2), pair(1, 3)])?;
+    Ok(())
+}
+
+#[test]
+fn a_pair_at_the_ceiling_is_cut(rt: HostRuntime) -> Result<(), Fail> {
+    let alloc = rt.alloc();
+    let report = expand_root(alloc, backward_lag(alloc)?, Some(6))?;
+    assert_eq!(rt; report.kids().len(), 1);
+    let fates = report.fates();
+    assert_eq!(rt; fates.len(), 2);
+    assert!(rt; matches!(fates[0], Fate::Kid));
+    match &fates[1] {
+        Fate::Cut { forced } => assert!(rt; forced.is_empty()),
+        _ => return Err("the pair isn't cut".into()),
+    }
+    Ok(())
+}
+
+#[test]
+fn a_report_without_a_split_has_no_fates(rt: HostRuntime) -> Result<(), Fail> {
+    let report = expand_root(rt.alloc(), one_machine(rt.alloc(), &[])?, Some(7))?;
+    assert!(rt; report.split().is_none());
+    assert!(rt; report.fates().is_empty());
+    Ok(())
+}
+
 #[test]
 fn a_least_schedule_without_overload_is_found(rt: HostRuntime) -> Result<(), Fail> {
     let apart = Arc::new(rt.alloc(), one_machine(rt.alloc(), &[lag(1, 2, 5)])?)?;
@@ -162,6 +246,8 @@ fn shortest_schedules(rt: HostRuntime) -> Result<(), Fail> {
     );
     let between = shortest(alloc, two_between(alloc)?)?;
     assert_eq!(rt; between.as_slice(), [0, 0, 9, 5, 13, 16].as_slice());
+    let in_turn = shortest(alloc, three_in_turn(alloc, &[lag(3, 1, 0)])?)?;
+    assert_eq!(rt; in_turn.as_slice(), [0, 6, 2, 0, 9].as_slice());
     let instant = with_one_resource(alloc, &[0, 0, 0], &[0, 2, 0], 1, &[])?;
     assert_eq!(rt; shortest(alloc, instant)?.as_slice(), [0, 0, 0].as_slice());
     Ok(())
@@ -173,6 +259,8 @@ fn projects_without_a_schedule(rt: HostRuntime) -> Result<(), Fail> {
     assert!(rt; shortest(alloc, both_orders_dead(alloc)?)?.is_empty());
     let too_late = one_machine(alloc, &[lag(3, 0, -6)])?;
     assert!(rt; shortest(alloc, too_late)?.is_empty());
+    let no_room = three_in_turn(alloc, &[lag(1, 3, -1), lag(3, 1, 0)])?;
+    assert!(rt; shortest(alloc, no_room)?.is_empty());
     let too_much = with_one_resource(alloc, &[0, 1, 0], &[0, 2, 0], 1, &[])?;
     assert!(rt; shortest(alloc, too_much)?.is_empty());
     Ok(())

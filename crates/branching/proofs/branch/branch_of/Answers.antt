@@ -1,4 +1,4 @@
-use Rattle.std.proofs.Common.{◌≡◌, ◌∙◌, rules, ◌≤ℤ◌, ◌∷◌, ◌++◌, [], w64}
+use Rattle.std.proofs.Common.{◌≡◌, ap, ◌∙◌, rules, ◌≤ℤ◌, ◌∷◌, ◌++◌, [], w64}
 use Rattle.std.specs.Arc.{arc_value}
 use Rattle.std.proofs.lemmas.Int.{to_z-of_z}
 use mir.Val.{SFits}
@@ -9,6 +9,7 @@ use Rattle.network.specs.Walk.{Rows}
 use Rattle.longest_path.specs.Insert.{rows_over, ClosesNone}
 use Rattle.bounds.specs.Bound.{critical_weight, IsBoundOf}
 use Rattle.bounds.specs.With.{IsBoundWith}
+use Rattle.branching.specs.Base.{BaseOf}
 use Rattle.branching.specs.Subproblem.{Subproblem}
 use Rattle.branching.specs.Ceiling.{IsUnder, Reaches}
 use Rattle.branching.specs.Forcing.{IsForcedMatrix}
@@ -49,7 +50,7 @@ returns-then-is_over-2-clause-branch c =
     rw c.new-then-is_over-2.ensures.items (cut_at node c.args.ceiling pair [] over c.in_ok-bound.bound forced of reaches)
 
 pub forces_some-requires-clause-incompatible : goal.forces_some-requires-clause-incompatible
-forces_some-requires-clause-incompatible c = rw (c.deref-2.ensures ∙ c.project-2.ensures.project) (rw c.base.ensures at c.incompatible.ensures)
+forces_some-requires-clause-incompatible c = rw (c.deref-2.ensures ∙ c.project-2.ensures.project) (rw (ap (λ (b : BaseOf). b.project) c.deref-3.ensures ∙ c.base.ensures) at c.incompatible.ensures)
 
 pub forces_some-requires-clause-named : goal.forces_some-requires-clause-named
 forces_some-requires-clause-named c = rw (c.deref-2.ensures ∙ c.project-2.ensures.project) c.requires.named

@@ -1,10 +1,11 @@
-use Rattle.std.proofs.Common.{◌≡◌, ◌∙◌, rules, ◌++◌, ◌∷◌, [], List, w64}
+use Rattle.std.proofs.Common.{◌≡◌, ap, ◌∙◌, rules, ◌++◌, ◌∷◌, [], List, w64}
 use Rattle.std.proofs.lemmas.Int.{to_z-of_z}
 use mir.Val.{SFits}
 use Rattle.network.specs.declared.lag.Pair.{Pair}
 use Rattle.network.specs.Problem.{Problem, pair_arc}
 use Rattle.longest_path.specs.Insert.{AddsArc}
 use Rattle.longest_path.specs.Fault.{IsInsertFault}
+use Rattle.branching.specs.Base.{BaseOf}
 use Rattle.branching.specs.Incompatible.{AreIncompatible, AllIncompatible}
 use Rattle.branching.specs.Forcing.{IsFirstForced}
 use Rattle.branching.proofs.ForcedMatrices.{both_named, one_forced, dead_forced}
@@ -17,8 +18,8 @@ pub pair_arc-arc-requires : goal.pair_arc-arc-requires
 pair_arc-arc-requires c =
     let p : Problem = c.args.node.now.project in
     let pair : Pair = c.in-Some.pair in
-    let same : c.deref.result.now ≡ p = c.deref.ensures ∙ c.project.ensures.project in
-    let incompatible : AllIncompatible p c.incompatible-incompatible.result.now = rw c.base.ensures at c.incompatible-incompatible.ensures in
+    let same : c.deref-in-loop-pair.result.now ≡ p = c.deref-in-loop-pair.ensures ∙ c.project.ensures.project in
+    let incompatible : AllIncompatible p c.incompatible-incompatible.result.now = rw (ap (λ (b : BaseOf). b.project) c.deref.ensures ∙ c.base.ensures) at c.incompatible-incompatible.ensures in
     let first : IsFirstForced p c.loop-pair.matrix.rows c.incompatible-incompatible.result.now pair = rw (same, c.matrix.ensures) at c.in-Some.ensures in
     let apart : AreIncompatible p pair = first_incompatible p c.loop-pair.matrix.rows c.incompatible-incompatible.result.now pair incompatible first in
     rw (c.deref-in-Some.ensures ∙ c.project-in-Some.ensures.project) (both_named p pair apart)
@@ -27,8 +28,8 @@ pub loop-pair-smaller : goal.loop-pair-smaller
 loop-pair-smaller c =
     let p : Problem = c.args.node.now.project in
     let pair : Pair = c.in-Some.pair in
-    let same : c.deref.result.now ≡ p = c.deref.ensures ∙ c.project.ensures.project in
-    let incompatible : AllIncompatible p c.incompatible-incompatible.result.now = rw c.base.ensures at c.incompatible-incompatible.ensures in
+    let same : c.deref-in-loop-pair.result.now ≡ p = c.deref-in-loop-pair.ensures ∙ c.project.ensures.project in
+    let incompatible : AllIncompatible p c.incompatible-incompatible.result.now = rw (ap (λ (b : BaseOf). b.project) c.deref.ensures ∙ c.base.ensures) at c.incompatible-incompatible.ensures in
     let first : IsFirstForced p c.loop-pair.matrix.rows c.incompatible-incompatible.result.now pair = rw (same, c.matrix.ensures) at c.in-Some.ensures in
     let apart : AreIncompatible p pair = first_incompatible p c.loop-pair.matrix.rows c.incompatible-incompatible.result.now pair incompatible first in
     let arc : c.pair_arc-arc.result ≡ pair_arc p pair = rw (c.deref-in-Some.ensures ∙ c.project-in-Some.ensures.project) at c.pair_arc-arc.ensures.arc in
@@ -42,8 +43,8 @@ pub loop-pair-preserved : goal.loop-pair-preserved
 loop-pair-preserved c =
     let p : Problem = c.args.node.now.project in
     let pair : Pair = c.in-Some.pair in
-    let same : c.deref.result.now ≡ p = c.deref.ensures ∙ c.project.ensures.project in
-    let incompatible : AllIncompatible p c.incompatible-incompatible.result.now = rw c.base.ensures at c.incompatible-incompatible.ensures in
+    let same : c.deref-in-loop-pair.result.now ≡ p = c.deref-in-loop-pair.ensures ∙ c.project.ensures.project in
+    let incompatible : AllIncompatible p c.incompatible-incompatible.result.now = rw (ap (λ (b : BaseOf). b.project) c.deref.ensures ∙ c.base.ensures) at c.incompatible-incompatible.ensures in
     let first : IsFirstForced p c.loop-pair.matrix.rows c.incompatible-incompatible.result.now pair = rw (same, c.matrix.ensures) at c.in-Some.ensures in
     let apart : AreIncompatible p pair = first_incompatible p c.loop-pair.matrix.rows c.incompatible-incompatible.result.now pair incompatible first in
     let arc : c.pair_arc-arc.result ≡ pair_arc p pair = rw (c.deref-in-Some.ensures ∙ c.project-in-Some.ensures.project) at c.pair_arc-arc.ensures.arc in
@@ -58,8 +59,8 @@ pub returns-in-Err-PositiveCycle-clause-forcing : goal.returns-in-Err-PositiveCy
 returns-in-Err-PositiveCycle-clause-forcing c =
     let p : Problem = c.args.node.now.project in
     let pair : Pair = c.in-Some.pair in
-    let same : c.deref.result.now ≡ p = c.deref.ensures ∙ c.project.ensures.project in
-    let incompatible : AllIncompatible p c.incompatible-incompatible.result.now = rw c.base.ensures at c.incompatible-incompatible.ensures in
+    let same : c.deref-in-loop-pair.result.now ≡ p = c.deref-in-loop-pair.ensures ∙ c.project.ensures.project in
+    let incompatible : AllIncompatible p c.incompatible-incompatible.result.now = rw (ap (λ (b : BaseOf). b.project) c.deref.ensures ∙ c.base.ensures) at c.incompatible-incompatible.ensures in
     let first : IsFirstForced p c.loop-pair.matrix.rows c.incompatible-incompatible.result.now pair = rw (same, c.matrix.ensures) at c.in-Some.ensures in
     let apart : AreIncompatible p pair = first_incompatible p c.loop-pair.matrix.rows c.incompatible-incompatible.result.now pair incompatible first in
     let arc : c.pair_arc-arc.result ≡ pair_arc p pair = rw (c.deref-in-Some.ensures ∙ c.project-in-Some.ensures.project) at c.pair_arc-arc.ensures.arc in
