@@ -1,19 +1,25 @@
--- What the tests on an entry, and a look through a list of pairs, say of forced pairs.
-use Rattle.std.proofs.Common.{◌≡◌, sym, ◌∙◌, Bool, true, false, ℤ, pos, ◌+ℤ◌, ◌<ℤ◌, Option, Some, List, ◌↔◌}
+-- What the tests on an entry, and a look through rows of pairs, say of forced pairs.
+use Rattle.std.proofs.Common.{◌≡◌, refl, sym, ap, ◌∙◌, ℕ, suc, ◌+◌, ◌<◌, Bool, true, false, ℤ, pos, ◌+ℤ◌, ◌<ℤ◌, Option, Some, None, List, [], ◌∷◌, ◌++◌, length, take, drop, get_or, ◌↔◌, arith, append_assoc, append-nil}
 use Rattle.std.specs.Prelude.{neg_ℤ}
 use Rattle.std.specs.Bool.{IsTrue}
 use Rattle.std.specs.Int.Signed.{le_z, lt_z}
 use Rattle.std.specs.List.{All, Any, Contains}
+use Rattle.std.proofs.Math.Seq.{drop-cons}
+use Rattle.std.proofs.lemmas.Grind.{flat_map-append}
 use Rattle.std.proofs.lemmas.Int.{ints}
-use Rattle.std.proofs.Common.{arith}
-use Rattle.std.proofs.lemmas.List.Elements.{All-contains}
-use Rattle.std.proofs.lemmas.Option.{slice_get_within, get_or_from_slice_get}
+use Rattle.std.proofs.lemmas.List.{map-append, take_more, take-append-drop}
+use Rattle.std.proofs.lemmas.List.Elements.{All-nil, All-cons, All-head, All-tail, All-append, All-push, All-contains, Contains-get_or, Contains-append_right}
 use Rattle.network.specs.declared.lag.Pair.{Pair}
 use Rattle.network.specs.Problem.{Problem, duration}
-use Rattle.network.specs.Walk.{Rows}
+use Rattle.network.specs.Walk.{Rows, entry}
+use Rattle.longest_path.specs.Relax.{greater, joined}
 use Rattle.longest_path.proofs.Reach.{same_some}
+use Rattle.branching.specs.Pairs.{pair_of}
 use Rattle.branching.specs.Incompatible.{AreIncompatible, AllIncompatible}
-use Rattle.branching.specs.Forcing.{IsForcedAt, IsFirstForced}
+use Rattle.branching.specs.IncompatibleRows.{pairs_before, pairs_of, IsRowOf, AreRowsOf}
+use Rattle.branching.specs.declared.incompatible.Incompatible.{Incompatible}
+use Rattle.branching.specs.Forcing.{IsForcedAt, IsForcedIn, IsForcedWith, IsFirstForced, way_over}
+use Rattle.branching.proofs.Lists.{here, contains_map, any_left, any_right}
 
 lt_when : (x y : ℤ) → x <ℤ y → lt_z x y ≡ true
 lt_when x y h = grind (arith, ints)
@@ -47,12 +53,131 @@ forced_by p pair greatest w x y is of_x of_y above = (to, from)
 pub unless : (b : Bool) (P : Type 0) → b ≡ false → IsTrue b ↔ P → ¬ P
 unless b P fails means holds = let passes : b ≡ true = means.1 holds in let bad : true ≡ false = sym passes ∙ fails in cc
 
+pub when : (b : Bool) (P : Type 0) → b ≡ true → IsTrue b ↔ P → P
+when b P passes means = means.0 passes
+
+pub both_ways : {P Q R : Type 0} → P ↔ Q → Q ↔ R → P ↔ R
+both_ways first second = (λ p. second.0 (first.0 p), λ r. first.1 (second.1 r))
+
+-- where some doesn't hold, it holds of none
+pub none_in_row : {X : Type 0} (P : X → Type 0) (xs : List X) → ¬ Any P xs → All (λ x. ¬ P x) xs
+none_in_row P xs none k d low holds = let at : Contains xs (get_or xs k d) = Contains-get_or xs k d low in none (at.0, get_or xs k d, at.1, at.2, holds)
+
+-- none of a row's pairs
+pub none_before : (P : Pair → Type 0) (a : ℕ) (others : List ℕ) → ((j : ℕ) → ¬ P (pair_of a j)) → All (λ pair. ¬ P pair) (pairs_before a others)
+none_before P a [] none = All-nil (λ pair. ¬ P pair)
+none_before P a (j ∷ others) none = All-cons (λ pair. ¬ P pair) (pair_of a j) (pairs_before a others) (none j) (none_before P a others none)
+
 -- what holds of none holds of no one
 pub none_of_all : {X : Type 0} (P : X → Type 0) (xs : List X) → All (λ x. ¬ P x) xs → IsTrue false ↔ Any P xs
 none_of_all P xs none = (λ bad. cc, λ (k, x, l, e, holds). absurd (All-contains (λ y. ¬ P y) xs x none (k, l, e) holds))
 
+-- ---- row by row
+
+-- what holds of all pairs of the first rows and of the next row
+pub all_more : (P : Pair → Type 0) (rows : List Incompatible) (i : ℕ) (d : Incompatible) → i < length rows → All P (pairs_of (take i rows)) → All P (pairs_before (get_or rows i d).activity (get_or rows i d).others.items) → All P (pairs_of (take (i + 1) rows))
+all_more P rows i d low so_far next =
+    let row : Incompatible = get_or rows i d in
+    let f : Incompatible → List Pair = λ r. pairs_before r.activity r.others.items in
+    let more : pairs_of (take (i + 1) rows) ≡ pairs_of (take i rows) ++ f row =
+    ap pairs_of (take_more rows i d low) ∙ flat_map-append f (take i rows) (row ∷ []) ∙ ap (λ (ps : List Pair). pairs_of (take i rows) ++ ps) (append-nil (f row)) in
+    rw more (All-append P (pairs_of (take i rows)) (f row) so_far next)
+
+-- the pairs up to a row, its own, and those after it
+rows_split : (rows : List Incompatible) (i : ℕ) (d : Incompatible) → i < length rows → pairs_of rows ≡ pairs_of (take i rows) ++ (pairs_before (get_or rows i d).activity (get_or rows i d).others.items ++ pairs_of (drop (suc i) rows))
+rows_split rows i d low =
+    ap pairs_of (sym (take-append-drop i rows)) ∙ flat_map-append (λ r. pairs_before r.activity r.others.items) (take i rows) (drop i rows)
+    ∙ ap (λ (rs : List Incompatible). pairs_of (take i rows) ++ pairs_of rs) (drop-cons rows i d low)
+
+-- the first that is forced of a row, after rows of which none is
+pub first_of_rows : (p : Problem) (matrix : Rows) (rows : List Incompatible) (i : ℕ) (d : Incompatible) (pair : Pair) → i < length rows → All (λ other. ¬ IsForcedIn p matrix other) (pairs_of (take i rows)) →
+    IsFirstForced p matrix (pairs_before (get_or rows i d).activity (get_or rows i d).others.items) pair → IsFirstForced p matrix (pairs_of rows) pair
+first_of_rows p matrix rows i d pair low none first = record {
+  before = pairs_of (take i rows) ++ first.before;
+  after = first.after ++ pairs_of (drop (suc i) rows);
+  split =
+      rows_split rows i d low ∙ ap (λ (ps : List Pair). pairs_of (take i rows) ++ (ps ++ pairs_of (drop (suc i) rows))) first.split
+      ∙ ap (λ (ps : List Pair). pairs_of (take i rows) ++ ps) (append_assoc first.before (pair ∷ first.after) (pairs_of (drop (suc i) rows)))
+      ∙ sym (append_assoc (pairs_of (take i rows)) first.before (pair ∷ (first.after ++ pairs_of (drop (suc i) rows))));
+  forced = first.forced;
+  none_before = All-append (λ other. ¬ IsForcedIn p matrix other) (pairs_of (take i rows)) first.before none first.none_before;
+}
+
+-- the first of a row's pairs
+pub first_of_row : (p : Problem) (matrix : Rows) (a : ℕ) (others : List ℕ) (i : ℕ) (d : ℕ) → i < length others → All (λ other. ¬ IsForcedIn p matrix other) (pairs_before a (take i others)) → IsForcedIn p matrix (pair_of a (get_or others i d)) →
+    IsFirstForced p matrix (pairs_before a others) (pair_of a (get_or others i d))
+first_of_row p matrix a others i d low none forced = record {
+  before = pairs_before a (take i others);
+  after = pairs_before a (drop (suc i) others);
+  split =
+      ap (pairs_before a) (sym (take-append-drop i others)) ∙ map-append (pair_of a) (take i others) (drop i others)
+      ∙ ap (λ (xs : List ℕ). pairs_before a (take i others) ++ pairs_before a xs) (drop-cons others i d low);
+  forced = forced;
+  none_before = none;
+}
+
+-- one pair more of a row
+pub pair_more : (P : Pair → Type 0) (a : ℕ) (others : List ℕ) (i : ℕ) (d : ℕ) → i < length others → All P (pairs_before a (take i others)) → P (pair_of a (get_or others i d)) → All P (pairs_before a (take (i + 1) others))
+pair_more P a others i d low so_far next =
+    let more : pairs_before a (take (i + 1) others) ≡ pairs_before a (take i others) ++ pair_of a (get_or others i d) ∷ [] =
+    ap (pairs_before a) (take_more others i d low) ∙ map-append (pair_of a) (take i others) (get_or others i d ∷ []) in
+    rw more (All-push P (pairs_before a (take i others)) (pair_of a (get_or others i d)) so_far next)
+
+-- some pair of a row
+pub some_of_row : (P : Pair → Type 0) (a : ℕ) (others : List ℕ) (i : ℕ) (d : ℕ) → i < length others → P (pair_of a (get_or others i d)) → Any P (pairs_before a others)
+some_of_row P a others i d low holds =
+    let at : Contains (pairs_before a others) (pair_of a (get_or others i d)) = contains_map (pair_of a) others (get_or others i d) (Contains-get_or others i d low) in
+    (at.0, pair_of a (get_or others i d), at.1, at.2, holds)
+
+-- some pair of some row
+pub some_of_rows : (P : Pair → Type 0) (rows : List Incompatible) (i : ℕ) (d : Incompatible) → i < length rows → Any P (pairs_before (get_or rows i d).activity (get_or rows i d).others.items) → Any P (pairs_of rows)
+some_of_rows P rows i d low some =
+    rw (rows_split rows i d low)
+    (any_right P (pairs_of (take i rows)) (pairs_before (get_or rows i d).activity (get_or rows i d).others.items ++ pairs_of (drop (suc i) rows))
+    (any_left P (pairs_before (get_or rows i d).activity (get_or rows i d).others.items) (pairs_of (drop (suc i) rows)) some))
+
+-- one of a row's pairs
+pub row_at : (p : Problem) (row : Incompatible) (i : ℕ) (d : ℕ) → i < length row.others.items → IsRowOf p row → AreIncompatible p (pair_of row.activity (get_or row.others.items i d))
+row_at p row i d low is = All-contains (AreIncompatible p) (pairs_before row.activity row.others.items) (pair_of row.activity (get_or row.others.items i d)) is.incompatible (contains_map (pair_of row.activity) row.others.items (get_or row.others.items i d) (Contains-get_or row.others.items i d low))
+
+-- the pairs of rows are incompatible
+pub rows_incompatible : (p : Problem) (rows : List Incompatible) → AreRowsOf p rows → AllIncompatible p (pairs_of rows)
+rows_incompatible p [] are = All-nil (AreIncompatible p)
+rows_incompatible p (row ∷ rows) are =
+    All-append (AreIncompatible p) (pairs_before row.activity row.others.items) (pairs_of rows) (All-head (IsRowOf p) row rows are).incompatible (rows_incompatible p rows (All-tail (IsRowOf p) row rows are))
+
+-- ---- ways over an arc
+
+-- there is no way over the arc to the pair's second activity
+pub no_way : (p : Problem) (rows : Rows) (added pair : Pair) → way_over p rows added pair ≡ None → ¬ IsForcedWith p rows added pair
+no_way p rows added pair none with_arc = let bad : None ≡ Some with_arc.way = sym none ∙ with_arc.is_way in cc
+
+-- the way, by its two parts
+pub over_by : (p : Problem) (rows : Rows) (added pair : Pair) (first last : ℤ) → joined (entry rows pair.before added.before) (Some (duration p added.before)) ≡ Some first → entry rows added.after pair.after ≡ Some last → way_over p rows added pair ≡ Some (first +ℤ last)
+over_by p rows added pair first last e f = rw (e, f) refl
+
+-- there is none where there is no first part, or no last one
+pub none_over : (p : Problem) (rows : Rows) (added pair : Pair) → joined (entry rows pair.before added.before) (Some (duration p added.before)) ≡ None → way_over p rows added pair ≡ None
+none_over p rows added pair e = rw e refl
+
+pub none_from : (p : Problem) (rows : Rows) (added pair : Pair) → entry rows added.after pair.after ≡ None → way_over p rows added pair ≡ None
+none_from p rows added pair e = by (joined (entry rows pair.before added.before) (Some (duration p added.before)))
+  where
+    by : (o : Option ℤ) → joined o (entry rows added.after pair.after) ≡ None
+    by None = refl
+    by (Some x) = rw e refl
+
+-- a way that forces the pair
+pub by_way : (p : Problem) (rows : Rows) (added pair : Pair) (way : ℤ) → way_over p rows added pair ≡ Some way → IsForcedAt p pair (greater (entry rows pair.before pair.after) (Some way)) ↔ IsForcedWith p rows added pair
+by_way p rows added pair way is_way = (
+  λ forced. record { way = way; is_way = is_way; forced = forced },
+  λ with_arc.
+      let same : with_arc.way ≡ way = same_some with_arc.way way (way_over p rows added pair) with_arc.is_way is_way in
+      rw same at with_arc.forced,
+)
+
 pub first_among : (p : Problem) (rows : Rows) (pairs : List Pair) (pair : Pair) → IsFirstForced p rows pairs pair → Contains pairs pair
-first_among p rows pairs pair first = (first.place, slice_get_within pairs first.place pair first.is, get_or_from_slice_get pairs first.place pair pair first.is)
+first_among p rows pairs pair first = rw first.split (Contains-append_right first.before (pair ∷ first.after) pair (here pair first.after))
 
 pub first_incompatible : (p : Problem) (rows : Rows) (pairs : List Pair) (pair : Pair) → AllIncompatible p pairs → IsFirstForced p rows pairs pair → AreIncompatible p pair
 first_incompatible p rows pairs pair all first = All-contains (AreIncompatible p) pairs pair all (first_among p rows pairs pair first)

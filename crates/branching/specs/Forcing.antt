@@ -1,11 +1,11 @@
 -- Pairs that are forced, one after the other, by the matrix of a node and a pair.
-use Rattle.std.specs.Prelude.{◌≡◌, ℕ, ℤ, neg_ℤ, ◌<ℤ◌, Option, Some, List, [], ◌∷◌, ◌++◌, take, slice_get}
+use Rattle.std.specs.Prelude.{◌≡◌, ℤ, neg_ℤ, ◌<ℤ◌, Option, Some, List, [], ◌∷◌, ◌++◌}
 use Rattle.std.specs.List.{All}
 use Rattle.network.specs.declared.lag.Pair.{Pair}
-use Rattle.network.specs.Problem.{Problem, duration, pair_arc}
+use Rattle.network.specs.Problem.{Problem, duration}
 use Rattle.network.specs.ProjectMatrix.{IsProjectMatrix}
 use Rattle.network.specs.Walk.{Rows, entry}
-use Rattle.longest_path.specs.Insert.{entry_over}
+use Rattle.longest_path.specs.Relax.{greater, joined}
 use Rattle.branching.specs.Subproblem.{Subproblem}
 use Rattle.branching.specs.Right.{AllForced}
 use Rattle.branching.specs.Fates.{IsDeadBy}
@@ -24,16 +24,23 @@ pub record IsForcedAt (p : Problem) (pair : Pair) (greatest : Option ℤ) : Type
 abbrev pub IsForcedIn : Problem → Rows → Pair → Type 0
 IsForcedIn p rows pair = IsForcedAt p pair (entry rows pair.before pair.after)
 
--- by the entry that the matrix would have with the arc of one pair more
-abbrev pub IsForcedWith : Problem → Rows → Pair → Pair → Type 0
-IsForcedWith p rows added pair = IsForcedAt p pair (entry_over (pair_arc p added) rows pair.before pair.after)
+-- the weight of the way over the arc of one pair more, where there is one
+abbrev pub way_over : Problem → Rows → Pair → Pair → Option ℤ
+way_over p rows added pair = joined (joined (entry rows pair.before added.before) (Some (duration p added.before))) (entry rows added.after pair.after)
+
+-- there is a way over the arc of one pair more, and once that is added the pair is forced
+pub record IsForcedWith (p : Problem) (rows : Rows) (added pair : Pair) : Type 0 where
+  pub way : ℤ
+  pub is_way : way_over p rows added pair ≡ Some way
+  pub forced : IsForcedAt p pair (greater (entry rows pair.before pair.after) (Some way))
 
 -- the first of the pairs that is forced in the matrix
 pub record IsFirstForced (p : Problem) (rows : Rows) (pairs : List Pair) (pair : Pair) : Type 0 where
-  pub place : ℕ
-  pub is : slice_get pairs place ≡ Some pair
+  pub before : List Pair
+  pub after : List Pair
+  pub split : pairs ≡ before ++ pair ∷ after
   pub forced : IsForcedIn p rows pair
-  pub none_before : All (λ other. ¬ IsForcedIn p rows other) (take place pairs)
+  pub none_before : All (λ other. ¬ IsForcedIn p rows other) before
 
 -- forced pairs were added after these, and the rows are the matrix of them all
 pub record IsForcedMatrix (p : Problem) (pairs forced : List Pair) (rows : Rows) : Type 0 where

@@ -1,10 +1,11 @@
 pub mod Incompatible
 pub mod Subproblem
+pub mod Pairs
+pub mod IncompatibleRows
 pub mod Base
 pub mod BaseView
 pub mod NodeView
 pub mod Path
-pub mod Pairs
 pub mod Right
 pub mod Ceiling
 pub mod Fates

@@ -2,22 +2,22 @@ ghost use Rattle.std.specs.Prelude.{◌≡◌, [], IfOk};
 ghost use Rattle.std.specs.Arc.{arc_value};
 ghost use Rattle.network.specs.Limits.{IsProject};
 ghost use Rattle.network.specs.ProjectMatrix.{IsProjectMatrix};
-ghost use Rattle.branching.specs.Incompatible.{AllIncompatible};
+ghost use Rattle.branching.specs.IncompatibleRows.{AreRowsOf};
 
-use crate::incompatible::incompatible_pairs;
+use crate::incompatible::{Incompatible, incompatible_activities};
 use longest_path::Matrix;
-use network::{Pair, Project};
+use network::Project;
 use std::alloc::{AllocError, Global};
 use std::marker::Model;
 use std::sync::Arc;
 
-/// What all nodes of a search share: the project, its matrix without pairs, and the ordered pairs of
-/// its activities that can't run at the same time.
+/// What all nodes of a search share: the project, its matrix without pairs, and which of its
+/// activities can't run at the same time.
 #[derive(Drop, Debug)]
 pub(crate) struct Base {
     project: Arc<Project>,
     matrix: Matrix,
-    incompatible: Vec<Pair>,
+    incompatible: Vec<Incompatible>,
 }
 
 impl Model for Base {
@@ -42,7 +42,7 @@ impl Base {
         requires { IsProjectMatrix (arc_value project) [] matrix }
         ensures project { IfOk result (λ base. (arc_value base).project ≡ arc_value project) }
     {
-        let incompatible = incompatible_pairs(alloc, &project)?;
+        let incompatible = incompatible_activities(alloc, &project)?;
         let base = Base {
             project,
             matrix,
@@ -66,9 +66,9 @@ impl Base {
         &self.matrix
     }
 
-    /// The ordered pairs of activities that can't run at the same time, by rising numbers.
-    pub(crate) fn incompatible(&self) -> &[Pair]
-        ensures { AllIncompatible self.now.project result.now }
+    /// The activities that can't run at the same time as some other, by rising numbers.
+    pub(crate) fn incompatible(&self) -> &[Incompatible]
+        ensures { AreRowsOf self.now.project result.now }
     {
         self.incompatible.as_slice()
     }

@@ -139,7 +139,9 @@ fn branch_with_forced(
     branch
 }
 
-/// What a pair gives under a ceiling. Where the node's own matrix tells it, nothing is inserted.
+/// What a pair gives under a ceiling. Where the node's own matrix tells it, nothing is inserted: at any node
+/// but the root all pairs were added that its matrix forces, so that only ways over the pair's arc can
+/// force more.
 pub(crate) fn branch_of(
     alloc: Global,
     node: &Lean,
@@ -161,12 +163,14 @@ pub(crate) fn branch_of(
     if is_over(least_with(node, rows, pair), ceiling) {
         return Ok(Branch::Cut(Vec::new(alloc)));
     }
+    if node.pairs().get(0).is_none()
+        || forces_some(node.project(), rows, node.base().incompatible(), pair)
+    {
+        return branch_with_forced(alloc, node, matrix, before, ceiling, pair);
+    }
     let bound = bound_with(alloc, node.project(), rows, pair)?;
     if is_over(bound, ceiling) {
         return Ok(Branch::Cut(Vec::new(alloc)));
-    }
-    if forces_some(node.project(), rows, node.base().incompatible(), pair) {
-        return branch_with_forced(alloc, node, matrix, before, ceiling, pair);
     }
     let kid = node.with_pairs(alloc, before, pair, Vec::new(alloc), bound)?;
     Ok(Branch::Kid(kid))

@@ -4,12 +4,13 @@ ghost use Rattle.network.specs.Limits.{IsWithin};
 ghost use Rattle.network.specs.Problem.{activity_count, pair_arc, NameActivities};
 ghost use Rattle.network.specs.ProjectMatrix.{IsProjectMatrix};
 ghost use Rattle.branching.specs.declared.with_arc.TheConstants.{MAX_WAY_WITH};
-ghost use Rattle.branching.specs.Incompatible.{AllIncompatible};
+ghost use Rattle.branching.specs.IncompatibleRows.{pairs_before, pairs_of, IsRowOf, AreRowsOf};
 ghost use Rattle.branching.specs.Subproblem.{Subproblem};
 ghost use Rattle.branching.specs.Forcing.{IsForcedAt, IsForcedIn, IsForcedWith, IsFirstForced, IsForcingOf};
 
+use crate::incompatible::Incompatible;
 use crate::lean::Lean;
-use crate::with_arc::weight_with;
+use crate::with_arc::{or_way, then_arc};
 use longest_path::{MarkedMatrix, Matrix, PathFault};
 use network::{Pair, Project};
 use std::alloc::{AllocError, Global};
@@ -39,36 +40,81 @@ fn is_forced_at(project: &Project, pair: Pair, greatest: Option<i64>) -> bool
     weight < project.duration(pair.before)
 }
 
-/// The first of the pairs that is forced in the matrix.
-fn next_forced(project: &Project, matrix: &Matrix, incompatible: &[Pair]) -> Option<Pair>
+/// The first of the pairs of one activity with others that is forced in the matrix.
+fn next_in_row(project: &Project, matrix: &Matrix, row: &Incompatible) -> Option<Pair>
     requires size { length matrix.now ≡ activity_count project.now }
-    requires incompatible { AllIncompatible project.now incompatible.now }
-    ensures { MatchOption result (All (λ pair. ¬ IsForcedIn project.now matrix.now pair) incompatible.now) (IsFirstForced project.now matrix.now incompatible.now) }
+    requires row { IsRowOf project.now row.now }
+    ensures { MatchOption result (All (λ pair. ¬ IsForcedIn project.now matrix.now pair) (pairs_before row.now.activity row.now.others.items)) (IsFirstForced project.now matrix.now (pairs_before row.now.activity row.now.others.items)) }
 {
-    for pair in incompatible {
-        if is_forced_at(project, *pair, matrix.get(pair.before, pair.after)) {
-            return Some(*pair);
+    let before = row.activity;
+    for after in row.others.as_slice() {
+        let pair = Pair {
+            before,
+            after: *after,
+        };
+        if is_forced_at(project, pair, matrix.get(before, *after)) {
+            return Some(pair);
         }
     }
     None
 }
 
-/// Whether some of the pairs is forced once one more is added, by entries of the matrix without that.
+/// The first pair of incompatible activities that is forced in the matrix.
+fn next_forced(project: &Project, matrix: &Matrix, incompatible: &[Incompatible]) -> Option<Pair>
+    requires size { length matrix.now ≡ activity_count project.now }
+    requires rows { AreRowsOf project.now incompatible.now }
+    ensures { MatchOption result (All (λ pair. ¬ IsForcedIn project.now matrix.now pair) (pairs_of incompatible.now)) (IsFirstForced project.now matrix.now (pairs_of incompatible.now)) }
+{
+    for row in incompatible {
+        if let Some(pair) = next_in_row(project, matrix, row) {
+            return Some(pair);
+        }
+    }
+    None
+}
+
+/// Whether some pair of one activity with others is forced by a way over the arc of one pair more, by
+/// entries of the matrix without that.
+fn forces_in_row(project: &Project, matrix: &Matrix, row: &Incompatible, added: Pair) -> bool
+    requires size { length matrix.now ≡ activity_count project.now }
+    requires row { IsRowOf project.now row.now }
+    requires named { NameActivities project.now (added ∷ []) }
+    ensures { IsTrue result ↔ Any (IsForcedWith project.now matrix.now added) (pairs_before row.now.activity row.now.others.items) }
+{
+    let before = row.activity;
+    let arc = project.pair_arc(added);
+    let Some(first) = then_arc(matrix.get(before, arc.from), arc.weight) else {
+        return false;
+    };
+    for after in row.others.as_slice() {
+        if let Some(last) = matrix.get(arc.to, *after) {
+            let pair = Pair {
+                before,
+                after: *after,
+            };
+            let greatest = or_way(matrix.get(before, *after), Some(first), Some(last));
+            if is_forced_at(project, pair, greatest) {
+                return true;
+            }
+        }
+    }
+    false
+}
+
+/// Whether some pair of incompatible activities is forced by a way over the arc of one pair more.
 pub(crate) fn forces_some(
     project: &Project,
     matrix: &Matrix,
-    incompatible: &[Pair],
+    incompatible: &[Incompatible],
     added: Pair,
 ) -> bool
     requires size { length matrix.now ≡ activity_count project.now }
-    requires incompatible { AllIncompatible project.now incompatible.now }
+    requires rows { AreRowsOf project.now incompatible.now }
     requires named { NameActivities project.now (added ∷ []) }
-    ensures { IsTrue result ↔ Any (IsForcedWith project.now matrix.now added) incompatible.now }
+    ensures { IsTrue result ↔ Any (IsForcedWith project.now matrix.now added) (pairs_of incompatible.now) }
 {
-    let arc = project.pair_arc(added);
-    for pair in incompatible {
-        let greatest = weight_with(matrix, arc, pair.before, pair.after);
-        if is_forced_at(project, *pair, greatest) {
+    for row in incompatible {
+        if forces_in_row(project, matrix, row, added) {
             return true;
         }
     }

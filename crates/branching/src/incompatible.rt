@@ -2,6 +2,7 @@ ghost use Rattle.std.specs.Prelude.{◌<◌, IfOk, [], ◌∷◌};
 ghost use Rattle.std.specs.Bool.{OnTrue};
 ghost use Rattle.network.specs.Problem.{activity_count, NameActivities};
 ghost use Rattle.branching.specs.Incompatible.{AreIncompatible, AllIncompatible, ExceedSome};
+ghost use Rattle.branching.specs.IncompatibleRows.{pairs_before, AreRowsOf};
 
 use network::{Pair, Project};
 use std::alloc::{AllocError, Global};
@@ -39,32 +40,48 @@ fn are_incompatible(project: &Project, pair: Pair) -> bool
     exceed_some(project, pair)
 }
 
-/// Adds the pairs of one activity with those that it can't run together with.
-fn push_incompatible(
-    pairs: &mut Vec<Pair>,
-    project: &Project,
-    before: usize,
-) -> Result<(), AllocError>
-    requires named { before < activity_count project.now }
-    requires old { AllIncompatible project.now pairs.old.items }
-    ensures { IfOk result (λ done. AllIncompatible project.now pairs.new.items) }
-{
-    for after in 0..project.activity_count() {
-        let pair = Pair { before, after };
-        if are_incompatible(project, pair) {
-            pairs.push(pair)?;
-        }
-    }
-    Ok(())
+/// An activity, and the others that can't run at the same time as it, by rising numbers.
+#[derive(Drop, Debug)]
+pub(crate) struct Incompatible {
+    pub(crate) activity: usize,
+    pub(crate) others: Vec<usize>,
 }
 
-/// The ordered pairs of activities that can't run at the same time, by rising numbers.
-pub(crate) fn incompatible_pairs(alloc: Global, project: &Project) -> Result<Vec<Pair>, AllocError>
-    ensures { IfOk result (λ pairs. AllIncompatible project.now pairs.items) }
+/// The activities that can't run at the same time as this one.
+fn incompatible_with(
+    alloc: Global,
+    project: &Project,
+    activity: usize,
+) -> Result<Vec<usize>, AllocError>
+    requires { activity < activity_count project.now }
+    ensures { IfOk result (λ others. AllIncompatible project.now (pairs_before activity others.items)) }
 {
-    let mut pairs = Vec::new(alloc);
-    for before in 0..project.activity_count() {
-        push_incompatible(&mut pairs, project, before)?;
+    let mut others = Vec::new(alloc);
+    for other in 0..project.activity_count() {
+        let pair = Pair {
+            before: activity,
+            after: other,
+        };
+        if are_incompatible(project, pair) {
+            others.push(other)?;
+        }
     }
-    Ok(pairs)
+    Ok(others)
+}
+
+/// The activities that can't run at the same time as some other, by rising numbers.
+pub(crate) fn incompatible_activities(
+    alloc: Global,
+    project: &Project,
+) -> Result<Vec<Incompatible>, AllocError>
+    ensures { IfOk result (λ rows. AreRowsOf project.now rows.items) }
+{
+    let mut rows = Vec::new(alloc);
+    for activity in 0..project.activity_count() {
+        let others = incompatible_with(alloc, project, activity)?;
+        if !others.is_empty() {
+            rows.push(Incompatible { activity, others })?;
+        }
+    }
+    Ok(rows)
 }

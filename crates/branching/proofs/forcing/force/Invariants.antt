@@ -1,6 +1,7 @@
 use Rattle.std.proofs.Common.{[], ◌∷◌, ◌++◌, ◌≡◌, length}
 use Rattle.std.specs.List.{filter}
 use Rattle.branching.specs.Forcing.{IsForcedMatrix}
+use Rattle.branching.specs.IncompatibleRows.{pairs_of}
 use Rattle.branching.proofs.Rounds.{is_left}
 use Rattle.branching.proofs.forcing.force.Given as goal
 
@@ -11,4 +12,4 @@ invariant-loop-pair l = record {
 }
 
 abbrev pub decreases-loop-pair : goal.decreases-loop-pair
-decreases-loop-pair l = length (filter (is_left l.node.project l.matrix.rows) l.incompatible)
+decreases-loop-pair l = length (filter (is_left l.node.project l.matrix.rows) (pairs_of l.incompatible))

@@ -1,21 +1,19 @@
-use Rattle.std.proofs.Common.{length, ◌<◌, ◌≤◌}
+use Rattle.std.proofs.Common.{◌≤◌, length}
 use Rattle.std.specs.List.{All}
-use Rattle.std.proofs.lemmas.List.{take_more, take_all}
-use Rattle.std.proofs.lemmas.List.Elements.{All-push}
-use Rattle.network.specs.declared.lag.Pair.{Pair}
+use Rattle.std.proofs.lemmas.List.{take_all}
 use Rattle.branching.specs.Forcing.{IsForcedIn}
-use Rattle.branching.proofs.Forcings.{unless}
+use Rattle.branching.specs.IncompatibleRows.{pairs_of}
+use Rattle.branching.proofs.Forcings.{all_more, first_of_rows}
 use Rattle.branching.proofs.forcing.next_forced.Goals as goal
 
-pub loop-pair-preserved : goal.loop-pair-preserved
-loop-pair-preserved c =
-    let none : Pair = record { before = 0; after = 0 } in
-    let lt : c.loop-pair.pair-index < length c.args.incompatible.now = c.loop-pair-test.true in
-    let not_forced = unless c.is_forced_at.result _ c.if-is_forced_at.false (rw c.get.ensures.value at c.is_forced_at.ensures) in
-    rw (take_more c.args.incompatible.now c.loop-pair.pair-index none lt) (All-push (λ pair. ¬ IsForcedIn c.args.project.now c.args.matrix.now pair) _ _ c.loop-pair.invariant not_forced)
+pub returns-in-Some : goal.returns-in-Some
+returns-in-Some c = first_of_rows c.args.project.now c.args.matrix.now c.args.incompatible.now c.loop-row.row-index c.row-item.result c.in-Some.pair c.loop-row-test.true c.loop-row.invariant (rw c.row-item.is at c.in-Some.ensures)
+
+pub loop-row-preserved : goal.loop-row-preserved
+loop-row-preserved c = all_more (λ pair. ¬ IsForcedIn c.args.project.now c.args.matrix.now pair) c.args.incompatible.now c.loop-row.row-index c.row-item.result c.loop-row-test.true c.loop-row.invariant (rw c.row-item.is at c.in_default.ensures)
 
 pub returns : goal.returns
 returns c =
-    let past : length c.args.incompatible.now ≤ c.loop-pair.pair-index = c.loop-pair-test.false in
-    let all : All (λ pair. ¬ IsForcedIn c.args.project.now c.args.matrix.now pair) c.args.incompatible.now = rw (take_all c.loop-pair.pair-index c.args.incompatible.now past) at c.loop-pair.invariant in
+    let past : length c.args.incompatible.now ≤ c.loop-row.row-index = c.loop-row-test.false in
+    let all : All (λ pair. ¬ IsForcedIn c.args.project.now c.args.matrix.now pair) (pairs_of c.args.incompatible.now) = rw (take_all c.loop-row.row-index c.args.incompatible.now past) at c.loop-row.invariant in
     all

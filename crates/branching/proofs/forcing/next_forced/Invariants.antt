@@ -1,7 +1,8 @@
 use Rattle.std.proofs.Common.{take}
 use Rattle.std.specs.List.{All}
 use Rattle.branching.specs.Forcing.{IsForcedIn}
+use Rattle.branching.specs.IncompatibleRows.{pairs_of}
 use Rattle.branching.proofs.forcing.next_forced.Given as goal
 
-abbrev pub invariant-loop-pair : goal.invariant-loop-pair
-invariant-loop-pair l = All (λ pair. ¬ IsForcedIn l.project l.matrix pair) (take l.pair-index l.incompatible)
+abbrev pub invariant-loop-row : goal.invariant-loop-row
+invariant-loop-row l = All (λ pair. ¬ IsForcedIn l.project l.matrix pair) (pairs_of (take l.row-index l.incompatible))

@@ -1,0 +1,110 @@
+use Rattle.std.proofs.Common.{◌≡◌, refl, sym, ◌∙◌, rules, w64, ℕ, ◌<◌, ◌≤◌, ◌+ℤ◌, Some, None, length, get_or, ◌↔◌}
+use Rattle.std.proofs.lemmas.Int.{to_z-of_z}
+use mir.Val.{SFits}
+use Rattle.std.specs.Bool.{IsTrue}
+use Rattle.std.specs.List.{All}
+use Rattle.std.proofs.lemmas.List.{take_all}
+use Rattle.network.specs.declared.lag.Pair.{Pair}
+use Rattle.network.specs.Problem.{duration, pair_arc}
+use Rattle.network.specs.Walk.{entry}
+use Rattle.longest_path.specs.Relax.{greater, joined}
+use Rattle.branching.specs.declared.incompatible.Incompatible.{Incompatible}
+use Rattle.branching.specs.Forcing.{IsForcedWith, way_over}
+use Rattle.branching.specs.Incompatible.{AreIncompatible}
+use Rattle.branching.specs.IncompatibleRows.{pairs_before}
+use Rattle.branching.specs.Pairs.{pair_of}
+use Rattle.branching.proofs.Forcings.{unless, when, both_ways, over_by, by_way, no_way, none_before, none_over, none_from, none_of_all, pair_more, some_of_row, row_at}
+use Rattle.branching.proofs.ForcedMatrices.{both_named}
+use Rattle.branching.proofs.forcing.forces_in_row.Goals as goal
+use Rattle.branching.proofs.forcing.forces_in_row.Goals.{in-Some-get+else-is_forced_at, in_default-get}
+
+pub returns-in_default : goal.returns-in_default
+returns-in_default c =
+    let arc : c.pair_arc-arc.result ≡ pair_arc c.args.project.now c.args.added = c.pair_arc-arc.ensures.arc in
+    let fits : SFits w64 c.pair_arc-arc.result.weight = search rules in
+    let sum : c.then_arc.result ≡ joined c.get.result (Some c.pair_arc-arc.result.weight) = simp to_z-of_z at c.then_arc.ensures.sum in
+    let sum_is : c.then_arc.result ≡ joined (entry c.args.matrix.now c.args.row.now.activity c.args.added.before) (Some (duration c.args.project.now c.args.added.before)) = rw (c.get.ensures.value, arc) at sum in
+    let none : joined (entry c.args.matrix.now c.args.row.now.activity c.args.added.before) (Some (duration c.args.project.now c.args.added.before)) ≡ None = sym sum_is ∙ c.in_default.is in
+    none_of_all (IsForcedWith c.args.project.now c.args.matrix.now c.args.added) (pairs_before c.args.row.now.activity c.args.row.now.others.items)
+    (none_before (IsForcedWith c.args.project.now c.args.matrix.now c.args.added) c.args.row.now.activity c.args.row.now.others.items
+    (λ j. no_way c.args.project.now c.args.matrix.now c.args.added (pair_of c.args.row.now.activity j) (none_over c.args.project.now c.args.matrix.now c.args.added (pair_of c.args.row.now.activity j) none)))
+
+pub get-requires-in-loop-after-clause-to_activity : goal.get-requires-in-loop-after-clause-to_activity
+get-requires-in-loop-after-clause-to_activity c =
+    let row : Incompatible = c.args.row.now in
+    let i : ℕ = c.loop-after.after-index in
+    let here : c.as_slice-after-items.result.now ≡ row.others.items = c.as_slice-after-items.ensures.value in
+    let low : i < length row.others.items = rw here at c.loop-after-test.true in
+    let apart : AreIncompatible c.args.project.now (pair_of row.activity (get_or row.others.items i 0)) = row_at c.args.project.now row i 0 low c.requires.row in
+    rw (c.requires.size, here) apart.second_named
+
+pub get-requires-in-Some-get-clause-to_activity : goal.get-requires-in-Some-get-clause-to_activity
+get-requires-in-Some-get-clause-to_activity c =
+    let row : Incompatible = c.args.row.now in
+    let i : ℕ = c.loop-after.after-index in
+    let here : c.as_slice-after-items.result.now ≡ row.others.items = c.as_slice-after-items.ensures.value in
+    let low : i < length row.others.items = rw here at c.loop-after-test.true in
+    let apart : AreIncompatible c.args.project.now (pair_of row.activity (get_or row.others.items i 0)) = row_at c.args.project.now row i 0 low c.requires.row in
+    rw (c.requires.size, here) apart.second_named
+
+pub is_forced_at-requires-clause-named : goal.is_forced_at-requires-clause-named
+is_forced_at-requires-clause-named c =
+    let row : Incompatible = c.args.row.now in
+    let i : ℕ = c.loop-after.after-index in
+    let here : c.as_slice-after-items.result.now ≡ row.others.items = c.as_slice-after-items.ensures.value in
+    let low : i < length row.others.items = rw here at c.loop-after-test.true in
+    let apart : AreIncompatible c.args.project.now (pair_of row.activity (get_or row.others.items i 0)) = row_at c.args.project.now row i 0 low c.requires.row in
+    rw here (both_named c.args.project.now (pair_of row.activity (get_or row.others.items i 0)) apart)
+
+pub returns-then-is_forced_at : goal.returns-then-is_forced_at
+returns-then-is_forced_at c =
+    let row : Incompatible = c.args.row.now in
+    let i : ℕ = c.loop-after.after-index in
+    let here : c.as_slice-after-items.result.now ≡ row.others.items = c.as_slice-after-items.ensures.value in
+    let low : i < length row.others.items = rw here at c.loop-after-test.true in
+    let pair : Pair = pair_of row.activity (get_or row.others.items i 0) in
+    let arc : c.pair_arc-arc.result ≡ pair_arc c.args.project.now c.args.added = c.pair_arc-arc.ensures.arc in
+    let fits : SFits w64 c.pair_arc-arc.result.weight = search rules in
+    let sum : c.then_arc.result ≡ joined c.get.result (Some c.pair_arc-arc.result.weight) = simp to_z-of_z at c.then_arc.ensures.sum in
+    let sum_is : c.then_arc.result ≡ joined (entry c.args.matrix.now c.args.row.now.activity c.args.added.before) (Some (duration c.args.project.now c.args.added.before)) = rw (c.get.ensures.value, arc) at sum in
+    let first : joined (entry c.args.matrix.now row.activity c.args.added.before) (Some (duration c.args.project.now c.args.added.before)) ≡ Some c.in-Some.first = sym sum_is ∙ c.in-Some.is in
+    let last : entry c.args.matrix.now c.args.added.after pair.after ≡ Some c.in-Some-get.last = rw (arc, here) at (sym c.get-in-loop-after.ensures.value ∙ c.in-Some-get.is) in
+    let way : way_over c.args.project.now c.args.matrix.now c.args.added pair ≡ Some (c.in-Some.first +ℤ c.in-Some-get.last) = over_by c.args.project.now c.args.matrix.now c.args.added pair c.in-Some.first c.in-Some-get.last first last in
+    let first_fits : SFits w64 c.in-Some.first = search rules in
+    let last_fits : SFits w64 c.in-Some-get.last = search rules in
+    let greatest : c.or_way-greatest.result ≡ greater (entry c.args.matrix.now pair.before pair.after) (Some (c.in-Some.first +ℤ c.in-Some-get.last)) = rw (c.get-in-Some-get.ensures.value, here) at (simp to_z-of_z at c.or_way-greatest.ensures.value) in
+    let means : IsTrue c.is_forced_at.result ↔ IsForcedWith c.args.project.now c.args.matrix.now c.args.added pair = both_ways (rw (greatest, here) at c.is_forced_at.ensures) (by_way c.args.project.now c.args.matrix.now c.args.added pair (c.in-Some.first +ℤ c.in-Some-get.last) way) in
+    (λ test. some_of_row (IsForcedWith c.args.project.now c.args.matrix.now c.args.added) row.activity row.others.items i 0 low (when c.is_forced_at.result _ c.if-is_forced_at.true means), λ some. refl)
+
+pub loop-after-preserved : goal.loop-after-preserved
+loop-after-preserved c =
+    let row : Incompatible = c.args.row.now in
+    let i : ℕ = c.loop-after.after-index in
+    let here : c.as_slice-after-items.result.now ≡ row.others.items = c.as_slice-after-items.ensures.value in
+    let low : i < length row.others.items = rw here at c.loop-after-test.true in
+    let pair : Pair = pair_of row.activity (get_or row.others.items i 0) in
+    let arc : c.pair_arc-arc.result ≡ pair_arc c.args.project.now c.args.added = c.pair_arc-arc.ensures.arc in
+    let fits : SFits w64 c.pair_arc-arc.result.weight = search rules in
+    let sum : c.then_arc.result ≡ joined c.get.result (Some c.pair_arc-arc.result.weight) = simp to_z-of_z at c.then_arc.ensures.sum in
+    let sum_is : c.then_arc.result ≡ joined (entry c.args.matrix.now c.args.row.now.activity c.args.added.before) (Some (duration c.args.project.now c.args.added.before)) = rw (c.get.ensures.value, arc) at sum in
+    pair_more (λ pair. ¬ IsForcedWith c.args.project.now c.args.matrix.now c.args.added pair) row.activity row.others.items i 0 low c.loop-after.invariant (elim c.match-get.branch [
+      | in-Some-get+else-is_forced_at w ↦
+          let first : joined (entry c.args.matrix.now row.activity c.args.added.before) (Some (duration c.args.project.now c.args.added.before)) ≡ Some c.in-Some.first = sym sum_is ∙ c.in-Some.is in
+          let last : entry c.args.matrix.now c.args.added.after pair.after ≡ Some w.in-Some-get.last = rw (arc, here) at (sym c.get-in-loop-after.ensures.value ∙ w.in-Some-get.is) in
+          let way : way_over c.args.project.now c.args.matrix.now c.args.added pair ≡ Some (c.in-Some.first +ℤ w.in-Some-get.last) = over_by c.args.project.now c.args.matrix.now c.args.added pair c.in-Some.first w.in-Some-get.last first last in
+          let first_fits : SFits w64 c.in-Some.first = search rules in
+          let last_fits : SFits w64 w.in-Some-get.last = search rules in
+          let greatest : w.or_way-greatest.result ≡ greater (entry c.args.matrix.now pair.before pair.after) (Some (c.in-Some.first +ℤ w.in-Some-get.last)) = rw (w.get-in-Some-get.ensures.value, here) at (simp to_z-of_z at w.or_way-greatest.ensures.value) in
+          let means : IsTrue w.is_forced_at.result ↔ IsForcedWith c.args.project.now c.args.matrix.now c.args.added pair = both_ways (rw (greatest, here) at w.is_forced_at.ensures) (by_way c.args.project.now c.args.matrix.now c.args.added pair (c.in-Some.first +ℤ w.in-Some-get.last) way) in
+          unless w.is_forced_at.result _ w.if-is_forced_at.false means
+      | in_default-get w ↦
+          let last : entry c.args.matrix.now c.args.added.after pair.after ≡ None = rw (arc, here) at (sym c.get-in-loop-after.ensures.value ∙ w.in_default-get.is) in
+          no_way c.args.project.now c.args.matrix.now c.args.added pair (none_from c.args.project.now c.args.matrix.now c.args.added pair last)
+    ])
+
+pub returns : goal.returns
+returns c =
+    let row : Incompatible = c.args.row.now in
+    let past : length row.others.items ≤ c.loop-after.after-index = rw c.as_slice-after-items.ensures.value at c.loop-after-test.false in
+    let all : All (λ pair. ¬ IsForcedWith c.args.project.now c.args.matrix.now c.args.added pair) (pairs_before row.activity row.others.items) = rw (take_all c.loop-after.after-index row.others.items past) at c.loop-after.invariant in
+    none_of_all (IsForcedWith c.args.project.now c.args.matrix.now c.args.added) (pairs_before row.activity row.others.items) all

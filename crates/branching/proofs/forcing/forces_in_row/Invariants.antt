@@ -1,0 +1,8 @@
+use Rattle.std.proofs.Common.{take}
+use Rattle.std.specs.List.{All}
+use Rattle.branching.specs.Forcing.{IsForcedWith}
+use Rattle.branching.specs.IncompatibleRows.{pairs_before}
+use Rattle.branching.proofs.forcing.forces_in_row.Given as goal
+
+abbrev pub invariant-loop-after : goal.invariant-loop-after
+invariant-loop-after l = All (λ pair. ¬ IsForcedWith l.project l.matrix l.fn.added pair) (pairs_before l.row.activity (take l.after-index l.row.others.items))

@@ -1,0 +1,14 @@
+use Rattle.std.proofs.lemmas.Bool.{OnTrue_at}
+use Rattle.std.proofs.lemmas.List.{map-append}
+use Rattle.std.proofs.lemmas.List.Elements.{All-push}
+use Rattle.branching.specs.Incompatible.{AreIncompatible}
+use Rattle.branching.specs.Pairs.{pair_of}
+use Rattle.branching.proofs.incompatible.incompatible_with.Goals as goal
+use Rattle.branching.proofs.incompatible.incompatible_with.Goals.{then-are_incompatible+in_ok-push, else-are_incompatible}
+
+pub loop-other-preserved : goal.loop-other-preserved
+loop-other-preserved c =
+    elim c.if-are_incompatible.branch [
+      | then-are_incompatible+in_ok-push w ↦ rw (w.others-is, w.in_ok-push.ensures.items, map-append (pair_of c.args.activity) c.loop-other.others.items) (All-push (AreIncompatible c.args.project.now) _ _ c.loop-other.invariant (OnTrue_at w.if-are_incompatible.true c.are_incompatible.ensures))
+      | else-are_incompatible w ↦ rw w.others-is c.loop-other.invariant
+    ]
