@@ -28,7 +28,7 @@ fn add_demands(project: &Project, totals: &mut [u64], activity: usize)
 {
     let demands = project.demands(activity);
     for resource in 0..totals.len() {
-        totals[resource] += demands[resource].unsigned_abs();
+        totals[resource] += demands[resource] as u64;
     }
 }
 
