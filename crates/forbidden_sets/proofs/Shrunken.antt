@@ -1,17 +1,19 @@
 -- Dropping from a forbidden set until no member can be spared leaves a minimal one.
-use Rattle.std.proofs.Common.{◌≡◌, ℕ, zero, suc, ◌+◌, ◌<◌, ◌≤◌, Bool, true, false, cond, List, [], ◌∷◌, ◌++◌, length, get_or, take, drop, map, refl, sym, ap, ◌∙◌, arith}
-use Rattle.std.specs.List.{All, Contains, filter, sum_by, sum}
+use Rattle.std.proofs.Common.{◌≡◌, ℕ, zero, suc, ◌+◌, ◌<◌, ◌≤◌, Bool, true, false, cond, List, [], ◌∷◌, ◌++◌, length, get_or, take, drop, map, refl, sym, ap, ◌∙◌, ⊎_elim, arith}
+use Rattle.std.specs.List.{All, AllPairs, Contains, filter, sum_by, sum}
 use Rattle.std.specs.List.Sorted.{IsStrictlyIncreasing, IsNonDecreasing, IsPermutation}
 use Rattle.std.proofs.Common.{◌-◌}
-use Rattle.std.proofs.lemmas.List.Sums.{sum_by-cons, sum_by_push, sum_by_more, sum_by-drop_more, sum-map}
-use Rattle.std.proofs.lemmas.List.Elements.{All-contains, All-head, All-tail, All-push, All-map, Contains-get_or}
+use Rattle.std.proofs.lemmas.List.Sums.{sum_by-cons, sum_by_push, sum_by_more, sum_by-drop_more, sum_by-take-drop, sum-map}
+use Rattle.std.proofs.lemmas.List.Elements.{All-contains, All-head, All-tail, All-push, All-map, Contains-get_or, Contains-append_left, Contains-append_right}
 use Rattle.std.proofs.lemmas.List.Sorted.{All-permutation, sum_by-IsPermutation}
 use Rattle.forbidden_sets.specs.declared.shrinking.Load.{Load}
 use Rattle.network.specs.Forbidden.{IsMinimalForbidden}
-use Rattle.forbidden_sets.specs.Shrunk.{AreShrunk}
+use Rattle.forbidden_sets.specs.Shrunk.{AreLoads, AreShrunk, ComesBefore}
 use Rattle.forbidden_sets.specs.MinimalSet.{IsMinimalSet}
 use Rattle.network.specs.Problem.{Problem, demand, capacity}
-use Rattle.std.proofs.lemmas.List.{length-map}
+use Rattle.std.proofs.lemmas.List.{length-map, take_more, length-drop, get_or-drop, get_or_default}
+use Rattle.std.proofs.lemmas.Bool.{cases_lt}
+use Rattle.std.proofs.Math.Seq.{take-append_seam}
 use Rattle.forbidden_sets.proofs.Rising.{hit, times_once, rising_from_once}
 
 -- a proper part of a list misses the number of a member that it leaves out
@@ -39,36 +41,36 @@ minimal_from_needed r R xs needed keep i (k, l, e) out more =
     let bound : sum_by r xs ≤ R + r (get_or xs k i) = needed k i l in
     omega arith
 
--- the first i loads were gone through: what is left needs `rest` together, and none of those kept can be spared
-pub record AreNeeded (capacity : ℕ) (loads : List Load) (i rest : ℕ) (kept : List Load) : Type 0 where
-  pub balance : rest ≡ sum_by (λ load. load.demand) kept + sum_by (λ load. load.demand) (drop i loads)
+-- the first i loads can be spared together: what is left needs `rest`
+pub record AreSpared (capacity : ℕ) (loads : List Load) (i rest : ℕ) : Type 0 where
+  pub inside : i ≤ length loads
+  pub balance : rest ≡ sum_by (λ load. load.demand) (drop i loads)
   pub over : capacity < rest
-  pub needed : All (λ load. rest ≤ capacity + load.demand) kept
-  pub within : All (Contains loads) kept
-  pub part : (f : Load → ℕ) → sum_by f kept ≤ sum_by f (take i loads)
 
-pub drop_one : (capacity : ℕ) (loads : List Load) (i rest : ℕ) (kept : List Load) (d : Load) → i < length loads → capacity < rest - (get_or loads i d).demand → AreNeeded capacity loads i rest kept → AreNeeded capacity loads (i + 1) (rest - (get_or loads i d).demand) kept
-drop_one capacity loads i rest kept d l more so_far =
-    let step = sum_by-drop_more (λ (load : Load). load.demand) loads i d l in
+pub spare_one : (capacity : ℕ) (loads : List Load) (i rest : ℕ) (d : Load) → i < length loads → capacity < rest - (get_or loads i d).demand → AreSpared capacity loads i rest → AreSpared capacity loads (i + 1) (rest - (get_or loads i d).demand)
+spare_one capacity loads i rest d lt more so_far =
+    let step = sum_by-drop_more (λ (load : Load). load.demand) loads i d lt in
     record {
-      balance = omega (arith, step, so_far.balance, more);
+      inside = omega arith;
+      balance = omega (arith, step, so_far.balance);
       over = more;
-      needed = λ k e h. let old = so_far.needed k e h in omega (arith, old);
-      within = so_far.within;
-      part = λ f. omega (arith, so_far.part f, sum_by_more f loads i d l);
     }
 
-pub keep_one : (capacity : ℕ) (loads : List Load) (i rest : ℕ) (kept : List Load) (d : Load) → i < length loads → rest - (get_or loads i d).demand ≤ capacity → AreNeeded capacity loads i rest kept → AreNeeded capacity loads (i + 1) rest (kept ++ get_or loads i d ∷ [])
-keep_one capacity loads i rest kept d l less so_far =
-    let step = sum_by-drop_more (λ (load : Load). load.demand) loads i d l in
-    let push = sum_by_push (λ (load : Load). load.demand) kept (get_or loads i d) in
-    record {
-      balance = omega (arith, step, push, so_far.balance);
-      over = so_far.over;
-      needed = All-push (λ (load : Load). rest ≤ capacity + load.demand) kept (get_or loads i d) so_far.needed (omega arith);
-      within = All-push (Contains loads) kept (get_or loads i d) so_far.within (Contains-get_or loads i d l);
-      part = λ f. omega (arith, so_far.part f, sum_by_more f loads i d l, sum_by_push f kept (get_or loads i d));
-    }
+-- and no other can be spared
+pub needed_after : (capacity : ℕ) (loads : List Load) (i rest : ℕ) → AllPairs ComesBefore loads → AreSpared capacity loads i rest → (e : Load) → (i < length loads → rest - (get_or loads i e).demand ≤ capacity) →
+    All (λ load. sum_by (λ load. load.demand) (drop i loads) ≤ capacity + load.demand) (drop i loads)
+needed_after capacity loads i rest order so_far e stop k d lt =
+    let there : i + k < length loads = omega (arith, length-drop {A = Load}) in
+    let least : (get_or loads i d).demand ≤ (get_or loads (i + k) d).demand = least_first i (i + k) d (omega arith) there in
+    let first : get_or loads i e ≡ get_or loads i d = get_or_default loads i e d (omega arith) in
+    rw (get_or-drop i loads k d) (omega (arith, rw first at (stop (omega arith)), so_far.balance))
+  where
+    least_first : (i j : ℕ) (d : Load) → i ≤ j → j < length loads → (get_or loads i d).demand ≤ (get_or loads j d).demand
+    least_first i j d upto inside =
+        ⊎_elim
+        (λ (less : i < j). ⊎_elim (λ (below : (get_or loads i d).demand < (get_or loads j d).demand). omega arith) (λ (same : ((get_or loads i d).demand ≡ (get_or loads j d).demand) × ((get_or loads i d).activity ≤ (get_or loads j d).activity)). omega (arith, same.0)) (order i j d less inside))
+        (λ (not_less : j ≤ i). let e : i ≡ j = omega arith in rw e (omega arith))
+        (cases_lt i j)
 
 sum_by_map : {X : Type 0} (f : ℕ → ℕ) (g : X → ℕ) (xs : List X) → sum_by f (map g xs) ≡ sum_by (λ x. f (g x)) xs
 sum_by_map f g [] = refl
@@ -79,27 +81,83 @@ sum_by_agree f g [] h = refl
 sum_by_agree f g (x ∷ xs) h =
     omega (arith, All-head (λ y. f y ≡ g y) x xs h, sum_by_agree f g xs (All-tail (λ y. f y ≡ g y) x xs h), sum_by-cons f x xs, sum_by-cons g x xs)
 
-pub shrunk : (r : ℕ → ℕ) (capacity : ℕ) (running : List ℕ) (loads kept : List Load) (members : List ℕ)
+-- a load that isn't spared is one of the loads, and the loads that aren't spared are a part of them
+drop_within : (loads : List Load) (i : ℕ) → All (Contains loads) (drop i loads)
+drop_within loads i k d lt =
+    let there : i + k < length loads = omega (arith, length-drop {A = Load}) in
+    rw (get_or-drop i loads k d) (Contains-get_or loads (i + k) d there)
+
+drop_part : (loads : List Load) (i : ℕ) (f : Load → ℕ) → sum_by f (drop i loads) ≤ sum_by f loads
+drop_part loads i f = omega (arith, sum_by-take-drop f loads i)
+
+-- one more activity, which asks for some or for none
+grows : (activities : List ℕ) (i : ℕ) → i < length activities → take (i + 1) activities ≡ take i activities ++ get_or activities i 0 ∷ []
+grows activities i lt = take_more activities i 0 lt
+
+Contains-more : (activities : List ℕ) (i v : ℕ) → i < length activities → Contains (take i activities) v → Contains (take (i + 1) activities) v
+Contains-more activities i v lt has = rw (grows activities i lt) (Contains-append_left (take i activities) (get_or activities i 0 ∷ []) v has)
+
+pub no_load : (r : ℕ → ℕ) (activities : List ℕ) (i : ℕ) (loads : List Load) → i < length activities → r (get_or activities i 0) ≡ 0 → AreLoads r (take i activities) loads → AreLoads r (take (i + 1) activities) loads
+no_load r activities i loads lt none are = record {
+  among = λ k d l. Contains-more activities i (get_or loads k d).activity lt (are.among k d l);
+  demands = are.demands;
+  once = λ f. omega (arith, are.once f, sum_by_more f activities i 0 lt);
+  total = omega (arith, are.total, sum_by_more r activities i 0 lt);
+}
+
+pub one_load : (r : ℕ → ℕ) (activities : List ℕ) (i demand : ℕ) (loads : List Load) → i < length activities → demand ≡ r (get_or activities i 0) → AreLoads r (take i activities) loads →
+    AreLoads r (take (i + 1) activities) (loads ++ (record { demand = demand; activity = get_or activities i 0 }) ∷ [])
+one_load r activities i demand loads lt is are =
+    let load : Load = record { demand = demand; activity = get_or activities i 0 } in
+    let last : Contains (take (i + 1) activities) (get_or activities i 0) =
+    rw (grows activities i lt) (Contains-append_right (take i activities) (get_or activities i 0 ∷ []) (get_or activities i 0) (0, omega arith, refl)) in
+    record {
+      among = All-push (λ (load : Load). Contains (take (i + 1) activities) load.activity) loads load (λ k d l. Contains-more activities i (get_or loads k d).activity lt (are.among k d l)) last;
+      demands = All-push (λ (load : Load). load.demand ≡ r load.activity) loads load are.demands is;
+      once = λ f. omega (arith, are.once f, sum_by_more f activities i 0 lt, sum_by_push (λ (load : Load). f load.activity) loads load);
+      total = omega (arith, are.total, sum_by_more r activities i 0 lt, sum_by_push (λ (load : Load). load.demand) loads load, is);
+    }
+
+-- there are no more of them
+pub loads_few : (r : ℕ → ℕ) (activities : List ℕ) (loads : List Load) → AreLoads r activities loads → length loads ≤ length activities
+loads_few r activities loads are = omega (arith, are.once (λ i. 1), ones loads, ones activities)
+  where
+    ones : {X : Type 0} (xs : List X) → sum_by (λ x. 1) xs ≡ length xs
+    ones [] = refl
+    ones (x ∷ xs) = omega (arith, sum_by-cons (λ y. 1) x xs, ones xs)
+
+-- loads in another order
+pub AreLoads-permutation : (r : ℕ → ℕ) (activities : List ℕ) (loads other : List Load) → IsPermutation loads other → AreLoads r activities loads → AreLoads r activities other
+AreLoads-permutation r activities loads other moved are = record {
+  among = All-permutation (λ (load : Load). Contains activities load.activity) loads other moved are.among;
+  demands = All-permutation (λ (load : Load). load.demand ≡ r load.activity) loads other moved are.demands;
+  once = λ f. omega (arith, are.once f, sum_by-IsPermutation (λ (load : Load). f load.activity) loads other moved);
+  total = sum_by-IsPermutation (λ (load : Load). load.demand) loads other moved ∙ are.total;
+}
+
+-- a list of which all was lent and written over
+pub written_whole : {X : Type 0} (old lent new : List X) → lent ≡ old → length new ≡ length lent → take (length old) (new ++ drop (length new) old) ≡ new
+written_whole old lent new is long = rw (← is, ← long) (take-append_seam new (drop (length new) lent))
+
+pub shrunk : (r : ℕ → ℕ) (capacity : ℕ) (running : List ℕ) (loads : List Load) (i : ℕ) (members : List ℕ)
     → IsStrictlyIncreasing running
-    → All (λ load. load.demand ≡ r load.activity) loads
-    → All (λ load. Contains running load.activity) loads
-    → ((f : ℕ → ℕ) → sum_by (λ load. f load.activity) loads ≡ sum_by f running)
-    → capacity < sum_by (λ load. load.demand) kept
-    → All (λ load. sum_by (λ load. load.demand) kept ≤ capacity + load.demand) kept
-    → All (Contains loads) kept
-    → ((f : Load → ℕ) → sum_by f kept ≤ sum_by f loads)
-    → IsPermutation (map (λ load. load.activity) kept) members
+    → AreLoads r running loads
+    → capacity < sum_by (λ load. load.demand) (drop i loads)
+    → All (λ load. sum_by (λ load. load.demand) (drop i loads) ≤ capacity + load.demand) (drop i loads)
+    → IsPermutation (map (λ load. load.activity) (drop i loads)) members
     → IsNonDecreasing members
     → AreShrunk r capacity running members
-shrunk r capacity running loads kept members rising demands runs sums over needed within part moved up =
+shrunk r capacity running loads i members rising are over needed moved up =
+    let kept : List Load = drop i loads in
+    let within : All (Contains loads) (drop i loads) = drop_within loads i in
     let activity : Load → ℕ = λ load. load.activity in
     let demand : Load → ℕ = λ load. load.demand in
     let moved_sum : (f : ℕ → ℕ) → sum_by f members ≡ sum_by (λ load. f load.activity) kept = λ f. sum_by-IsPermutation f (map activity kept) members moved ∙ sum_by_map f activity kept in
-    let kept_demands : All (λ load. r load.activity ≡ load.demand) kept = λ k d l. sym (All-contains (λ (load : Load). load.demand ≡ r load.activity) loads (get_or kept k d) demands (within k d l)) in
+    let kept_demands : All (λ load. r load.activity ≡ load.demand) kept = λ k d l. sym (All-contains (λ (load : Load). load.demand ≡ r load.activity) loads (get_or kept k d) are.demands (within k d l)) in
     let total : sum_by r members ≡ sum_by demand kept = moved_sum r ∙ sum_by_agree (λ (load : Load). r load.activity) demand kept kept_demands in
     record {
-      run = All-permutation (Contains running) (map activity kept) members moved (All-map (Contains running) activity kept (λ k d l. All-contains (λ (load : Load). Contains running load.activity) loads (get_or kept k d) runs (within k d l)));
-      rising = rising_from_once members up (λ v. omega (arith, moved_sum (hit v), part (λ load. hit v load.activity), sums (hit v), times_once v running rising));
+      run = All-permutation (Contains running) (map activity kept) members moved (All-map (Contains running) activity kept (λ k d l. All-contains (λ (load : Load). Contains running load.activity) loads (get_or kept k d) are.among (within k d l)));
+      rising = rising_from_once members up (λ v. omega (arith, moved_sum (hit v), drop_part loads i (λ load. hit v load.activity), are.once (hit v), times_once v running rising));
       forbidden = rw total over;
       needed = All-permutation (λ i. sum_by r members ≤ capacity + r i) (map activity kept) members moved (All-map (λ i. sum_by r members ≤ capacity + r i) activity kept (λ k d l. omega (arith, total, needed k d l, kept_demands k d l)));
     }

@@ -1,8 +1,15 @@
--- In which order shrinking goes through a forbidden set, and what it leaves of it.
+-- What shrinking goes through, in which order through a forbidden set, and what it leaves of it.
 use Rattle.std.specs.Prelude.{◌≡◌, ◌⊎◌, ℕ, ◌+◌, ◌<◌, ◌≤◌, List}
 use Rattle.std.specs.List.{All, Contains, sum_by}
 use Rattle.std.specs.List.Sorted.{IsStrictlyIncreasing}
 use Rattle.forbidden_sets.specs.declared.shrinking.Load.{Load}
+
+-- the activities that ask for any, each with how much it asks for
+pub record AreLoads (r : ℕ → ℕ) (activities : List ℕ) (loads : List Load) : Type 0 where
+  pub among : All (λ load. Contains activities load.activity) loads
+  pub demands : All (λ load. load.demand ≡ r load.activity) loads
+  pub once : (f : ℕ → ℕ) → sum_by (λ load. f load.activity) loads ≤ sum_by f activities
+  pub total : sum_by (λ load. load.demand) loads ≡ sum_by r activities
 
 -- by rising demand, ties by rising number
 abbrev pub ComesBefore : Load → Load → Type 0

@@ -8,4 +8,4 @@ mod shrinking;
 mod tests;
 
 pub use set::ForbiddenSet;
-pub use shrinking::shrink;
+pub use shrinking::{shrink, shrink_activities};

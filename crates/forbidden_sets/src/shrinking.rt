@@ -1,9 +1,9 @@
-ghost use Rattle.std.specs.Prelude.{◌≡◌, ◌<◌, ◌≤◌, ◌+◌, ◌*◌, ℕ, pos, ◌≤ℤ◌, length, map, IfOk};
+ghost use Rattle.std.specs.Prelude.{◌≡◌, ◌<◌, ◌≤◌, ◌+◌, ◌*◌, ℕ, pos, ◌≤ℤ◌, length, map, drop, IfOk};
 ghost use Rattle.std.specs.List.{All, AllPairs, Contains, sum_by};
 ghost use Rattle.std.specs.List.Sorted.{IsStrictlyIncreasing, IsNonDecreasing, IsPermutation};
 ghost use Rattle.network.specs.Forbidden.{IsForbidden, IsMinimalForbidden};
 ghost use Rattle.network.specs.Problem.{activity_count, resource_count, demand, capacity};
-ghost use Rattle.forbidden_sets.specs.Shrunk.{AreShrunk, ComesBefore};
+ghost use Rattle.forbidden_sets.specs.Shrunk.{AreLoads, AreShrunk, ComesBefore};
 ghost use Rattle.forbidden_sets.specs.declared.shrinking.Load.{Load};
 
 use crate::set::ForbiddenSet;
@@ -12,37 +12,37 @@ use profile::Overload;
 use smallvec::SmallVec;
 use std::alloc::{AllocError, Global};
 
-/// A running activity, by its demand for the overloaded resource.
-#[derive(Clone, Copy, PartialEq, Eq, PartialOrd, Ord)]
+/// An activity, by its demand for the resource.
+#[derive(Clone, Copy, Default, PartialEq, Eq, PartialOrd, Ord)]
 struct Load {
     demand: u64,
     activity: usize,
 }
 
-/// The loads of the running activities, by rising demand, ties by rising number.
+/// The loads of the activities that need any of the resource, by rising demand, ties by rising number.
 fn by_demand(
     alloc: Global,
     project: &Project,
     resource: usize,
-    running: &[usize],
-) -> Result<Vec<Load>, AllocError>
+    activities: &[usize],
+) -> Result<SmallVec<Load, 16>, AllocError>
     requires resource { resource < resource_count project.now }
-    requires running { All (λ i. i < activity_count project.now) running.now }
-    ensures len { IfOk result (λ loads. length loads.items ≡ length running.now) }
+    requires activities { All (λ i. i < activity_count project.now) activities.now }
+    ensures loads { IfOk result (λ loads. AreLoads (demand project.now resource) activities.now loads.items) }
     ensures small { IfOk result (λ loads. All (λ load. pos load.demand ≤ℤ MAX_AMOUNT) loads.items) }
-    ensures demands { IfOk result (λ loads. All (λ load. load.demand ≡ demand project.now resource load.activity) loads.items) }
-    ensures running { IfOk result (λ loads. All (λ load. Contains running.now load.activity) loads.items) }
     ensures order { IfOk result (λ loads. AllPairs ComesBefore loads.items) }
-    ensures sums { IfOk result (λ loads. (f : ℕ → ℕ) → sum_by (λ load. f load.activity) loads.items ≡ sum_by f running.now) }
 {
-    let mut loads = Vec::new(alloc);
-    for activity in running {
-        loads.push(Load {
-            demand: project.demand(resource, *activity),
-            activity: *activity,
-        })?;
+    let mut loads = SmallVec::new(alloc);
+    for activity in activities {
+        let demand = project.demand(resource, *activity);
+        if demand > 0 {
+            loads.push(Load {
+                demand,
+                activity: *activity,
+            })?;
+        }
     }
-    loads.sort()?;
+    loads.as_mut_slice().sort_unstable();
     Ok(loads)
 }
 
@@ -59,53 +59,56 @@ fn total(loads: &[Load]) -> u64
     total
 }
 
-/// Goes through the loads and drops one wherever the rest still exceeds the capacity.
-fn needed(alloc: Global, loads: &[Load], capacity: u64) -> Result<Vec<Load>, AllocError>
+/// How many of the loads, from the first on, can be spared together where the rest is to exceed the
+/// capacity. As the demands rise, no other can be spared then.
+fn spared(loads: &[Load], capacity: u64) -> usize
     requires few { length loads.now ≤ MAX_ACTIVITIES }
     requires small { All (λ load. pos load.demand ≤ℤ MAX_AMOUNT) loads.now }
+    requires order { AllPairs ComesBefore loads.now }
     requires forbidden { capacity < sum_by (λ load. load.demand) loads.now }
-    ensures forbidden { IfOk result (λ kept. capacity < sum_by (λ load. load.demand) kept.items) }
-    ensures needed { IfOk result (λ kept. All (λ load. sum_by (λ load. load.demand) kept.items ≤ capacity + load.demand) kept.items) }
-    ensures within { IfOk result (λ kept. All (Contains loads.now) kept.items) }
-    ensures part { IfOk result (λ kept. (f : Load → ℕ) → sum_by f kept.items ≤ sum_by f loads.now) }
+    ensures inside { result ≤ length loads.now }
+    ensures forbidden { capacity < sum_by (λ load. load.demand) (drop result loads.now) }
+    ensures needed { All (λ load. sum_by (λ load. load.demand) (drop result loads.now) ≤ capacity + load.demand) (drop result loads.now) }
 {
     let mut rest = total(loads);
-    let mut kept = Vec::new(alloc);
-    for load in loads {
-        if rest - load.demand > capacity {
-            rest -= load.demand;
-        } else {
-            kept.push(*load)?;
-        }
+    let mut count = 0;
+    while count < loads.len() && rest - loads[count].demand > capacity {
+        rest -= loads[count].demand;
+        count += 1;
     }
-    Ok(kept)
+    count
 }
 
 /// The activities of the loads, by rising number.
-fn in_order(alloc: Global, loads: &[Load]) -> Result<Vec<usize>, AllocError>
+fn in_order(alloc: Global, loads: &[Load]) -> Result<SmallVec<usize, 8>, AllocError>
     ensures moved { IfOk result (λ members. IsPermutation (map (λ load. load.activity) loads.now) members.items) }
     ensures rising { IfOk result (λ members. IsNonDecreasing members.items) }
 {
-    let mut members: Vec<usize> = loads.iter().map(|load| load.activity).collect(alloc)?;
-    members.sort()?;
+    let mut members = SmallVec::new(alloc);
+    for load in loads {
+        members.push(load.activity)?;
+    }
+    members.as_mut_slice().sort_unstable();
     Ok(members)
 }
 
-/// The running activities that are left when none of them can be spared, by rising number.
+/// The activities that are left when none of them can be spared, by rising number.
 fn least_needed(
     alloc: Global,
     project: &Project,
-    overload: &Overload,
-) -> Result<Vec<usize>, AllocError>
-    requires resource { overload.now.resource < resource_count project.now }
-    requires running { All (λ i. i < activity_count project.now) overload.now.running.items }
-    requires rising { IsStrictlyIncreasing overload.now.running.items }
-    requires forbidden { IsForbidden project.now overload.now.resource overload.now.running.items }
-    ensures { IfOk result (λ members. AreShrunk (demand project.now overload.now.resource) (capacity project.now overload.now.resource) overload.now.running.items members.items) }
+    resource: usize,
+    activities: &[usize],
+) -> Result<SmallVec<usize, 8>, AllocError>
+    requires resource { resource < resource_count project.now }
+    requires activities { All (λ i. i < activity_count project.now) activities.now }
+    requires rising { IsStrictlyIncreasing activities.now }
+    requires forbidden { IsForbidden project.now resource activities.now }
+    ensures { IfOk result (λ members. AreShrunk (demand project.now resource) (capacity project.now resource) activities.now members.items) }
 {
-    let loads = by_demand(alloc, project, overload.resource, &overload.running)?;
-    let kept = needed(alloc, &loads, project.capacity(overload.resource))?;
-    in_order(alloc, &kept)
+    let loads = by_demand(alloc, project, resource, activities)?;
+    let loads = loads.as_slice();
+    let count = spared(loads, project.capacity(resource));
+    in_order(alloc, &loads[count..])
 }
 
 /// What each of the members needs.
@@ -126,9 +129,33 @@ fn demands_of(
     Ok(demands)
 }
 
-/// A minimal forbidden set of the activities that run at an overload. They are gone through by rising
-/// demand for the overloaded resource, ties by rising number, and one is dropped wherever the rest
-/// still exceeds the capacity; so at most as many are looked at as run.
+/// A minimal forbidden set of activities that are forbidden for a resource. They are gone through by rising
+/// demand for it, ties by rising number, and one is dropped wherever the rest still exceeds the capacity; so
+/// at most as many are looked at as there are. Where up to 16 of them need the resource and up to 8 are left,
+/// it takes no memory.
+pub fn shrink_activities(
+    alloc: Global,
+    project: &Project,
+    resource: usize,
+    activities: &[usize],
+) -> Result<ForbiddenSet, AllocError>
+    requires resource { resource < resource_count project.now }
+    requires activities { All (λ i. i < activity_count project.now) activities.now }
+    requires rising { IsStrictlyIncreasing activities.now }
+    requires forbidden { IsForbidden project.now resource activities.now }
+    ensures resource { IfOk result (λ set. set.resource ≡ resource) }
+    ensures capacity { IfOk result (λ set. set.capacity ≡ capacity project.now resource) }
+    ensures demands { IfOk result (λ set. set.demands ≡ map (demand project.now resource) set.members) }
+    ensures among { IfOk result (λ set. All (Contains activities.now) set.members) }
+    ensures few { IfOk result (λ set. length set.members ≤ activity_count project.now) }
+    ensures minimal { IfOk result (λ set. IsMinimalForbidden project.now resource set.members) }
+{
+    let members = least_needed(alloc, project, resource, activities)?;
+    let demands = demands_of(alloc, project, resource, members.as_slice())?;
+    Ok(ForbiddenSet::new(resource, project.capacity(resource), members, demands))
+}
+
+/// A minimal forbidden set of the activities that run at an overload, as [`shrink_activities`] makes it.
 pub fn shrink(
     alloc: Global,
     project: &Project,
@@ -145,13 +172,5 @@ pub fn shrink(
     ensures few { IfOk result (λ set. length set.members ≤ activity_count project.now) }
     ensures minimal { IfOk result (λ set. IsMinimalForbidden project.now overload.now.resource set.members) }
 {
-    let resource = overload.resource;
-    let members = least_needed(alloc, project, overload)?;
-    let demands = demands_of(alloc, project, resource, &members)?;
-    Ok(ForbiddenSet::new(
-        resource,
-        project.capacity(resource),
-        SmallVec::from_slice(alloc, &members)?,
-        demands,
-    ))
+    shrink_activities(alloc, project, overload.resource, &overload.running)
 }

@@ -1,7 +1,8 @@
 pub mod Empty
 pub mod Uses
-pub mod Tallies
+pub mod Amounts
 pub mod RisingTimes
-pub mod Sweeps
+pub mod Counted
 pub mod Excesses
 pub mod Firsts
+pub mod Swept

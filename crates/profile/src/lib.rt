@@ -5,14 +5,15 @@
 //! times alone are looked at.
 #![tactic(auto)]
 
-mod moment;
+mod counting;
 mod overload;
+mod overload_sweep;
 mod sweep;
-mod tally;
 #[cfg(test)]
 mod tests;
 mod times;
 mod usage;
 
 pub use overload::{Excess, Overload, first_overload, overloads};
+pub use overload_sweep::OverloadSweep;
 pub use usage::use_at;

@@ -1,49 +1,46 @@
-use Rattle.std.proofs.Common.{◌≡◌, ◌<◌, ℕ, length, ap, refl, ◌∙◌, arith}
+use Rattle.std.proofs.Common.{◌<◌, ℕ, List, length, sym, subst, arith}
 use Rattle.std.specs.Prelude.{pos, ◌≤ℤ◌}
 use Rattle.network.specs.declared.limits.TheConstants.{MAX_AMOUNT}
-use Rattle.std.specs.List.{Contains, sum_by}
+use Rattle.std.specs.List.{All, AllPairs}
 use Rattle.std.proofs.lemmas.List.{take_all}
-use Rattle.std.proofs.lemmas.List.Elements.{All-push, Contains-get_or}
-use Rattle.std.proofs.lemmas.List.Sums.{sum_by_push, sum_by_more}
-use Rattle.std.proofs.lemmas.List.Sorted.{All-permutation, sum_by-IsPermutation, length_permutation}
-use Rattle.std.proofs.lemmas.Grind.{common_steps}
+use Rattle.std.proofs.lemmas.List.Elements.{All-push}
+use Rattle.std.proofs.lemmas.List.Sorted.{All-permutation}
 use Rattle.network.specs.Problem.{demand}
 use Rattle.forbidden_sets.specs.declared.shrinking.Load.{Load}
+use Rattle.forbidden_sets.specs.Shrunk.{AreLoads, ComesBefore}
 use Rattle.forbidden_sets.proofs.Order.{sorted_by_demand}
+use Rattle.forbidden_sets.proofs.Shrunken.{one_load, no_load, AreLoads-permutation, written_whole}
 use Rattle.forbidden_sets.proofs.shrinking.by_demand.Goals as goal
+use Rattle.forbidden_sets.proofs.shrinking.by_demand.Goals.{then-demand-gt0+in_ok-push, else-demand-gt0}
 
 pub loop-activity-preserved : goal.loop-activity-preserved
 loop-activity-preserved c =
-    let i : ℕ = c.loop-activity.activity-index in
-    let lt : i < length c.args.running.now = omega arith in
-    record {
-      len = grind (arith, common_steps);
-      small = rw c.in_ok-push.ensures.items (All-push (λ (load : Load). pos load.demand ≤ℤ MAX_AMOUNT) _ _ c.loop-activity.invariant.small c.demand.ensures.amount);
-      demands = rw c.in_ok-push.ensures.items (All-push (λ (load : Load). load.demand ≡ demand c.args.project.now c.args.resource load.activity) _ _ c.loop-activity.invariant.demands c.demand.ensures.value);
-      running = rw c.in_ok-push.ensures.items (All-push (λ (load : Load). Contains c.args.running.now load.activity) _ _ c.loop-activity.invariant.running (Contains-get_or c.args.running.now i 0 lt));
-      sums = λ f.
-          rw (c.in_ok-push.ensures.items, sum_by_push (λ (load : Load). f load.activity), c.loop-activity.invariant.sums f, sum_by_more f c.args.running.now i 0 lt) refl;
-    }
+    let r = demand c.args.project.now c.args.resource in
+    let i = c.loop-activity.activity-index in
+    let lt : i < length c.args.activities.now = omega arith in
+    elim c.if-demand-gt0.branch [
+      | then-demand-gt0+in_ok-push w ↦ record {
+        loads = rw (w.loads-is, w.in_ok-push.ensures.ok) (one_load r c.args.activities.now i _ c.loop-activity.loads.items lt c.demand-demand.ensures.value c.loop-activity.invariant.loads);
+        small = rw (w.loads-is, w.in_ok-push.ensures.ok) (All-push (λ (load : Load). pos load.demand ≤ℤ MAX_AMOUNT) _ _ c.loop-activity.invariant.small c.demand-demand.ensures.amount);
+      }
+      | else-demand-gt0 w ↦ record {
+        loads = rw w.loads-is (no_load r c.args.activities.now i c.loop-activity.loads.items lt (omega (arith, c.demand-demand.ensures.value, w.if-demand-gt0.false)) c.loop-activity.invariant.loads);
+        small = rw w.loads-is c.loop-activity.invariant.small;
+      }
+    ]
 
-pub returns-clause-len : goal.returns-clause-len
-returns-clause-len c =
-    let moved = length_permutation _ _ c.in_ok-sort.ensures.permutation in
-    omega (arith, moved, c.loop-activity.invariant.len)
+pub returns-clause-loads : goal.returns-clause-loads
+returns-clause-loads c =
+    let r = demand c.args.project.now c.args.resource in
+    let all : AreLoads r c.args.activities.now c.loop-activity.loads.items = subst (λ (xs : List ℕ). AreLoads r xs c.loop-activity.loads.items) (take_all c.loop-activity.activity-index c.args.activities.now (omega arith)) c.loop-activity.invariant.loads in
+    subst (λ (xs : List Load). AreLoads r c.args.activities.now xs) (sym (written_whole c.loop-activity.loads.items c.as_mut_slice.result.now c.sort_unstable.new.self c.as_mut_slice.ensures.value c.sort_unstable.ensures.len))
+    (AreLoads-permutation r c.args.activities.now c.loop-activity.loads.items _ (rw c.as_mut_slice.ensures.value at c.sort_unstable.ensures.permutation) all)
 
 pub returns-clause-small : goal.returns-clause-small
-returns-clause-small c = All-permutation (λ (load : Load). pos load.demand ≤ℤ MAX_AMOUNT) _ _ c.in_ok-sort.ensures.permutation c.loop-activity.invariant.small
-
-pub returns-clause-demands : goal.returns-clause-demands
-returns-clause-demands c = All-permutation (λ (load : Load). load.demand ≡ demand c.args.project.now c.args.resource load.activity) _ _ c.in_ok-sort.ensures.permutation c.loop-activity.invariant.demands
-
-pub returns-clause-running : goal.returns-clause-running
-returns-clause-running c = All-permutation (λ (load : Load). Contains c.args.running.now load.activity) _ _ c.in_ok-sort.ensures.permutation c.loop-activity.invariant.running
+returns-clause-small c =
+    subst (λ (xs : List Load). All (λ load. pos load.demand ≤ℤ MAX_AMOUNT) xs) (sym (written_whole c.loop-activity.loads.items c.as_mut_slice.result.now c.sort_unstable.new.self c.as_mut_slice.ensures.value c.sort_unstable.ensures.len))
+    (All-permutation (λ (load : Load). pos load.demand ≤ℤ MAX_AMOUNT) c.loop-activity.loads.items _ (rw c.as_mut_slice.ensures.value at c.sort_unstable.ensures.permutation) c.loop-activity.invariant.small)
 
 pub returns-clause-order : goal.returns-clause-order
-returns-clause-order c = sorted_by_demand c.sort.new.self.items c.in_ok-sort.ensures.sorted
-
-pub returns-clause-sums : goal.returns-clause-sums
-returns-clause-sums c f =
-    sum_by-IsPermutation (λ (load : Load). f load.activity) _ _ c.in_ok-sort.ensures.permutation
-    ∙ c.loop-activity.invariant.sums f
-    ∙ ap (sum_by f) (take_all c.loop-activity.activity-index c.args.running.now (omega arith))
+returns-clause-order c =
+    subst (λ (xs : List Load). AllPairs ComesBefore xs) (sym (written_whole c.loop-activity.loads.items c.as_mut_slice.result.now c.sort_unstable.new.self c.as_mut_slice.ensures.value c.sort_unstable.ensures.len)) (sorted_by_demand c.sort_unstable.new.self c.sort_unstable.ensures.sorted)

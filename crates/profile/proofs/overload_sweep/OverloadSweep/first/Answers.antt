@@ -1,0 +1,10 @@
+use Rattle.std.proofs.Common.{sym, subst, rules, w64}
+use Rattle.std.proofs.lemmas.Int.{to_z-of_z}
+use Rattle.network.specs.Limits.{IsTime}
+use Rattle.profile.proofs.Firsts.{first_is_time}
+use Rattle.profile.proofs.overload_sweep.OverloadSweep.first.Goals as goal
+
+pub take_running-requires-clause-time : goal.take_running-requires-clause-time
+take_running-requires-clause-time c =
+    subst IsTime (sym (to_z-of_z w64 c.in-Some.excess.time (search rules)))
+    (first_is_time c.args.project.now c.args.starts.now c.in-Some.excess.time c.in-Some.excess.resource c.requires.starts c.in-Some.ensures.first)
