@@ -13,3 +13,4 @@ pub mod Greatest
 pub mod LoadLimits
 pub mod Energies
 pub mod WithLaws
+pub mod Writing
