@@ -14,3 +14,4 @@ pub mod LoadLimits
 pub mod Energies
 pub mod WithLaws
 pub mod Existence
+pub mod Writing

@@ -1,14 +1,11 @@
 -- The heads and tails of a matrix with one arc more, and its bound.
-use Rattle.std.proofs.Common.{◌≡◌, refl, sym, ap, ◌∙◌, subst, ℕ, ◌+◌, ◌-◌, ◌<◌, ◌≤◌, arith, neg_ℤ, inl, inr, set, ℤ, pos, ◌+ℤ◌, ◌-ℤ◌, ◌≤ℤ◌, List, [], ◌∷◌, ◌++◌, map, length, get_or, Option, None, Some}
+use Rattle.std.proofs.Common.{◌≡◌, refl, sym, ap, ◌∙◌, subst, ℕ, ◌-◌, ◌<◌, ◌≤◌, arith, neg_ℤ, ℤ, pos, ◌+ℤ◌, ◌-ℤ◌, ◌≤ℤ◌, List, [], ◌∷◌, ◌++◌, length, get_or, Option, None, Some}
 use Rattle.std.specs.Option.{unwrap_or}
 use Rattle.std.specs.Prelude.{IfSome, FitsSigned}
 use Rattle.std.specs.Int.{int_max, w64}
 use Rattle.std.proofs.lemmas.Int.{ints}
-use Rattle.std.specs.List.{range_with_len}
-use Rattle.std.proofs.lemmas.List.{ext_get_or, get_or-set_same, get_or-set_other}
-use Rattle.std.proofs.lemmas.Bool.{cases_eq}
 use Rattle.std.proofs.lemmas.List.Elements.{All-head, All-push}
-use Rattle.std.proofs.lemmas.List.FromFn.{get_or-map-range_with_len, length-map-range_with_len}
+use Rattle.std.proofs.lemmas.List.FromFn.{get_or-map-range_with_len}
 use Rattle.network.specs.declared.lag.Lag.{Lag}
 use Rattle.network.specs.declared.lag.Pair.{Pair}
 use Rattle.network.specs.Problem.{Problem, activity_count, end_of, duration, pair_arc, arcs_of, NameActivities}
@@ -29,25 +26,19 @@ use Rattle.bounds.specs.Energy.{IsEnergyValue}
 use Rattle.bounds.specs.Windows.{AreEnds}
 use Rattle.bounds.specs.Bound.{critical_weight, IsEnergyOf, IsBoundOf}
 use Rattle.bounds.specs.With.{IsBoundBetween, IsBoundWith, IsTrueBoundWith}
+use Rattle.bounds.proofs.Writing.{made_by}
 use Rattle.bounds.proofs.BoundLaws.{IsBoundOf-max}
 use Rattle.bounds.proofs.TrueBounds.{IsTrueBoundFor-bound}
 
--- a list that has f at each place
-made_by : (f : ℕ → ℤ) (n : ℕ) (xs : List ℤ) → length xs ≡ n → ((k : ℕ) → k < n → get_or xs k (pos 0) ≡ f k) → xs ≡ map f (range_with_len 0 n)
-made_by f n xs long each =
-    ext_get_or (pos 0) xs (map f (range_with_len 0 n)) (long ∙ sym (length-map-range_with_len f 0 n)) (λ k short.
-    let lt : k < n = rw long at short in
-    each k lt ∙ sym (get_or-map-range_with_len f 0 n k k (pos 0) lt (omega arith)))
-
 pub heads_over : (e : Lag) (rows : Rows) (heads : List ℤ) → length heads ≡ length rows → ((k : ℕ) → k < length rows → get_or heads k (pos 0) ≡ unwrap_or (entry_over e rows 0 k) (pos 0)) → heads ≡ weights_from 0 (rows_over e rows)
 heads_over e rows heads long each =
-    made_by (λ b. unwrap_or (entry (rows_over e rows) 0 b) (pos 0)) (length (rows_over e rows)) heads (long ∙ sym (length-rows_over e rows)) (λ k lt.
+    made_by (pos 0) (λ b. unwrap_or (entry (rows_over e rows) 0 b) (pos 0)) (length (rows_over e rows)) heads (long ∙ sym (length-rows_over e rows)) (λ k lt.
     let short : k < length rows = rw (length-rows_over e rows) at lt in
     each k short ∙ ap (λ (o : Option ℤ). unwrap_or o (pos 0)) (sym (entry-rows_over e rows 0 k (omega arith) short)))
 
 pub tails_over : (p : Problem) (e : Lag) (rows : Rows) (tails : List ℤ) → length rows ≡ activity_count p → length tails ≡ length rows → ((k : ℕ) → k < length rows → get_or tails k (pos 0) ≡ unwrap_or (entry_over e rows k (end_of p)) (pos 0) -ℤ duration p k) → tails ≡ tail_weights p (rows_over e rows)
 tails_over p e rows tails size long each =
-    made_by (tail_weight p (rows_over e rows)) (activity_count p) tails (long ∙ size) (λ k lt.
+    made_by (pos 0) (tail_weight p (rows_over e rows)) (activity_count p) tails (long ∙ size) (λ k lt.
     let short : k < length rows = rw size lt in
     let last : end_of p < length rows = omega arith in
     each k short ∙ ap (λ (o : Option ℤ). unwrap_or o (pos 0) -ℤ duration p k) (sym (entry-rows_over e rows k (end_of p) short last)))
@@ -57,14 +48,6 @@ pub joined_late : (x y : Option ℤ) (w : ℤ) → joined x (joined y (Some w)) 
 joined_late None y w = refl
 joined_late (Some x) None w = refl
 joined_late (Some x) (Some y) w = let same : (x +ℤ (y +ℤ w)) ≡ ((x +ℤ w) +ℤ y) = omega (arith, ints) in ap Some same
-
--- one place more
-pub set_more : (f : ℕ → ℤ) (xs : List ℤ) (i : ℕ) (v : ℤ) → i < length xs → ((k : ℕ) → k < i → get_or xs k (pos 0) ≡ f k) → v ≡ f i → (k : ℕ) → k < i + 1 → get_or (set xs i v) k (pos 0) ≡ f k
-set_more f xs i v lt done is k less =
-    elim (cases_eq k i) [
-      | inl e ↦ rw e (get_or-set_same xs i v (pos 0) lt ∙ is)
-      | inr ne ↦ get_or-set_other xs i k v (pos 0) ne ∙ done k (omega arith)
-    ]
 
 pub difference_small : (o : Option ℤ) (d : ℤ) → IfSome o (λ w. IsWithin MAX_WAY_WITH w) → IsAmount d → FitsSigned w64 (unwrap_or o (pos 0) -ℤ d)
 difference_small None d within amount =

@@ -1,44 +1,50 @@
-ghost use Rattle.std.specs.Prelude.{◌≤◌, pos, IfOk};
+ghost use Rattle.std.specs.Prelude.{◌≡◌, ◌≤◌, length, pos, IfOk};
 ghost use Rattle.network.specs.Problem.{activity_count};
 ghost use Rattle.bounds.specs.Energy.{IsEnergyValue};
 ghost use Rattle.bounds.specs.Windows.{AreEnds};
 ghost use Rattle.bounds.specs.Bound.{IsMatrixFor, IsTrueBoundFor, IsEnergyOf};
 
+use crate::energy_room::EnergyRoom;
 use crate::limits::MAX_SHARE;
-use crate::load::take_loads;
+use crate::load::{Load, take_loads};
 use crate::sweep::greatest_share;
-use crate::window::{distinct_tails, windows_by_head};
+use crate::window::{Window, take_rising_tails, take_windows};
 use earliest::{heads, tails};
 use longest_path::Matrix;
 use network::Project;
 use std::alloc::{AllocError, Global};
 
-/// The energy value of heads and tails, in periods.
+/// The energy value of heads and tails in periods, over memory that is used again.
 pub(crate) fn energy_between(
-    alloc: Global,
     project: &Project,
     heads: &[i64],
     tails: &[i64],
-) -> Result<u64, AllocError>
+    rising: &mut [u64],
+    windows: &mut [Window],
+    loads: &mut [Load],
+    shares: &mut [u64],
+) -> u64
     requires heads { AreEnds (activity_count project.now) heads.now }
     requires tails { AreEnds (activity_count project.now) tails.now }
-    ensures value { IfOk result (λ energy. IsEnergyValue project.now heads.now tails.now (pos energy)) }
-    ensures limit { IfOk result (λ energy. energy ≤ MAX_SHARE) }
+    requires rising { length rising.old ≡ activity_count project.now }
+    requires windows { length windows.old ≡ activity_count project.now }
+    requires loads { length loads.old ≡ activity_count project.now }
+    requires shares { length shares.old ≡ activity_count project.now }
+    ensures value { IsEnergyValue project.now heads.now tails.now (pos result) }
+    ensures limit { result ≤ MAX_SHARE }
 {
-    let distinct = distinct_tails(alloc, tails)?;
-    let windows = windows_by_head(alloc, heads, tails, &distinct)?;
-    let mut loads = Vec::with_capacity(alloc, windows.len())?;
-    let mut shares = Vec::with_capacity(alloc, distinct.len())?;
+    take_rising_tails(tails, rising);
+    take_windows(heads, tails, rising, windows);
     let mut energy = 0;
     for resource in 0..project.resource_count() {
         let capacity = project.capacity(resource);
         if capacity > 0 {
-            take_loads(&mut loads, project, resource, &windows)?;
-            let greatest = greatest_share(&loads, capacity, &distinct, &mut shares)?;
+            take_loads(project, resource, windows, loads);
+            let greatest = greatest_share(loads, capacity, rising, shares);
             energy = energy.max(greatest.div_ceil(capacity));
         }
     }
-    Ok(energy)
+    energy
 }
 
 /// The energy value of a matrix in periods: for each resource, each head a and each tail b, the
@@ -56,6 +62,7 @@ pub fn energy(alloc: Global, project: &Project, matrix: &Matrix) -> Result<i64, 
     prove!(matrix.activity_count() == project.activity_count());
     let heads = heads(alloc, matrix)?;
     let tails = tails(alloc, project, matrix)?;
-    let energy = energy_between(alloc, project, &heads, &tails)?;
+    let mut room = EnergyRoom::new(alloc, project)?;
+    let energy = room.energy(project, &heads, &tails);
     Ok(energy as i64)
 }

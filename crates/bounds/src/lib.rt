@@ -3,25 +3,29 @@
 //! [`critical`] is the greatest weight from the start to the end, [`energy`] looks at how much work
 //! of one resource has to be done between a head and a tail, by the activities that lie there whole
 //! (in the manner of Carlier's bound by heads, work and tails of subsets: The one-machine sequencing
-//! problem, 1982), and [`bound`] is the greater of both. [`bound_with`] is the bound with one pair more.
+//! problem, 1982), and [`bound`] is the greater of both. [`Workspace::bound_with`]
+//! is the bound with one pair more.
 #![tactic(auto)]
 
 ghost use Rattle.std.specs.Prelude.{◌≡◌, IfOk};
 ghost use Rattle.network.specs.Problem.{Problem};
 ghost use Rattle.bounds.specs.Bound.{critical_weight, IsMatrixFor, IsTrueBoundFor, IsBoundOf};
 
+mod energy_room;
 mod energy_value;
 mod limits;
 mod load;
 mod sweep;
 mod window;
 mod with_pair;
+mod workspace;
 
 pub use energy_value::energy;
 use longest_path::Matrix;
 use network::Project;
 use std::alloc::{AllocError, Global};
 pub use with_pair::bound_with;
+pub use workspace::Workspace;
 
 /// The greatest weight from the start to the end in periods: the least makespan where resources
 /// don't count. Takes no memory.

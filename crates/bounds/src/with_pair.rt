@@ -9,9 +9,11 @@ ghost use Rattle.earliest.specs.Tails.{tail_weights};
 ghost use Rattle.longest_path.specs.Insert.{rows_over, ClosesNone};
 ghost use Rattle.bounds.specs.Bound.{IsMatrixFor};
 ghost use Rattle.bounds.specs.Windows.{AreEnds};
+ghost use Rattle.bounds.specs.Workspace.{IsRoomFor};
 ghost use Rattle.bounds.specs.With.{IsBoundBetween, IsBoundWith, IsTrueBoundWith};
 
-use crate::energy_value::energy_between;
+use crate::energy_room::EnergyRoom;
+use crate::workspace::Workspace;
 use longest_path::Matrix;
 use network::{Lag, Pair, Project};
 use std::alloc::{AllocError, Global};
@@ -79,22 +81,47 @@ fn take_tails_with(project: &Project, matrix: &Matrix, arc: Lag, tails: &mut [i6
 }
 
 /// The greater of the last head and the energy value of heads and tails.
-fn bound_between(
-    alloc: Global,
-    project: &Project,
-    heads: &[i64],
-    tails: &[i64],
-) -> Result<i64, AllocError>
+fn bound_between(project: &Project, heads: &[i64], tails: &[i64], room: &mut EnergyRoom) -> i64
+    requires room { IsRoomFor project.now room.old }
     requires heads { AreEnds (activity_count project.now) heads.now }
     requires tails { AreEnds (activity_count project.now) tails.now }
-    ensures { IfOk result (λ bound. IsBoundBetween project.now heads.now tails.now bound) }
+    ensures room { room.new ≡ room.old }
+    ensures bound { IsBoundBetween project.now heads.now tails.now result }
 {
     let critical = heads[project.activity_count() - 1];
-    let energy = energy_between(alloc, project, heads, tails)?;
-    Ok(critical.max(energy as i64))
+    let energy = room.energy(project, heads, tails);
+    critical.max(energy as i64)
 }
 
-/// The bound of the matrix with the pair's arc in periods, by entries of the matrix without it.
+/// The bound of the matrix with the pair's arc in periods, by entries of the matrix without it, over
+/// memory that is used again.
+pub(crate) fn bound_over(
+    project: &Project,
+    matrix: &Matrix,
+    pair: Pair,
+    heads: &mut [i64],
+    tails: &mut [i64],
+    room: &mut EnergyRoom,
+) -> i64
+    requires heads { length heads.old ≡ activity_count project.now }
+    requires tails { length tails.old ≡ activity_count project.now }
+    requires room { IsRoomFor project.now room.old }
+    requires matrix { IsMatrixFor project.now matrix.now }
+    requires named { NameActivities project.now (pair ∷ []) }
+    requires lives { ClosesNone (pair_arc project.now pair) matrix.now }
+    ensures room { room.new ≡ room.old }
+    ensures value { IsBoundWith project.now matrix.now pair result }
+    ensures holds { IsTrueBoundWith project.now matrix.now pair result }
+{
+    prove!(matrix.activity_count() == project.activity_count());
+    let arc = project.pair_arc(pair);
+    take_heads_with(matrix, arc, heads);
+    take_tails_with(project, matrix, arc, tails);
+    bound_between(project, heads, tails, room)
+}
+
+/// The bound of the matrix with the pair's arc in periods, by entries of the matrix without it. Where
+/// more than one is asked for, [`Workspace::bound_with`] takes its memory only once.
 pub fn bound_with(
     alloc: Global,
     project: &Project,
@@ -107,13 +134,6 @@ pub fn bound_with(
     ensures value { IfOk result (λ bound. IsBoundWith project.now matrix.now pair bound) }
     ensures holds { IfOk result (λ bound. IsTrueBoundWith project.now matrix.now pair bound) }
 {
-    prove!(matrix.activity_count() == project.activity_count());
-    let arc = project.pair_arc(pair);
-    let mut heads = vec![in alloc; 0; project.activity_count()]?;
-    let mut tails = vec![in alloc; 0; project.activity_count()]?;
-    let heads = heads.as_mut_slice();
-    let tails = tails.as_mut_slice();
-    take_heads_with(matrix, arc, heads);
-    take_tails_with(project, matrix, arc, tails);
-    bound_between(alloc, project, heads, tails)
+    let mut workspace = Workspace::new(alloc, project)?;
+    Ok(workspace.bound_with(project, matrix, pair))
 }

@@ -5,7 +5,8 @@ use Rattle.network.specs.Problem.{duration, end_of}
 use Rattle.network.specs.Walk.{entry}
 use Rattle.longest_path.specs.Relax.{greater, joined}
 use Rattle.longest_path.specs.Insert.{entry_over}
-use Rattle.bounds.proofs.WithLaws.{set_more, tails_over, joined_late, difference_small}
+use Rattle.bounds.proofs.Writing.{set_more}
+use Rattle.bounds.proofs.WithLaws.{tails_over, joined_late, difference_small}
 use Rattle.bounds.proofs.with_pair.take_tails_with.Goals as goal
 
 pub loop-i-preserved : goal.loop-i-preserved
@@ -21,7 +22,7 @@ loop-i-preserved c =
     let weight_is : c.unwrap_or-to_end.result ≡ unwrap_or (entry_over c.args.arc rows c.loop-i.i (end_of p)) (pos 0) = c.unwrap_or-to_end.ensures ∙ ap (λ (o : Option ℤ). unwrap_or o (pos 0)) is in
     let fits : FitsSigned w64 (c.unwrap_or-to_end.result -ℤ c.duration.result) = rw c.unwrap_or-to_end.ensures (difference_small c.or_way.result c.duration.result c.or_way.ensures.small c.duration.ensures.amount) in
     let value : c.unwrap_or-to_end.result -ℤ c.duration.result ≡ unwrap_or (entry_over c.args.arc rows c.loop-i.i (end_of p)) (pos 0) -ℤ duration p c.loop-i.i = rw (weight_is, c.duration.ensures.value) refl in
-    set_more (λ k. unwrap_or (entry_over c.args.arc rows k (end_of p)) (pos 0) -ℤ duration p k) c.loop-i.tails c.loop-i.i _ (omega arith) c.loop-i.invariant
+    set_more (pos 0) (λ k. unwrap_or (entry_over c.args.arc rows k (end_of p)) (pos 0) -ℤ duration p k) c.loop-i.tails c.loop-i.i _ (omega arith) c.loop-i.invariant
     (simp to_z-of_z value)
 
 pub returns : goal.returns

@@ -1,0 +1,8 @@
+use Rattle.bounds.specs.Workspace.{IsWorkspaceFor}
+use Rattle.bounds.proofs.tests.assert_same_in_one.Given as goal
+
+abbrev pub invariant-loop-first : goal.invariant-loop-first
+invariant-loop-first g l = IsWorkspaceFor l.project l.workspace
+
+abbrev pub invariant-loop-second : goal.invariant-loop-second
+invariant-loop-second g l = IsWorkspaceFor l.project l.workspace
