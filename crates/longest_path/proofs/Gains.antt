@@ -1,10 +1,10 @@
 -- The columns in which the row of an arc's start gains.
 use Rattle.std.proofs.Common.{◌≡◌, refl, sym, ◌∙◌, ap, ℕ, ◌+◌, ◌-◌, ◌<◌, ◌≤◌, Bool, true, false, None, Some, inl, inr, arith, ℤ, ◌+ℤ◌, ◌≤ℤ◌, ◌<ℤ◌, List, length, take, drop, length-drop, neg_ℤ}
 use Rattle.std.proofs.lemmas.Int.{ints}
-use Rattle.std.proofs.lemmas.Bool.{cases_eq}
+use Rattle.std.proofs.lemmas.Bool.{cases_eq, cases_lt}
 use Rattle.std.proofs.lemmas.List.{get_or-take, get_or-drop, length-take-le}
 use Rattle.std.specs.Prelude.{int_lt, if◌then◌else◌}
-use Rattle.std.specs.Bool.{MatchBool}
+use Rattle.std.specs.Bool.{MatchBool, OnFalse}
 use Rattle.network.specs.declared.lag.Lag.{Lag}
 use Rattle.network.specs.declared.limits.TheConstants.{MAX_LAG_WEIGHT}
 use Rattle.network.specs.Walk.{Rows}
@@ -61,6 +61,10 @@ one_less end first via row some after here k le = elim (cases_eq k (end - 1)) [ 
 
 pub none_after : (first : ℤ) (via row : List ℤ) → length row ≡ length via → (k : ℕ) → length row ≤ k → GainsNothingAt first via row k
 none_after first via row wide k far = λ y e. let bad : None ≡ Some y = sym (weight_at_far via k (omega arith)) ∙ e in cc
+
+pub none_anywhere : (any : Bool) (b : ℕ) (first : ℤ) (via row : List ℤ) → length row ≡ length via → length row ≤ b → OnFalse any ((k : ℕ) → k < b → GainsNothingAt first via row k) → OnFalse any ((k : ℕ) → GainsNothingAt first via row k)
+none_anywhere true b first via row wide end h = h
+none_anywhere false b first via row wide end h = λ k. elim (cases_lt k b) [ inl lt ↦ h k lt | inr ge ↦ none_after first via row wide k (omega arith) ]
 
 pub small_arc : (e : Lag) (via : List ℤ) (rows : Rows) → IsReady e rows → IsRow e.to rows via → HasSmallSums e.weight via
 small_arc e via rows ready is =

@@ -16,3 +16,4 @@ pub mod PutBack
 pub mod Saving
 pub mod Marking
 pub mod RowsOver
+pub mod Parts

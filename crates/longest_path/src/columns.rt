@@ -2,7 +2,7 @@
 //! start gains.
 
 ghost use Rattle.std.specs.Prelude.{◌≡◌, ◌<◌, ◌≤◌, ℕ, length};
-ghost use Rattle.std.specs.Bool.{MatchBool};
+ghost use Rattle.std.specs.Bool.{MatchBool, OnFalse};
 ghost use Rattle.longest_path.specs.Grid.{IsRow, GainsNothingAt, HasSmallSums};
 ghost use Rattle.longest_path.specs.Insert.{IsReady, StartGainsNothing};
 
@@ -18,6 +18,24 @@ fn gains(row: &[i32], first: i32, via: &[i32], b: usize) -> bool
     ensures { MatchBool result (GainsNothingAt first via.now row.now b → ⊥) (GainsNothingAt first via.now row.now b) }
 {
     row[b] < sum(first, via[b])
+}
+
+/// Whether a row gains in some column.
+///
+/// It looks at each column, with no way out before the end: in this form the loop is compiled to vector
+/// code.
+pub(crate) fn gains_somewhere(row: &[i32], first: i32, via: &[i32]) -> bool
+    requires wide { length row.now ≡ length via.now }
+    requires fits { HasSmallSums first via.now }
+    ensures { OnFalse result ((b : ℕ) → GainsNothingAt first via.now row.now b) }
+{
+    let mut any = false;
+    for b in 0..row.len() {
+        if gains(row, first, via, b) {
+            any = true;
+        }
+    }
+    any
 }
 
 /// The first column that gains, and the row's length where none does.

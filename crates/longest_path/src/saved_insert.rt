@@ -4,16 +4,16 @@ ghost use Rattle.std.specs.Prelude.{◌≡◌, ◌<◌, ◌≤◌, ℕ, ℤ, ◌
 ghost use Rattle.network.specs.Walk.{entry};
 ghost use Rattle.longest_path.specs.Relax.{joined};
 ghost use Rattle.longest_path.specs.Rows.{IsSquare};
-ghost use Rattle.longest_path.specs.Grid.{placed_at};
+ghost use Rattle.longest_path.specs.Grid.{placed_at, IsRelaxed};
 ghost use Rattle.longest_path.specs.Passes.{IsRowOver};
 ghost use Rattle.longest_path.specs.Matrix.{IsMatrix};
-ghost use Rattle.longest_path.specs.Insert.{arc_of, AddsArc, IsOver, IsReadyRow, IsReady};
+ghost use Rattle.longest_path.specs.Insert.{arc_of, AddsArc, IsOver, IsReadyPart, IsReadyRow, IsReady};
 ghost use Rattle.longest_path.specs.Fault.{IsInsertFault};
 ghost use Rattle.longest_path.specs.Saved.{LeadsBack, undone};
 ghost use Rattle.network.specs.declared.limits.TheConstants.{MAX_LAG_WEIGHT};
 ghost use Rattle.network.specs.Limits.{IsWithin};
 
-use crate::columns::gaining_columns;
+use crate::columns::{gaining_columns, gains_somewhere};
 use crate::effect::Effect;
 use crate::fault::PathFault;
 use crate::grid::Grid;
@@ -23,7 +23,80 @@ use crate::saves::Saves;
 use network::Lag;
 use std::alloc::AllocError;
 
-/// As `go_over_row` of an insert, and saves the part of the row that may gain, if the row gains.
+/// How many columns of a row are looked at and saved at a time.
+const PART: usize = 64;
+
+/// Row `a` takes the way that begins with a walk of weight `first` and goes on by `via`, from column
+/// `from` on, and these columns are saved before.
+fn relax_row_saved(
+    grid: &mut Grid,
+    a: usize,
+    from: usize,
+    first: i64,
+    via: &[i32],
+    saves: &mut Saves,
+) -> Result<(), AllocError>
+    requires part { IsReadyPart a from first via.now grid.old }
+    requires width { saves.old.width ≡ length grid.old }
+    ensures square { IsSquare (length grid.old) grid.new }
+    ensures width { saves.new.width ≡ saves.old.width }
+    ensures relaxed { OnOk result (IsRelaxed a first (placed_at from via.now) grid.old grid.new) }
+    ensures back { LeadsBack saves.old.saves saves.new.saves grid.old grid.new }
+{
+    saves.push(a, from, &grid.row(a)[from..from + via.len()])?;
+    grid.relax_row(a, from, first, via);
+    Ok(())
+}
+
+/// As `relax_row_saved`, but saves nothing where none of these columns gains.
+fn relax_part_saved(
+    grid: &mut Grid,
+    a: usize,
+    from: usize,
+    first: i64,
+    via: &[i32],
+    saves: &mut Saves,
+) -> Result<(), AllocError>
+    requires part { IsReadyPart a from first via.now grid.old }
+    requires width { saves.old.width ≡ length grid.old }
+    ensures square { IsSquare (length grid.old) grid.new }
+    ensures width { saves.new.width ≡ saves.old.width }
+    ensures relaxed { OnOk result (IsRelaxed a first (placed_at from via.now) grid.old grid.new) }
+    ensures back { LeadsBack saves.old.saves saves.new.saves grid.old grid.new }
+{
+    if !gains_somewhere(&grid.row(a)[from..from + via.len()], first as i32, via) {
+        return Ok(());
+    }
+    relax_row_saved(grid, a, from, first, via, saves)
+}
+
+/// As `relax_row_saved`, part by part, so that parts that gain nothing aren't saved.
+fn relax_parts_saved(
+    grid: &mut Grid,
+    a: usize,
+    from: usize,
+    first: i64,
+    via: &[i32],
+    saves: &mut Saves,
+) -> Result<(), AllocError>
+    requires part { IsReadyPart a from first via.now grid.old }
+    requires width { saves.old.width ≡ length grid.old }
+    ensures square { IsSquare (length grid.old) grid.new }
+    ensures width { saves.new.width ≡ saves.old.width }
+    ensures relaxed { OnOk result (IsRelaxed a first (placed_at from via.now) grid.old grid.new) }
+    ensures back { LeadsBack saves.old.saves saves.new.saves grid.old grid.new }
+{
+    prove!(a < grid.size());
+    let mut done = 0;
+    while done < via.len() {
+        let end = (done + PART).min(via.len());
+        relax_part_saved(grid, a, from + done, first, &via[done..end], saves)?;
+        done = end;
+    }
+    Ok(())
+}
+
+/// As `go_over_row` of an insert, and saves the parts of the row that gain.
 fn go_over_row_saved(
     grid: &mut Grid,
     a: usize,
@@ -42,9 +115,11 @@ fn go_over_row_saved(
     let Some(first) = first_over(grid, a, arc) else {
         return Ok(());
     };
-    saves.push(a, from, &grid.row(a)[from..from + via.len()])?;
-    grid.relax_row(a, from, first, via);
-    Ok(())
+    if via.len() <= PART {
+        relax_row_saved(grid, a, from, first, via, saves)
+    } else {
+        relax_parts_saved(grid, a, from, first, via, saves)
+    }
 }
 
 /// As `go_over` of an insert, and saves what may gain of each row that gains. Where there is no memory
