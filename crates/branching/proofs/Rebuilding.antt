@@ -1,16 +1,16 @@
 -- The matrix of a project and pairs doesn't hang on the order in which the pairs were added.
-use Rattle.std.proofs.Common.{◌≡◌, subst, ℕ, ◌+◌, ◌<◌, ◌≤◌, suc, arith, ℤ, pos, ◌<ℤ◌, ◌≤ℤ◌, Option, None, Some, ⊎_elim, List, [], ◌∷◌, ◌++◌, map, length, drop, get_or}
+use Rattle.std.proofs.Common.{◌≡◌, refl, subst, ℕ, ◌+◌, ◌<◌, ◌≤◌, suc, arith, ℤ, pos, ◌<ℤ◌, ◌≤ℤ◌, Option, None, Some, ⊎_elim, List, [], ◌∷◌, ◌++◌, map, length, drop, get_or}
 use Rattle.std.proofs.lemmas.Int.{ints}
 use Rattle.std.specs.List.{Contains}
 use Rattle.std.proofs.Math.Seq.{drop-length, drop-cons}
-use Rattle.std.proofs.lemmas.List.Elements.{All-nil, All-cons, All-get_or, Contains-append_left, Contains-append_right, Contains-append_cases, Contains-push, Contains-push_cases, Contains-get_or}
+use Rattle.std.proofs.lemmas.List.Elements.{All-nil, All-cons, All-push, All-contains, All-get_or, Contains-append_left, Contains-append_right, Contains-append_cases, Contains-push, Contains-push_cases, Contains-get_or}
 use Rattle.network.specs.declared.lag.Lag.{Lag}
 use Rattle.network.specs.declared.lag.Pair.{Pair}
 use Rattle.network.specs.Problem.{Problem, activity_count, pair_arc, rules, arcs_of, NameActivities}
 use Rattle.network.specs.Walk.{Rows, IsWalk, weight, entry, IsGreatestWeight, IsMatrixOf, HasPositiveCycle, HasNoPositiveCycle}
 use Rattle.network.specs.ProjectMatrix.{IsProjectMatrix}
 use Rattle.network.proofs.ArcLaws.{mapped_list}
-use Rattle.longest_path.specs.Insert.{AddsArc, ClosesCycle}
+use Rattle.longest_path.specs.Insert.{AddsArc, ClosesNone, ClosesCycle}
 use Rattle.branching.proofs.Lists.{contains_map, contains_cases}
 use Rattle.branching.proofs.Paths.{matrix_more, closes_with}
 
@@ -117,3 +117,30 @@ all_added p pairs rows named so_far = record {
   named = named;
   matrix = matrix_same (activity_count p) (arcs_of p so_far.added) (arcs_of p pairs) rows (arcs_among p so_far.added pairs so_far.within) (arcs_among p pairs so_far.added so_far.rest) so_far.matrix.matrix;
 }
+
+-- ---- a pair that is added again
+
+-- changes nothing
+pub again : (p : Problem) (pairs : List Pair) (pair : Pair) (rows : Rows) → Contains pairs pair → IsProjectMatrix p pairs rows → IsProjectMatrix p (pairs ++ pair ∷ []) rows
+again p pairs pair rows at m =
+    let more : AreAmong pairs (pairs ++ pair ∷ []) = λ q c. Contains-append_left pairs (pair ∷ []) q c in
+    let fewer : AreAmong (pairs ++ pair ∷ []) pairs = λ q c.
+    ⊎_elim
+    (λ (early : Contains pairs q). early)
+    (λ (last : pair ≡ q). subst (λ (z : Pair). Contains pairs z) last at)
+    (Contains-push_cases pairs pair q c) in
+    record {
+      limits = m.limits;
+      named = All-push (AreThere p) pairs pair m.named (All-contains (AreThere p) pairs pair m.named at);
+      matrix = matrix_same (activity_count p) (arcs_of p pairs) (arcs_of p (pairs ++ pair ∷ [])) rows (arcs_among p pairs (pairs ++ pair ∷ []) more) (arcs_among p (pairs ++ pair ∷ []) pairs fewer) m.matrix;
+    }
+
+-- and closes nothing
+pub closes_none_again : (p : Problem) (pairs : List Pair) (pair : Pair) (rows : Rows) → Contains pairs pair → IsProjectMatrix p pairs rows → ClosesNone (pair_arc p pair) rows
+closes_none_again p pairs pair rows at m x e =
+    let there : AreThere p pair = All-contains (AreThere p) pairs pair m.named at in
+    let back : IsGreatestWeight (arcs_of p pairs) pair.after pair.before (Some x) = rw e at (m.matrix.greatest pair.after pair.before there.1 there.0) in
+    let arc : Contains (arcs_of p pairs) (pair_arc p pair) = Contains-append_right (rules p) (map (pair_arc p) pairs) (pair_arc p pair) (contains_map (pair_arc p) pairs pair at) in
+    let low : weight (pair_arc p pair ∷ back.0.0) ≤ℤ pos 0 = m.matrix.no_cycle pair.before (pair_arc p pair ∷ back.0.0) (arc, refl, back.0.1) in
+    let weighs : weight back.0.0 ≡ x = back.0.2 in
+    omega (arith, ints)

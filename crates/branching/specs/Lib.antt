@@ -6,6 +6,7 @@ pub mod Base
 pub mod BaseView
 pub mod NodeView
 pub mod Path
+pub mod Workspace
 pub mod Right
 pub mod Ceiling
 pub mod Fates

@@ -6,6 +6,7 @@ ghost use Rattle.network.specs.ProjectMatrix.{IsProjectMatrix};
 ghost use Rattle.network.specs.Schedule.{makespan};
 ghost use Rattle.longest_path.specs.Insert.{ClosesNone, rows_over};
 ghost use Rattle.bounds.specs.Bound.{critical_weight};
+ghost use Rattle.bounds.specs.Workspace.{IsWorkspaceFor};
 ghost use Rattle.branching.specs.Subproblem.{IsTiedTo};
 ghost use Rattle.branching.specs.Ceiling.{IsBelow, IsUnder, Reaches};
 ghost use Rattle.branching.specs.Right.{IsDead};
@@ -15,7 +16,7 @@ ghost use Rattle.branching.specs.Fate.{IsBranchOf};
 use crate::forcing::{Forcing, force, forces_some};
 use crate::lean::Lean;
 use crate::marking::insert_under_mark;
-use bounds::bound_with;
+use bounds::Workspace;
 use longest_path::{MarkedMatrix, Matrix, PathFault};
 use network::Pair;
 use std::alloc::{AllocError, Global};
@@ -75,16 +76,21 @@ fn bounded(
     alloc: Global,
     node: &Lean,
     matrix: &Matrix,
+    bounds: &mut Workspace,
     before: &Arc<Vec<Pair>>,
     ceiling: Option<i64>,
     first: Pair,
     forced: Vec<Pair>,
 ) -> Result<Branch, AllocError>
+    requires bounds { IsWorkspaceFor node.now.project bounds.old }
     requires before { (arc_value before.now).items ≡ node.now.pairs }
+    requires named { NameActivities node.now.project (first ∷ []) }
     requires matrix { IsForcedMatrix node.now.project (node.now.pairs ++ first ∷ []) forced.items matrix.now }
-    ensures { IfOk result (IsBranchOf node.now ceiling first) }
+    ensures bounds { bounds.new ≡ bounds.old }
+    ensures branch { IfOk result (IsBranchOf node.now ceiling first) }
 {
-    let bound = bounds::bound(alloc, node.project(), matrix)?;
+    // The pair's arc is in the matrix, so that the bound with it is that of the matrix.
+    let bound = bounds.bound_with(node.project(), matrix, first);
     if is_over(bound, ceiling) {
         return Ok(Branch::Cut(forced));
     }
@@ -97,19 +103,24 @@ fn branch_at(
     alloc: Global,
     node: &Lean,
     matrix: &mut MarkedMatrix,
+    bounds: &mut Workspace,
     before: &Arc<Vec<Pair>>,
     ceiling: Option<i64>,
     first: Pair,
 ) -> Result<Branch, AllocError>
+    requires bounds { IsWorkspaceFor node.now.project bounds.old }
     requires before { (arc_value before.now).items ≡ node.now.pairs }
+    requires named { NameActivities node.now.project (first ∷ []) }
     requires matrix { IsProjectMatrix node.now.project (node.now.pairs ++ first ∷ []) matrix.old.rows }
     ensures marks { matrix.new.marks ≡ matrix.old.marks }
+    ensures bounds { bounds.new ≡ bounds.old }
     ensures branch { IfOk result (IsBranchOf node.now ceiling first) }
 {
     match force(alloc, node, first, matrix)? {
         Forcing::Dead(forced) => Ok(Branch::Dead(forced)),
         Forcing::Live(forced) => {
-            bounded(alloc, node, matrix.matrix(), before, ceiling, first, forced)
+            let matrix = matrix.matrix();
+            bounded(alloc, node, matrix, bounds, before, ceiling, first, forced)
         }
     }
 }
@@ -119,14 +130,17 @@ fn branch_with_forced(
     alloc: Global,
     node: &Lean,
     matrix: &mut MarkedMatrix,
+    bounds: &mut Workspace,
     before: &Arc<Vec<Pair>>,
     ceiling: Option<i64>,
     first: Pair,
 ) -> Result<Branch, AllocError>
     requires tied { IsTiedTo node.now matrix.old.rows }
+    requires bounds { IsWorkspaceFor node.now.project bounds.old }
     requires before { (arc_value before.now).items ≡ node.now.pairs }
     requires named { NameActivities node.now.project (first ∷ []) }
     ensures unchanged { matrix.new ≡ matrix.old }
+    ensures bounds { bounds.new ≡ bounds.old }
     ensures branch { IfOk result (IsBranchOf node.now ceiling first) }
 {
     match insert_under_mark(matrix, node.project().pair_arc(first)) {
@@ -134,7 +148,7 @@ fn branch_with_forced(
         Err(PathFault::PositiveCycle { .. }) => return Ok(Branch::Dead(Vec::new(alloc))),
         Err(PathFault::Memory) => return Err(AllocError),
     }
-    let branch = branch_at(alloc, node, matrix, before, ceiling, first);
+    let branch = branch_at(alloc, node, matrix, bounds, before, ceiling, first);
     matrix.go_back();
     branch
 }
@@ -146,14 +160,17 @@ pub(crate) fn branch_of(
     alloc: Global,
     node: &Lean,
     matrix: &mut MarkedMatrix,
+    bounds: &mut Workspace,
     before: &Arc<Vec<Pair>>,
     ceiling: Option<i64>,
     pair: Pair,
 ) -> Result<Branch, AllocError>
     requires tied { IsTiedTo node.now matrix.old.rows }
+    requires bounds { IsWorkspaceFor node.now.project bounds.old }
     requires before { (arc_value before.now).items ≡ node.now.pairs }
     requires named { NameActivities node.now.project (pair ∷ []) }
     ensures unchanged { matrix.new ≡ matrix.old }
+    ensures bounds { bounds.new ≡ bounds.old }
     ensures branch { IfOk result (IsBranchOf node.now ceiling pair) }
 {
     let rows = matrix.matrix();
@@ -166,9 +183,9 @@ pub(crate) fn branch_of(
     if node.pairs().get(0).is_none()
         || forces_some(node.project(), rows, node.base().incompatible(), pair)
     {
-        return branch_with_forced(alloc, node, matrix, before, ceiling, pair);
+        return branch_with_forced(alloc, node, matrix, bounds, before, ceiling, pair);
     }
-    let bound = bound_with(alloc, node.project(), rows, pair)?;
+    let bound = bounds.bound_with(node.project(), rows, pair);
     if is_over(bound, ceiling) {
         return Ok(Branch::Cut(Vec::new(alloc)));
     }

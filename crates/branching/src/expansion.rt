@@ -5,6 +5,8 @@ ghost use Rattle.network.specs.Schedule.{IsWithinCapacities, running};
 ghost use Rattle.earliest.specs.Starts.{AreEarliest};
 ghost use Rattle.profile.specs.Overloads.{IsFirstOverload};
 ghost use Rattle.branching.specs.Subproblem.{IsNode, IsTiedTo};
+ghost use Rattle.bounds.specs.Workspace.{IsWorkspaceFor};
+ghost use Rattle.branching.specs.Workspace.{HasRoomFor};
 ghost use Rattle.branching.specs.Fate.{fate_value};
 ghost use Rattle.branching.specs.Fates.{AreFates};
 ghost use Rattle.branching.specs.Fair.{IsReportOn, FindsNothingOver};
@@ -15,11 +17,12 @@ use crate::lean::Lean;
 use crate::node::Node;
 use crate::pairs::ordered_pairs;
 use crate::report::Report;
+use crate::workspace::Workspace;
 use earliest::least_starts;
-use forbidden_sets::shrink;
+use forbidden_sets::shrink_activities;
 use longest_path::MarkedMatrix;
 use network::{Pair, Schedule};
-use profile::{Overload, first_overload};
+use profile::Excess;
 use std::alloc::{AllocError, Global};
 use std::sync::Arc;
 
@@ -35,19 +38,22 @@ fn branches_of(
     alloc: Global,
     node: &Lean,
     matrix: &mut MarkedMatrix,
+    bounds: &mut bounds::Workspace,
     ceiling: Option<i64>,
     pairs: &[Pair],
 ) -> Result<Branches, AllocError>
     requires tied { IsTiedTo node.now matrix.old.rows }
+    requires bounds { IsWorkspaceFor node.now.project bounds.old }
     requires named { NameActivities node.now.project pairs.now }
     ensures unchanged { matrix.new ≡ matrix.old }
+    ensures bounds { bounds.new ≡ bounds.old }
     ensures fates { IfOk result (λ made. AreFates node.now ceiling pairs.now (map fate_value made.fates.items) (map arc_value made.kids.items)) }
 {
     let before = Arc::new(alloc, node.pairs().to_vec(alloc)?)?;
     let mut kids = Vec::new(alloc);
     let mut fates = Vec::with_capacity(alloc, pairs.len())?;
     for pair in pairs {
-        let fate = match branch_of(alloc, node, matrix, &before, ceiling, *pair)? {
+        let fate = match branch_of(alloc, node, matrix, bounds, &before, ceiling, *pair)? {
             Branch::Kid(kid) => {
                 kids.push(kid)?;
                 Fate::Kid
@@ -85,20 +91,25 @@ fn report_split(
     alloc: Global,
     node: &Arc<Lean>,
     matrix: &mut MarkedMatrix,
+    workspace: &mut Workspace,
     ceiling: Option<i64>,
     starts: &[i64],
-    overload: &Overload,
+    overload: Excess,
 ) -> Result<Report, AllocError>
     requires tied { IsTiedTo (arc_value node.now) matrix.old.rows }
+    requires room { HasRoomFor (arc_value node.now).project workspace.old }
     requires earliest { AreEarliest (arc_value node.now).project (arc_value node.now).pairs starts.now }
-    requires first { IsFirstOverload (arc_value node.now).project starts.now overload.now.time overload.now.resource }
-    requires running { overload.now.running.items ≡ running (arc_value node.now).project starts.now overload.now.time }
+    requires first { IsFirstOverload (arc_value node.now).project starts.now overload.time overload.resource }
+    requires running { workspace.old.overloads.running ≡ running (arc_value node.now).project starts.now overload.time }
     ensures unchanged { matrix.new ≡ matrix.old }
+    ensures room { HasRoomFor (arc_value node.now).project workspace.new }
     ensures report { IfOk result (IsReportOn (arc_value node.now) ceiling) }
 {
-    let set = shrink(alloc, node.project(), overload)?;
+    let running = workspace.overloads.running();
+    let set = shrink_activities(alloc, node.project(), overload.resource, running)?;
     let pairs = ordered_pairs(alloc, set.members())?;
-    let made = branches_of(alloc, node, matrix, ceiling, pairs.as_slice())?;
+    let bounds = &mut workspace.bounds;
+    let made = branches_of(alloc, node, matrix, bounds, ceiling, pairs.as_slice())?;
     let node = Arc::try_clone(node)?;
     Ok(Report::new(node, ceiling, None, Some(set), made.fates, made.kids))
 }
@@ -108,10 +119,13 @@ pub(crate) fn expand_by(
     alloc: Global,
     node: &Arc<Lean>,
     matrix: &mut MarkedMatrix,
+    workspace: &mut Workspace,
     ceiling: Option<i64>,
 ) -> Result<Report, AllocError>
-    requires { IsTiedTo (arc_value node.now) matrix.old.rows }
+    requires tied { IsTiedTo (arc_value node.now) matrix.old.rows }
+    requires room { HasRoomFor (arc_value node.now).project workspace.old }
     ensures unchanged { matrix.new ≡ matrix.old }
+    ensures room { HasRoomFor (arc_value node.now).project workspace.new }
     ensures report { IfOk result (IsReportOn (arc_value node.now) ceiling) }
     ensures over { IfOk result (FindsNothingOver (arc_value node.now) ceiling) }
 {
@@ -122,8 +136,11 @@ pub(crate) fn expand_by(
         return Ok(Report::new(node, ceiling, None, None, fates, kids));
     }
     let starts = least_starts(alloc, matrix.matrix())?;
-    match first_overload(alloc, node.project(), starts.as_slice())? {
-        Some(overload) => report_split(alloc, node, matrix, ceiling, starts.as_slice(), &overload),
+    match workspace.overloads.first(node.project(), starts.as_slice()) {
+        Some(overload) => {
+            let starts = starts.as_slice();
+            report_split(alloc, node, matrix, workspace, ceiling, starts, overload)
+        }
         None => report_found(alloc, node, ceiling, starts),
     }
 }
@@ -145,5 +162,6 @@ pub fn expand(alloc: Global, node: &Arc<Node>, ceiling: Option<i64>) -> Result<R
 {
     let matrix = node.matrix().try_copy(alloc)?;
     let mut matrix = MarkedMatrix::new(alloc, matrix);
-    expand_by(alloc, node.lean(), &mut matrix, ceiling)
+    let mut workspace = Workspace::new(alloc, node.lean().project())?;
+    expand_by(alloc, node.lean(), &mut matrix, &mut workspace, ceiling)
 }

@@ -24,6 +24,7 @@ mod report;
 mod search;
 mod searcher;
 mod with_arc;
+mod workspace;
 
 pub use expansion::expand;
 pub use fate::Fate;

@@ -12,6 +12,7 @@ use crate::lean::Lean;
 use crate::marking::insert_under_mark;
 use crate::pair_list::PairList;
 use crate::report::Report;
+use crate::workspace::Workspace;
 use longest_path::{MarkedMatrix, Matrix, PathFault};
 use network::{Pair, Project};
 use std::alloc::{AllocError, Global};
@@ -48,30 +49,38 @@ pub struct Searcher {
     pairs: Vec<Pair>,
     /// With a mark for each pair.
     matrix: MarkedMatrix,
+    workspace: Workspace,
 }
 
 impl Model for Searcher {
     ghost use Rattle.std.specs.Arc.{arc_value};
-    ghost use Rattle.branching.specs.Path.{Path, IsPath};
+    ghost use Rattle.branching.specs.Path.{Path};
+    ghost use Rattle.branching.specs.Workspace.{IsSearcher};
 
     ghost Value = { Path };
 
     ghost view = { λ s. record { project = arc_value s.project; pairs = s.pairs.items } };
 
-    ghost invariant = { λ s. IsPath (arc_value s.project) s.pairs.items s.matrix };
+    ghost invariant = { λ s. IsSearcher (arc_value s.project) s.pairs.items s.matrix s.workspace };
 }
 
 impl Searcher {
     /// A searcher at the root, which has no pairs and this matrix.
-    pub fn new(alloc: Global, project: Arc<Project>, matrix: Matrix) -> Searcher
+    pub fn new(
+        alloc: Global,
+        project: Arc<Project>,
+        matrix: Matrix,
+    ) -> Result<Searcher, AllocError>
         requires { IsProjectMatrix (arc_value project) [] matrix }
-        ensures { result ≡ record { project = arc_value project; pairs = [] } }
+        ensures { IfOk result (λ searcher. searcher ≡ record { project = arc_value project; pairs = [] }) }
     {
-        Searcher {
+        let workspace = Workspace::new(alloc, &project)?;
+        Ok(Searcher {
             project,
             pairs: Vec::new(alloc),
             matrix: MarkedMatrix::new(alloc, matrix),
-        }
+            workspace,
+        })
     }
 
     /// The matrix of the project and the pairs of the node that the searcher is at.
@@ -161,6 +170,6 @@ impl Searcher {
         ensures over { IfOk result (FindsNothingOver (arc_value node.now) ceiling) }
     {
         self.move_to(node.pairs())?;
-        expand_by(alloc, node, &mut self.matrix, ceiling)
+        expand_by(alloc, node, &mut self.matrix, &mut self.workspace, ceiling)
     }
 }

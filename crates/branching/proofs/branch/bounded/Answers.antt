@@ -1,32 +1,58 @@
-use Rattle.std.proofs.Common.{◌≡◌, ◌∙◌, rules, w64, ◌∷◌, [], ◌++◌}
-use Rattle.std.proofs.lemmas.Int.{to_z-of_z}
-use mir.Val.{SFits}
+use Rattle.std.proofs.Common.{◌≡◌, ◌∙◌, rules, w64, List, ◌∷◌, [], ◌++◌}
 use Rattle.std.specs.Arc.{arc_value}
+use Rattle.std.specs.List.{Contains}
+use Rattle.std.proofs.lemmas.Int.{to_z-of_z}
+use Rattle.std.proofs.lemmas.List.Elements.{Contains-append_left, Contains-push}
+use mir.Val.{SFits}
+use Rattle.network.specs.declared.lag.Pair.{Pair}
 use Rattle.bounds.specs.Bound.{IsBoundOf}
+use Rattle.bounds.specs.With.{IsBoundWith}
 use Rattle.branching.specs.Ceiling.{IsUnder, Reaches}
 use Rattle.branching.proofs.ForcedMatrices.{cut_at, kid_at, node_at}
+use Rattle.branching.proofs.Rebuilding.{again, closes_none_again}
 use Rattle.branching.proofs.branch.bounded.Goals as goal
 
-pub bound-requires : goal.bound-requires
-bound-requires c = rw (c.deref.ensures ∙ c.project.ensures.project) (record { pairs = (c.args.node.now.pairs ++ c.args.first ∷ []) ++ c.args.forced.items; matrix = c.requires.matrix.matrix })
+pub bound_with-bound-requires-clause-workspace : goal.bound_with-bound-requires-clause-workspace
+bound_with-bound-requires-clause-workspace c = rw (c.deref.ensures ∙ c.project.ensures.project) c.requires.bounds
 
-pub returns-then-is_over : goal.returns-then-is_over
-returns-then-is_over c =
-    let fits : SFits w64 c.in_ok-bound.bound = search rules in
-    let of : IsBoundOf c.args.node.now.project c.args.matrix.now c.in_ok-bound.bound = rw (c.deref.ensures ∙ c.project.ensures.project) at c.in_ok-bound.ensures.value in
-    let reaches : Reaches c.args.ceiling c.in_ok-bound.bound = simp to_z-of_z at c.if-is_over.ensures.reaches in
-    cut_at c.args.node.now c.args.ceiling c.args.first c.args.forced.items c.args.matrix.now c.in_ok-bound.bound c.requires.matrix of reaches
+pub bound_with-bound-requires-clause-matrix : goal.bound_with-bound-requires-clause-matrix
+bound_with-bound-requires-clause-matrix c = rw (c.deref.ensures ∙ c.project.ensures.project) (record { pairs = (c.args.node.now.pairs ++ c.args.first ∷ []) ++ c.args.forced.items; matrix = c.requires.matrix.matrix })
+
+pub bound_with-bound-requires-clause-named : goal.bound_with-bound-requires-clause-named
+bound_with-bound-requires-clause-named c = rw (c.deref.ensures ∙ c.project.ensures.project) c.requires.named
+
+pub bound_with-bound-requires-clause-lives : goal.bound_with-bound-requires-clause-lives
+bound_with-bound-requires-clause-lives c =
+    let pairs : List Pair = (c.args.node.now.pairs ++ c.args.first ∷ []) ++ c.args.forced.items in
+    let at : Contains pairs c.args.first = Contains-append_left (c.args.node.now.pairs ++ c.args.first ∷ []) c.args.forced.items c.args.first (Contains-push c.args.node.now.pairs c.args.first) in
+    rw (c.deref.ensures ∙ c.project.ensures.project) (closes_none_again c.args.node.now.project pairs c.args.first c.args.matrix.now at c.requires.matrix.matrix)
+
+pub returns-then-is_over-clause-branch : goal.returns-then-is_over-clause-branch
+returns-then-is_over-clause-branch c =
+    let pairs : List Pair = (c.args.node.now.pairs ++ c.args.first ∷ []) ++ c.args.forced.items in
+    let at : Contains pairs c.args.first = Contains-append_left (c.args.node.now.pairs ++ c.args.first ∷ []) c.args.forced.items c.args.first (Contains-push c.args.node.now.pairs c.args.first) in
+    let fits : SFits w64 c.bound_with-bound.result = search rules in
+    let with_first : IsBoundWith c.args.node.now.project c.args.matrix.now c.args.first c.bound_with-bound.result = rw (c.deref.ensures ∙ c.project.ensures.project) at c.bound_with-bound.ensures.value in
+    let of : IsBoundOf c.args.node.now.project c.args.matrix.now c.bound_with-bound.result = with_first pairs c.args.matrix.now c.requires.matrix.matrix (again c.args.node.now.project pairs c.args.first c.args.matrix.now at c.requires.matrix.matrix) in
+    let reaches : Reaches c.args.ceiling c.bound_with-bound.result = simp to_z-of_z at c.if-is_over.ensures.reaches in
+    cut_at c.args.node.now c.args.ceiling c.args.first c.args.forced.items c.args.matrix.now c.bound_with-bound.result c.requires.matrix of reaches
 
 pub with_pairs-requires-clause-node : goal.with_pairs-requires-clause-node
 with_pairs-requires-clause-node c =
-    let fits : SFits w64 c.in_ok-bound.bound = search rules in
-    let of : IsBoundOf c.args.node.now.project c.args.matrix.now c.in_ok-bound.bound = rw (c.deref.ensures ∙ c.project.ensures.project) at c.in_ok-bound.ensures.value in
-    simp to_z-of_z (node_at c.args.node.now c.args.first c.args.forced.items c.args.matrix.now c.in_ok-bound.bound c.requires.matrix of)
+    let pairs : List Pair = (c.args.node.now.pairs ++ c.args.first ∷ []) ++ c.args.forced.items in
+    let at : Contains pairs c.args.first = Contains-append_left (c.args.node.now.pairs ++ c.args.first ∷ []) c.args.forced.items c.args.first (Contains-push c.args.node.now.pairs c.args.first) in
+    let fits : SFits w64 c.bound_with-bound.result = search rules in
+    let with_first : IsBoundWith c.args.node.now.project c.args.matrix.now c.args.first c.bound_with-bound.result = rw (c.deref.ensures ∙ c.project.ensures.project) at c.bound_with-bound.ensures.value in
+    let of : IsBoundOf c.args.node.now.project c.args.matrix.now c.bound_with-bound.result = with_first pairs c.args.matrix.now c.requires.matrix.matrix (again c.args.node.now.project pairs c.args.first c.args.matrix.now at c.requires.matrix.matrix) in
+    simp to_z-of_z (node_at c.args.node.now c.args.first c.args.forced.items c.args.matrix.now c.bound_with-bound.result c.requires.matrix of)
 
-pub returns : goal.returns
-returns c =
-    let fits : SFits w64 c.in_ok-bound.bound = search rules in
-    let of : IsBoundOf c.args.node.now.project c.args.matrix.now c.in_ok-bound.bound = rw (c.deref.ensures ∙ c.project.ensures.project) at c.in_ok-bound.ensures.value in
-    let under : IsUnder c.args.ceiling c.in_ok-bound.bound = simp to_z-of_z at c.if-is_over.ensures.under in
-    let made : arc_value c.in_ok-kid.kid ≡ record { project = c.args.node.now.project; pairs = c.args.node.now.pairs ++ c.args.first ∷ c.args.forced.items; bound = c.in_ok-bound.bound } = simp to_z-of_z at c.in_ok-kid.ensures in
-    kid_at c.args.node.now (arc_value c.in_ok-kid.kid) c.args.ceiling c.args.first c.args.forced.items c.args.matrix.now c.in_ok-bound.bound c.requires.matrix of under made
+pub returns-clause-branch : goal.returns-clause-branch
+returns-clause-branch c =
+    let pairs : List Pair = (c.args.node.now.pairs ++ c.args.first ∷ []) ++ c.args.forced.items in
+    let at : Contains pairs c.args.first = Contains-append_left (c.args.node.now.pairs ++ c.args.first ∷ []) c.args.forced.items c.args.first (Contains-push c.args.node.now.pairs c.args.first) in
+    let fits : SFits w64 c.bound_with-bound.result = search rules in
+    let with_first : IsBoundWith c.args.node.now.project c.args.matrix.now c.args.first c.bound_with-bound.result = rw (c.deref.ensures ∙ c.project.ensures.project) at c.bound_with-bound.ensures.value in
+    let of : IsBoundOf c.args.node.now.project c.args.matrix.now c.bound_with-bound.result = with_first pairs c.args.matrix.now c.requires.matrix.matrix (again c.args.node.now.project pairs c.args.first c.args.matrix.now at c.requires.matrix.matrix) in
+    let under : IsUnder c.args.ceiling c.bound_with-bound.result = simp to_z-of_z at c.if-is_over.ensures.under in
+    let made : arc_value c.in_ok-kid.kid ≡ record { project = c.args.node.now.project; pairs = c.args.node.now.pairs ++ c.args.first ∷ c.args.forced.items; bound = c.bound_with-bound.result } = simp to_z-of_z at c.in_ok-kid.ensures in
+    kid_at c.args.node.now (arc_value c.in_ok-kid.kid) c.args.ceiling c.args.first c.args.forced.items c.args.matrix.now c.bound_with-bound.result c.requires.matrix of under made

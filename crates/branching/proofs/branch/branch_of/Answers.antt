@@ -31,11 +31,11 @@ returns-then-is_over-clause-branch c =
     let reaches : Reaches c.args.ceiling c.least_with.result = simp to_z-of_z at c.if-is_over.ensures.reaches in
     rw c.new-then-is_over.ensures.items (cut_by_least node c.args.ceiling pair over c.least_with.result forced low reaches)
 
-pub bound_with-requires-clause-named : goal.bound_with-requires-clause-named
-bound_with-requires-clause-named c = rw (c.deref-2.ensures ∙ c.project-2.ensures.project) c.requires.named
+pub bound_with-bound-requires-clause-named : goal.bound_with-bound-requires-clause-named
+bound_with-bound-requires-clause-named c = rw (c.deref-2.ensures ∙ c.project-2.ensures.project) c.requires.named
 
-pub bound_with-requires-clause-lives : goal.bound_with-requires-clause-lives
-bound_with-requires-clause-lives c = rw (c.deref-2.ensures ∙ c.project-2.ensures.project) c.if-is_dead_with.ensures.live
+pub bound_with-bound-requires-clause-lives : goal.bound_with-bound-requires-clause-lives
+bound_with-bound-requires-clause-lives c = rw (c.deref-2.ensures ∙ c.project-2.ensures.project) c.if-is_dead_with.ensures.live
 
 pub returns-then-is_over-2-clause-branch : goal.returns-then-is_over-2-clause-branch
 returns-then-is_over-2-clause-branch c =
@@ -46,11 +46,11 @@ returns-then-is_over-2-clause-branch c =
     let none : ClosesNone (pair_arc node.project pair) rows = rw c.matrix-rows.ensures at c.if-is_dead_with.ensures.live in
     let m : IsProjectMatrix node.project (node.pairs ++ pair ∷ []) over = matrix_with node pair rows c.requires.tied c.requires.named none in
     let forced : IsForcedMatrix node.project (node.pairs ++ pair ∷ []) [] over = none_forced node.project (node.pairs ++ pair ∷ []) over m in
-    let fits : SFits w64 c.in_ok-bound.bound = search rules in
-    let with_pair : IsBoundWith node.project rows pair c.in_ok-bound.bound = rw (c.deref-2.ensures ∙ c.project-2.ensures.project, c.matrix-rows.ensures) at c.in_ok-bound.ensures.value in
-    let of : IsBoundOf node.project over c.in_ok-bound.bound = with_pair node.pairs over c.requires.tied.matrix m in
-    let reaches : Reaches c.args.ceiling c.in_ok-bound.bound = simp to_z-of_z at c.if-is_over-2.ensures.reaches in
-    rw c.new-then-is_over-2.ensures.items (cut_at node c.args.ceiling pair [] over c.in_ok-bound.bound forced of reaches)
+    let fits : SFits w64 c.bound_with-bound.result = search rules in
+    let with_pair : IsBoundWith node.project rows pair c.bound_with-bound.result = rw (c.deref-2.ensures ∙ c.project-2.ensures.project, c.matrix-rows.ensures) at c.bound_with-bound.ensures.value in
+    let of : IsBoundOf node.project over c.bound_with-bound.result = with_pair node.pairs over c.requires.tied.matrix m in
+    let reaches : Reaches c.args.ceiling c.bound_with-bound.result = simp to_z-of_z at c.if-is_over-2.ensures.reaches in
+    rw c.new-then-is_over-2.ensures.items (cut_at node c.args.ceiling pair [] over c.bound_with-bound.result forced of reaches)
 
 pub forces_some-requires-clause-rows : goal.forces_some-requires-clause-rows
 forces_some-requires-clause-rows c = rw (c.deref.ensures ∙ c.project.ensures.project) (rw (ap (λ (b : BaseOf). b.project) c.deref-else-is_none.ensures ∙ c.base.ensures) at c.incompatible.ensures)
@@ -67,10 +67,10 @@ with_pairs-requires-clause-node c =
     let none : ClosesNone (pair_arc node.project pair) rows = rw c.matrix-rows.ensures at c.if-is_dead_with.ensures.live in
     let m : IsProjectMatrix node.project (node.pairs ++ pair ∷ []) over = matrix_with node pair rows c.requires.tied c.requires.named none in
     let forced : IsForcedMatrix node.project (node.pairs ++ pair ∷ []) [] over = none_forced node.project (node.pairs ++ pair ∷ []) over m in
-    let fits : SFits w64 c.in_ok-bound.bound = search rules in
-    let with_pair : IsBoundWith node.project rows pair c.in_ok-bound.bound = rw (c.deref-2.ensures ∙ c.project-2.ensures.project, c.matrix-rows.ensures) at c.in_ok-bound.ensures.value in
-    let of : IsBoundOf node.project over c.in_ok-bound.bound = with_pair node.pairs over c.requires.tied.matrix m in
-    simp to_z-of_z (rw c.new-2.ensures.items (node_at node pair [] over c.in_ok-bound.bound forced of))
+    let fits : SFits w64 c.bound_with-bound.result = search rules in
+    let with_pair : IsBoundWith node.project rows pair c.bound_with-bound.result = rw (c.deref-2.ensures ∙ c.project-2.ensures.project, c.matrix-rows.ensures) at c.bound_with-bound.ensures.value in
+    let of : IsBoundOf node.project over c.bound_with-bound.result = with_pair node.pairs over c.requires.tied.matrix m in
+    simp to_z-of_z (rw c.new-2.ensures.items (node_at node pair [] over c.bound_with-bound.result forced of))
 
 pub returns-clause-branch : goal.returns-clause-branch
 returns-clause-branch c =
@@ -81,9 +81,9 @@ returns-clause-branch c =
     let none : ClosesNone (pair_arc node.project pair) rows = rw c.matrix-rows.ensures at c.if-is_dead_with.ensures.live in
     let m : IsProjectMatrix node.project (node.pairs ++ pair ∷ []) over = matrix_with node pair rows c.requires.tied c.requires.named none in
     let forced : IsForcedMatrix node.project (node.pairs ++ pair ∷ []) [] over = none_forced node.project (node.pairs ++ pair ∷ []) over m in
-    let fits : SFits w64 c.in_ok-bound.bound = search rules in
-    let with_pair : IsBoundWith node.project rows pair c.in_ok-bound.bound = rw (c.deref-2.ensures ∙ c.project-2.ensures.project, c.matrix-rows.ensures) at c.in_ok-bound.ensures.value in
-    let of : IsBoundOf node.project over c.in_ok-bound.bound = with_pair node.pairs over c.requires.tied.matrix m in
-    let under : IsUnder c.args.ceiling c.in_ok-bound.bound = simp to_z-of_z at c.if-is_over-2.ensures.under in
-    let made : arc_value c.in_ok-kid.kid ≡ record { project = node.project; pairs = node.pairs ++ pair ∷ []; bound = c.in_ok-bound.bound } = simp (to_z-of_z, c.new-2.ensures.items) at c.in_ok-kid.ensures in
-    kid_at node (arc_value c.in_ok-kid.kid) c.args.ceiling pair [] over c.in_ok-bound.bound forced of under made
+    let fits : SFits w64 c.bound_with-bound.result = search rules in
+    let with_pair : IsBoundWith node.project rows pair c.bound_with-bound.result = rw (c.deref-2.ensures ∙ c.project-2.ensures.project, c.matrix-rows.ensures) at c.bound_with-bound.ensures.value in
+    let of : IsBoundOf node.project over c.bound_with-bound.result = with_pair node.pairs over c.requires.tied.matrix m in
+    let under : IsUnder c.args.ceiling c.bound_with-bound.result = simp to_z-of_z at c.if-is_over-2.ensures.under in
+    let made : arc_value c.in_ok-kid.kid ≡ record { project = node.project; pairs = node.pairs ++ pair ∷ []; bound = c.bound_with-bound.result } = simp (to_z-of_z, c.new-2.ensures.items) at c.in_ok-kid.ensures in
+    kid_at node (arc_value c.in_ok-kid.kid) c.args.ceiling pair [] over c.bound_with-bound.result forced of under made

@@ -3,9 +3,15 @@ use Rattle.std.specs.Arc.{arc_value}
 use Rattle.std.proofs.lemmas.List.{map-append, take_more}
 use Rattle.network.specs.declared.lag.Pair.{Pair}
 use Rattle.branching.specs.Fate.{fate_value}
+use Rattle.branching.proofs.Rebuilding.{named_one}
 use Rattle.branching.proofs.Fates.{fate_kid, fate_dead, fate_cut}
 use Rattle.branching.proofs.expansion.branches_of.Goals as goal
 use Rattle.branching.proofs.expansion.branches_of.Goals.{in-Kid+in_ok-push-in-Kid, in-Dead, in-Cut}
+
+pub branch_of-requires-clause-named : goal.branch_of-requires-clause-named
+branch_of-requires-clause-named c =
+    let none : Pair = record { before = 0; after = 0 } in
+    named_one c.args.node.now.project c.args.pairs.now c.loop-pair.pair-index none c.loop-pair-test.true c.requires.named
 
 pub loop-pair-preserved : goal.loop-pair-preserved
 loop-pair-preserved c =
@@ -15,6 +21,7 @@ loop-pair-preserved c =
     let pushed = c.in_ok-push.ensures.items in
     record {
       unchanged = c.branch_of.ensures.unchanged ∙ c.loop-pair.invariant.unchanged;
+      bounds = c.branch_of.ensures.bounds ∙ c.loop-pair.invariant.bounds;
       fates = elim c.match-branch-5.branch [
         | in-Kid+in_ok-push-in-Kid w ↦
             let made = rw w.in-Kid.is at c.in_ok-kid.ensures.branch in

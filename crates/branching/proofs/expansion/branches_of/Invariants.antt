@@ -7,5 +7,6 @@ use Rattle.branching.proofs.expansion.branches_of.Given as goal
 abbrev pub invariant-loop-pair : goal.invariant-loop-pair
 invariant-loop-pair l = record {
   unchanged : l.matrix ≡ l.initial.matrix;
+  bounds : l.bounds ≡ l.initial.bounds;
   fates : AreFates l.node l.ceiling (take l.pair-index l.pairs) (map fate_value l.fates.items) (map arc_value l.kids.items);
 }

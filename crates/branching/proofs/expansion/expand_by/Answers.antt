@@ -26,17 +26,17 @@ new-requires c =
     rw (c.new-fates.ensures.items, c.new-kids.ensures.items, c.in_ok-node.ensures)
     (report_cut node c.args.ceiling is (rw bound_is at reaches) (λ s stands. over s (rw bound_is (is.true_bound s stands))))
 
-pub first_overload-requires : goal.first_overload-requires
-first_overload-requires c =
+pub first-requires-clause-starts : goal.first-requires-clause-starts
+first-requires-clause-starts c =
     let same : c.deref-3.result.now ≡ (arc_value c.args.node.now).project = c.deref-3.ensures ∙ c.project.ensures.project ∙ ap (λ (n : Subproblem). n.project) c.deref-2.ensures in
-    let earliest = c.in_ok-starts.ensures.earliest (arc_value c.args.node.now).project (arc_value c.args.node.now).pairs (rw c.matrix.ensures c.requires.matrix) in
-    rw (same, c.as_slice.ensures.value) (record { starts = earliest.limits })
+    let earliest = c.in_ok-starts.ensures.earliest (arc_value c.args.node.now).project (arc_value c.args.node.now).pairs (rw c.matrix.ensures c.requires.tied.matrix) in
+    rw (same, c.as_slice.ensures.value) earliest.limits
 
 pub report_split-requires-clause-earliest : goal.report_split-requires-clause-earliest
-report_split-requires-clause-earliest c = rw c.as_slice-in-Some.ensures.value (c.in_ok-starts.ensures.earliest (arc_value c.args.node.now).project (arc_value c.args.node.now).pairs (rw c.matrix.ensures c.requires.matrix))
+report_split-requires-clause-earliest c = rw c.as_slice-starts.ensures.value (c.in_ok-starts.ensures.earliest (arc_value c.args.node.now).project (arc_value c.args.node.now).pairs (rw c.matrix.ensures c.requires.tied.matrix))
 
 pub report_found-requires-clause-earliest : goal.report_found-requires-clause-earliest
-report_found-requires-clause-earliest c = c.in_ok-starts.ensures.earliest (arc_value c.args.node.now).project (arc_value c.args.node.now).pairs (rw c.matrix.ensures c.requires.matrix)
+report_found-requires-clause-earliest c = c.in_ok-starts.ensures.earliest (arc_value c.args.node.now).project (arc_value c.args.node.now).pairs (rw c.matrix.ensures c.requires.tied.matrix)
 
 pub returns-in-Some-clause-over : goal.returns-in-Some-clause-over
 returns-in-Some-clause-over c =

@@ -1,0 +1,24 @@
+ghost use Rattle.std.specs.Prelude.{IfOk};
+ghost use Rattle.branching.specs.Workspace.{HasRoomFor};
+
+use network::Project;
+use profile::OverloadSweep;
+use std::alloc::{AllocError, Global};
+
+/// The memory that the expansions of a project's nodes share.
+#[derive(Drop, Debug)]
+pub(crate) struct Workspace {
+    pub(crate) bounds: bounds::Workspace,
+    pub(crate) overloads: OverloadSweep,
+}
+
+impl Workspace {
+    /// Room for the nodes of a project.
+    pub(crate) fn new(alloc: Global, project: &Project) -> Result<Workspace, AllocError>
+        ensures { IfOk result (HasRoomFor project.now) }
+    {
+        let bounds = bounds::Workspace::new(alloc, project)?;
+        let overloads = OverloadSweep::new(alloc, project)?;
+        Ok(Workspace { bounds, overloads })
+    }
+}
