@@ -2,6 +2,7 @@ pub mod BoundLaws
 pub mod Units
 pub mod Sharing
 pub mod Between
+pub mod Tasks
 pub mod EnergyHolds
 pub mod TrueBounds
 pub mod Sweeps
