@@ -7,7 +7,9 @@ pub mod EnergyHolds
 pub mod TrueBounds
 pub mod Sweeps
 pub mod SweepLimits
-pub mod Orders
+pub mod Shifts
+pub mod Ranking
+pub mod Ranked
 pub mod Ranks
 pub mod Terms
 pub mod Greatest

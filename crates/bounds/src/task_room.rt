@@ -1,11 +1,14 @@
-ghost use Rattle.std.specs.Prelude.{◌≡◌, ◌<◌, ◌≤◌, length, map, IfOk};
+ghost use Rattle.std.specs.Prelude.{◌≡◌, ◌<◌, ◌≤◌, length, map, take, IfOk};
 ghost use Rattle.network.specs.Problem.{resource_count};
 ghost use Rattle.bounds.specs.Ends.{AreEnds};
 ghost use Rattle.bounds.specs.Tasks.{tasks_of, all_tasks, AreTasks};
-ghost use Rattle.bounds.specs.Loads.{IsGreatestShareOf};
+ghost use Rattle.std.specs.List.{All};
+ghost use Rattle.std.specs.List.Sorted.{IsNonDecreasing};
+ghost use Rattle.bounds.specs.Loads.{AreLoads, IsGreatestShare, IsGreatestShareOf};
 
-use crate::limits::{MAX_CAPACITY, MAX_SHARE};
-use crate::load::{Load, take_loads, take_tails};
+use crate::limits::{MAX_CAPACITY, MAX_END, MAX_SHARE};
+use crate::load::{Load, rank_tasks, take_loads};
+use crate::order::first_order;
 use crate::sweep::greatest_share;
 use crate::task::{Task, tasks_of};
 use network::Project;
@@ -16,6 +19,12 @@ use std::marker::Model;
 #[derive(Drop, Debug)]
 pub(crate) struct TaskRoom {
     tasks: Vec<Task>,
+    /// The places of the tasks, by rising heads of the last call.
+    by_head: Vec<usize>,
+    /// The same, by rising tails.
+    by_tail: Vec<usize>,
+    keys: Vec<i64>,
+    ranks: Vec<usize>,
     rising: Vec<u64>,
     loads: Vec<Load>,
     shares: Vec<u64>,
@@ -24,13 +33,14 @@ pub(crate) struct TaskRoom {
 impl Model for TaskRoom {
     ghost use Rattle.std.specs.Prelude.{List};
     ghost use Rattle.bounds.specs.declared.task.Task.{Task};
-    ghost use Rattle.bounds.specs.Room.{IsRoom};
 
     ghost Value = { List Task };
 
+    ghost use Rattle.bounds.specs.Room.{IsRoom};
+
     ghost view = { λ s. s.tasks.items };
 
-    ghost invariant = { λ s. IsRoom s.tasks.items s.rising.items s.loads.items s.shares.items };
+    ghost invariant = { λ s. IsRoom s };
 }
 
 impl TaskRoom {
@@ -45,11 +55,19 @@ impl TaskRoom {
             rank: 0,
             work: 0,
         };
+        let by_head = first_order(alloc, tasks.len())?;
+        let by_tail = first_order(alloc, tasks.len())?;
+        let keys = vec![in alloc; 0; tasks.len()]?;
+        let ranks = vec![in alloc; 0; tasks.len()]?;
         let rising = vec![in alloc; 0; tasks.len()]?;
         let loads = vec![in alloc; load; tasks.len()]?;
         let shares = vec![in alloc; 0; tasks.len()]?;
         Ok(TaskRoom {
             tasks,
+            by_head,
+            by_tail,
+            keys,
+            ranks,
             rising,
             loads,
             shares,
@@ -66,41 +84,50 @@ impl TaskRoom {
         ensures greatest { IsGreatestShareOf capacity heads.now tails.now self.old result }
         ensures limit { result ≤ MAX_SHARE }
     {
-        share_of(
-            capacity,
-            heads,
-            tails,
+        let count = rank_tasks(
             self.tasks.as_slice(),
+            tails,
+            self.by_tail.as_mut_slice(),
+            self.keys.as_mut_slice(),
+            self.ranks.as_mut_slice(),
             self.rising.as_mut_slice(),
+        );
+        take_loads(
+            self.tasks.as_slice(),
+            heads,
+            self.by_head.as_mut_slice(),
+            self.keys.as_mut_slice(),
+            self.ranks.as_slice(),
             self.loads.as_mut_slice(),
+        );
+        share_under(
+            self.loads.as_slice(),
+            capacity,
+            self.rising.as_slice(),
+            count,
             self.shares.as_mut_slice(),
         )
     }
 }
 
-/// The greatest share of the tasks between heads and tails, over memory that is used again.
-fn share_of(
+/// The greatest share of the loads under the first `count` tails.
+fn share_under(
+    loads: &[Load],
     capacity: u64,
-    heads: &[i64],
-    tails: &[i64],
-    tasks: &[Task],
-    rising: &mut [u64],
-    loads: &mut [Load],
+    rising: &[u64],
+    count: usize,
     shares: &mut [u64],
 ) -> u64
+    requires count { count ≤ length rising.now }
+    requires room { length shares.old ≡ length rising.now }
+    requires loads { AreLoads (take count rising.now) loads.now }
     requires capacity { capacity ≤ MAX_CAPACITY }
-    requires heads { AreEnds (length heads.now) heads.now }
-    requires tails { AreEnds (length heads.now) tails.now }
-    requires tasks { AreTasks (length heads.now) tasks.now }
-    requires rising { length rising.old ≡ length tasks.now }
-    requires loads { length loads.old ≡ length tasks.now }
-    requires shares { length shares.old ≡ length tasks.now }
-    ensures greatest { IsGreatestShareOf capacity heads.now tails.now tasks.now result }
+    requires tails { All (λ b. b ≤ MAX_END) (take count rising.now) }
+    requires up { IsNonDecreasing (take count rising.now) }
+    ensures greatest { IsGreatestShare capacity (take count rising.now) loads.now result }
     ensures limit { result ≤ MAX_SHARE }
 {
-    take_tails(tasks, tails, rising);
-    take_loads(tasks, heads, tails, rising, loads);
-    greatest_share(loads, capacity, rising, shares)
+    greatest_share(loads, capacity, &rising[..count], &mut shares[..count])
 }
 
 /// Room for the tasks of each resource.
