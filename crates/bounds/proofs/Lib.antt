@@ -2,11 +2,14 @@ pub mod BoundLaws
 pub mod Units
 pub mod Sharing
 pub mod Between
+pub mod Tasks
 pub mod EnergyHolds
 pub mod TrueBounds
 pub mod Sweeps
 pub mod SweepLimits
-pub mod Orders
+pub mod Shifts
+pub mod Ranking
+pub mod Ranked
 pub mod Ranks
 pub mod Terms
 pub mod Greatest

@@ -23,7 +23,7 @@ use Rattle.earliest.specs.Tails.{tail_weight, tail_weights}
 use Rattle.earliest.proofs.StartLaws.{AreEarliest-weights}
 use Rattle.earliest.proofs.TailLaws.{AreTails-weights}
 use Rattle.bounds.specs.Energy.{IsEnergyValue}
-use Rattle.bounds.specs.Windows.{AreEnds}
+use Rattle.bounds.specs.Ends.{AreEnds}
 use Rattle.bounds.specs.Bound.{critical_weight, IsEnergyOf, IsBoundOf}
 use Rattle.bounds.specs.With.{IsBoundBetween, IsBoundWith, IsTrueBoundWith}
 use Rattle.bounds.proofs.Writing.{made_by}

@@ -1,9 +1,9 @@
 -- Lists that are written place by place.
-use Rattle.std.proofs.Common.{◌≡◌, sym, ◌∙◌, ℕ, ◌+◌, ◌<◌, inl, inr, set, List, map, length, get_or, arith}
+use Rattle.std.proofs.Common.{◌≡◌, sym, ap, ◌∙◌, ℕ, ◌+◌, ◌<◌, inl, inr, set, List, ◌++◌, append-nil, take, drop, map, length, get_or, arith}
 use Rattle.std.specs.List.{range_with_len}
 use Rattle.std.proofs.lemmas.Bool.{cases_eq}
 use Rattle.std.proofs.lemmas.List.FromFn.{get_or-map-range_with_len, length-map-range_with_len}
-use Rattle.std.proofs.lemmas.List.{ext_get_or, get_or-map, length-map, get_or-set_same, get_or-set_other}
+use Rattle.std.proofs.lemmas.List.{drop_all, take_all, ext_get_or, get_or-map, length-map, get_or-set_same, get_or-set_other}
 
 -- one place more
 pub set_more : {X : Type 0} (d : X) (f : ℕ → X) (xs : List X) (i : ℕ) (v : X) → i < length xs → ((k : ℕ) → k < i → get_or xs k d ≡ f k) → v ≡ f i → (k : ℕ) → k < i + 1 → get_or (set xs i v) k d ≡ f k
@@ -26,3 +26,8 @@ made_by d f n xs long each =
     ext_get_or d xs (map f (range_with_len 0 n)) (long ∙ sym (length-map-range_with_len f 0 n)) (λ k short.
     let lt : k < n = rw long at short in
     each k lt ∙ sym (get_or-map-range_with_len f 0 n k k d lt (omega arith)))
+
+-- a buffer that is written whole
+pub written_back : {X : Type 0} (len : ℕ) (new items : List X) → len ≡ length items → length new ≡ length items → take len (new ++ drop (length new) items) ≡ new
+written_back {X} len new items e f =
+    ap (λ (xs : List X). take len (new ++ xs)) (drop_all (length new) items (omega arith)) ∙ ap (take len) (append-nil new) ∙ take_all len new (omega arith)

@@ -1,23 +1,17 @@
--- What a workspace and its room are for.
-use Rattle.std.specs.Prelude.{◌≡◌, ℕ, ℤ, List, length}
+-- What a workspace is for.
+use Rattle.std.specs.Prelude.{◌≡◌, ℕ, List}
 use Rattle.network.specs.Problem.{Problem, activity_count}
-use Rattle.bounds.specs.declared.window.Window.{Window}
-use Rattle.bounds.specs.declared.load.Load.{Load}
+use Rattle.bounds.specs.declared.task.Task.{Task}
+use Rattle.bounds.specs.Tasks.{all_tasks}
 
--- a number of activities is that of a project
-abbrev pub IsRoomFor : Problem → ℕ → Type 0
-IsRoomFor p n = n ≡ activity_count p
+-- how many activities there are, and the tasks of each resource
+pub record WorkspaceOf : Type 0 where
+  pub activities : ℕ
+  pub tasks : List (List Task)
 
-abbrev pub IsWorkspaceFor : Problem → ℕ → Type 0
-IsWorkspaceFor p n = n ≡ activity_count p
+-- the workspace of a project
+abbrev pub workspace_for : Problem → WorkspaceOf
+workspace_for p = record { activities = activity_count p; tasks = all_tasks p }
 
--- the lists are of one length
-pub record IsRoom (rising : List ℕ) (windows : List Window) (loads : List Load) (shares : List ℕ) : Type 0 where
-  pub windows_long : length windows ≡ length rising
-  pub loads_long : length loads ≡ length rising
-  pub shares_long : length shares ≡ length rising
-
--- heads, tails and room are for the same number of activities
-pub record IsWorkspace (heads tails : List ℤ) (room : ℕ) : Type 0 where
-  pub tails_long : length tails ≡ length heads
-  pub room_long : room ≡ length heads
+abbrev pub IsWorkspaceFor : Problem → WorkspaceOf → Type 0
+IsWorkspaceFor p w = w ≡ workspace_for p

@@ -11,12 +11,13 @@ ghost use Rattle.std.specs.Prelude.{◌≡◌, IfOk};
 ghost use Rattle.network.specs.Problem.{Problem};
 ghost use Rattle.bounds.specs.Bound.{critical_weight, IsMatrixFor, IsTrueBoundFor, IsBoundOf};
 
-mod energy_room;
 mod energy_value;
 mod limits;
 mod load;
+mod order;
 mod sweep;
-mod window;
+mod task;
+mod task_room;
 mod with_pair;
 mod workspace;
 

@@ -8,11 +8,12 @@ ghost use Rattle.longest_path.specs.Relax.{greater, joined};
 ghost use Rattle.earliest.specs.Tails.{tail_weights};
 ghost use Rattle.longest_path.specs.Insert.{rows_over, ClosesNone};
 ghost use Rattle.bounds.specs.Bound.{IsMatrixFor};
-ghost use Rattle.bounds.specs.Windows.{AreEnds};
-ghost use Rattle.bounds.specs.Workspace.{IsRoomFor};
+ghost use Rattle.bounds.specs.Ends.{AreEnds};
+ghost use Rattle.bounds.specs.Tasks.{all_tasks};
 ghost use Rattle.bounds.specs.With.{IsBoundBetween, IsBoundWith, IsTrueBoundWith};
 
-use crate::energy_room::EnergyRoom;
+use crate::energy_value::energy_between;
+use crate::task_room::TaskRoom;
 use crate::workspace::Workspace;
 use longest_path::Matrix;
 use network::{Lag, Pair, Project};
@@ -81,15 +82,15 @@ fn take_tails_with(project: &Project, matrix: &Matrix, arc: Lag, tails: &mut [i6
 }
 
 /// The greater of the last head and the energy value of heads and tails.
-fn bound_between(project: &Project, heads: &[i64], tails: &[i64], room: &mut EnergyRoom) -> i64
-    requires room { IsRoomFor project.now room.old }
+fn bound_between(project: &Project, heads: &[i64], tails: &[i64], rooms: &mut [TaskRoom]) -> i64
+    requires rooms { rooms.old ≡ all_tasks project.now }
     requires heads { AreEnds (activity_count project.now) heads.now }
     requires tails { AreEnds (activity_count project.now) tails.now }
-    ensures room { room.new ≡ room.old }
+    ensures rooms { rooms.new ≡ rooms.old }
     ensures bound { IsBoundBetween project.now heads.now tails.now result }
 {
     let critical = heads[project.activity_count() - 1];
-    let energy = room.energy(project, heads, tails);
+    let energy = energy_between(project, heads, tails, rooms);
     critical.max(energy as i64)
 }
 
@@ -101,15 +102,15 @@ pub(crate) fn bound_over(
     pair: Pair,
     heads: &mut [i64],
     tails: &mut [i64],
-    room: &mut EnergyRoom,
+    rooms: &mut [TaskRoom],
 ) -> i64
     requires heads { length heads.old ≡ activity_count project.now }
     requires tails { length tails.old ≡ activity_count project.now }
-    requires room { IsRoomFor project.now room.old }
+    requires rooms { rooms.old ≡ all_tasks project.now }
     requires matrix { IsMatrixFor project.now matrix.now }
     requires named { NameActivities project.now (pair ∷ []) }
     requires lives { ClosesNone (pair_arc project.now pair) matrix.now }
-    ensures room { room.new ≡ room.old }
+    ensures rooms { rooms.new ≡ rooms.old }
     ensures value { IsBoundWith project.now matrix.now pair result }
     ensures holds { IsTrueBoundWith project.now matrix.now pair result }
 {
@@ -117,7 +118,7 @@ pub(crate) fn bound_over(
     let arc = project.pair_arc(pair);
     take_heads_with(matrix, arc, heads);
     take_tails_with(project, matrix, arc, tails);
-    bound_between(project, heads, tails, room)
+    bound_between(project, heads, tails, rooms)
 }
 
 /// The bound of the matrix with the pair's arc in periods, by entries of the matrix without it. Where

@@ -5,30 +5,31 @@ ghost use Rattle.bounds.specs.Bound.{IsMatrixFor};
 ghost use Rattle.bounds.specs.With.{IsBoundWith, IsTrueBoundWith};
 ghost use Rattle.bounds.specs.Workspace.{IsWorkspaceFor};
 
-use crate::energy_room::EnergyRoom;
+use crate::task_room::{TaskRoom, task_rooms};
 use crate::with_pair::bound_over;
 use longest_path::Matrix;
 use network::{Pair, Project};
 use std::alloc::{AllocError, Global};
 use std::marker::Model;
 
-/// All memory that the bounds of a project's nodes take, which is used again for each of them.
+/// What the bounds of a project's nodes share: the work of its activities, and all memory that they
+/// take. Its value is how many activities there are, and the tasks of each resource.
 #[derive(Drop, Debug)]
 pub struct Workspace {
     heads: Vec<i64>,
     tails: Vec<i64>,
-    room: EnergyRoom,
+    rooms: Vec<TaskRoom>,
 }
 
 impl Model for Workspace {
-    ghost use Rattle.std.specs.Prelude.{ℕ, length};
-    ghost use Rattle.bounds.specs.Workspace.{IsWorkspace};
+    ghost use Rattle.std.specs.Prelude.{◌≡◌, length};
+    ghost use Rattle.bounds.specs.Workspace.{WorkspaceOf};
 
-    ghost Value = { ℕ };
+    ghost Value = { WorkspaceOf };
 
-    ghost view = { λ s. length s.heads.items };
+    ghost view = { λ s. record { activities = length s.heads.items; tasks = s.rooms.items } };
 
-    ghost invariant = { λ s. IsWorkspace s.heads.items s.tails.items s.room };
+    ghost invariant = { λ s. length s.tails.items ≡ length s.heads.items };
 }
 
 impl Workspace {
@@ -38,8 +39,12 @@ impl Workspace {
     {
         let heads = vec![in alloc; 0; project.activity_count()]?;
         let tails = vec![in alloc; 0; project.activity_count()]?;
-        let room = EnergyRoom::new(alloc, project)?;
-        Ok(Workspace { heads, tails, room })
+        let rooms = task_rooms(alloc, project)?;
+        Ok(Workspace {
+            heads,
+            tails,
+            rooms,
+        })
     }
 
     /// The bound of the matrix with the pair's arc in periods, by entries of the matrix without it.
@@ -59,7 +64,7 @@ impl Workspace {
             pair,
             self.heads.as_mut_slice(),
             self.tails.as_mut_slice(),
-            &mut self.room,
+            self.rooms.as_mut_slice(),
         )
     }
 }

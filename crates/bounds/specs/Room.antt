@@ -1,0 +1,14 @@
+-- Room for a sweep over tasks.
+use Rattle.std.specs.Prelude.{◌≡◌, length}
+use Rattle.bounds.specs.declared.task_room.TaskRoom.TheInside.{Inside}
+use Rattle.bounds.specs.Orders.{IsOrder}
+
+-- two orders of the tasks, and a place for each of them in each list
+pub record IsRoom (s : Inside) : Type 0 where
+  pub head_order : IsOrder (length s.tasks.items) s.by_head.items
+  pub tail_order : IsOrder (length s.tasks.items) s.by_tail.items
+  pub keys_long : length s.keys.items ≡ length s.tasks.items
+  pub ranks_long : length s.ranks.items ≡ length s.tasks.items
+  pub rising_long : length s.rising.items ≡ length s.tasks.items
+  pub loads_long : length s.loads.items ≡ length s.tasks.items
+  pub shares_long : length s.shares.items ≡ length s.tasks.items
