@@ -11,9 +11,9 @@ use Rattle.network.specs.declared.limits.TheConstants.{MAX_ACTIVITIES, MAX_LAG_W
 use Rattle.network.specs.Walk.{Rows}
 use Rattle.longest_path.specs.Relax.{joined, greater}
 use Rattle.longest_path.specs.Grid.{IsRow, GainsNothingAt, HasSmallSums, nothing, weight_of, weight_at, placed_at}
-use Rattle.longest_path.specs.Insert.{HoldsGains, IsReady, StartGainsNothing}
+use Rattle.longest_path.specs.Insert.{IsReady, StartGainsNothing}
 use Rattle.longest_path.proofs.Cells.{column_cases, placed_inside, placed_outside, weight_at_far}
-use Rattle.longest_path.proofs.Over.{small_over}
+use Rattle.longest_path.proofs.Over.{HoldsGains, small_over}
 use Rattle.longest_path.proofs.Reach.{int_lt-true, int_lt-false, joined-parts, same_some, greater-more}
 
 -- what a cell says, by the test

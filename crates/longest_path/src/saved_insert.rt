@@ -7,9 +7,9 @@ ghost use Rattle.longest_path.specs.Rows.{IsSquare};
 ghost use Rattle.longest_path.specs.Grid.{placed_at, IsRelaxed};
 ghost use Rattle.longest_path.specs.Passes.{IsRowOver};
 ghost use Rattle.longest_path.specs.Matrix.{IsMatrix};
-ghost use Rattle.longest_path.specs.Insert.{arc_of, AddsArc, IsOver, IsReadyPart, IsReadyRow, IsReady};
+ghost use Rattle.longest_path.specs.Insert.{arc_of, AddsArc, IsOver, IsReadyPart, IsReadyRow};
 ghost use Rattle.longest_path.specs.Fault.{IsInsertFault};
-ghost use Rattle.longest_path.specs.Saved.{LeadsBack, undone};
+ghost use Rattle.longest_path.specs.Saved.{LeadsBack, MayGoOver, undone};
 ghost use Rattle.network.specs.declared.limits.TheConstants.{MAX_LAG_WEIGHT};
 ghost use Rattle.network.specs.Limits.{IsWithin};
 
@@ -131,9 +131,7 @@ fn go_over_saved(
     arc: Lag,
     saves: &mut Saves,
 ) -> Result<(), AllocError>
-    requires room { length via.old ≡ length grid.old }
-    requires ready { IsReady arc grid.old }
-    requires width { saves.old.width ≡ length grid.old }
+    requires { MayGoOver arc grid.old via.old saves.old }
     ensures square { IsSquare (length grid.old) grid.new }
     ensures width { saves.new.width ≡ saves.old.width }
     ensures over { OnOk result ((a b : ℕ) → IsOver arc grid.old a b (entry grid.new a b)) }
@@ -155,9 +153,7 @@ fn go_over_or_stay(
     arc: Lag,
     saves: &mut Saves,
 ) -> Result<(), AllocError>
-    requires room { length via.old ≡ length grid.old }
-    requires ready { IsReady arc grid.old }
-    requires width { saves.old.width ≡ length grid.old }
+    requires { MayGoOver arc grid.old via.old saves.old }
     ensures size { length grid.new ≡ length grid.old }
     ensures width { saves.new.width ≡ saves.old.width }
     ensures square { OnOk result (IsSquare (length grid.old) grid.new) }
