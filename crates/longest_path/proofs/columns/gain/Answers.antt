@@ -1,4 +1,4 @@
-use Rattle.std.proofs.Common.{rules, ◌≡◌, sym, ◌∙◌, pos, Some, arith, w32, w64, get_or, ap, ◌-ℤ◌, ◌≤ℤ◌, ℤ}
+use Rattle.std.proofs.Common.{rules, ◌≡◌, ◌∙◌, pos, Some, arith, w32, w64, get_or, ap, ◌-ℤ◌}
 use Rattle.std.proofs.lemmas.Int.{to_z-of_z, ints}
 use mir.Val.{SFits}
 use Rattle.std.proofs.lemmas.List.{get_or_default}

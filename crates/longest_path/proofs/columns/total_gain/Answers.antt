@@ -1,4 +1,4 @@
-use Rattle.std.proofs.Common.{ℕ, ◌<◌, ◌≤◌, ◌≡◌, ◌≤ℤ◌, ◌+ℤ◌, ◌*◌, ℤ, pos, w32, w64, arith, rules, length}
+use Rattle.std.proofs.Common.{ℕ, ◌<◌, ◌≡◌, ◌≤ℤ◌, ◌+ℤ◌, ◌*◌, pos, w32, w64, arith, rules}
 use Rattle.std.proofs.lemmas.Int.{to_z-of_z, ints}
 use mir.Val.{SFits}
 use Rattle.longest_path.specs.Grid.{GainsNothingAt}
