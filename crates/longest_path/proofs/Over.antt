@@ -1,5 +1,5 @@
 -- A row that takes the way over one arc, entry by entry.
-use Rattle.std.proofs.Common.{◌≡◌, ◌≢◌, refl, sym, ◌∙◌, ap, subst, ℕ, ◌+◌, ◌<◌, ◌≤◌, Option, None, Some, inl, inr, arith, ℤ, ◌+ℤ◌, List, ◌++◌, length, neg_ℤ}
+use Rattle.std.proofs.Common.{◌≡◌, ◌≢◌, refl, sym, ◌∙◌, ap, subst, ℕ, ◌+◌, ◌<◌, ◌≤◌, Option, None, Some, ◌⊎◌, inl, inr, arith, ℤ, ◌+ℤ◌, List, ◌++◌, length, neg_ℤ}
 use Rattle.std.proofs.lemmas.Bool.{cases_eq}
 use Rattle.network.specs.declared.lag.Lag.{Lag}
 use Rattle.network.specs.Walk.{entry, IsMatrixOf, weight, Rows}
@@ -7,7 +7,7 @@ use Rattle.longest_path.specs.Relax.{greater, joined, Reaches}
 use Rattle.longest_path.specs.Rows.{IsSquare}
 use Rattle.longest_path.specs.Grid.{IsRow, IsRelaxed, HasSmallSums, weight_at, placed_at}
 use Rattle.longest_path.specs.Passes.{IsRowOver}
-use Rattle.longest_path.specs.Insert.{entry_over, IsOver, IsTransitive, IsReadyRow, IsReady, StartGainsNothing, HoldsGains}
+use Rattle.longest_path.specs.Insert.{entry_over, IsOver, IsTransitive, IsReadyRow, IsReady, StartGainsNothing}
 use Rattle.longest_path.specs.Matrix.{HasEntriesWithin}
 use Rattle.network.proofs.Walks.{IsWalk-append, weight-append}
 use Rattle.longest_path.proofs.OneArc.{IsGreatest-matrix}
@@ -57,6 +57,11 @@ pub record IsHalfOver (n : ℕ) (e : Lag) (a : ℕ) (old rows : Rows) : Type 0 w
   pub square : IsSquare n rows
   pub done : (x b : ℕ) → x < a → IsOver e old x b (entry rows x b)
   pub rest : (x b : ℕ) → a ≤ x → entry rows x b ≡ entry old x b
+
+-- the cells are those of the arc's end, but that there may be nothing in a column that gains nothing in the row
+-- of the arc's start: no row gains there
+abbrev pub HoldsGains : Lag → List ℤ → Rows → Type 0
+HoldsGains e cells rows = (b : ℕ) → (weight_at cells b ≡ entry rows e.to b) ⊎ ((weight_at cells b ≡ None) × StartGainsNothing e rows b)
 
 -- a column in which the row of the arc's start gains nothing: no row does
 column_stays : (e : Lag) (a b : ℕ) (old : Rows) → IsTransitive old → StartGainsNothing e old b → entry old a b ≡ entry_over e old a b

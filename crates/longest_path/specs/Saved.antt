@@ -1,7 +1,9 @@
 -- Parts of rows that were saved before they gained, and the way back.
 use Rattle.std.specs.Prelude.{◌≡◌, ◌<◌, ◌≤◌, ◌+◌, ℕ, ℤ, List, [], ◌∷◌, ◌++◌, length, take, drop, slice_index_or, slice_set}
 use Rattle.std.specs.List.{All}
+use Rattle.network.specs.declared.lag.Lag.{Lag}
 use Rattle.longest_path.specs.Grid.{written_at}
+use Rattle.longest_path.specs.Insert.{IsReady}
 use Rattle.longest_path.specs.declared.saves.Part.{Part}
 use Rattle.network.specs.Walk.{Rows}
 
@@ -44,6 +46,12 @@ put_back save rows = slice_set rows save.row (written_at save.from save.cells (s
 abbrev pub undone : List SavedPart → Rows → Rows
 undone [] rows = rows
 undone (save ∷ saves) rows = put_back save (undone saves rows)
+
+-- all rows may take the way over the arc, with room for a row, and parts of them may be saved
+pub record MayGoOver (e : Lag) (rows : Rows) (via : List ℤ) (saved : SavedParts) : Type 0 where
+  pub ready : IsReady e rows
+  pub room : length via ≡ length rows
+  pub width : saved.width ≡ length rows
 
 -- what was saved in between leads back to the old rows
 pub record LeadsBack (old_saves saves : List SavedPart) (old rows : Rows) : Type 0 where

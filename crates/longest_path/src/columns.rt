@@ -1,12 +1,13 @@
 //! The columns in which rows gain by the way over one arc: none but those in which the row of the arc's
 //! start gains.
 
-ghost use Rattle.std.specs.Prelude.{◌≡◌, ◌<◌, ◌≤◌, ℕ, length};
-ghost use Rattle.std.specs.Bool.{MatchBool, OnFalse};
+ghost use Rattle.std.specs.Prelude.{◌≡◌, ◌<◌, ◌≤◌, ◌≤ℤ◌, ℕ, pos, length};
+ghost use Rattle.std.specs.Bool.{MatchBool};
 ghost use Rattle.longest_path.specs.Grid.{IsRow, GainsNothingAt, HasSmallSums};
 ghost use Rattle.longest_path.specs.Insert.{IsReady, StartGainsNothing};
+ghost use Rattle.network.specs.declared.limits.TheConstants.{MAX_ACTIVITIES};
 
-use crate::grid::{Grid, sum};
+use crate::grid::{Grid, better, sum};
 use network::Lag;
 
 /// Whether column `b` of a row gains by the way that begins with a walk of weight `first` and goes on
@@ -20,22 +21,33 @@ fn gains(row: &[i32], first: i32, via: &[i32], b: usize) -> bool
     row[b] < sum(first, via[b])
 }
 
-/// Whether a row gains in some column.
-///
-/// It looks at each column, with no way out before the end: in this form the loop is compiled to vector
-/// code.
-pub(crate) fn gains_somewhere(row: &[i32], first: i32, via: &[i32]) -> bool
+/// How much column `b` of a row gains. A column with nothing gains from the least cell on.
+fn gain(row: &[i32], first: i32, via: &[i32], b: usize) -> i64
+    requires column { b < length row.now }
     requires wide { length row.now ≡ length via.now }
     requires fits { HasSmallSums first via.now }
-    ensures { OnFalse result ((b : ℕ) → GainsNothingAt first via.now row.now b) }
+    ensures low { pos 0 ≤ℤ result }
+    ensures high { result ≤ℤ pos 4294967295 }
+    ensures none { result ≡ pos 0 → GainsNothingAt first via.now row.now b }
 {
-    let mut any = false;
+    better(row[b], sum(first, via[b])) as i64 - row[b] as i64
+}
+
+/// How much a row gains in all its columns together.
+///
+/// A sum over all columns, with no way out before the end: in this form the loop is compiled to vector
+/// code.
+pub(crate) fn total_gain(row: &[i32], first: i32, via: &[i32]) -> i64
+    requires few { length row.now ≤ MAX_ACTIVITIES }
+    requires wide { length row.now ≡ length via.now }
+    requires fits { HasSmallSums first via.now }
+    ensures { result ≡ pos 0 → (b : ℕ) → GainsNothingAt first via.now row.now b }
+{
+    let mut total = 0;
     for b in 0..row.len() {
-        if gains(row, first, via, b) {
-            any = true;
-        }
+        total += gain(row, first, via, b);
     }
-    any
+    total
 }
 
 /// The first column that gains, and the row's length where none does.

@@ -1,4 +1,4 @@
-ghost use Rattle.std.specs.Prelude.{◌≡◌, ◌++◌, [], slice_set, ◌+◌, ◌*◌, ◌+ℤ◌, ◌<◌, ◌≤◌, ℕ, length, slice_index_or, take, drop, None, Some, IfOk, IfSome};
+ghost use Rattle.std.specs.Prelude.{◌≡◌, ◌++◌, [], slice_set, ◌+◌, ◌*◌, ◌+ℤ◌, ◌≤ℤ◌, ◌<◌, ◌≤◌, ℕ, length, slice_index_or, take, drop, None, Some, IfOk, IfSome};
 ghost use Rattle.network.specs.Walk.{entry, Rows};
 ghost use Rattle.longest_path.specs.Relax.{greater, joined};
 ghost use Rattle.longest_path.specs.Rows.{IsSquare, IsWithoutArcs, IsRaised};
@@ -32,8 +32,9 @@ fn weight(cell: i32) -> Option<i64>
 }
 
 /// The greater of two cells.
-fn better(x: i32, y: i32) -> i32
-    ensures { weight_of result ≡ greater (weight_of x) (weight_of y) }
+pub(crate) fn better(x: i32, y: i32) -> i32
+    ensures value { weight_of result ≡ greater (weight_of x) (weight_of y) }
+    ensures low { x ≤ℤ result }
 {
     if x < y { y } else { x }
 }

@@ -7,13 +7,13 @@ ghost use Rattle.longest_path.specs.Rows.{IsSquare};
 ghost use Rattle.longest_path.specs.Grid.{placed_at, IsRelaxed};
 ghost use Rattle.longest_path.specs.Passes.{IsRowOver};
 ghost use Rattle.longest_path.specs.Matrix.{IsMatrix};
-ghost use Rattle.longest_path.specs.Insert.{arc_of, AddsArc, IsOver, IsReadyPart, IsReadyRow, IsReady};
+ghost use Rattle.longest_path.specs.Insert.{arc_of, AddsArc, IsOver, IsReadyPart, IsReadyRow};
 ghost use Rattle.longest_path.specs.Fault.{IsInsertFault};
-ghost use Rattle.longest_path.specs.Saved.{LeadsBack, undone};
+ghost use Rattle.longest_path.specs.Saved.{LeadsBack, MayGoOver, undone};
 ghost use Rattle.network.specs.declared.limits.TheConstants.{MAX_LAG_WEIGHT};
 ghost use Rattle.network.specs.Limits.{IsWithin};
 
-use crate::columns::{gaining_columns, gains_somewhere};
+use crate::columns::{gaining_columns, total_gain};
 use crate::effect::Effect;
 use crate::fault::PathFault;
 use crate::grid::Grid;
@@ -24,7 +24,7 @@ use network::Lag;
 use std::alloc::AllocError;
 
 /// How many columns of a row are looked at and saved at a time.
-const PART: usize = 64;
+const PART: usize = 128;
 
 /// Row `a` takes the way that begins with a walk of weight `first` and goes on by `via`, from column
 /// `from` on, and these columns are saved before.
@@ -64,7 +64,8 @@ fn relax_part_saved(
     ensures relaxed { OnOk result (IsRelaxed a first (placed_at from via.now) grid.old grid.new) }
     ensures back { LeadsBack saves.old.saves saves.new.saves grid.old grid.new }
 {
-    if !gains_somewhere(&grid.row(a)[from..from + via.len()], first as i32, via) {
+    prove!(a < grid.size());
+    if total_gain(&grid.row(a)[from..from + via.len()], first as i32, via) == 0 {
         return Ok(());
     }
     relax_row_saved(grid, a, from, first, via, saves)
@@ -130,9 +131,7 @@ fn go_over_saved(
     arc: Lag,
     saves: &mut Saves,
 ) -> Result<(), AllocError>
-    requires room { length via.old ≡ length grid.old }
-    requires ready { IsReady arc grid.old }
-    requires width { saves.old.width ≡ length grid.old }
+    requires { MayGoOver arc grid.old via.old saves.old }
     ensures square { IsSquare (length grid.old) grid.new }
     ensures width { saves.new.width ≡ saves.old.width }
     ensures over { OnOk result ((a b : ℕ) → IsOver arc grid.old a b (entry grid.new a b)) }
@@ -154,9 +153,7 @@ fn go_over_or_stay(
     arc: Lag,
     saves: &mut Saves,
 ) -> Result<(), AllocError>
-    requires room { length via.old ≡ length grid.old }
-    requires ready { IsReady arc grid.old }
-    requires width { saves.old.width ≡ length grid.old }
+    requires { MayGoOver arc grid.old via.old saves.old }
     ensures size { length grid.new ≡ length grid.old }
     ensures width { saves.new.width ≡ saves.old.width }
     ensures square { OnOk result (IsSquare (length grid.old) grid.new) }

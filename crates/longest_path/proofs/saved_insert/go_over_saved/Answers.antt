@@ -1,8 +1,7 @@
 use Rattle.std.proofs.Common.{refl, ◌≡◌, ◌∙◌, ◌-◌, ◌<◌, ◌≤◌, arith, length, take, drop}
 use Rattle.longest_path.specs.Grid.{placed_at}
-use Rattle.longest_path.specs.Insert.{HoldsGains}
 use Rattle.longest_path.specs.Rows.{IsSquare}
-use Rattle.longest_path.proofs.Over.{half_more, ready_row}
+use Rattle.longest_path.proofs.Over.{HoldsGains, half_more, ready_row}
 use Rattle.longest_path.proofs.Gains.{holds_gains, part_long}
 use Rattle.longest_path.proofs.Saving.{leads_on}
 use Rattle.longest_path.proofs.saved_insert.go_over_saved.Goals as goal

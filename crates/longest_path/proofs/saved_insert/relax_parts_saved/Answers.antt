@@ -1,4 +1,4 @@
-use Rattle.std.proofs.Common.{refl, ◌≡◌, ◌∙◌, ◌+◌, ◌-◌, ◌<◌, ◌≤◌, arith, length, take, drop, w64}
+use Rattle.std.proofs.Common.{◌∙◌, ◌+◌, ◌-◌, arith, length, take, drop, w64}
 use Rattle.std.proofs.lemmas.Int.{to_z-of_z}
 use Rattle.std.proofs.lemmas.List.{take_all}
 use mir.Val.{SFits}

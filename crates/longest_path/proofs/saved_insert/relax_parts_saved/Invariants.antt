@@ -1,6 +1,5 @@
 use Rattle.std.proofs.Common.{◌≡◌, ◌≤◌, ◌-◌, length, take}
 use Rattle.longest_path.specs.Grid.{IsRelaxed, placed_at}
-use Rattle.longest_path.specs.Insert.{IsReadyPart}
 use Rattle.longest_path.specs.Rows.{IsSquare}
 use Rattle.longest_path.specs.Saved.{LeadsBack}
 use Rattle.longest_path.proofs.saved_insert.relax_parts_saved.Given as goal
