@@ -7,7 +7,6 @@ pub mod EnergyHolds
 pub mod TrueBounds
 pub mod Sweeps
 pub mod SweepLimits
-pub mod Shifts
 pub mod Ranking
 pub mod Ranked
 pub mod Ranks

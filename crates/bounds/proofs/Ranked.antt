@@ -17,7 +17,7 @@ use Rattle.network.proofs.Running.{range_below}
 use Rattle.bounds.specs.declared.task.Task.{Task}
 use Rattle.bounds.specs.declared.load.Load.{Load}
 use Rattle.bounds.specs.Ends.{AreEnds}
-use Rattle.bounds.specs.Orders.{IsOrder, key_at, HaveKeys, Rises}
+use Rattle.orders.specs.Orders.{IsOrder, key_at, HaveKeys, Rises}
 use Rattle.bounds.specs.Loads.{tail_of, rank_of, load, AreTailsOf, AreFalling, AreLoadsOf}
 use Rattle.bounds.specs.Ranking.{IsRank, IsRanked}
 use Rattle.bounds.specs.Ranked.{task_at, AreKeysOf, keyed_load, AreRanked, AreRankedLoads}

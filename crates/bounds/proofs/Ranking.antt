@@ -3,7 +3,7 @@ use Rattle.std.proofs.Common.{◌≡◌, refl, sym, ap, ◌∙◌, ℕ, ◌+◌,
 use Rattle.std.specs.Prelude.{unsigned_abs}
 use Rattle.std.proofs.lemmas.Bool.{cases_eq, cases_lt}
 use Rattle.std.proofs.lemmas.List.{get_or-set_same, get_or-set_other}
-use Rattle.bounds.specs.Orders.{key_at}
+use Rattle.orders.specs.Orders.{key_at}
 use Rattle.bounds.specs.Ranking.{IsRank, IsKeyOf, IsRanked}
 
 -- the key at a place as a natural number

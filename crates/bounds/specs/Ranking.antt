@@ -1,6 +1,6 @@
 -- Ranks along an order by rising keys.
 use Rattle.std.specs.Prelude.{◌≡◌, ℕ, ◌-◌, ◌<◌, ◌≤◌, ℤ, unsigned_abs, List, slice_index}
-use Rattle.bounds.specs.Orders.{key_at}
+use Rattle.orders.specs.Orders.{key_at}
 
 -- r is how many of the first count numbers are at most b
 pub record IsRank (rising : List ℕ) (count b r : ℕ) : Type 0 where

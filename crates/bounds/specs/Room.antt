@@ -1,7 +1,7 @@
 -- Room for a sweep over tasks.
 use Rattle.std.specs.Prelude.{◌≡◌, length}
 use Rattle.bounds.specs.declared.task_room.TaskRoom.TheInside.{Inside}
-use Rattle.bounds.specs.Orders.{IsOrder}
+use Rattle.orders.specs.Orders.{IsOrder}
 
 -- two orders of the tasks, and a place for each of them in each list
 pub record IsRoom (s : Inside) : Type 0 where

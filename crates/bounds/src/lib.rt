@@ -14,7 +14,6 @@ ghost use Rattle.bounds.specs.Bound.{critical_weight, IsMatrixFor, IsTrueBoundFo
 mod energy_value;
 mod limits;
 mod load;
-mod order;
 mod sweep;
 mod task;
 mod task_room;

@@ -8,7 +8,7 @@ ghost use Rattle.bounds.specs.Loads.{AreLoads, IsGreatestShare, IsGreatestShareO
 
 use crate::limits::{MAX_CAPACITY, MAX_END, MAX_SHARE};
 use crate::load::{Load, rank_tasks, take_loads};
-use crate::order::first_order;
+use orders::first_order;
 use crate::sweep::greatest_share;
 use crate::task::{Task, tasks_of};
 use network::Project;

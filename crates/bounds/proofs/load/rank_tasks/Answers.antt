@@ -1,5 +1,5 @@
 use Rattle.std.proofs.Common.{sym, ◌∙◌, length, arith}
-use Rattle.bounds.specs.Orders.{IsOrder}
+use Rattle.orders.specs.Orders.{IsOrder}
 use Rattle.bounds.proofs.Ranked.{order_long, order_has_keys, order_kept, keys_are_ends, keys_long, ranked_tasks}
 use Rattle.bounds.proofs.load.rank_tasks.Goals as goal
 
