@@ -34,7 +34,8 @@ fn is_forced_at(project: &Project, pair: Pair, greatest: Option<i64>) -> bool
     let Some(weight) = greatest else {
         return false;
     };
-    if weight + project.duration(pair.after) <= 0 {
+    let late = weight + project.duration(pair.after);
+    if late <= 0 {
         return false;
     }
     weight < project.duration(pair.before)
