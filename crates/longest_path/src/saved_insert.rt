@@ -28,6 +28,7 @@ const PART: usize = 128;
 
 /// Row `a` takes the way that begins with a walk of weight `first` and goes on by `via`, from column
 /// `from` on, and these columns are saved before.
+#[inline(always)]
 fn relax_row_saved(
     grid: &mut Grid,
     a: usize,
@@ -72,6 +73,7 @@ fn relax_part_saved(
 }
 
 /// As `relax_row_saved`, part by part, so that parts that gain nothing aren't saved.
+#[inline(never)]
 fn relax_parts_saved(
     grid: &mut Grid,
     a: usize,
