@@ -1,11 +1,12 @@
 #!/usr/bin/env python3
 """bench/run.py PROGRAM [OTHER]
 
-Measures the built program on projects of bench/projects.py, and prints two tables: how long `earliest` and `check`
+Measures the built program on projects of bench/projects.py, and prints three tables: how long `earliest` and `check`
 take at the limits of the format; and how many nodes a search takes in a second where it is stopped by --nodes, with
-the peak memory. Times are processor time, the best of five runs, so that other work disturbs them little; they are
-also given as a ratio to the first row, since machines differ. With a second program, say one built before a change,
-each row has its rate and memory too, measured in turn with the first one's."""
+the peak memory, of projects where pairs are forced and of such where none is. Times are processor time, the best of
+five runs, so that other work disturbs them little; they are also given as a ratio to the first row, since machines
+differ. With a second program, say one built before a change, each row has its rate and memory too, measured in turn
+with the first one's."""
 import os
 import pathlib
 import random
@@ -16,7 +17,8 @@ import tempfile
 sys.path.insert(0, str(pathlib.Path(__file__).resolve().parent))
 import projects
 
-# activities, takes, how many that use a resource fit at once, how many use it, projects
+# activities, takes, how many that use a resource fit at once, how many use it, projects. Of two activities that use a
+# resource one may have to wait for the other, and pairs are forced:
 SEARCHES = (
     (10, 100, 2, 0.5, 5),
     (20, 10_000, 2, 0.5, 5),
@@ -24,6 +26,15 @@ SEARCHES = (
     (45, 10_000, 2, 0.5, 5),
     (100, 5_000, 2, 0.5, 3),
     (1000, 300, 2, 0.05, 2),
+)
+
+# Any two fit together, so that none is forced:
+UNFORCED = (
+    (20, 1_000, 4, 0.5, 5),
+    (30, 5_000, 4, 0.5, 5),
+    (45, 10_000, 4, 0.5, 5),
+    (100, 5_000, 4, 0.5, 3),
+    (1000, 300, 4, 0.05, 2),
 )
 
 
@@ -71,12 +82,12 @@ def stopped(programs, n, takes, tight, busy, count):
     return found
 
 
-def searches(programs):
+def searches(programs, rows):
     others = "".join(" | Other: takes a second | peak memory, MiB" for _ in programs[1:])
     print(f"| Activities | Projects | Takes each | Takes a second | Ratio | First take, ms | Peak memory, MiB{others} |")
     print("|---" * (7 + 2 * len(programs[1:])) + "|")
     first = None
-    for n, takes, tight, busy, count in SEARCHES:
+    for n, takes, tight, busy, count in rows:
         found = stopped(programs, n, takes, tight, busy, count)
         if not found:
             print(f"| {n} | 0 | {takes} | none of 400 was stopped" + " |" * (3 + 2 * len(programs[1:])) + " |")
@@ -123,7 +134,9 @@ def main():
     programs = [str(pathlib.Path(word).resolve()) for word in sys.argv[1:]]
     limits(programs)
     print()
-    searches(programs)
+    searches(programs, SEARCHES)
+    print()
+    searches(programs, UNFORCED)
 
 
 main()
