@@ -8,10 +8,10 @@ ghost use Rattle.bounds.specs.Loads.{AreLoads, IsGreatestShare, IsGreatestShareO
 
 use crate::limits::{MAX_CAPACITY, MAX_END, MAX_SHARE};
 use crate::load::{Load, rank_tasks, take_loads};
-use orders::first_order;
 use crate::sweep::greatest_share;
 use crate::task::{Task, tasks_of};
 use network::Project;
+use orders::first_order;
 use std::alloc::{AllocError, Global};
 use std::marker::Model;
 

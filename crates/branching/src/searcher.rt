@@ -66,11 +66,7 @@ impl Model for Searcher {
 
 impl Searcher {
     /// A searcher at the root, which has no pairs and this matrix.
-    pub fn new(
-        alloc: Global,
-        project: Arc<Project>,
-        matrix: Matrix,
-    ) -> Result<Searcher, AllocError>
+    pub fn new(alloc: Global, project: Arc<Project>, matrix: Matrix) -> Result<Searcher, AllocError>
         requires { IsProjectMatrix (arc_value project) [] matrix }
         ensures { IfOk result (λ searcher. searcher ≡ record { project = arc_value project; pairs = [] }) }
     {
