@@ -15,3 +15,8 @@ pub mod Lags
 pub mod Amounts
 pub mod Projects
 pub mod Spelled
+pub mod RowsOfArcs
+pub mod Lines
+pub mod Printed
+pub mod Written
+pub mod CanonicalText

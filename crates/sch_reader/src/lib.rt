@@ -1,4 +1,4 @@
-//! Reads projects from their text, a layout made after PSPLIB's single-mode ProGen/max files.
+//! Reads and writes projects as texts, in a layout made after PSPLIB's single-mode ProGen/max files.
 //!
 //! Space, tab, CR, LF, `[` and `]` are blanks, and a word is a longest run of other bytes; words are
 //! counted from 0. Each word has to be a token: a minus or nothing, and then 1 to 9 digits. With n
@@ -11,15 +11,22 @@
 //! 4. K capacities.
 //!
 //! Rows are numbered through: network rows from 0 to n + 1, request rows from n + 2 to 2n + 3.
+//!
+//! Of all the texts that spell a project one is canonical, which [`write_sch`] gives: a line for each
+//! row, its words separated by one tab, its lags in brackets.
 #![tactic(auto)]
 
+mod canonical;
 mod fault;
 mod place;
 mod reader;
 mod text;
 
+pub use canonical::{read_written, write_sch};
 pub use fault::SchFault;
 pub use text::read_sch;
 
+#[cfg(test)]
+mod canonical_tests;
 #[cfg(test)]
 mod tests;
