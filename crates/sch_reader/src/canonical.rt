@@ -1,4 +1,4 @@
-ghost use Rattle.std.specs.Prelude.{◌≡◌, ◌++◌, ◌∷◌, ◌==◌, ◌<◌, [], ℕ, map, length, string_bytes, codes, OnOk, IfOk, IfErr, MatchResult};
+ghost use Rattle.std.specs.Prelude.{◌≡◌, ◌++◌, ◌==◌, map, string_bytes, OnOk, IfOk, IfErr, MatchResult};
 ghost use Rattle.std.specs.List.{flat_map, prefix_len};
 ghost use Rattle.std.specs.Fmt.{decimal, signed_decimal};
 ghost use Rattle.network.specs.Problem.{Problem, activities};
@@ -14,7 +14,8 @@ use std::alloc::{AllocError, Global};
 
 /// The header's line.
 fn put_header(out: &mut String, project: &Project) -> Result<(), AllocError>
-    ensures { OnOk result (string_bytes out.new ≡ string_bytes out.old ++ line (header_row project.now)) }
+    ensures { OnOk result (string_bytes out.new
+        ≡ string_bytes out.old ++ line (header_row project.now)) }
 {
     let activities = project.activity_count() - 2;
     let resources = project.resource_count();
@@ -23,7 +24,8 @@ fn put_header(out: &mut String, project: &Project) -> Result<(), AllocError>
 
 /// The ends of arcs, each with a tab before it.
 fn put_ends(out: &mut String, lags: &[Lag]) -> Result<(), AllocError>
-    ensures { OnOk result (string_bytes out.new ≡ string_bytes out.old ++ flat_map tabbed (map (λ a. decimal a.to) lags.now)) }
+    ensures { OnOk result (string_bytes out.new
+        ≡ string_bytes out.old ++ flat_map tabbed (map (λ a. decimal a.to) lags.now)) }
 {
     for lag in lags {
         let to = lag.to;
@@ -34,7 +36,8 @@ fn put_ends(out: &mut String, lags: &[Lag]) -> Result<(), AllocError>
 
 /// The lags of arcs in brackets, each with a tab before it.
 fn put_lags(out: &mut String, lags: &[Lag]) -> Result<(), AllocError>
-    ensures { OnOk result (string_bytes out.new ≡ string_bytes out.old ++ flat_map tabbed (map (λ a. bracketed a.weight) lags.now)) }
+    ensures { OnOk result (string_bytes out.new
+        ≡ string_bytes out.old ++ flat_map tabbed (map (λ a. bracketed a.weight) lags.now)) }
 {
     for lag in lags {
         let weight = lag.weight;
@@ -45,7 +48,8 @@ fn put_lags(out: &mut String, lags: &[Lag]) -> Result<(), AllocError>
 
 /// Numbers, each with a tab before it.
 fn put_numbers(out: &mut String, numbers: &[i64]) -> Result<(), AllocError>
-    ensures { OnOk result (string_bytes out.new ≡ string_bytes out.old ++ flat_map tabbed (map signed_decimal numbers.now)) }
+    ensures { OnOk result (string_bytes out.new
+        ≡ string_bytes out.old ++ flat_map tabbed (map signed_decimal numbers.now)) }
 {
     for number in numbers {
         write!(out, "\t{number}")?;
@@ -55,7 +59,8 @@ fn put_numbers(out: &mut String, numbers: &[i64]) -> Result<(), AllocError>
 
 /// The line of an activity and the arcs from it.
 fn put_arcs_row(out: &mut String, activity: usize, lags: &[Lag]) -> Result<(), AllocError>
-    ensures { OnOk result (string_bytes out.new ≡ string_bytes out.old ++ line (arcs_row activity lags.now)) }
+    ensures { OnOk result (string_bytes out.new
+        ≡ string_bytes out.old ++ line (arcs_row activity lags.now)) }
 {
     let count = lags.len();
     write!(out, "{activity}\t1\t{count}")?;
@@ -117,7 +122,8 @@ fn put_request_rows(out: &mut String, project: &Project) -> Result<(), AllocErro
 
 /// The line of the capacities, where there are any.
 fn put_capacities(out: &mut String, capacities: &[i64]) -> Result<(), AllocError>
-    ensures { OnOk result (string_bytes out.new ≡ string_bytes out.old ++ flat_map line (capacity_rows capacities.now)) }
+    ensures { OnOk result (string_bytes out.new
+        ≡ string_bytes out.old ++ flat_map line (capacity_rows capacities.now)) }
 {
     let [first, others @ ..] = capacities else {
         return Ok(());
