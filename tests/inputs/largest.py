@@ -1,18 +1,18 @@
 #!/usr/bin/env python3
-"""largest.py project|starts|WORD
+"""largest.py project|canonical|starts|WORD
 
 A project at every limit at once: 1,000 activities of 1,000,000 periods that need all 1,000,000 units of 32
 resources, 100,000 arcs of weight 1,000,000, and blanks up to 16,777,216 bytes. Each activity i has an arc to each of
 the 100 after it, or to the end, so that one can start only when the one before has ended: activity i starts at
 1,000,000 (i - 1) and the end at 1,000,000,000, and no other schedule is shorter.
 
-`project` prints its text, `starts` the starts, another word that word, the makespan and the starts."""
+`project` prints its text, `canonical` its canonical text, `starts` the starts, another word that word, the makespan and the starts."""
 import sys
 
 N, K, SUCCESSORS, MOST, BYTES = 1_000, 32, 100, 1_000_000, 16_777_216
 
 
-def project():
+def rows_of_words():
     rows = [f"{N} {K} 0 0", "0 1 0"]
     for i in range(1, N + 1):
         after = [min(i + 1 + k, N + 1) for k in range(SUCCESSORS)]
@@ -23,8 +23,16 @@ def project():
     rows += [f"{i} 1 {MOST}{busy}" for i in range(1, N + 1)]
     rows.append(f"{N + 1} 1 0{idle}")
     rows.append(" ".join([str(MOST)] * K))
-    text = "\n".join(rows)
+    return rows
+
+
+def project():
+    text = "\n".join(rows_of_words())
     return text + "\n" * (BYTES - len(text))
+
+
+def canonical():
+    return "".join(row.replace(" ", "\t") + "\n" for row in rows_of_words())
 
 
 def starts():
@@ -34,5 +42,7 @@ def starts():
 word = sys.argv[1]
 if word == "project":
     sys.stdout.write(project())
+elif word == "canonical":
+    sys.stdout.write(canonical())
 else:
     sys.stdout.write(starts() if word == "starts" else f"{word} {N * MOST}\n{starts()}")

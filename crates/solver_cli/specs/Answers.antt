@@ -6,6 +6,7 @@ use Rattle.network.specs.Problem.{Problem, rules}
 use Rattle.network.specs.Schedule.{IsLeastSchedule, IsFeasible, makespan}
 use Rattle.network.specs.Verdict.{IsLowerBound, IsShortest, HasNoSchedule}
 use Rattle.network.specs.Walk.{IsLeastCycleTop}
+use Rattle.sch_reader.specs.Canonical.{canonical_text}
 use Rattle.schedule_check.specs.declared.violation.Violation.{Violation}
 use Rattle.schedule_check.specs.declared.violation.Violation.TheVariants as violation
 use Rattle.schedule_check.specs.Violations.{violations}
@@ -69,6 +70,13 @@ pub record IsViolationsText (p : Problem) (starts : List ℤ) (exit : ℕ) (writ
 
 abbrev pub IsCheckText : Problem → List ℤ → ℕ → List ℕ → Type 0
 IsCheckText p starts exit written = IsFeasibleText p starts exit written ⊎ IsViolationsText p starts exit written
+
+-- ---- what `tidy` says
+
+-- the canonical text of the project
+pub record IsTidyText (p : Problem) (exit : ℕ) (written : List ℕ) : Type 0 where
+  pub text : written ≡ canonical_text p
+  pub status : exit ≡ 0
 
 -- ---- what `solve` says
 

@@ -10,7 +10,7 @@ use Rattle.schedule_check.specs.Starts.{starts_fault, starts_of}
 use Rattle.solver_cli.specs.declared.call.Job.{Job}
 use Rattle.solver_cli.specs.declared.call.Job.TheVariants as jobs
 use Rattle.solver_cli.specs.declared.fault.Fault.{Fault}
-use Rattle.solver_cli.specs.Answers.{IsEarliestText, IsCheckText, IsSolveText}
+use Rattle.solver_cli.specs.Answers.{IsEarliestText, IsCheckText, IsSolveText, IsTidyText}
 use Rattle.solver_cli.specs.Calls.{reads_second}
 use Rattle.solver_cli.specs.Devices.{TookFront}
 use Rattle.solver_cli.specs.Faults.{fault_of, starts_fault_of}
@@ -49,12 +49,14 @@ abbrev pub IsAnswer : Job → List ℕ → List ℕ → ℕ → List ℕ → Typ
 IsAnswer jobs.Earliest text second exit written = SpellsOne text (λ p. IsEarliestText p exit written)
 IsAnswer (jobs.Solve takes) text second exit written = SpellsOne text (λ p. IsSolveText p exit written)
 IsAnswer jobs.Check text second exit written = SpellsOne second (λ p. IsReadAndChecked p text exit written)
+IsAnswer jobs.Tidy text second exit written = SpellsOne text (λ p. IsTidyText p exit written)
 
 -- why a job has no answer to its two texts
 abbrev pub IsRefusal : Job → List ℕ → List ℕ → Fault → Type 0
 IsRefusal jobs.Earliest text second fault = HasFault text fault
 IsRefusal (jobs.Solve takes) text second fault = HasFault text fault
 IsRefusal jobs.Check text second fault = HasFault second fault ⊎ SpellsOne second (λ p. IsFirstStartsFault p text fault)
+IsRefusal jobs.Tidy text second fault = HasFault text fault
 
 -- a job's answer to its two texts was written whole
 pub record IsAnswered (job : Job) (text second : List ℕ) (exit : ℕ) (before after : Option (List ℕ)) : Type 0 where

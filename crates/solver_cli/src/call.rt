@@ -21,6 +21,8 @@ pub enum Job {
     /// Say whether the starts on standard input are a feasible schedule of a project in a file, or
     /// every rule that they break.
     Check,
+    /// Print the canonical text of a project.
+    Tidy,
 }
 
 /// A job, and the names of the files that it uses.
@@ -94,6 +96,10 @@ fn check_command<'a>(alloc: Global) -> Result<Command<'a>, AllocError> {
         .arg(project)
 }
 
+fn tidy_command<'a>(alloc: Global) -> Command<'a> {
+    Command::new(alloc, "tidy").about("Print the canonical text of a project on standard input")
+}
+
 fn command<'a>(alloc: Global) -> Result<Command<'a>, AllocError> {
     Command::new(alloc, "psmax")
         .bin_name("psmax")?
@@ -101,7 +107,8 @@ fn command<'a>(alloc: Global) -> Result<Command<'a>, AllocError> {
         .subcommand_required(true)
         .subcommand(earliest_command(alloc))?
         .subcommand(solve_command(alloc)?)?
-        .subcommand(check_command(alloc)?)
+        .subcommand(check_command(alloc)?)?
+        .subcommand(tidy_command(alloc))
 }
 
 fn earliest_call() -> Call
@@ -146,6 +153,16 @@ fn check_call(alloc: Global, matches: &ArgMatches<'_>) -> Result<Option<Call>, A
     }))
 }
 
+fn tidy_call() -> Call
+    ensures { IsCall result }
+{
+    Call {
+        job: Job::Tidy,
+        second: None,
+        record_file: None,
+    }
+}
+
 /// The call that the matches make; none where `clap` lets words pass that make none, which it
 /// doesn't.
 fn found_call(alloc: Global, matches: &ArgMatches<'_>) -> Result<Option<Call>, AllocError>
@@ -155,6 +172,7 @@ fn found_call(alloc: Global, matches: &ArgMatches<'_>) -> Result<Option<Call>, A
         Some(("earliest", _)) => Ok(Some(earliest_call())),
         Some(("solve", found)) => Ok(solve_call(found)),
         Some(("check", found)) => check_call(alloc, found),
+        Some(("tidy", _)) => Ok(Some(tidy_call())),
         _ => Ok(None),
     }
 }

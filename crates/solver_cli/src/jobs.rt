@@ -1,10 +1,10 @@
 //! What each job says of the project and the text that it is given.
 
-ghost use Rattle.std.specs.Prelude.{◌≡◌, ◌≢◌, IfOk, IfErr, string_bytes};
+ghost use Rattle.std.specs.Prelude.{◌≡◌, ◌≢◌, IfOk, IfErr};
 ghost use Rattle.solver_cli.specs.declared.call.Job.TheVariants as jobs;
 ghost use Rattle.solver_cli.specs.declared.fault.Fault.{Fault};
 ghost use Rattle.solver_cli.specs.declared.fault.Fault.TheVariants as faults;
-ghost use Rattle.solver_cli.specs.Answers.{IsEarliestText, IsSolveText};
+ghost use Rattle.solver_cli.specs.Answers.{IsEarliestText, IsSolveText, IsTidyText};
 ghost use Rattle.solver_cli.specs.Calls.{IsJob};
 ghost use Rattle.solver_cli.specs.Faults.{exit_of, IsNoDeviceFault};
 ghost use Rattle.solver_cli.specs.Outcome.{IsReadAndChecked, IsFirstStartsFault};
@@ -17,13 +17,14 @@ use branching::search_alone;
 use earliest::least_starts;
 use longest_path::{PathFault, longest};
 use network::Project;
+use sch_reader::write_sch;
 use schedule_check::{read_starts, violations};
 use std::alloc::{AllocError, Global};
 use std::sync::Arc;
 
 /// The least schedule of a project, or the least activity that tops a positive cycle.
 pub(crate) fn earliest(alloc: Global, project: &Project) -> Result<Answer, AllocError>
-    ensures { IfOk result (λ a. IsEarliestText project.now a.exit (string_bytes a.text)) }
+    ensures { IfOk result (λ a. IsEarliestText project.now a.exit a.text.items) }
 {
     let text = match longest(alloc, project, &[]) {
         Ok(matrix) => {
@@ -34,13 +35,13 @@ pub(crate) fn earliest(alloc: Global, project: &Project) -> Result<Answer, Alloc
         Err(PathFault::PositiveCycle { at }) => cycle_text(alloc, at)?,
         Err(PathFault::Memory) => return Err(AllocError),
     };
-    Ok(Answer { text, exit: 0 })
+    Ok(Answer::of(text, 0))
 }
 
 /// The shortest schedule of a project, or what is known where so many nodes were taken before that.
 pub(crate) fn solve(alloc: Global, project: Project, takes: u64) -> Result<Answer, AllocError>
     requires { IsJob (jobs.Solve takes) }
-    ensures { IfOk result (λ a. IsSolveText project a.exit (string_bytes a.text)) }
+    ensures { IfOk result (λ a. IsSolveText project a.exit a.text.items) }
 {
     let project = Arc::new(alloc, project)?;
     let outcome = search_alone(alloc, &project, takes)?;
@@ -49,7 +50,7 @@ pub(crate) fn solve(alloc: Global, project: Project, takes: u64) -> Result<Answe
 
 /// Whether the starts in a text are a feasible schedule of a project, or every rule that they break.
 pub(crate) fn check(alloc: Global, project: &Project, text: &[u8]) -> Result<Answer, Fault>
-    ensures said { IfOk result (λ a. IsReadAndChecked project.now text.now a.exit (string_bytes a.text)) }
+    ensures said { IfOk result (λ a. IsReadAndChecked project.now text.now a.exit a.text.items) }
     ensures refused { IfErr result (λ fault. exit_of fault ≢ 1 → IsFirstStartsFault project.now text.now fault) }
     ensures devices { IfErr result IsNoDeviceFault }
 {
@@ -58,8 +59,17 @@ pub(crate) fn check(alloc: Global, project: &Project, text: &[u8]) -> Result<Ans
     let found = violations(alloc, project, &starts)?;
     if found.is_empty() {
         let text = feasible_text(alloc, starts[count - 1])?;
-        return Ok(Answer { text, exit: 0 });
+        return Ok(Answer::of(text, 0));
     }
     let text = violations_text(alloc, &found)?;
-    Ok(Answer { text, exit: 4 })
+    Ok(Answer::of(text, 4))
+}
+
+/// The canonical text of a project.
+pub(crate) fn tidy(alloc: Global, project: &Project) -> Result<Answer, Fault>
+    ensures said { IfOk result (λ a. IsTidyText project.now a.exit a.text.items) }
+    ensures memory { IfErr result (λ fault. fault ≡ faults.Memory) }
+{
+    let text = write_sch(alloc, project)?;
+    Ok(Answer { text, exit: 0 })
 }

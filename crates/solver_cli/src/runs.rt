@@ -1,6 +1,6 @@
 //! A run over devices.
 
-ghost use Rattle.std.specs.Prelude.{◌≡◌, ◌≢◌, ◌<◌, ◌+◌, false, Some, Err, IfOk, IfErr, IfSome, IfNone, string_bytes};
+ghost use Rattle.std.specs.Prelude.{◌≡◌, ◌≢◌, ◌<◌, ◌+◌, false, Some, Err, IfOk, IfErr, IfSome, IfNone};
 ghost use Rattle.solver_cli.specs.declared.fault.Fault.{Fault};
 ghost use Rattle.solver_cli.specs.declared.fault.Fault.TheVariants as faults;
 ghost use Rattle.words.specs.declared.TheConstants.{MAX_TEXT_BYTES};
@@ -13,7 +13,7 @@ use crate::answer::Answer;
 use crate::call::Job;
 use crate::device::{Failed, Input, Output, write_all};
 use crate::fault::Fault;
-use crate::jobs::{check, earliest, solve};
+use crate::jobs::{check, earliest, solve, tidy};
 use crate::reading::{read_project, read_text};
 use std::alloc::Global;
 
@@ -51,7 +51,7 @@ fn job_answer<I: Input, S: Input>(
     requires input { I.failed input.old < u64.MAX }
     requires second { S.failed second.old < u64.MAX }
     ensures said { IfOk result (λ a. IfTextsTold job (I.left input.old) (S.left second.old)
-        (λ text more. IsAnswer job text more a.exit (string_bytes a.text))) }
+        (λ text more. IsAnswer job text more a.exit a.text.items)) }
     ensures refused { IfErr result (λ fault. exit_of fault ≢ 1 → IfTextsTold job (I.left input.old) (S.left second.old)
         (λ text more. IsRefusal job text more fault)) }
     ensures unwritten { IfErr result (λ fault. fault ≢ faults.WriteFailed) }
@@ -76,6 +76,10 @@ fn job_answer<I: Input, S: Input>(
             let project = read_project(alloc, second)?;
             let starts = read_text(alloc, input)?;
             check(alloc, &project, &starts)
+        }
+        Job::Tidy => {
+            let project = read_project(alloc, input)?;
+            tidy(alloc, &project)
         }
     }
 }
@@ -126,7 +130,7 @@ pub fn run<I: Input, S: Input, O: Output, R: Output>(
         → input.new ≡ input.old }
 {
     match job_answer(alloc, job, input, second) {
-        Ok(answer) => match write_all(out, answer.text.as_bytes()) {
+        Ok(answer) => match write_all(out, &answer.text) {
             Ok(()) => Ended {
                 exit: answer.exit,
                 fault: None,

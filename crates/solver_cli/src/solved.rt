@@ -45,7 +45,7 @@ fn no_schedule_text(alloc: Global) -> Result<String, AllocError>
 /// The answer that an outcome makes, true of each project of which the outcome is.
 pub(crate) fn solved_answer(alloc: Global, outcome: &Outcome) -> Result<Answer, AllocError>
     requires { StopsBelowBest outcome.now }
-    ensures { IfOk result (λ a. (p : Problem) → IsTrueOf p outcome.now → IsSolveText p a.exit (string_bytes a.text)) }
+    ensures { IfOk result (λ a. (p : Problem) → IsTrueOf p outcome.now → IsSolveText p a.exit a.text.items) }
 {
     let (text, exit) = match outcome {
         Outcome::Optimal(best) => (optimal_text(alloc, best)?, 0),
@@ -56,5 +56,5 @@ pub(crate) fn solved_answer(alloc: Global, outcome: &Outcome) -> Result<Answer, 
         } => (feasible_bound_text(alloc, best, *bound)?, 3),
         Outcome::Stopped { best: None, bound } => (unknown_text(alloc, *bound)?, 3),
     };
-    Ok(Answer { text, exit })
+    Ok(Answer::of(text, exit))
 }

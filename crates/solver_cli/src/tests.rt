@@ -115,10 +115,14 @@ const ANSWERED: Ended = Ended {
 
 const ANSWER: &[u8] = b"earliest 4\n0 0\n1 0\n2 0\n3 4\n";
 
+/// The canonical text of the two jobs.
+const CANONICAL: &[u8] = b"2\t1\t0\t0\n0\t1\t0\n1\t1\t0\n2\t1\t0\n3\t1\t0\n\
+    0\t1\t0\t0\n1\t1\t3\t1\n2\t1\t4\t1\n3\t1\t0\t0\n1\n";
+
 #[test]
 fn answers_are_those_of_the_bytes(rt: HostRuntime) -> Result<(), Fail> {
     let starts = b"0 0\n1 0\n2 3\n3 7\n";
-    let wanted: [(Job, &[u8], &[u8], &[u8]); 3] = [
+    let wanted: [(Job, &[u8], &[u8], &[u8]); 5] = [
         (Job::Earliest, TWO_JOBS, b"", ANSWER),
         (
             Job::Solve { takes: 10 },
@@ -127,6 +131,8 @@ fn answers_are_those_of_the_bytes(rt: HostRuntime) -> Result<(), Fail> {
             b"optimal 7\n0 0\n1 4\n2 0\n3 7\n",
         ),
         (Job::Check, starts, TWO_JOBS, b"feasible 7\n"),
+        (Job::Tidy, TWO_JOBS, b"", CANONICAL),
+        (Job::Tidy, CANONICAL, b"", CANONICAL),
     ];
     for (job, text, second, bytes) in wanted {
         let (ended, written) = answer(rt.alloc(), job, text, second);
@@ -139,6 +145,9 @@ fn answers_are_those_of_the_bytes(rt: HostRuntime) -> Result<(), Fail> {
 #[test]
 fn a_text_that_is_none_gets_no_answer(rt: HostRuntime) {
     let (ended, written) = answer(rt.alloc(), Job::Check, b"", b"2 1 0");
+    assert_eq!(rt; ended, Ended::with(Fault::Short { index: 3 }));
+    assert!(rt; written.is_empty());
+    let (ended, written) = answer(rt.alloc(), Job::Tidy, b"2 1 0", b"");
     assert_eq!(rt; ended, Ended::with(Fault::Short { index: 3 }));
     assert!(rt; written.is_empty());
 }
@@ -231,6 +240,12 @@ fn words_make_calls(rt: HostRuntime) -> Result<(), Fail> {
         return Err("refused".into());
     };
     assert_eq!(rt; call.job, Job::Solve { takes: 7 });
+    let tidy = words(rt.alloc(), &["psmax", "tidy"])?;
+    let Ok(call) = call_of(rt.alloc(), &tidy) else {
+        return Err("refused".into());
+    };
+    assert_eq!(rt; call.job, Job::Tidy);
+    assert!(rt; call.second.is_none() && call.record_file.is_none());
     let none = words(rt.alloc(), &["psmax", "solve", "--nodes", "0"])?;
     assert!(rt; matches!(call_of(rt.alloc(), &none), Err(WordsFault::Bad { .. })));
     let help = words(rt.alloc(), &["psmax", "--help"])?;

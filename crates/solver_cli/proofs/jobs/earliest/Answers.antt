@@ -7,7 +7,7 @@ use Rattle.solver_cli.proofs.jobs.earliest.Goals as goal
 use Rattle.solver_cli.proofs.jobs.earliest.Goals.{in-Ok+in_ok-starts-in-Ok+in_ok-text-in-Ok, in-Err-PositiveCycle+in_ok-text-in-Err-PositiveCycle}
 
 pub returns : goal.returns
-returns c = elim c.match-longest.branch [
+returns c = rw (c.of.ensures.text, c.of.ensures.status) (elim c.match-longest.branch [
   | in-Ok+in_ok-starts-in-Ok+in_ok-text-in-Ok w ↦
       let fits : SFits w64 w.index-makespan.result.now = search rules in
       least_said c.args.project.now w.in-Ok.matrix w.in_ok-starts-in-Ok.starts.items w.activity_count.result w.index-makespan.result.now w.index-makespan.result.now _
@@ -19,4 +19,4 @@ returns c = elim c.match-longest.branch [
     text = rw w.text-is w.in_ok-text-in-Err-PositiveCycle.ensures;
     status = refl;
   })
-]
+])

@@ -1,6 +1,5 @@
 use Rattle.std.proofs.Common.{◌∙◌, refl, inr}
 use Rattle.std.proofs.lemmas.Result.{MatchResult-weaker}
-use Rattle.std.specs.Prelude.{string_bytes}
 use Rattle.solver_cli.proofs.TextLaws.{checked_whole, starts_fault_whole}
 use Rattle.solver_cli.proofs.runs.job_answer.Goals as goal
 
@@ -12,7 +11,7 @@ returns-in_ok-starts-in-Check-clause-said g c =
       project = p;
       is_project = c.in_ok-project-in-Check.ensures.project.0;
       spells = c.in_ok-project-in-Check.ensures.project.1 more (told_more (rw c.in-Check.is refl));
-      has = checked_whole p c.deref.result.now text a.exit (string_bytes a.text) (c.deref.ensures.value ∙ c.in_ok-starts-in-Check.ensures.told text told) said;
+      has = checked_whole p c.deref.result.now text a.exit a.text.items (c.deref.ensures.value ∙ c.in_ok-starts-in-Check.ensures.told text told) said;
     }))
     (λ _ _. tt)
 

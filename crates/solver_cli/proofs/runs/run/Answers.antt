@@ -1,10 +1,9 @@
-use Rattle.std.specs.Prelude.{string_bytes}
 use Rattle.solver_cli.proofs.runs.run.Goals as goal
 
 pub returns-in-Ok-clause-cut_short : goal.returns-in-Ok-clause-cut_short
 returns-in-Ok-clause-cut_short g c = λ _ text more told told_more. record {
   exit = c.in-Ok.answer.exit;
-  written = string_bytes c.in-Ok.answer.text;
+  written = c.in-Ok.answer.text.items;
   answer = c.in-Ok.ensures.said text more told told_more;
-  front = rw c.as_bytes.ensures.value at c.in-Err-write_all.ensures.front;
+  front = rw c.deref.ensures.value at c.in-Err-write_all.ensures.front;
 }
