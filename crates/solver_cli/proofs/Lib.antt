@@ -1,3 +1,4 @@
 pub mod DeviceLaws
+pub mod JsonLaws
 pub mod AnswerLaws
 pub mod TextLaws

@@ -1,5 +1,5 @@
 -- The texts of answers.
-use Rattle.std.specs.Prelude.{◌≡◌, ℕ, ◌+◌, List, [], ◌∷◌, ◌++◌, ℤ, ◌<ℤ◌, codes, ◌⊎◌}
+use Rattle.std.specs.Prelude.{◌≡◌, ℕ, ◌+◌, Bool, true, false, Some, None, List, [], ◌∷◌, ◌++◌, ℤ, ◌<ℤ◌, codes, ◌⊎◌}
 use Rattle.std.specs.List.{flat_map}
 use Rattle.std.specs.Fmt.{decimal, signed_decimal}
 use Rattle.network.specs.Problem.{Problem, rules}
@@ -10,6 +10,7 @@ use Rattle.sch_reader.specs.Canonical.{canonical_text}
 use Rattle.schedule_check.specs.declared.violation.Violation.{Violation}
 use Rattle.schedule_check.specs.declared.violation.Violation.TheVariants as violation
 use Rattle.schedule_check.specs.Violations.{violations}
+use Rattle.solver_cli.specs.JsonLine.{json_line}
 
 -- a line for each activity, from this one on: its number and its start
 abbrev pub start_lines : ℕ → List ℤ → List ℕ
@@ -87,37 +88,59 @@ bound_text bound = codes " bound " ++ (signed_decimal bound ++ codes "\n")
 abbrev pub stopped_text : ℤ → ℤ → List ℤ → List ℕ
 stopped_text number bound starts = (codes "feasible " ++ (signed_decimal number ++ bound_text bound)) ++ start_lines 0 starts
 
+-- the texts of each status, or, where that is asked for, the lines of JSON
+abbrev pub optimal_text : Bool → List ℤ → List ℕ
+optimal_text false starts = starts_text (codes "optimal") (makespan starts) starts
+optimal_text true starts = json_line (Some (makespan starts)) (Some (makespan starts)) (Some starts) (codes "optimal")
+
+abbrev pub no_schedule_text : Bool → List ℕ
+no_schedule_text false = codes "no schedule\n"
+no_schedule_text true = json_line None None None (codes "no schedule")
+
+abbrev pub feasible_text : Bool → ℤ → List ℤ → List ℕ
+feasible_text false bound starts = stopped_text (makespan starts) bound starts
+feasible_text true bound starts = json_line (Some bound) (Some (makespan starts)) (Some starts) (codes "feasible")
+
+abbrev pub unknown_text : Bool → ℤ → List ℕ
+unknown_text false bound = codes "unknown" ++ bound_text bound
+unknown_text true bound = json_line (Some bound) None None (codes "unknown")
+
 -- a schedule of least makespan
-pub record IsOptimalText (p : Problem) (exit : ℕ) (written : List ℕ) : Type 0 where
+pub record IsOptimalText (p : Problem) (json : Bool) (exit : ℕ) (written : List ℕ) : Type 0 where
   pub starts : List ℤ
   pub feasible : IsFeasible p starts
   pub shortest : IsShortest p (makespan starts)
-  pub text : written ≡ starts_text (codes "optimal") (makespan starts) starts
+  pub text : written ≡ optimal_text json starts
   pub status : exit ≡ 0
 
 -- that there is no schedule
-pub record IsNoScheduleText (p : Problem) (exit : ℕ) (written : List ℕ) : Type 0 where
+pub record IsNoScheduleText (p : Problem) (json : Bool) (exit : ℕ) (written : List ℕ) : Type 0 where
   pub none : HasNoSchedule p
-  pub text : written ≡ codes "no schedule\n"
+  pub text : written ≡ no_schedule_text json
   pub status : exit ≡ 0
 
 -- where the search was stopped: a feasible schedule, and a number below its makespan that no makespan
 -- is below
-pub record IsFeasibleBoundText (p : Problem) (exit : ℕ) (written : List ℕ) : Type 0 where
+pub record IsFeasibleBoundText (p : Problem) (json : Bool) (exit : ℕ) (written : List ℕ) : Type 0 where
   pub starts : List ℤ
   pub bound : ℤ
   pub feasible : IsFeasible p starts
   pub holds : IsLowerBound p bound
   pub below : bound <ℤ makespan starts
-  pub text : written ≡ stopped_text (makespan starts) bound starts
+  pub text : written ≡ feasible_text json bound starts
   pub status : exit ≡ 3
 
 -- or that number alone
-pub record IsUnknownText (p : Problem) (exit : ℕ) (written : List ℕ) : Type 0 where
+pub record IsUnknownText (p : Problem) (json : Bool) (exit : ℕ) (written : List ℕ) : Type 0 where
   pub bound : ℤ
   pub holds : IsLowerBound p bound
-  pub text : written ≡ codes "unknown" ++ bound_text bound
+  pub text : written ≡ unknown_text json bound
   pub status : exit ≡ 3
 
-abbrev pub IsSolveText : Problem → ℕ → List ℕ → Type 0
-IsSolveText p exit written = IsOptimalText p exit written ⊎ (IsNoScheduleText p exit written ⊎ (IsFeasibleBoundText p exit written ⊎ IsUnknownText p exit written))
+-- as plain lines, or as one line of JSON
+abbrev pub IsSolveText : Problem → Bool → ℕ → List ℕ → Type 0
+IsSolveText p json exit written =
+    IsOptimalText p json exit written
+    ⊎ (IsNoScheduleText p json exit written
+    ⊎ (IsFeasibleBoundText p json exit written
+    ⊎ IsUnknownText p json exit written))

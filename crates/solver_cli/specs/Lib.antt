@@ -1,4 +1,5 @@
 pub mod Devices
+pub mod JsonLine
 pub mod Answers
 pub mod Faults
 pub mod Calls

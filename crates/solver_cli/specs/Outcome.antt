@@ -47,14 +47,14 @@ pub record IsFirstStartsFault (p : Problem) (text : List ℕ) (fault : Fault) : 
 -- what a job writes for its two texts, and the exit status
 abbrev pub IsAnswer : Job → List ℕ → List ℕ → ℕ → List ℕ → Type 0
 IsAnswer jobs.Earliest text second exit written = SpellsOne text (λ p. IsEarliestText p exit written)
-IsAnswer (jobs.Solve takes) text second exit written = SpellsOne text (λ p. IsSolveText p exit written)
+IsAnswer (jobs.Solve takes json) text second exit written = SpellsOne text (λ p. IsSolveText p json exit written)
 IsAnswer jobs.Check text second exit written = SpellsOne second (λ p. IsReadAndChecked p text exit written)
 IsAnswer jobs.Tidy text second exit written = SpellsOne text (λ p. IsTidyText p exit written)
 
 -- why a job has no answer to its two texts
 abbrev pub IsRefusal : Job → List ℕ → List ℕ → Fault → Type 0
 IsRefusal jobs.Earliest text second fault = HasFault text fault
-IsRefusal (jobs.Solve takes) text second fault = HasFault text fault
+IsRefusal (jobs.Solve takes json) text second fault = HasFault text fault
 IsRefusal jobs.Check text second fault = HasFault second fault ⊎ SpellsOne second (λ p. IsFirstStartsFault p text fault)
 IsRefusal jobs.Tidy text second fault = HasFault text fault
 

@@ -16,8 +16,8 @@ pub enum Job {
     /// Print the least schedule of the time lags of a project, or the positive cycle.
     Earliest,
     /// Print the shortest schedule of a project, or that there is none, or, once so many nodes were
-    /// taken, what is known by then.
-    Solve { takes: u64 },
+    /// taken, what is known by then; as plain lines or as one line of JSON.
+    Solve { takes: u64, json: bool },
     /// Say whether the starts on standard input are a feasible schedule of a project in a file, or
     /// every rule that they break.
     Check,
@@ -80,9 +80,14 @@ fn solve_command<'a>(alloc: Global) -> Result<Command<'a>, AllocError> {
         .help("Stop once L nodes of the search were taken")
         .default_value(DEFAULT_TAKES)
         .value_parser(value_parser!(u64).range(1..=MAX_TAKES as i64));
+    let json = Arg::new(alloc, "json")
+        .long("json")
+        .help("Print the answer as one line of JSON")
+        .action(ArgAction::SetTrue);
     Command::new(alloc, "solve")
         .about("Print a shortest schedule of a project on standard input")
-        .arg(nodes)
+        .arg(nodes)?
+        .arg(json)
 }
 
 fn check_command<'a>(alloc: Global) -> Result<Command<'a>, AllocError> {
@@ -131,7 +136,10 @@ fn solve_call(matches: &ArgMatches<'_>) -> Option<Call>
         return None;
     }
     Some(Call {
-        job: Job::Solve { takes },
+        job: Job::Solve {
+            takes,
+            json: matches.get_flag("json"),
+        },
         second: None,
         record_file: None,
     })

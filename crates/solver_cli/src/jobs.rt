@@ -39,13 +39,18 @@ pub(crate) fn earliest(alloc: Global, project: &Project) -> Result<Answer, Alloc
 }
 
 /// The shortest schedule of a project, or what is known where so many nodes were taken before that.
-pub(crate) fn solve(alloc: Global, project: Project, takes: u64) -> Result<Answer, AllocError>
-    requires { IsJob (jobs.Solve takes) }
-    ensures { IfOk result (λ a. IsSolveText project a.exit a.text.items) }
+pub(crate) fn solve(
+    alloc: Global,
+    project: Project,
+    takes: u64,
+    json: bool,
+) -> Result<Answer, AllocError>
+    requires { IsJob (jobs.Solve takes json) }
+    ensures { IfOk result (λ a. IsSolveText project json a.exit a.text.items) }
 {
     let project = Arc::new(alloc, project)?;
     let outcome = search_alone(alloc, &project, takes)?;
-    solved_answer(alloc, &outcome)
+    solved_answer(alloc, &outcome, json)
 }
 
 /// Whether the starts in a text are a feasible schedule of a project, or every rule that they break.

@@ -9,6 +9,7 @@ mod call;
 mod device;
 mod fault;
 mod jobs;
+mod json_text;
 mod reading;
 mod runs;
 mod solved;

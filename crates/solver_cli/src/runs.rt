@@ -68,9 +68,9 @@ fn job_answer<I: Input, S: Input>(
             let project = read_project(alloc, input)?;
             Ok(earliest(alloc, &project)?)
         }
-        Job::Solve { takes } => {
+        Job::Solve { takes, json } => {
             let project = read_project(alloc, input)?;
-            Ok(solve(alloc, project, takes)?)
+            Ok(solve(alloc, project, takes, json)?)
         }
         Job::Check => {
             let project = read_project(alloc, second)?;

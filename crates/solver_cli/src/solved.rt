@@ -4,21 +4,39 @@ ghost use Rattle.std.specs.Prelude.{◌≡◌, ◌++◌, IfOk, OnOk, string_byte
 ghost use Rattle.network.specs.Problem.{Problem};
 ghost use Rattle.network.specs.Schedule.{makespan};
 ghost use Rattle.branching.specs.Verdicts.{IsTrueOf, StopsBelowBest};
-ghost use Rattle.solver_cli.specs.Answers.{starts_text, stopped_text, bound_text, start_lines, IsSolveText};
+ghost use Rattle.solver_cli.specs.Answers.{stopped_text, bound_text, optimal_text, no_schedule_text, feasible_text, unknown_text, IsSolveText};
 
 use crate::answer::Answer;
+use crate::json_text::json_line;
 use crate::texts::{put_starts, starts_text};
 use branching::Outcome;
 use network::Schedule;
 use std::alloc::{AllocError, Global};
 
-fn optimal_text(alloc: Global, best: &Schedule) -> Result<String, AllocError>
-    ensures { IfOk result (λ t. string_bytes t ≡ starts_text (codes "optimal") (makespan best.now.starts) best.now.starts) }
+#[tactic(auto, unfolding(json::specs::Print::escape_byte))]
+fn optimal_text(alloc: Global, best: &Schedule, json: bool) -> Result<String, AllocError>
+    ensures { IfOk result (λ t. string_bytes t ≡ optimal_text json best.now.starts) }
 {
-    starts_text(alloc, "optimal", best.makespan(), best.starts())
+    let makespan = best.makespan();
+    if json {
+        let number = Some(makespan);
+        return json_line(alloc, number, number, Some(best.starts()), "optimal");
+    }
+    starts_text(alloc, "optimal", makespan, best.starts())
 }
 
-fn feasible_bound_text(alloc: Global, best: &Schedule, bound: i64) -> Result<String, AllocError>
+#[tactic(auto, unfolding(json::specs::Print::escape_byte))]
+fn no_schedule_text(alloc: Global, json: bool) -> Result<String, AllocError>
+    ensures { IfOk result (λ t. string_bytes t ≡ no_schedule_text json) }
+{
+    if json {
+        return json_line(alloc, None, None, None, "no schedule");
+    }
+    String::from_str(alloc, "no schedule\n")
+}
+
+/// Where the search was stopped: a makespan with a bound, and the starts.
+fn bounded_text(alloc: Global, best: &Schedule, bound: i64) -> Result<String, AllocError>
     ensures { IfOk result (λ t. string_bytes t ≡ stopped_text (makespan best.now.starts) bound best.now.starts) }
 {
     let mut out = String::new(alloc);
@@ -28,7 +46,23 @@ fn feasible_bound_text(alloc: Global, best: &Schedule, bound: i64) -> Result<Str
     Ok(out)
 }
 
-fn unknown_text(alloc: Global, bound: i64) -> Result<String, AllocError>
+#[tactic(auto, unfolding(json::specs::Print::escape_byte))]
+fn feasible_text(
+    alloc: Global,
+    best: &Schedule,
+    bound: i64,
+    json: bool,
+) -> Result<String, AllocError>
+    ensures { IfOk result (λ t. string_bytes t ≡ feasible_text json bound best.now.starts) }
+{
+    if json {
+        let number = Some(best.makespan());
+        return json_line(alloc, Some(bound), number, Some(best.starts()), "feasible");
+    }
+    bounded_text(alloc, best, bound)
+}
+
+fn bound_text(alloc: Global, bound: i64) -> Result<String, AllocError>
     ensures { IfOk result (λ t. string_bytes t ≡ codes "unknown" ++ bound_text bound) }
 {
     let mut out = String::new(alloc);
@@ -36,25 +70,33 @@ fn unknown_text(alloc: Global, bound: i64) -> Result<String, AllocError>
     Ok(out)
 }
 
-fn no_schedule_text(alloc: Global) -> Result<String, AllocError>
-    ensures { IfOk result (λ t. string_bytes t ≡ codes "no schedule\n") }
+#[tactic(auto, unfolding(json::specs::Print::escape_byte))]
+fn unknown_text(alloc: Global, bound: i64, json: bool) -> Result<String, AllocError>
+    ensures { IfOk result (λ t. string_bytes t ≡ unknown_text json bound) }
 {
-    String::from_str(alloc, "no schedule\n")
+    if json {
+        return json_line(alloc, Some(bound), None, None, "unknown");
+    }
+    bound_text(alloc, bound)
 }
 
 /// The answer that an outcome makes, true of each project of which the outcome is.
-pub(crate) fn solved_answer(alloc: Global, outcome: &Outcome) -> Result<Answer, AllocError>
+pub(crate) fn solved_answer(
+    alloc: Global,
+    outcome: &Outcome,
+    json: bool,
+) -> Result<Answer, AllocError>
     requires { StopsBelowBest outcome.now }
-    ensures { IfOk result (λ a. (p : Problem) → IsTrueOf p outcome.now → IsSolveText p a.exit a.text.items) }
+    ensures { IfOk result (λ a. (p : Problem) → IsTrueOf p outcome.now → IsSolveText p json a.exit a.text.items) }
 {
     let (text, exit) = match outcome {
-        Outcome::Optimal(best) => (optimal_text(alloc, best)?, 0),
-        Outcome::NoSchedule => (no_schedule_text(alloc)?, 0),
+        Outcome::Optimal(best) => (optimal_text(alloc, best, json)?, 0),
+        Outcome::NoSchedule => (no_schedule_text(alloc, json)?, 0),
         Outcome::Stopped {
             best: Some(best),
             bound,
-        } => (feasible_bound_text(alloc, best, *bound)?, 3),
-        Outcome::Stopped { best: None, bound } => (unknown_text(alloc, *bound)?, 3),
+        } => (feasible_text(alloc, best, *bound, json)?, 3),
+        Outcome::Stopped { best: None, bound } => (unknown_text(alloc, *bound, json)?, 3),
     };
     Ok(Answer::of(text, exit))
 }

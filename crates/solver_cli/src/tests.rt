@@ -115,6 +115,10 @@ const ANSWERED: Ended = Ended {
 
 const ANSWER: &[u8] = b"earliest 4\n0 0\n1 0\n2 0\n3 4\n";
 
+/// The same, where each has to start before the other ends.
+const CLOSE_LAGS: &[u8] = b"2 1 0 0 0 1 0 1 1 1 2 [0] 2 1 1 1 [-2] 3 1 0 \
+    0 1 0 0 1 1 3 1 2 1 4 1 3 1 0 0 1";
+
 /// The canonical text of the two jobs.
 const CANONICAL: &[u8] = b"2\t1\t0\t0\n0\t1\t0\n1\t1\t0\n2\t1\t0\n3\t1\t0\n\
     0\t1\t0\t0\n1\t1\t3\t1\n2\t1\t4\t1\n3\t1\t0\t0\n1\n";
@@ -122,13 +126,34 @@ const CANONICAL: &[u8] = b"2\t1\t0\t0\n0\t1\t0\n1\t1\t0\n2\t1\t0\n3\t1\t0\n\
 #[test]
 fn answers_are_those_of_the_bytes(rt: HostRuntime) -> Result<(), Fail> {
     let starts = b"0 0\n1 0\n2 3\n3 7\n";
-    let wanted: [(Job, &[u8], &[u8], &[u8]); 5] = [
+    let wanted: [(Job, &[u8], &[u8], &[u8]); 7] = [
         (Job::Earliest, TWO_JOBS, b"", ANSWER),
         (
-            Job::Solve { takes: 10 },
+            Job::Solve {
+                takes: 10,
+                json: false,
+            },
             TWO_JOBS,
             b"",
             b"optimal 7\n0 0\n1 4\n2 0\n3 7\n",
+        ),
+        (
+            Job::Solve {
+                takes: 10,
+                json: true,
+            },
+            TWO_JOBS,
+            b"",
+            b"{\"bound\":7,\"makespan\":7,\"starts\":[0,4,0,7],\"status\":\"optimal\"}\n",
+        ),
+        (
+            Job::Solve {
+                takes: 10,
+                json: true,
+            },
+            CLOSE_LAGS,
+            b"",
+            b"{\"bound\":null,\"makespan\":null,\"starts\":null,\"status\":\"no schedule\"}\n",
         ),
         (Job::Check, starts, TWO_JOBS, b"feasible 7\n"),
         (Job::Tidy, TWO_JOBS, b"", CANONICAL),
@@ -239,7 +264,24 @@ fn words_make_calls(rt: HostRuntime) -> Result<(), Fail> {
     let Ok(call) = call_of(rt.alloc(), &solve) else {
         return Err("refused".into());
     };
-    assert_eq!(rt; call.job, Job::Solve { takes: 7 });
+    assert_eq!(rt;
+        call.job,
+        Job::Solve {
+            takes: 7,
+            json: false
+        }
+    );
+    let json = words(rt.alloc(), &["psmax", "solve", "--json"])?;
+    let Ok(call) = call_of(rt.alloc(), &json) else {
+        return Err("refused".into());
+    };
+    assert_eq!(rt;
+        call.job,
+        Job::Solve {
+            takes: 1_000_000,
+            json: true
+        }
+    );
     let tidy = words(rt.alloc(), &["psmax", "tidy"])?;
     let Ok(call) = call_of(rt.alloc(), &tidy) else {
         return Err("refused".into());
