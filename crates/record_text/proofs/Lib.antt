@@ -1,0 +1,9 @@
+pub mod Shapes
+pub mod RowReads
+pub mod LineReads
+pub mod HeadReads
+pub mod Leads
+pub mod RowFaults
+pub mod TreeFaults
+pub mod TextLaws
+pub mod FirstFaults

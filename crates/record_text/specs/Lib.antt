@@ -1,0 +1,6 @@
+pub mod Tree
+pub mod SearchRecord
+pub mod Shape
+pub mod Text
+pub mod TextFaults
+pub mod Reading

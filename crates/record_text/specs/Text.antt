@@ -1,0 +1,78 @@
+-- The text of a record.
+use Rattle.std.specs.Prelude.{◌≡◌, ℕ, ◌<◌, ◌≤◌, ◌^◌, ℤ, pos, negsuc, List, [], ◌∷◌, ◌++◌, map, codes, length}
+use Rattle.std.specs.List.{flat_map, AllByRecursion}
+use Rattle.std.specs.Fmt.{decimal, signed_decimal}
+use Rattle.record_text.specs.declared.TheConstants.{MAX_RECORD_BYTES}
+use Rattle.record_text.specs.declared.number.TheConstants.{MAX_NUMBER_DIGITS}
+use Rattle.record_text.specs.declared.line.Claim.{Claim}
+use Rattle.record_text.specs.declared.line.Claim.TheVariants as claims
+use Rattle.record_text.specs.declared.line.Line.{Line}
+use Rattle.record_text.specs.declared.line.Line.TheVariants as kind
+use Rattle.record_text.specs.Tree.{Tree}
+use Rattle.record_text.specs.SearchRecord.{SearchRecord, IsTreeOf}
+
+-- each number with a space before it
+abbrev pub spaced : List ℕ → List ℕ
+spaced numbers = flat_map (λ n. 32 ∷ decimal n) numbers
+
+abbrev pub spaced_times : List ℤ → List ℕ
+spaced_times times = flat_map (λ t. 32 ∷ signed_decimal t) times
+
+-- a line's bytes without the LF at its end
+abbrev pub row_of : Line → List ℕ
+row_of (kind.Force pair) = codes "force" ++ spaced (pair.before ∷ pair.after ∷ [])
+row_of kind.Solved = codes "solved"
+row_of kind.Cut = codes "cut"
+row_of kind.Dead = codes "dead"
+row_of (kind.Split resource members) = codes "split" ++ spaced (resource ∷ members)
+
+abbrev pub claim_rows : Claim → List (List ℕ)
+claim_rows (claims.Optimal makespan starts) = (codes "optimal" ++ spaced_times (makespan ∷ [])) ∷ (codes "starts" ++ spaced_times starts) ∷ []
+claim_rows claims.NoSchedule = codes "no schedule" ∷ []
+
+-- the rows before those of the tree
+abbrev pub head_rows : Claim → List (List ℕ)
+head_rows claim = codes "record 1" ∷ claim_rows claim
+
+abbrev pub rows_of : SearchRecord → List (List ℕ)
+rows_of r = head_rows r.claim ++ map row_of r.lines
+
+-- a row with its LF
+abbrev pub ended : List ℕ → List ℕ
+ended row = row ++ 10 ∷ []
+
+-- its line of text
+abbrev pub line_text : Line → List ℕ
+line_text line = ended (row_of line)
+
+abbrev pub record_text : SearchRecord → List ℕ
+record_text r = flat_map ended (rows_of r)
+
+-- a number that the text can hold
+abbrev pub IsNumber : ℕ → Type 0
+IsNumber n = n < 10 ^ MAX_NUMBER_DIGITS
+
+abbrev pub IsWritableTime : ℤ → Type 0
+IsWritableTime (pos n) = IsNumber n
+IsWritableTime (negsuc n) = ⊥
+
+abbrev pub IsWritableClaim : Claim → Type 0
+IsWritableClaim (claims.Optimal makespan starts) = IsWritableTime makespan × (0 < length starts) × AllByRecursion IsWritableTime starts
+IsWritableClaim claims.NoSchedule = Unit {0}
+
+abbrev pub IsWritableLine : Line → Type 0
+IsWritableLine (kind.Force pair) = IsNumber pair.before × IsNumber pair.after
+IsWritableLine (kind.Split resource members) = IsNumber resource × AllByRecursion IsNumber members
+IsWritableLine line = Unit {0}
+
+-- a claim, and the lines of a tree, all of whose numbers a text can hold
+pub record IsRecord (r : SearchRecord) : Type 0 where
+  pub claim : IsWritableClaim r.claim
+  pub lines : AllByRecursion IsWritableLine r.lines
+  pub tree : (t : Tree) × IsTreeOf r.lines t
+
+-- the text is that of a record
+pub record Spells (text : List ℕ) (r : SearchRecord) : Type 0 where
+  pub of_record : IsRecord r
+  pub size : length text ≤ MAX_RECORD_BYTES
+  pub spelled : text ≡ record_text r

@@ -1,0 +1,53 @@
+-- The tree of a record, and its lines.
+use Rattle.std.specs.Prelude.{◌≡◌, ℕ, suc, ◌-◌, ◌*◌, ◌<◌, List, [], ◌∷◌, ◌++◌, length}
+use Rattle.network.specs.declared.lag.Pair.{Pair}
+use Rattle.record_text.specs.declared.line.Line.{Line}
+use Rattle.record_text.specs.declared.line.Line.TheVariants as kind
+
+-- a node: forced pairs, then a leaf, or a split of a resource's members with a node for each ordered
+-- pair of them
+mutual
+  pub data Tree : Type 0 where
+    force : Pair → Tree → Tree
+    solved : Tree
+    cut : Tree
+    dead : Tree
+    split : ℕ → List ℕ → Trees → Tree
+
+  pub data Trees : Type 0 where
+    no_trees : Trees
+    tree : Tree → Trees → Trees
+
+abbrev pub count_trees : Trees → ℕ
+count_trees no_trees = 0
+count_trees (tree t ts) = suc (count_trees ts)
+
+-- so many ordered pairs have the members, by their places
+abbrev pub pair_count : List ℕ → ℕ
+pair_count members = length members * (length members - 1)
+
+-- each split has a member or more, and a node for each ordered pair of them
+abbrev mutual
+  pub IsTree : Tree → Type 0
+  IsTree (force pair t) = IsTree t
+  IsTree solved = Unit {0}
+  IsTree cut = Unit {0}
+  IsTree dead = Unit {0}
+  IsTree (split resource members kids) = (0 < length members) × (count_trees kids ≡ pair_count members) × AreTrees kids
+
+  pub AreTrees : Trees → Type 0
+  AreTrees no_trees = Unit {0}
+  AreTrees (tree t ts) = IsTree t × AreTrees ts
+
+-- the lines of a node, those of the nodes below it in their order
+abbrev mutual
+  pub lines_of : Tree → List Line
+  lines_of (force pair t) = kind.Force pair ∷ lines_of t
+  lines_of solved = kind.Solved ∷ []
+  lines_of cut = kind.Cut ∷ []
+  lines_of dead = kind.Dead ∷ []
+  lines_of (split resource members kids) = kind.Split resource members ∷ lines_of_all kids
+
+  pub lines_of_all : Trees → List Line
+  lines_of_all no_trees = []
+  lines_of_all (tree t ts) = lines_of t ++ lines_of_all ts

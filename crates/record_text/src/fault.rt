@@ -1,0 +1,49 @@
+ghost use Rattle.std.specs.Prelude.{◌≡◌};
+ghost use Rattle.record_text.specs.declared.fault.Why.TheVariants.{Memory};
+
+use std::alloc::{AllocError, AllocFailed};
+
+/// What is wrong with a record.
+#[derive(Clone, Copy, PartialEq, Eq, Debug)]
+pub enum Why {
+    /// The line is not of the grammar where it stands, or lacks the LF at its end.
+    Form,
+    /// The text ends before this line, which must come.
+    Short,
+    /// The line stands after the last node, whatever it holds.
+    Trailing,
+    /// Memory ran out.
+    Memory,
+    /// The text has more than 268,435,456 bytes, whatever it holds.
+    TooLong,
+}
+
+/// Why a text could not be read: its length, then the first fault of its lines. Lines count from 1; where
+/// no line is at fault the line is 0.
+#[derive(Clone, Copy, PartialEq, Eq, Debug)]
+pub struct RecordFault {
+    pub line: usize,
+    pub why: Why,
+}
+
+/// Want of memory.
+const NO_MEMORY: RecordFault = RecordFault {
+    line: 0,
+    why: Why::Memory,
+};
+
+impl From<AllocError> for RecordFault {
+    ghost from_gives = { λ _ fault. fault ≡ record { line = 0; why = Memory } };
+
+    fn from(_e: AllocError) -> RecordFault {
+        NO_MEMORY
+    }
+}
+
+impl<T: Drop> From<AllocFailed<T>> for RecordFault {
+    ghost from_gives = { λ _ fault. fault ≡ record { line = 0; why = Memory } };
+
+    fn from(_e: AllocFailed<T>) -> RecordFault {
+        NO_MEMORY
+    }
+}

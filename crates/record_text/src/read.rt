@@ -1,0 +1,161 @@
+ghost use Rattle.std.specs.Prelude.{◌≡◌, ◌≢◌, ◌<◌, ◌≤◌, ◌+◌, ◌*◌, ◌∷◌, [], ◌++◌, length, map, pos, codes, Some, None, IfOk, IfErr};
+ghost use Rattle.std.specs.List.{All, AllByRecursion};
+ghost use Rattle.record_text.specs.Text.{IsNumber, IsWritableClaim, IsWritableLine, claim_rows, head_rows, row_of};
+ghost use Rattle.record_text.specs.TextFaults.{line_pieces, missing, HasFault};
+ghost use Rattle.record_text.specs.Reading.{makespan_in, starts_in};
+ghost use Rattle.record_text.specs.Shape.{Completes, still_due, count_members};
+ghost use Rattle.record_text.specs.declared.fault.Why.TheVariants.{Memory, Form};
+
+use crate::MAX_RECORD_BYTES;
+use crate::fault::{RecordFault, Why};
+use crate::line::{Claim, Line};
+use crate::row::{line_of, numbers_after};
+use crate::starts::Starts;
+use std::alloc::{AllocError, Global};
+use words::split_once;
+
+/// What is wrong where a row must come and none ends.
+fn missing(text: &[u8]) -> Why
+    ensures { result ≡ missing text.now }
+{
+    match text {
+        [] => Why::Short,
+        _ => Why::Form,
+    }
+}
+
+/// The row that must come at a line, and what follows its LF.
+pub(crate) fn next_row(text: &[u8], line: usize) -> Result<(&[u8], &[u8]), RecordFault>
+    ensures row { IfOk result (λ r. line_pieces text.now ≡ r.0.now ∷ line_pieces r.1.now) }
+    ensures shorter { IfOk result (λ r. length r.0.now + 1 + length r.1.now ≡ length text.now) }
+    ensures fault { IfErr result (λ fault. (line_pieces text.now ≡ text.now ∷ []) × (fault ≡ record { line = line; why = missing text.now })) }
+{
+    match split_once(text, b'\n') {
+        Some((row, rest)) => Ok((row, rest)),
+        None => Err(RecordFault {
+            line,
+            why: missing(text),
+        }),
+    }
+}
+
+/// Numbers as times.
+fn times(alloc: Global, numbers: &[usize]) -> Result<Vec<i64>, AllocError>
+    requires { All IsNumber numbers.now }
+    ensures { IfOk result (λ times. times.items ≡ map pos numbers.now) }
+{
+    let mut times = Vec::with_capacity(alloc, numbers.len())?;
+    for number in numbers {
+        times.push(*number as i64)?;
+    }
+    Ok(times)
+}
+
+/// The makespan that a row claims.
+fn makespan(alloc: Global, row: &[u8]) -> Result<i64, RecordFault>
+    ensures found { IfOk result (λ makespan. makespan_in row.now ≡ Some makespan) }
+    ensures fault { IfErr result (λ fault. fault.why ≢ Memory → (makespan_in row.now ≡ None) × (fault ≡ record { line = 2; why = Form })) }
+{
+    let numbers = numbers_after(alloc, b"optimal".as_slice(), row, 2)?;
+    match numbers.as_slice() {
+        [makespan] => Ok(*makespan as i64),
+        _ => Err(RecordFault {
+            line: 2,
+            why: Why::Form,
+        }),
+    }
+}
+
+/// The starts that a row has.
+fn starts(alloc: Global, row: &[u8]) -> Result<Starts, RecordFault>
+    ensures found { IfOk result (λ starts. starts_in row.now ≡ Some starts) }
+    ensures fault { IfErr result (λ fault. fault.why ≢ Memory → (starts_in row.now ≡ None) × (fault ≡ record { line = 3; why = Form })) }
+{
+    let numbers = numbers_after(alloc, b"starts".as_slice(), row, 3)?;
+    if numbers.is_empty() {
+        return Err(RecordFault {
+            line: 3,
+            why: Why::Form,
+        });
+    }
+    let starts = times(alloc, &numbers)?;
+    Ok(Starts::new(starts))
+}
+
+/// The claim of a record, from its second line on, and what follows it.
+pub(crate) fn read_claim(alloc: Global, text: &[u8]) -> Result<(Claim, &[u8]), RecordFault>
+    ensures rows { IfOk result (λ r. line_pieces text.now ≡ claim_rows r.0 ++ line_pieces r.1.now) }
+    ensures writable { IfOk result (λ r. IsWritableClaim r.0) }
+    ensures shorter { IfOk result (λ r. length r.1.now ≤ length text.now) }
+    ensures fault { IfErr result (λ fault. fault.why ≢ Memory → HasFault (codes "record 1" ∷ line_pieces text.now) fault) }
+{
+    let (row, rest) = next_row(text, 2)?;
+    if row == b"no schedule".as_slice() {
+        return Ok((Claim::NoSchedule, rest));
+    }
+    let makespan = makespan(alloc, row)?;
+    let (row, rest) = next_row(rest, 3)?;
+    let starts = starts(alloc, row)?;
+    Ok((Claim::Optimal { makespan, starts }, rest))
+}
+
+/// The number of the first line of the tree.
+fn tree_line(claim: &Claim) -> usize
+    ensures { result ≡ length (head_rows claim.now) + 1 }
+{
+    match claim {
+        Claim::Optimal { .. } => 4,
+        Claim::NoSchedule => 3,
+    }
+}
+
+/// How many nodes must still come after a line, where so many had to before it.
+fn still_due(due: usize, line: &Line) -> usize
+    requires due { 0 < due }
+    requires room { due ≤ MAX_RECORD_BYTES * MAX_RECORD_BYTES + 1 }
+    requires members { count_members line.now ≤ MAX_RECORD_BYTES }
+    ensures { result ≡ still_due due line.now }
+{
+    match line {
+        Line::Force(_) => due,
+        Line::Solved | Line::Cut | Line::Dead => due - 1,
+        Line::Split { members, .. } => {
+            let count = members.as_slice().len();
+            due - 1 + count * count.saturating_sub(1)
+        }
+    }
+}
+
+/// The lines of a tree, to the end of the text.
+pub(crate) fn read_lines(
+    alloc: Global,
+    claim: &Claim,
+    text: &[u8],
+) -> Result<Vec<Line>, RecordFault>
+    requires size { length text.now ≤ MAX_RECORD_BYTES }
+    requires claim { IsWritableClaim claim.now }
+    ensures rows { IfOk result (λ lines. line_pieces text.now ≡ map row_of lines.items ++ [] ∷ []) }
+    ensures writable { IfOk result (λ lines. AllByRecursion IsWritableLine lines.items) }
+    ensures complete { IfOk result (λ lines. Completes 1 lines.items) }
+    ensures fault { IfErr result (λ fault. fault.why ≢ Memory → HasFault (head_rows claim.now ++ line_pieces text.now) fault) }
+{
+    let mut lines = Vec::new(alloc);
+    let mut rest = text;
+    let mut line = tree_line(claim);
+    let mut due = 1;
+    while due > 0 {
+        let (row, more) = next_row(rest, line)?;
+        let found = line_of(alloc, row, line)?;
+        due = still_due(due, &found);
+        lines.push(found)?;
+        rest = more;
+        line += 1;
+    }
+    if !rest.is_empty() {
+        return Err(RecordFault {
+            line,
+            why: Why::Trailing,
+        });
+    }
+    Ok(lines)
+}

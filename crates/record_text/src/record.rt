@@ -1,0 +1,117 @@
+ghost use Rattle.std.specs.Prelude.{◌≡◌, ◌≢◌, ◌≤◌, nat_lt, length, IfOk, OnOk, IfErr, MatchResult};
+ghost use Rattle.record_text.specs.SearchRecord.{SearchRecord};
+ghost use Rattle.record_text.specs.Text.{IsRecord, Spells, record_text};
+ghost use Rattle.record_text.specs.TextFaults.{IsFirstTextFault};
+ghost use Rattle.record_text.specs.declared.fault.Why.TheVariants.{Memory};
+
+use crate::MAX_RECORD_BYTES;
+use crate::fault::{RecordFault, Why};
+use crate::line::{Claim, Line};
+use crate::read::{next_row, read_claim, read_lines};
+use crate::write::{put_claim, put_lines};
+use std::alloc::{AllocError, Global};
+use std::marker::Model;
+
+/// Whether a text has more bytes than are read.
+fn is_too_long(text: &[u8]) -> bool
+    ensures { result ≡ nat_lt MAX_RECORD_BYTES (length text.now) }
+{
+    text.len() > MAX_RECORD_BYTES
+}
+
+/// A claim, and the lines of the tree that shows it, in order. Each number is below 10,000,000,000, and
+/// starts are at least 0.
+#[derive(Drop, Debug)]
+pub struct Record {
+    claim: Claim,
+    lines: Vec<Line>,
+}
+
+impl Model for Record {
+    ghost use Rattle.record_text.specs.SearchRecord.{SearchRecord};
+    ghost use Rattle.record_text.specs.Text.{IsRecord};
+
+    ghost Value = { SearchRecord };
+
+    ghost view = { λ r. record { claim = r.claim; lines = r.lines.items } };
+
+    ghost invariant = { λ r. IsRecord (record { claim = r.claim; lines = r.lines.items }) };
+}
+
+impl Record {
+    /// The record of a claim and the lines of a tree.
+    pub fn new(claim: Claim, lines: Vec<Line>) -> Record
+        requires { IsRecord (record { claim = claim; lines = lines.items }) }
+        ensures { result ≡ record { claim = claim; lines = lines.items } }
+    {
+        Record { claim, lines }
+    }
+
+    /// What the record says.
+    pub fn claim(&self) -> &Claim
+        ensures claim { result.now ≡ self.now.claim }
+        ensures record { IsRecord self.now }
+    {
+        &self.claim
+    }
+
+    /// The lines of the tree, in order.
+    pub fn lines(&self) -> &[Line]
+        ensures lines { result.now ≡ self.now.lines }
+        ensures record { IsRecord self.now }
+    {
+        &self.lines
+    }
+
+    /// The text of the record.
+    pub fn write(&self, alloc: Global) -> Result<Vec<u8>, AllocError>
+        ensures text { IfOk result (λ text. text.items ≡ record_text self.now) }
+        ensures record { OnOk result (IsRecord self.now) }
+    {
+        let mut out = String::new(alloc);
+        put_claim(&mut out, &self.claim)?;
+        put_lines(&mut out, &self.lines)?;
+        Ok(out.into_bytes())
+    }
+
+    /// The record of this text, or its first fault.
+    fn read_text(alloc: Global, text: &[u8]) -> Result<Record, RecordFault>
+        ensures found { IfOk result (λ r. Spells text.now r) }
+        ensures fault { IfErr result (λ fault. fault.why ≢ Memory → IsFirstTextFault text.now fault) }
+    {
+        if is_too_long(text) {
+            return Err(RecordFault {
+                line: 0,
+                why: Why::TooLong,
+            });
+        }
+        let (row, rest) = next_row(text, 1)?;
+        if row != b"record 1".as_slice() {
+            return Err(RecordFault {
+                line: 1,
+                why: Why::Form,
+            });
+        }
+        let (claim, rest) = read_claim(alloc, rest)?;
+        let lines = read_lines(alloc, &claim, rest)?;
+        Ok(Record::new(claim, lines))
+    }
+
+    /// The record that this text is that of, or the text's first fault.
+    pub fn read(alloc: Global, text: &[u8]) -> Result<Record, RecordFault>
+        ensures found { IfOk result (λ r. Spells text.now r) }
+        ensures only { (r : SearchRecord) → Spells text.now r → MatchResult result (λ q. q ≡ r) (λ fault. fault.why ≡ Memory) }
+        ensures fault { IfErr result (λ fault. fault.why ≢ Memory → IsFirstTextFault text.now fault) }
+    {
+        Record::read_text(alloc, text)
+    }
+
+    /// What the text of the record is read as: the record itself, where the text is within the limit. This
+    /// is a law, as a function.
+    pub fn read_written(&self, alloc: Global) -> Result<Record, RecordFault>
+        ensures { length (record_text self.now) ≤ MAX_RECORD_BYTES → MatchResult result (λ q. q ≡ self.now) (λ fault. fault.why ≡ Memory) }
+    {
+        let text = self.write(alloc)?;
+        Record::read(alloc, &text)
+    }
+}
