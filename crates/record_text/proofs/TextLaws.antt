@@ -203,3 +203,7 @@ pub written : (claim : Claim) (lines : List Line) (empty head all items : List �
 written claim lines empty head all items none h a i =
     i ∙ a ∙ ap (λ (t : List ℕ). t ++ flat_map line_text lines) (h ∙ ap (λ (t : List ℕ). t ++ flat_map ended (head_rows claim)) none)
     ∙ ap (λ (t : List ℕ). flat_map ended (head_rows claim) ++ t) (lines_text lines) ∙ sym (flat_map-append ended (head_rows claim) (map row_of lines))
+
+-- what is written is its record's text
+pub spells_written : (text : List ℕ) (r : SearchRecord) → IsRecord r → text ≡ record_text r → length (record_text r) ≤ MAX_RECORD_BYTES → Spells text r
+spells_written text r is same size = record { of_record = is; size = rw same size; spelled = same }

@@ -62,6 +62,10 @@ FirstFaultIsOne = (text : List ℕ) (a b : RecordFault) → IsFirstTextFault tex
 abbrev pub FaultIsNoRecord : Type 0
 FaultIsNoRecord = (text : List ℕ) (r : SearchRecord) (fault : RecordFault) → Spells text r → IsFirstTextFault text fault → ⊥
 
+-- that a line is not of the grammar where it stands
+abbrev pub form : ℕ → RecordFault
+form line = record { line = line; why = why.Form }
+
 -- the fault where a row must come and none ends
 abbrev pub missing : List ℕ → Why
 missing [] = why.Short

@@ -1,4 +1,5 @@
 ghost use Rattle.std.specs.Prelude.{◌≡◌};
+ghost use Rattle.record_text.specs.TextFaults.{form};
 ghost use Rattle.record_text.specs.declared.fault.Why.TheVariants.{Memory};
 
 use std::alloc::{AllocError, AllocFailed};
@@ -24,6 +25,18 @@ pub enum Why {
 pub struct RecordFault {
     pub line: usize,
     pub why: Why,
+}
+
+impl RecordFault {
+    /// This line is not of the grammar where it stands.
+    pub(crate) fn form(line: usize) -> RecordFault
+        ensures { result ≡ form line }
+    {
+        RecordFault {
+            line,
+            why: Why::Form,
+        }
+    }
 }
 
 /// Want of memory.

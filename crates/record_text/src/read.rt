@@ -1,10 +1,10 @@
 ghost use Rattle.std.specs.Prelude.{◌≡◌, ◌≢◌, ◌<◌, ◌≤◌, ◌+◌, ◌*◌, ◌∷◌, [], ◌++◌, length, map, pos, codes, Some, None, IfOk, IfErr};
 ghost use Rattle.std.specs.List.{All, AllByRecursion};
 ghost use Rattle.record_text.specs.Text.{IsNumber, IsWritableClaim, IsWritableLine, claim_rows, head_rows, row_of};
-ghost use Rattle.record_text.specs.TextFaults.{line_pieces, missing, HasFault};
+ghost use Rattle.record_text.specs.TextFaults.{line_pieces, form, missing, HasFault};
 ghost use Rattle.record_text.specs.Reading.{makespan_in, starts_in};
 ghost use Rattle.record_text.specs.Shape.{Completes, still_due, count_members};
-ghost use Rattle.record_text.specs.declared.fault.Why.TheVariants.{Memory, Form};
+ghost use Rattle.record_text.specs.declared.fault.Why.TheVariants.{Memory};
 
 use crate::MAX_RECORD_BYTES;
 use crate::fault::{RecordFault, Why};
@@ -54,29 +54,23 @@ fn times(alloc: Global, numbers: &[usize]) -> Result<Vec<i64>, AllocError>
 /// The makespan that a row claims.
 fn makespan(alloc: Global, row: &[u8]) -> Result<i64, RecordFault>
     ensures found { IfOk result (λ makespan. makespan_in row.now ≡ Some makespan) }
-    ensures fault { IfErr result (λ fault. fault.why ≢ Memory → (makespan_in row.now ≡ None) × (fault ≡ record { line = 2; why = Form })) }
+    ensures fault { IfErr result (λ fault. fault.why ≢ Memory → (makespan_in row.now ≡ None) × (fault ≡ form 2)) }
 {
     let numbers = numbers_after(alloc, b"optimal".as_slice(), row, 2)?;
     match numbers.as_slice() {
         [makespan] => Ok(*makespan as i64),
-        _ => Err(RecordFault {
-            line: 2,
-            why: Why::Form,
-        }),
+        _ => Err(RecordFault::form(2)),
     }
 }
 
 /// The starts that a row has.
 fn starts(alloc: Global, row: &[u8]) -> Result<Starts, RecordFault>
     ensures found { IfOk result (λ starts. starts_in row.now ≡ Some starts) }
-    ensures fault { IfErr result (λ fault. fault.why ≢ Memory → (starts_in row.now ≡ None) × (fault ≡ record { line = 3; why = Form })) }
+    ensures fault { IfErr result (λ fault. fault.why ≢ Memory → (starts_in row.now ≡ None) × (fault ≡ form 3)) }
 {
     let numbers = numbers_after(alloc, b"starts".as_slice(), row, 3)?;
     if numbers.is_empty() {
-        return Err(RecordFault {
-            line: 3,
-            why: Why::Form,
-        });
+        return Err(RecordFault::form(3));
     }
     let starts = times(alloc, &numbers)?;
     Ok(Starts::new(starts))

@@ -87,10 +87,7 @@ impl Record {
         }
         let (row, rest) = next_row(text, 1)?;
         if row != b"record 1".as_slice() {
-            return Err(RecordFault {
-                line: 1,
-                why: Why::Form,
-            });
+            return Err(RecordFault::form(1));
         }
         let (claim, rest) = read_claim(alloc, rest)?;
         let lines = read_lines(alloc, &claim, rest)?;
@@ -108,6 +105,7 @@ impl Record {
 
     /// What the text of the record is read as: the record itself, where the text is within the limit. This
     /// is a law, as a function.
+    #[tactic(auto, using(crate::proofs::TextLaws::spells_written))]
     pub fn read_written(&self, alloc: Global) -> Result<Record, RecordFault>
         ensures { length (record_text self.now) ≤ MAX_RECORD_BYTES → MatchResult result (λ q. q ≡ self.now) (λ fault. fault.why ≡ Memory) }
     {

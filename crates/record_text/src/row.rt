@@ -2,9 +2,10 @@ ghost use Rattle.std.specs.Prelude.{◌≡◌, ◌≢◌, ◌<◌, length, IfOk,
 ghost use Rattle.std.specs.List.{All};
 ghost use Rattle.record_text.specs.Reading.{fields, fields_left, numbers, numbers_after, leaf, force_of, split_of, line_from, line_of};
 ghost use Rattle.record_text.specs.Text.{IsNumber};
-ghost use Rattle.record_text.specs.declared.fault.Why.TheVariants.{Memory, Form};
+ghost use Rattle.record_text.specs.TextFaults.{form};
+ghost use Rattle.record_text.specs.declared.fault.Why.TheVariants.{Memory};
 
-use crate::fault::{RecordFault, Why};
+use crate::fault::RecordFault;
 use crate::line::Line;
 use crate::members::Members;
 use crate::number::number;
@@ -26,17 +27,14 @@ fn split_field(row: &[u8]) -> (&[u8], Option<&[u8]>)
 /// The numbers that the fields of a row's rest spell.
 fn numbers(alloc: Global, rest: Option<&[u8]>, line: usize) -> Result<Vec<usize>, RecordFault>
     ensures found { IfOk result (λ found. numbers (fields_left (option_map (λ rest. rest.now) rest.entry)) ≡ Some found.items) }
-    ensures fault { IfErr result (λ fault. fault.why ≢ Memory → (numbers (fields_left (option_map (λ rest. rest.now) rest.entry)) ≡ None) × (fault ≡ record { line = line; why = Form })) }
+    ensures fault { IfErr result (λ fault. fault.why ≢ Memory → (numbers (fields_left (option_map (λ rest. rest.now) rest.entry)) ≡ None) × (fault ≡ form line)) }
 {
     let mut found = Vec::new(alloc);
     let mut left = rest;
     while let Some(row) = left {
         let (field, more) = split_field(row);
         let Some(n) = number(field) else {
-            return Err(RecordFault {
-                line,
-                why: Why::Form,
-            });
+            return Err(RecordFault::form(line));
         };
         found.push(n)?;
         left = more;
@@ -100,16 +98,13 @@ fn line_from(word: &[u8], numbers: Vec<usize>) -> Option<Line>
 /// The line of the tree that a row is.
 pub(crate) fn line_of(alloc: Global, row: &[u8], line: usize) -> Result<Line, RecordFault>
     ensures found { IfOk result (λ found. line_of row.now ≡ Some found) }
-    ensures fault { IfErr result (λ fault. fault.why ≢ Memory → (line_of row.now ≡ None) × (fault ≡ record { line = line; why = Form })) }
+    ensures fault { IfErr result (λ fault. fault.why ≢ Memory → (line_of row.now ≡ None) × (fault ≡ form line)) }
 {
     let (word, rest) = split_field(row);
     let numbers = numbers(alloc, rest, line)?;
     match line_from(word, numbers) {
         Some(found) => Ok(found),
-        None => Err(RecordFault {
-            line,
-            why: Why::Form,
-        }),
+        None => Err(RecordFault::form(line)),
     }
 }
 
@@ -122,15 +117,12 @@ pub(crate) fn numbers_after(
 ) -> Result<Vec<usize>, RecordFault>
     ensures found { IfOk result (λ found. numbers_after word.now row.now ≡ Some found.items) }
     ensures small { IfOk result (λ found. All IsNumber found.items) }
-    ensures fault { IfErr result (λ fault. fault.why ≢ Memory → (numbers_after word.now row.now ≡ None) × (fault ≡ record { line = line; why = Form })) }
+    ensures fault { IfErr result (λ fault. fault.why ≢ Memory → (numbers_after word.now row.now ≡ None) × (fault ≡ form line)) }
 {
     let (first, rest) = split_field(row);
     let numbers = numbers(alloc, rest, line)?;
     if first != word {
-        return Err(RecordFault {
-            line,
-            why: Why::Form,
-        });
+        return Err(RecordFault::form(line));
     }
     Ok(numbers)
 }

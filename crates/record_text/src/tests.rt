@@ -32,11 +32,11 @@ fn a_record_is_read_and_written(rt: HostRuntime) -> Result<(), Fail> {
         BOTH_DEAD,
         FORCED,
         "record 1\noptimal 7\nstarts 0 0 3 7\ncut\n",
+        "record 1\noptimal 7\nstarts 0 4 0 7\nsplit 0 1 2\ncut\nsolved\n",
         "record 1\noptimal 0\nstarts 0\nsolved\n",
         "record 1\nno schedule\ndead\n",
         "record 1\nno schedule\nforce 0 0\nforce 0 1\ndead\n",
         "record 1\nno schedule\nsplit 0 1\n",
-        "record 1\nno schedule\nsplit 9 4 4\ndead\ndead\n",
     ] {
         let record = read(rt.alloc(), text)?;
         let written = record.write(rt.alloc())?;
@@ -45,6 +45,24 @@ fn a_record_is_read_and_written(rt: HostRuntime) -> Result<(), Fail> {
         assert_eq!(rt; again.lines().len(), record.lines().len(), "{text}");
     }
     Ok(())
+}
+
+/// What is wrong of a project alone is no fault of a text.
+#[test]
+fn a_record_need_not_be_right(rt: HostRuntime) {
+    for text in [
+        "record 1\noptimal 4\nstarts 0 0 2 1 4\nsplit 0 1 2\nsolved\ncut\n",
+        "record 1\noptimal 5\nstarts 0 0 2 1 5\nsplit 0 1 2\nsolved\nsolved\n",
+        "record 1\noptimal 5\nstarts 0 0 2 1 5\nsplit 0 1 2\ndead\ncut\n",
+        "record 1\noptimal 5\nstarts 0 0 2 1 5\nsplit 0 1 3\nsolved\ncut\n",
+        "record 1\nno schedule\nsplit 0 1 2\ndead\ncut\n",
+        "record 1\nno schedule\nsplit 0 2 1\ndead\ndead\n",
+        "record 1\nno schedule\nsplit 9 4 4\ndead\ndead\n",
+        "record 1\nno schedule\nforce 0 0\ndead\n",
+        "record 1\noptimal 9\nstarts 0\nsplit 0 2 3\nforce 1 3\ncut\ncut\n",
+    ] {
+        assert_eq!(rt; fault_of(rt.alloc(), text), None, "{text}");
+    }
 }
 
 /// The word of a line, and its numbers.

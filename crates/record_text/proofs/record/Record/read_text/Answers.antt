@@ -1,4 +1,4 @@
-use Rattle.std.proofs.Common.{◌≡◌, ◌≢◌, ◌≤◌, [], refl, sym, ◌∙◌, rules, inr, length}
+use Rattle.std.proofs.Common.{◌≡◌, ◌≢◌, ◌≤◌, [], sym, ◌∙◌, rules, inr, length}
 use Rattle.std.specs.Prelude.{codes}
 use Rattle.std.proofs.lemmas.Bool.{ltb-false}
 use Rattle.std.proofs.lemmas.Result.{err_from_is_err_and}
@@ -19,7 +19,7 @@ pub returns-then-ne-clause-fault : goal.returns-then-ne-clause-fault
 returns-then-ne-clause-fault c = λ known.
     let size : length c.args.text.now ≤ MAX_RECORD_BYTES = ltb-false _ _ (sym c.is_too_long.ensures ∙ c.if-is_too_long.false) in
     let other : c.in_ok-row.row.now ≢ codes "record 1" = search rules in
-    inr (size, form_fault [] c.args.text.now c.in_ok-row.row.now c.in_ok-row.rest.now _ stands_first (no_first c.in_ok-row.row.now other) c.in_ok-row.ensures.row refl)
+    inr (size, form_fault [] c.args.text.now c.in_ok-row.row.now c.in_ok-row.rest.now _ stands_first (no_first c.in_ok-row.row.now other) c.in_ok-row.ensures.row c.form.ensures)
 
 pub new-requires : goal.new-requires
 new-requires c = record_from c.in_ok-claim.claim c.in_ok-lines.lines.items c.in_ok-claim.ensures.writable c.in_ok-lines.ensures.writable c.in_ok-lines.ensures.complete
