@@ -26,6 +26,7 @@ row_of kind.Cut = codes "cut"
 row_of kind.Dead = codes "dead"
 row_of (kind.Split resource members) = codes "split" ++ spaced (resource ∷ members)
 
+-- the rows of a claim
 abbrev pub claim_rows : Claim → List (List ℕ)
 claim_rows (claims.Optimal makespan starts) = (codes "optimal" ++ spaced_times (makespan ∷ [])) ∷ (codes "starts" ++ spaced_times starts) ∷ []
 claim_rows claims.NoSchedule = codes "no schedule" ∷ []
@@ -34,6 +35,7 @@ claim_rows claims.NoSchedule = codes "no schedule" ∷ []
 abbrev pub head_rows : Claim → List (List ℕ)
 head_rows claim = codes "record 1" ∷ claim_rows claim
 
+-- a record's rows: its lines without their LFs
 abbrev pub rows_of : SearchRecord → List (List ℕ)
 rows_of r = head_rows r.claim ++ map row_of r.lines
 
@@ -41,10 +43,11 @@ rows_of r = head_rows r.claim ++ map row_of r.lines
 abbrev pub ended : List ℕ → List ℕ
 ended row = row ++ 10 ∷ []
 
--- its line of text
+-- a line's bytes with its LF
 abbrev pub line_text : Line → List ℕ
 line_text line = ended (row_of line)
 
+-- the one text of a record
 abbrev pub record_text : SearchRecord → List ℕ
 record_text r = flat_map ended (rows_of r)
 
