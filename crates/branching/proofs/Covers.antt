@@ -1,10 +1,10 @@
 -- The steps of a search keep that its nodes cover what is shorter than its best.
-use Rattle.std.proofs.Common.{◌≡◌, sym, ◌∙◌, subst, inl, inr, append_assoc, append-nil, List, [], ◌∷◌, ◌++◌, get_or, ◌⊎◌, ⊎_elim, arith, Option, Some, None}
+use Rattle.std.proofs.Common.{◌≡◌, sym, ap, ◌∙◌, subst, inl, inr, append_assoc, append-nil, List, [], ◌∷◌, ◌++◌, get_or, ◌⊎◌, ⊎_elim, arith, Option, Some, None}
 use Rattle.std.specs.Prelude.{ℤ, ◌≤ℤ◌, IfSome}
-use Rattle.std.specs.List.{All, Any}
+use Rattle.std.specs.List.{All, Any, Contains}
 use Rattle.std.proofs.lemmas.Int.{ints}
 use Rattle.std.proofs.lemmas.List.Quantifiers.{Any-push}
-use Rattle.std.proofs.lemmas.List.Elements.{All-nil, All-cons, All-push, All-append, All-contains, All-weaker, Contains-append_left, Contains-append_right, Contains-push, Contains-get_or}
+use Rattle.std.proofs.lemmas.List.Elements.{All-nil, All-cons, All-push, All-append, All-contains, All-weaker, Contains-append_left, Contains-append_right, Contains-append_cases, Contains-push, Contains-get_or}
 use Rattle.network.specs.Problem.{Problem}
 use Rattle.network.specs.Schedule.{ScheduleOf, IsFeasible, Keeps, makespan}
 use Rattle.branching.specs.Subproblem.{Subproblem, NodeStandsFor}
@@ -12,7 +12,7 @@ use Rattle.branching.specs.Fair.{Expansion, IsFair, IsShorterThan, IsFoundFor, I
 use Rattle.branching.specs.Ceiling.{IsBelow, IsUnder}
 use Rattle.branching.specs.Covered.{IsNodeOf, IsRootOf, IsScheduleFor, IsCovered, IsLeastBound, SearchState, IsSoundState, ceiling_of}
 use Rattle.branching.specs.Takes.{DropsOver, IsShorterOf, IsTake}
-use Rattle.branching.proofs.Lists.{here, any_cases, any_parts, any_left, any_right}
+use Rattle.branching.proofs.Lists.{here, any_cases, any_left, any_right}
 
 all_left : {X : Type 0} (P : X → Type 0) (xs ys : List X) → All P (xs ++ ys) → All P xs
 all_left P xs ys all k d l = All-contains P (xs ++ ys) (get_or xs k d) all (Contains-append_left xs ys (get_or xs k d) (Contains-get_or xs k d l))
@@ -31,20 +31,31 @@ none_stands p best nodes known over s shorter (k, node, l, e, stands) =
     let is : IsNodeOf p node = All-contains (IsNodeOf p) nodes node known (k, l, e) in
     All-contains (λ (n : Subproblem). ¬ IsUnder (ceiling_of best) n.bound) nodes node over (k, l, e) (under_best best node.bound s (is.is_node.true_bound s stands) shorter)
 
+-- other nodes cover as much, as long as those that are below the best are among them
+pub covered_still : (p : Problem) (best : Option ScheduleOf) (old new : List Subproblem) → All (IsNodeOf p) new → ((node : Subproblem) → Contains old node → IsUnder (ceiling_of best) node.bound → Contains new node) → IsCovered p best old → IsCovered p best new
+covered_still p best old new nodes stays covered = record {
+  of_best = covered.of_best;
+  of_nodes = nodes;
+  covers = λ s feasible shorter. still s shorter (covered.covers s feasible shorter);
+}
+  where
+    still : (s : List ℤ) → IsShorterThan best s → Any (λ n. NodeStandsFor n s) old → Any (λ n. NodeStandsFor n s) new
+    still s shorter (k, node, l, e, stands) =
+        let is : IsNodeOf p node = All-contains (IsNodeOf p) old node covered.of_nodes (k, l, e) in
+        let kept = stays node (k, l, e) (under_best best node.bound s (is.is_node.true_bound s stands) shorter) in
+        (kept.0, node, kept.1, kept.2, stands)
+
 -- nodes that are not below the best may be left out
 pub drops_keep : (p : Problem) (best : Option ScheduleOf) (old new : List Subproblem) → DropsOver (ceiling_of best) old new → IsCovered p best old → IsCovered p best new
 drops_keep p best old new drops covered =
     let nodes : All (IsNodeOf p) (new ++ drops.dropped) = rw drops.from_end at covered.of_nodes in
-    record {
-      of_best = covered.of_best;
-      of_nodes = all_left (IsNodeOf p) new drops.dropped nodes;
-      covers = λ s feasible shorter.
-          let some : Any (λ n. NodeStandsFor n s) (new ++ drops.dropped) = rw drops.from_end at covered.covers s feasible shorter in
-          ⊎_elim
-          (λ (kept : Any (λ n. NodeStandsFor n s) new). kept)
-          (λ (late : Any (λ n. NodeStandsFor n s) drops.dropped). absurd (none_stands p best drops.dropped (all_right (IsNodeOf p) new drops.dropped nodes) drops.over s shorter late))
-          (any_parts (λ n. NodeStandsFor n s) new drops.dropped some);
-    }
+    covered_still p best old new (all_left (IsNodeOf p) new drops.dropped nodes)
+    (λ node among under.
+    ⊎_elim
+    (λ (kept : Contains new node). kept)
+    (λ (late : Contains drops.dropped node). absurd (All-contains (λ (n : Subproblem). ¬ IsUnder (ceiling_of best) n.bound) drops.dropped node drops.over late under))
+    (Contains-append_cases new drops.dropped node (subst (λ (ns : List Subproblem). Contains ns node) drops.from_end among)))
+    covered
 
 -- the last of the nodes that are left is one of the project
 pub last_is_node : (p : Problem) (ceiling : Option ℤ) (old rest : List Subproblem) (node : Subproblem) → DropsOver ceiling old (rest ++ node ∷ []) → All (IsNodeOf p) old → IsNodeOf p node
@@ -81,20 +92,25 @@ best_after p best (Some s) found node e of_best of_found from =
     as_schedule : IsFoundFor node s → IsScheduleFor p s
     as_schedule f = record { project = f.project ∙ e; feasible = subst (λ (q : Problem). IsFeasible q s.starts) e f.stands.feasible }
 
--- a node may be replaced by the kids of a fair report under the best, once what was found is counted
-pub expansion_keeps : (p : Problem) (best after : Option ScheduleOf) (nodes : List Subproblem) (report : Expansion) → IsFair report → report.ceiling ≡ ceiling_of best → IsShorterOf best report.found after → IsCovered p best (nodes ++ report.node ∷ []) → IsCovered p after (nodes ++ report.kids)
-expansion_keeps p best after nodes report fair ceiling shorter_of covered =
-    let known : IsNodeOf p report.node = All-contains (IsNodeOf p) (nodes ++ report.node ∷ []) report.node covered.of_nodes (Contains-push nodes report.node) in
-    record {
-      of_best = best_after p best after report.found report.node known.project covered.of_best fair.of_found shorter_of.from;
-      of_nodes = All-append (IsNodeOf p) nodes report.kids (all_left (IsNodeOf p) nodes (report.node ∷ []) covered.of_nodes) (All-weaker (IsKidOf report.node) (IsNodeOf p) (λ kid k. kid_is_node p report.node kid known.project k) report.kids fair.of_kids);
-      covers = λ s feasible shorter.
-          let before : IsShorterThan best s = shorter_of.than_best s shorter in
-          ⊎_elim
-          (λ (early : Any (λ n. NodeStandsFor n s) nodes). any_left (λ n. NodeStandsFor n s) nodes report.kids early)
-          (λ (last : NodeStandsFor report.node s). any_right (λ n. NodeStandsFor n s) nodes report.kids (fair.covers s last (below_from_shorter best report.ceiling s ceiling before) (shorter_of.than_found s shorter)))
-          (any_cases (λ n. NodeStandsFor n s) nodes report.node (covered.covers s feasible before));
-    }
+-- a node may be replaced by the kids of a fair report on it, once what was found is counted, where each schedule that is
+-- then still looked for is below the report's ceiling
+pub expansion_keeps : (p : Problem) (best after : Option ScheduleOf) (nodes : List Subproblem) (node : Subproblem) (report : Expansion) → IsFair report → report.node.project ≡ p → node.pairs ≡ report.node.pairs → ((s : List ℤ) → IsShorterThan best s → IsBelow report.ceiling s) → IsShorterOf best report.found after → IsCovered p best (nodes ++ node ∷ []) → IsCovered p after (nodes ++ report.kids)
+expansion_keeps p best after nodes node report fair project pairs below shorter_of covered = record {
+  of_best = best_after p best after report.found report.node project covered.of_best fair.of_found shorter_of.from;
+  of_nodes = All-append (IsNodeOf p) nodes report.kids (all_left (IsNodeOf p) nodes (node ∷ []) covered.of_nodes) (All-weaker (IsKidOf report.node) (IsNodeOf p) (λ kid k. kid_is_node p report.node kid project k) report.kids fair.of_kids);
+  covers = λ s feasible shorter.
+      let before : IsShorterThan best s = shorter_of.than_best s shorter in
+      ⊎_elim
+      (λ (early : Any (λ n. NodeStandsFor n s) nodes). any_left (λ n. NodeStandsFor n s) nodes report.kids early)
+      (λ (last : NodeStandsFor node s). any_right (λ n. NodeStandsFor n s) nodes report.kids (fair.covers s (of_report s last) (below s before) (shorter_of.than_found s shorter)))
+      (any_cases (λ n. NodeStandsFor n s) nodes node (covered.covers s feasible before));
+}
+  where
+    known : IsNodeOf p node
+    known = All-contains (IsNodeOf p) (nodes ++ node ∷ []) node covered.of_nodes (Contains-push nodes node)
+
+    of_report : (s : List ℤ) → NodeStandsFor node s → NodeStandsFor report.node s
+    of_report s stands = rw (project, ← pairs) (rw known.project at stands)
 
 -- the root stands for every feasible schedule
 pub root_covers : (p : Problem) (root : Subproblem) → IsRootOf p root → IsCovered p None (root ∷ [])
@@ -111,8 +127,13 @@ root_covers p root is_root = record {
 pub take_keeps : (old new : SearchState) → IsTake old new → IsSoundState old → IsSoundState new
 take_keeps old new take sound =
     let reached : IsCovered old.project old.best (take.rest ++ take.node ∷ []) = drops_keep old.project old.best old.nodes (take.rest ++ take.node ∷ []) take.last_under sound in
-    let covered : IsCovered old.project old.best (take.rest ++ take.report.node ∷ []) = rw take.expanded.node_is reached in
-    rw (take.project, take.nodes) (expansion_keeps old.project old.best new.best take.rest take.report take.is_report.fair take.expanded.ceiling_is take.best covered)
+    let node : IsNodeOf old.project take.node = All-contains (IsNodeOf old.project) (take.rest ++ take.node ∷ []) take.node reached.of_nodes (Contains-push take.rest take.node) in
+    rw (take.project, take.nodes)
+    (expansion_keeps old.project old.best new.best take.rest take.node take.report take.is_report.fair
+    (ap (λ (n : Subproblem). n.project) take.expanded.node_is ∙ node.project)
+    (ap (λ (n : Subproblem). n.pairs) (sym take.expanded.node_is))
+    (λ s shorter. below_from_shorter old.best take.report.ceiling s take.expanded.ceiling_is shorter)
+    take.best reached)
 
 -- ---- the least bound of the nodes
 

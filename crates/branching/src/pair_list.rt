@@ -1,4 +1,4 @@
-ghost use Rattle.std.specs.Prelude.{◌≡◌, [], IfOk, slice_get, ◌++◌};
+ghost use Rattle.std.specs.Prelude.{◌≡◌, ◌↔◌, [], IfOk, IsTrue, length, slice_get, ◌++◌};
 ghost use Rattle.std.specs.Arc.{arc_value};
 
 use network::Pair;
@@ -50,6 +50,28 @@ impl PairList {
             Some(later) => self.last.get(later).copied(),
             None => self.before.get(place).copied(),
         }
+    }
+
+    /// How many pairs there are.
+    pub fn len(&self) -> usize
+        ensures { result ≡ length self.now }
+    {
+        self.before.len() + self.last.len()
+    }
+
+    /// Whether both are the same pairs in the same order, whatever they share.
+    pub fn is_same(&self, other: &PairList) -> bool
+        ensures { IsTrue result ↔ (self.now ≡ other.now) }
+    {
+        if self.len() != other.len() {
+            return false;
+        }
+        for place in 0..self.len() {
+            if self.get(place) != other.get(place) {
+                return false;
+            }
+        }
+        true
     }
 
     /// The pairs as one list.
