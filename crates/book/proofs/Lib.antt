@@ -1,0 +1,12 @@
+pub mod Accepting
+pub mod Covering
+pub mod Filing
+pub mod InHand
+pub mod LeastNumber
+pub mod Lists
+pub mod Names
+pub mod Opened
+pub mod Ranks
+pub mod Runs
+pub mod Steps
+pub mod Verdicts

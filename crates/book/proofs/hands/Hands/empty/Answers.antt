@@ -1,0 +1,7 @@
+use Rattle.std.proofs.Common.{None}
+use Rattle.std.proofs.lemmas.List.{map-set}
+use Rattle.book.specs.Hands.{hand_of}
+use Rattle.book.proofs.hands.Hands.empty.Goals as goal
+
+pub returns : goal.returns
+returns c = rw (← c.self.view_is) (map-set hand_of c.self.inside.hands.items c.args.worker None)

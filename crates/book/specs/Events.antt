@@ -1,0 +1,28 @@
+-- Whole lists of events.
+use Rattle.std.specs.Prelude.{◌≡◌, true, List, [], ◌∷◌}
+use Rattle.book.specs.State.{BookState}
+use Rattle.book.specs.Offering.{Offers}
+use Rattle.book.specs.Taking.{Takes}
+use Rattle.book.specs.CheckingIn.{ChecksIn}
+use Rattle.book.specs.GivingBack.{GivesBack}
+use Rattle.book.specs.declared.events.Event.{Event}
+use Rattle.book.specs.declared.events.Event.TheVariants.{Take, CheckIn, GiveBack, Offer, Halt}
+use Rattle.book.specs.declared.events.Reply.{Reply}
+use Rattle.book.specs.declared.events.Reply.TheVariants.{Taken, CheckedIn, GivenBack, Offered, Halted}
+
+-- the event has this reply, and leads from the one state to the other
+abbrev pub Step : BookState → Event → Reply → BookState → Type 0
+Step old (Take worker) (Taken answer) new = Takes old worker answer new
+Step old (CheckIn name report) (CheckedIn answer) new = ChecksIn old name report answer new
+Step old (GiveBack name) (GivenBack answer) new = GivesBack old name answer new
+Step old (Offer schedule) (Offered answer) new = Offers old schedule answer new
+Step old Halt Halted new = new ≡ record old { halted = true }
+-- no event has a reply of another kind
+Step old event reply new = ⊥
+
+-- the events have these replies, one step after the other
+abbrev pub Run : BookState → List Event → List Reply → BookState → Type 0
+Run old [] [] new = new ≡ old
+Run old (event ∷ events) (reply ∷ replies) new = (between : BookState) × Step old event reply between × Run between events replies new
+Run old [] (reply ∷ replies) new = ⊥
+Run old (event ∷ events) [] new = ⊥

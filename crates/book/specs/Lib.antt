@@ -1,0 +1,14 @@
+pub mod CheckingIn
+pub mod Counts
+pub mod Events
+pub mod GivingBack
+pub mod Hands
+pub mod Offering
+pub mod OpenNodes
+pub mod Opening
+pub mod Sound
+pub mod State
+pub mod Taking
+pub mod Trail
+pub mod Verdicts
+pub mod Views

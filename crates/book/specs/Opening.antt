@@ -1,0 +1,50 @@
+-- What a book is when it is opened.
+use Rattle.std.specs.Prelude.{◌≡◌, ◌⊎◌, ◌≤◌, ℕ, false, List, [], ◌∷◌, length, replicate, None, Result, Ok, Err}
+use Rattle.network.specs.Problem.{Problem, arcs_of}
+use Rattle.network.specs.Walk.{HasPositiveCycle}
+use Rattle.branching.specs.Subproblem.{Subproblem}
+use Rattle.branching.specs.Covered.{IsRootOf}
+use Rattle.branching.specs.declared.search.TheConstants.{MAX_TAKES}
+use Rattle.book.specs.State.{Named, BookState}
+use Rattle.book.specs.declared.answers.TheConstants.{MAX_WORKERS}
+use Rattle.book.specs.declared.answers.BookFault.{BookFault}
+use Rattle.book.specs.declared.answers.BookFault.TheVariants as fault
+
+-- from 1 to 64 workers, from 1 to 1,000,000,000 takes
+pub record AreAllowed (workers takes : ℕ) : Type 0 where
+  pub some_worker : 1 ≤ workers
+  pub few_workers : workers ≤ MAX_WORKERS
+  pub some_take : 1 ≤ takes
+  pub few_takes : takes ≤ MAX_TAKES
+
+-- a book with these open nodes, with empty hands and without a schedule
+abbrev pub new_state : Problem → ℕ → ℕ → List Named → BookState
+new_state p workers takes nodes =
+    record {
+      project = p;
+      best = None;
+      waiting = nodes;
+      hands = replicate workers None;
+      opened = length nodes;
+      checked = 0;
+      cut = 0;
+      taken = 0;
+      limit = takes;
+      halted = false;
+      trail = None;
+    }
+
+-- the root under name 0; where a closed walk of the project's rules has positive weight, no node
+abbrev pub AreFirst : Problem → List Named → Type 0
+AreFirst p nodes =
+    ((root : Subproblem) × IsRootOf p root × (nodes ≡ record { name = 0; node = root } ∷ []))
+    ⊎ (HasPositiveCycle (arcs_of p []) × (nodes ≡ []))
+
+-- the first nodes are open
+abbrev pub IsOpened : Problem → ℕ → ℕ → BookState → Type 0
+IsOpened p workers takes new = (nodes : List Named) × AreFirst p nodes × (new ≡ new_state p workers takes nodes)
+
+abbrev pub Opens : Problem → ℕ → ℕ → Result BookState BookFault → Type 0
+Opens p workers takes (Ok new) = AreAllowed workers takes × IsOpened p workers takes new
+Opens p workers takes (Err fault.Limit) = ¬ AreAllowed workers takes
+Opens p workers takes (Err fault.Memory) = AreAllowed workers takes

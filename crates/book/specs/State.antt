@@ -1,0 +1,44 @@
+-- The state of the search book: the best schedule so far, the nodes that are open or in hand, and counts.
+use Rattle.std.specs.Prelude.{ℕ, ℤ, Bool, List, [], ◌∷◌, ◌++◌, Option, Some, None}
+use Rattle.network.specs.Problem.{Problem}
+use Rattle.network.specs.Schedule.{ScheduleOf}
+use Rattle.branching.specs.Subproblem.{Subproblem}
+use Rattle.branching.specs.Covered.{ceiling_of}
+use Rattle.book.specs.Trail.{Entry}
+
+-- a node that is open or in hand, and the name that it was opened under
+pub record Named : Type 0 where
+  pub name : ℕ
+  pub node : Subproblem
+
+pub record BookState : Type 0 where
+  pub project : Problem
+  pub best : Option ScheduleOf
+  -- the open nodes, in any order
+  pub waiting : List Named
+  -- what each worker has in hand
+  pub hands : List (Option Named)
+  -- how many nodes were opened, were checked in, were cut, and were taken
+  pub opened : ℕ
+  pub checked : ℕ
+  pub cut : ℕ
+  pub taken : ℕ
+  -- how many may be taken
+  pub limit : ℕ
+  pub halted : Bool
+  -- what became of each node; none where that isn't kept
+  pub trail : Option (List Entry)
+
+-- the nodes in hand
+abbrev pub in_hand : List (Option Named) → List Named
+in_hand [] = []
+in_hand (None ∷ hands) = in_hand hands
+in_hand (Some held ∷ hands) = held ∷ in_hand hands
+
+-- the nodes that are open or in hand
+abbrev pub live : BookState → List Named
+live s = s.waiting ++ in_hand s.hands
+
+-- the makespan of the best schedule
+abbrev pub best_makespan : BookState → Option ℤ
+best_makespan s = ceiling_of s.best

@@ -1,0 +1,27 @@
+-- The fields of this crate's types, as contracts see them.
+use Rattle.std.specs.Prelude.{None}
+use Rattle.std.specs.Arc.{arc_value}
+use Rattle.book.specs.State.{BookState}
+use Rattle.book.specs.Sound.{IsSound, IsWithinLimits}
+use Rattle.book.specs.declared.book.Book.TheInside.{Inside}
+
+abbrev pub state_of : Inside → BookState
+state_of b =
+    record {
+      project = arc_value b.project;
+      best = b.best;
+      waiting = b.waiting;
+      hands = b.hands;
+      opened = b.opened;
+      checked = b.checked;
+      cut = b.cut;
+      taken = b.taken;
+      limit = b.limit;
+      halted = b.halted;
+      trail = None;
+    }
+
+-- what a book always keeps
+pub record IsKept (s : BookState) : Type 0 where
+  pub sound : IsSound s
+  pub within : IsWithinLimits s

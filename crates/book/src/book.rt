@@ -1,0 +1,345 @@
+ghost use Rattle.std.specs.Prelude.{◌≡◌, ◌↔◌, ◌<◌, ℕ, IsTrue, true, false, length, IfOk, IfErr, option_map};
+ghost use Rattle.std.specs.Arc.{arc_value};
+ghost use Rattle.book.specs.State.{best_makespan};
+ghost use Rattle.book.specs.Sound.{IsSound, IsWithinLimits};
+ghost use Rattle.book.specs.Opening.{AreAllowed, AreFirst, Opens};
+ghost use Rattle.book.specs.Offering.{Offers};
+ghost use Rattle.book.specs.Taking.{IsFull, Cuts, HandsOut, Takes};
+ghost use Rattle.book.specs.CheckingIn.{MayCheckIn, Judges, Accepts, ChecksIn};
+ghost use Rattle.book.specs.GivingBack.{GivesBack};
+ghost use Rattle.book.specs.Counts.{counts_of};
+ghost use Rattle.book.specs.Verdicts.{IsLeast, known_bounds, IsBoundFor, IsTrueOf, IsVerdictOf};
+
+use crate::answers::{
+    BookFault, CheckFault, CheckedIn, MAX_WORKERS, OtherProject, Take, Ticket, Verdict,
+};
+use crate::counts::Counts;
+use crate::hands::Hands;
+use crate::least::lesser;
+use crate::limits::{is_below, is_in_time, makespan_of, shorter_found};
+use crate::open_nodes::OpenNodes;
+use branching::{MAX_TAKES, Report, root};
+use longest_path::PathFault;
+use network::{Project, Schedule};
+use std::alloc::{AllocError, Global};
+use std::marker::Model;
+use std::sync::Arc;
+
+/// The book of a search. Its workers are 0 to one less than their number; the nodes that it opened have the names 0, 1,
+/// 2 and so on, in the order in which they were opened.
+#[derive(Drop, Debug)]
+pub struct Book {
+    project: Arc<Project>,
+    best: Option<Schedule>,
+    waiting: OpenNodes,
+    hands: Hands,
+    opened: u64,
+    checked: u64,
+    cut: u64,
+    taken: u64,
+    limit: u64,
+    halted: bool,
+}
+
+impl Model for Book {
+    ghost use Rattle.book.specs.State.{BookState};
+
+    ghost Value = { BookState };
+
+    ghost use Rattle.book.specs.Views.{state_of, IsKept};
+
+    ghost view = { state_of };
+
+    ghost invariant = { λ b. IsKept (state_of b) };
+}
+
+/// Whether a book may have so many workers and takes.
+fn are_allowed(workers: usize, takes: u64) -> bool
+    ensures { IsTrue result ↔ AreAllowed workers takes }
+{
+    (1..=MAX_WORKERS).contains(&workers) && (1..=MAX_TAKES).contains(&takes)
+}
+
+/// The root of a project under name 0; no node where a closed walk of the project's rules has positive weight.
+fn first_nodes(alloc: Global, project: &Arc<Project>) -> Result<OpenNodes, AllocError>
+    ensures { IfOk result (AreFirst (arc_value project.now)) }
+{
+    let root = match root(alloc, Arc::try_clone(project)?) {
+        Ok(root) => root,
+        Err(PathFault::PositiveCycle { .. }) => return Ok(OpenNodes::new(alloc)),
+        Err(PathFault::Memory) => return Err(AllocError),
+    };
+    let mut nodes = OpenNodes::new(alloc);
+    nodes.insert(0, root.lean())?;
+    Ok(nodes)
+}
+
+/// Whether the projects are the same, by value.
+fn is_same_project(left: &Project, right: &Project) -> bool
+    ensures { IsTrue result ↔ (left.now ≡ right.now) }
+{
+    left == right
+}
+
+impl Book {
+    /// A book for a project, with 1 to [`MAX_WORKERS`] workers, that allows 1 to [`MAX_TAKES`] takes. Its root is open;
+    /// where the project's rules have a closed walk of positive weight, so that there is no schedule, nothing is.
+    pub fn open(
+        alloc: Global,
+        project: Arc<Project>,
+        workers: usize,
+        takes: u64,
+    ) -> Result<Book, BookFault>
+        ensures opens { Opens (arc_value project) workers takes result }
+        ensures sound { IfOk result IsSound }
+    {
+        if !are_allowed(workers, takes) {
+            return Err(BookFault::Limit);
+        }
+        let hands = Hands::new(alloc, workers)?;
+        let waiting = first_nodes(alloc, &project)?;
+        let opened = waiting.len() as u64;
+        Ok(Book {
+            project,
+            best: None,
+            waiting,
+            hands,
+            opened,
+            checked: 0,
+            cut: 0,
+            taken: 0,
+            limit: takes,
+            halted: false,
+        })
+    }
+
+    /// Offers a schedule: whether it was strictly shorter than the best, and so became the best. One of another project is
+    /// handed back.
+    pub fn offer(&mut self, schedule: Schedule) -> Result<bool, (Schedule, OtherProject)>
+        ensures step { Offers self.old schedule result self.new }
+        ensures sound { IsSound self.new }
+    {
+        if !is_same_project(schedule.project(), &self.project) {
+            return Err((schedule, OtherProject));
+        }
+        if !is_below(schedule.makespan(), makespan_of(&self.best)) {
+            return Ok(false);
+        }
+        self.best = Some(schedule);
+        Ok(true)
+    }
+
+    /// Ends the search: no node is handed out from now on.
+    pub fn halt(&mut self)
+        ensures step { self.new ≡ record self.old { halted = true } }
+        ensures sound { IsSound self.new }
+    {
+        self.halted = true;
+    }
+
+    /// Cuts the open nodes where none of them can lead to a schedule shorter than the best.
+    fn cut_settled(&mut self)
+        ensures { Cuts self.old self.new }
+    {
+        let Some(bound) = self.waiting.least_bound() else {
+            return;
+        };
+        if is_below(bound, makespan_of(&self.best)) {
+            return;
+        }
+        self.cut += self.waiting.len() as u64;
+        self.waiting.clear();
+    }
+
+    /// Moves the first open node into the worker's hand.
+    fn hand_out(&mut self, worker: usize) -> Ticket
+        requires some { 0 < length self.old.waiting }
+        requires free { IsFull self.old.hands worker false }
+        requires within { self.old.taken < self.old.limit }
+        ensures step { HandsOut self.old worker result self.new }
+        ensures sound { IsSound self.new }
+    {
+        let Some((held, node)) = self.waiting.pop_first() else {
+            unreachable!();
+        };
+        let name = held.name;
+        self.hands.fill(worker, held);
+        self.taken += 1;
+        Ticket {
+            name,
+            node,
+            ceiling: makespan_of(&self.best),
+        }
+    }
+
+    /// The next node for a worker: that of least bound, among these that of the greatest name. The answers that are no
+    /// node come in the order of [`Take`]. It takes no memory.
+    pub fn take(&mut self, worker: usize) -> Take
+        ensures step { Takes self.old worker result self.new }
+        ensures sound { IsSound self.new }
+    {
+        match self.hands.is_full(worker) {
+            None => return Take::NoSuchWorker,
+            Some(true) => return Take::HandsFull,
+            Some(false) => {}
+        }
+        if self.halted {
+            return Take::Halted;
+        }
+        self.cut_settled();
+        if self.waiting.len() == 0 {
+            if self.hands.count() == 0 {
+                return Take::Done;
+            }
+            return Take::Idle;
+        }
+        if self.taken == self.limit {
+            return Take::LimitReached;
+        }
+        Take::Ticket(self.hand_out(worker))
+    }
+
+    /// The worker whose node the report is on.
+    fn judge(&self, name: u64, report: &Report) -> Result<usize, CheckFault>
+        ensures judged { Judges self.now name report.now result }
+        ensures sound { IsSound self.now }
+    {
+        if name >= self.opened {
+            return Err(CheckFault::Unknown);
+        }
+        let Some((worker, node)) = self.hands.find(name) else {
+            return Err(CheckFault::NotInHand);
+        };
+        if !node.pairs().is_same(report.node().pairs()) {
+            return Err(CheckFault::OtherNode);
+        }
+        if !is_same_project(report.node().project(), &self.project) {
+            return Err(CheckFault::OtherProject);
+        }
+        let best = makespan_of(&self.best);
+        if !is_in_time(report.ceiling(), best) {
+            return Err(CheckFault::AheadOfBook { best });
+        }
+        Ok(worker)
+    }
+
+    /// Takes the node out of the worker's hand and opens its kids. Where memory runs out, the report comes back.
+    fn accept(&mut self, worker: usize, report: Report) -> Result<CheckedIn, Report>
+        requires { (name : ℕ) × MayCheckIn self.old worker name report }
+        ensures ok { IfOk result (λ done. Accepts self.old worker report done self.new) }
+        ensures err { IfErr result (λ back. (back ≡ report) × (self.new ≡ self.old)) }
+        ensures sound { IsSound self.new }
+    {
+        let best = makespan_of(&self.best);
+        let shorter = shorter_found(&report, best);
+        let limit = shorter.or(best);
+        let Ok(opened) = self.waiting.insert_kids(report.kids(), limit, self.opened) else {
+            return Err(report);
+        };
+        self.hands.empty(worker);
+        self.checked += 1;
+        self.opened += opened;
+        if shorter.is_none() {
+            let improved = false;
+            return Ok(CheckedIn { opened, improved });
+        }
+        let (found, _) = report.into_parts();
+        self.best = found;
+        let improved = true;
+        Ok(CheckedIn { opened, improved })
+    }
+
+    /// Checks in the report on the node in hand under a name, whichever worker holds it: what was found becomes the best
+    /// where it is strictly shorter, and then the kids whose bounds are below the best are opened, in their order.
+    ///
+    /// A refused report is handed back, and the book is as it was. Faults are tested in the order of [`CheckFault`].
+    pub fn check_in(&mut self, name: u64, report: Report) -> Result<CheckedIn, (Report, CheckFault)>
+        ensures step { ChecksIn self.old name report result self.new }
+        ensures sound { IsSound self.new }
+    {
+        let worker = match self.judge(name, &report) {
+            Ok(worker) => worker,
+            Err(fault) => return Err((report, fault)),
+        };
+        match self.accept(worker, report) {
+            Ok(done) => Ok(done),
+            Err(report) => Err((report, CheckFault::Memory)),
+        }
+    }
+
+    /// Gives the node in hand under a name back to the open ones, with its name. It fails with
+    /// [`CheckFault::Unknown`], [`CheckFault::NotInHand`] or [`CheckFault::Memory`], and the book is then as it was.
+    pub fn give_back(&mut self, name: u64) -> Result<(), CheckFault>
+        ensures step { GivesBack self.old name result self.new }
+        ensures sound { IsSound self.new }
+    {
+        if name >= self.opened {
+            return Err(CheckFault::Unknown);
+        }
+        let (worker, node) = self.hands.find(name).ok_or(CheckFault::NotInHand)?;
+        if self.waiting.insert(name, node).is_err() {
+            return Err(CheckFault::Memory);
+        }
+        self.hands.empty(worker);
+        Ok(())
+    }
+
+    /// The project.
+    pub fn project(&self) -> &Arc<Project>
+        ensures project { arc_value result.now ≡ self.now.project }
+        ensures sound { IsSound self.now }
+    {
+        &self.project
+    }
+
+    /// How many nodes there are and were.
+    pub fn counts(&self) -> Counts
+        ensures counts { result ≡ counts_of self.now }
+        ensures sound { IsSound self.now }
+        ensures within { IsWithinLimits self.now }
+    {
+        Counts::new(
+            self.opened,
+            self.checked,
+            self.cut,
+            self.taken,
+            self.waiting.len() as u64,
+            self.hands.count() as u64,
+        )
+    }
+
+    /// The best schedule so far.
+    pub fn best(&self) -> Option<&Schedule>
+        ensures best { option_map (λ schedule. schedule.now) result ≡ self.now.best }
+        ensures sound { IsSound self.now }
+    {
+        self.best.as_ref()
+    }
+
+    /// The least of the best makespan and the bounds of the nodes open or in hand, in periods: no feasible schedule is
+    /// shorter. None where there is none of these, and then there is no feasible schedule.
+    pub fn lower_bound(&self) -> Option<i64>
+        ensures least { IsLeast (known_bounds self.now) result }
+        ensures bound { IsBoundFor self.now.project result }
+    {
+        lesser(
+            makespan_of(&self.best),
+            lesser(self.waiting.least_bound(), self.hands.least_bound()),
+        )
+    }
+
+    /// What the book says of its project.
+    pub fn verdict(&self) -> Verdict
+        ensures verdict { IsVerdictOf self.now result }
+        ensures holds { IsTrueOf self.now.project result }
+    {
+        let Some(bound) = self.lower_bound() else {
+            return Verdict::NoSchedule;
+        };
+        if self.waiting.len() == 0 && self.hands.count() == 0 {
+            return Verdict::Optimal { makespan: bound };
+        }
+        let best = makespan_of(&self.best);
+        Verdict::Open { best, bound }
+    }
+}

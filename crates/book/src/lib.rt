@@ -1,0 +1,26 @@
+//! The book of a branch and bound search: the best schedule so far, the nodes that are open or in the hands of workers,
+//! and counts.
+//!
+//! A [`Book`] is a machine: a worker takes a node, expands it, and checks its report in. Whatever is called, and in
+//! whatever order, the book is sound: its best is a feasible schedule, each shorter feasible schedule is one that some
+//! node open or in hand stands for, and nodes opened are those checked in, cut, open and in hand. So a book with no node
+//! open or in hand proves that its best is a shortest schedule, or that there is none.
+#![tactic(auto)]
+
+mod answers;
+mod book;
+mod counts;
+mod events;
+mod hands;
+mod least;
+mod limits;
+mod open_nodes;
+#[cfg(test)]
+mod tests;
+
+pub use answers::{
+    BookFault, CheckFault, CheckedIn, MAX_WORKERS, OtherProject, Take, Ticket, Verdict,
+};
+pub use book::Book;
+pub use counts::Counts;
+pub use events::{Event, Reply, run_events};

@@ -1,0 +1,152 @@
+ghost use Rattle.std.specs.Prelude.{◌≡◌, ◌+◌, ◌<◌, ◌^◌, [], ◌∷◌, map, length, IfOk, OnOk, OnErr, IfSome, IfNone};
+ghost use Rattle.std.specs.Arc.{arc_value};
+ghost use Rattle.std.specs.List.{All, filter};
+ghost use Rattle.book.specs.State.{Named};
+ghost use Rattle.book.specs.Sound.{AreNamedBelow};
+ghost use Rattle.book.specs.Taking.{GoesBefore};
+ghost use Rattle.book.specs.Verdicts.{IsLeast, bounds_of};
+ghost use Rattle.book.specs.Hands.{held_node};
+ghost use Rattle.book.specs.OpenNodes.{IsNamedOtherThan, Inserts, InsertsKids, is_older};
+
+use crate::hands::Held;
+use crate::limits::is_below;
+use branching::Lean;
+use std::alloc::{AllocError, Global};
+use std::cmp::Reverse;
+use std::collections::BTreeMap;
+use std::marker::Model;
+use std::sync::Arc;
+
+/// The place of an open node: the least bound first, among these the greatest name.
+#[derive(Clone, Copy, Debug, PartialEq, Eq, PartialOrd, Ord)]
+struct Rank {
+    bound: i64,
+    name: Reverse<u64>,
+}
+
+/// An open node. It has two owners, one for the hand that it goes into and one for the ticket, so that to take it needs
+/// no memory.
+#[derive(Drop, Debug)]
+struct OpenNode {
+    node: Arc<Lean>,
+    twin: Arc<Lean>,
+}
+
+impl OpenNode {
+    fn into_owners(self) -> (Arc<Lean>, Arc<Lean>)
+        ensures { result ≡ (self.node, self.twin) }
+    {
+        (self.node, self.twin)
+    }
+}
+
+/// The open nodes, in the order in which they are taken.
+#[derive(Drop, Debug)]
+pub(crate) struct OpenNodes {
+    nodes: BTreeMap<Rank, OpenNode>,
+}
+
+impl Model for OpenNodes {
+    ghost use Rattle.std.specs.Prelude.{List, map};
+    ghost use Rattle.std.specs.List.{All};
+    ghost use Rattle.book.specs.State.{Named};
+    ghost use Rattle.book.specs.OpenNodes.{open_node, IsFiled};
+
+    ghost Value = { List Named };
+
+    ghost view = { λ o. map open_node o.nodes.entries };
+
+    ghost invariant = { λ o. All IsFiled o.nodes.entries };
+}
+
+impl OpenNodes {
+    /// No node.
+    pub(crate) fn new(alloc: Global) -> OpenNodes
+        ensures { result ≡ [] }
+    {
+        OpenNodes {
+            nodes: BTreeMap::new(alloc),
+        }
+    }
+
+    pub(crate) fn len(&self) -> usize
+        ensures { result ≡ length self.now }
+    {
+        self.nodes.len()
+    }
+
+    /// The least bound.
+    pub(crate) fn least_bound(&self) -> Option<i64>
+        ensures { IsLeast (bounds_of self.now) result }
+    {
+        let (rank, _) = self.nodes.first_key_value()?;
+        Some(rank.bound)
+    }
+
+    /// Puts a node in under a name of its own. Where memory runs out, nothing changes.
+    pub(crate) fn insert(&mut self, name: u64, node: &Arc<Lean>) -> Result<(), AllocError>
+        requires { All (IsNamedOtherThan name) self.old }
+        ensures ok { OnOk result (Inserts name (arc_value node.now) self.old self.new) }
+        ensures err { OnErr result (self.new ≡ self.old) }
+    {
+        let bound = node.bound();
+        let opened = OpenNode {
+            node: Arc::try_clone(node)?,
+            twin: Arc::try_clone(node)?,
+        };
+        let name = Reverse(name);
+        self.nodes.insert(Rank { bound, name }, opened)?;
+        Ok(())
+    }
+
+    /// Puts those kids in whose bounds are below the limit, in their order, under the names from the first on. Where
+    /// memory runs out, nothing changes.
+    pub(crate) fn insert_kids(
+        &mut self,
+        kids: &[Arc<Lean>],
+        limit: Option<i64>,
+        first: u64,
+    ) -> Result<u64, AllocError>
+        requires older { AreNamedBelow first self.old }
+        requires names { first + length kids.now < 2 ^ 64 }
+        ensures ok { IfOk result (λ count. InsertsKids first limit (map arc_value kids.now) count self.old self.new) }
+        ensures err { OnErr result (self.new ≡ self.old) }
+    {
+        let mut next = first;
+        for kid in kids {
+            if !is_below(kid.bound(), limit) {
+                continue;
+            }
+            if self.insert(next, kid).is_err() {
+                self.keep_older(first);
+                return Err(AllocError);
+            }
+            next += 1;
+        }
+        Ok(next - first)
+    }
+
+    /// Takes out all nodes but those of names below the first.
+    fn keep_older(&mut self, first: u64)
+        ensures { self.new ≡ filter (is_older first) self.old }
+    {
+        self.nodes.retain(|rank, _| rank.name.0 < first);
+    }
+
+    /// Takes out the first node: once for a hand, and once for a ticket.
+    pub(crate) fn pop_first(&mut self) -> Option<(Held, Arc<Lean>)>
+        ensures first { IfSome result (λ first. (self.old ≡ held_node first.0 ∷ self.new) × All (GoesBefore (held_node first.0)) self.new × (arc_value first.1 ≡ arc_value first.0.node)) }
+        ensures none { IfNone result ((self.old ≡ []) × (self.new ≡ [])) }
+    {
+        let (rank, opened) = self.nodes.pop_first()?;
+        let (node, twin) = opened.into_owners();
+        let name = rank.name.0;
+        Some((Held { name, node }, twin))
+    }
+
+    pub(crate) fn clear(&mut self)
+        ensures { self.new ≡ [] }
+    {
+        self.nodes.clear();
+    }
+}
