@@ -16,8 +16,15 @@ build/psmax: $(SOURCES)
 test:
 	sh tests/all
 
-bench: build/psmax
+build/book_bench: $(SOURCES)
+	cd crates/book_bench && rt run -- 1 < stdin > /dev/null
+	mkdir -p build
+	cp crates/book_bench/out/book_bench build/book_bench.new
+	mv build/book_bench.new build/book_bench
+
+bench: build/psmax build/book_bench
 	python3 bench/run.py build/psmax
+	python3 bench/book.py build/book_bench
 
 # A program that stands already is installed as it is: that needs no toolchain.
 install:

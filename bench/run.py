@@ -139,4 +139,5 @@ def main():
     searches(programs, UNFORCED)
 
 
-main()
+if __name__ == "__main__":
+    main()

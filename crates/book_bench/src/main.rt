@@ -1,0 +1,109 @@
+//! Measures the search book: one worker searches the project of standard input until so many nodes are open.
+//!
+//! The words are that number and, if times are wanted, how many nodes are taken after that. The counts are printed, and
+//! with a second word the nanoseconds of a take and of a check-in among those nodes, on average.
+#![tactic(auto)]
+
+use anyhow::{Context, bail};
+use book::{Book, Take};
+use branching::{MAX_TAKES, expand, rebuild};
+use sch_reader::read_sch;
+use std::env;
+use std::io::Read;
+use std::sync::Arc;
+use std::time::{Duration, Instant};
+
+/// How long the calls of a book took.
+#[derive(Clone, Copy)]
+struct Spent {
+    takes: Duration,
+    check_ins: Duration,
+}
+
+impl Spent {
+    fn new() -> Spent {
+        Spent {
+            takes: Duration::ZERO,
+            check_ins: Duration::ZERO,
+        }
+    }
+}
+
+/// The worker takes a node, expands it and checks its report in. False where no node is handed out.
+fn search_once(rt: &HostRuntime, book: &mut Book, spent: &mut Spent) -> anyhow::Result<bool> {
+    let start = Instant::now(rt)?;
+    let answer = book.take(0);
+    spent.takes = spent.takes.saturating_add(start.elapsed(rt)?);
+    let Take::Ticket(ticket) = answer else {
+        return Ok(false);
+    };
+    let node = rebuild(rt.alloc(), &ticket.node)?;
+    let report = expand(rt.alloc(), &node, ticket.ceiling)?;
+    let start = Instant::now(rt)?;
+    let answer = book.check_in(ticket.name, report);
+    spent.check_ins = spent.check_ins.saturating_add(start.elapsed(rt)?);
+    if answer.is_err() {
+        bail!("a report was refused");
+    }
+    Ok(true)
+}
+
+/// Lets the worker search until so many nodes are open.
+fn fill(rt: &HostRuntime, book: &mut Book, nodes: u64) -> anyhow::Result<()> {
+    let mut spent = Spent::new();
+    for _ in 0..MAX_TAKES {
+        if book.counts().waiting() >= nodes || !search_once(rt, book, &mut spent)? {
+            break;
+        }
+    }
+    Ok(())
+}
+
+/// Lets the worker search so many nodes, and prints how long the calls took.
+fn measure(rt: &HostRuntime, book: &mut Book, rounds: u64) -> anyhow::Result<()> {
+    let mut spent = Spent::new();
+    let mut done: u128 = 0;
+    for _ in 0..rounds {
+        if !search_once(rt, book, &mut spent)? {
+            break;
+        }
+        done = done.saturating_add(1);
+    }
+    if done > 0 {
+        let take = spent.takes.as_nanos() / done;
+        let check_in = spent.check_ins.as_nanos() / done;
+        println!(rt; "of {done} nodes: take {take} ns, check-in {check_in} ns")?;
+    }
+    Ok(())
+}
+
+fn print_counts(rt: &HostRuntime, book: &Book) -> anyhow::Result<()> {
+    let counts = book.counts();
+    let (opened, checked, cut) = (counts.opened(), counts.checked(), counts.cut());
+    let (taken, waiting, hand) = (counts.taken(), counts.waiting(), counts.hand());
+    println!(rt;
+        "opened {opened}, checked in {checked}, cut {cut}, taken {taken}, open {waiting}, in hand {hand}"
+    )?;
+    Ok(())
+}
+
+fn main(rt: HostRuntime) -> anyhow::Result<()> {
+    let alloc = rt.alloc();
+    let words = env::args(&rt)?.collect::<Vec<String>>(alloc)?;
+    let nodes = words.get(1).context("how many nodes?")?.parse::<u64>()?;
+    let mut text = Vec::new(alloc);
+    rt.reader().read_to_end(&mut text)?;
+    let Ok(project) = read_sch(alloc, &text) else {
+        bail!("standard input is no project");
+    };
+    let Ok(mut book) = Book::open(alloc, Arc::new(alloc, project)?, 1, MAX_TAKES) else {
+        bail!("the book can't be opened");
+    };
+    fill(&rt, &mut book, nodes)?;
+    print_counts(&rt, &book)?;
+    if let Some(rounds) = words.get(2) {
+        measure(&rt, &mut book, rounds.parse::<u64>()?)?;
+        print_counts(&rt, &book)?;
+    }
+    Ok(())
+}
