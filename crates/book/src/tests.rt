@@ -1,15 +1,12 @@
-ghost use Rattle.std.specs.Prelude.{IsTrue};
-ghost use Rattle.network.specs.Limits.{AreStarts};
-
 use crate::{Book, CheckFault, CheckedIn, Take, Ticket};
 use branching::{Lean, Report, expand, rebuild, root};
-use network::{MAX_START, Project, Schedule};
+use network::{Project, Schedule};
 use schedule_check::accept;
 use std::alloc::Global;
 use std::process::Abort;
 use std::sync::Arc;
 use std::test::Fail;
-use test_projects::one_machine;
+use test_projects::{are_starts, one_machine};
 
 mod events;
 mod opening;
@@ -50,12 +47,59 @@ fn check_in(book: &mut Book, name: u64, report: Report) -> Result<CheckedIn, Che
     }
 }
 
+/// Takes the root, and checks the report on it in.
+fn split_root(alloc: Global, book: &mut Book) -> Result<CheckedIn, Fail> {
+    let root = take(book, 0)?;
+    let report = report_on(alloc, &root.node, None)?;
+    Ok(check_in(book, 0, report)?)
+}
+
 /// A book of two activities on one machine, whose root was checked in.
 fn split_book(alloc: Global, workers: usize) -> Result<Book, Fail> {
     let mut book = open(alloc, one_machine(alloc, &[])?, workers)?;
-    let root = take(&mut book, 0)?;
-    check_in(&mut book, 0, report_on(alloc, &root.node, None)?)?;
+    split_root(alloc, &mut book)?;
     Ok(book)
+}
+
+/// A book of two activities on one machine, whose root is in the first worker's hand.
+fn taken_book(alloc: Global, workers: usize) -> Result<Book, Fail> {
+    let mut book = open(alloc, one_machine(alloc, &[])?, workers)?;
+    take(&mut book, 0)?;
+    Ok(book)
+}
+
+/// A word for what a worker is told.
+fn word_of_take(answer: &Take) -> &'static str {
+    match answer {
+        Take::Ticket(ticket) => match ticket.name {
+            0 => "root",
+            1 => "first",
+            2 => "second",
+            _ => "another",
+        },
+        Take::NoSuchWorker => "nobody",
+        Take::HandsFull => "full",
+        Take::Halted => "halted",
+        Take::Done => "done",
+        Take::Idle => "idle",
+        Take::LimitReached => "limit",
+    }
+}
+
+/// That an offered schedule of two activities on one machine becomes the best, or that it doesn't.
+fn assert_offered(
+    rt: &impl Abort,
+    alloc: Global,
+    book: &mut Book,
+    starts: &[i64],
+    shorter: bool,
+) -> Result<(), Fail> {
+    let offered = schedule(rt, alloc, one_machine(alloc, &[])?, starts)?;
+    match book.offer(offered) {
+        Ok(improved) => assert_eq!(rt; improved, shorter),
+        Err(_) => return Err("the schedule is of another project".into()),
+    }
+    Ok(())
 }
 
 /// How many nodes were opened, checked in, cut and taken, and are open and in hand.
@@ -74,16 +118,6 @@ fn counts_of(book: &Book) -> [u64; 6] {
 /// The starts of the best schedule.
 fn best_starts(book: &Book) -> Result<&[i64], Fail> {
     Ok(book.best().ok_or("no schedule was found")?.starts())
-}
-
-/// Whether there is a start within the limits for each activity.
-fn are_starts(project: &Project, starts: &[i64]) -> bool
-    ensures { IsTrue result → AreStarts project.now starts.now }
-{
-    starts.len() == project.activity_count()
-        && starts
-            .iter()
-            .all(|start| -MAX_START <= *start && *start <= MAX_START)
 }
 
 /// The schedule of these starts.

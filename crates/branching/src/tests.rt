@@ -2,14 +2,14 @@ ghost use Rattle.std.specs.Prelude.{◌<◌, ◌≤◌};
 
 use crate::{Fate, Lean, Outcome, Report, expand, root, search_alone};
 use longest_path::PathFault;
-use network::{Lag, Pair, Project};
+use network::{Pair, Project};
 use std::alloc::Global;
 use std::process::Abort;
 use std::sync::Arc;
 use std::test::Fail;
 use test_projects::{
-    backward_lag, both_orders_dead, lag, one_machine, pair, three_on_two, two_between,
-    with_one_resource,
+    backward_lag, both_orders_dead, lag, one_machine, pair, three_in_turn, three_on_two,
+    two_between, with_one_resource,
 };
 
 /// What the expansion of a project's root gives.
@@ -89,11 +89,6 @@ fn three_members_have_six_kids(rt: HostRuntime) -> Result<(), Fail> {
         assert_eq!(rt; kid.bound(), 4);
     }
     Ok(())
-}
-
-/// Three activities of 3, 4 and 2 periods that ask for the one unit of a resource.
-fn three_in_turn(alloc: Global, lags: &[Lag]) -> Result<Project, Fail> {
-    with_one_resource(alloc, &[0, 3, 4, 2, 0], &[0, 1, 1, 1, 0], 1, lags)
 }
 
 /// That a kid has these pairs.

@@ -1,23 +1,10 @@
-ghost use Rattle.std.specs.Prelude.{IsTrue};
-ghost use Rattle.network.specs.Limits.{AreStarts};
-
 use crate::{AcceptFault, StartsFault, Violation, accept, read_starts, violations};
 use network::{MAX_START, Project, Schedule};
 use std::alloc::{AllocError, Global};
 use std::process::Abort;
 use std::sync::Arc;
 use std::test::Fail;
-use test_projects::{lag, one_machine};
-
-/// Whether there is a start within the limits for each activity.
-fn are_starts(project: &Project, starts: &[i64]) -> bool
-    ensures { IsTrue result → AreStarts project.now starts.now }
-{
-    starts.len() == project.activity_count()
-        && starts
-            .iter()
-            .all(|start| -MAX_START <= *start && *start <= MAX_START)
-}
+use test_projects::{are_starts, lag, one_machine};
 
 fn judge(
     rt: &impl Abort,

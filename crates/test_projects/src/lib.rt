@@ -1,9 +1,10 @@
 //! Projects that the tests of several crates share. No program uses this crate.
 #![tactic(auto)]
 
-ghost use Rattle.std.specs.Prelude.{◌≡◌};
+ghost use Rattle.std.specs.Prelude.{◌≡◌, IsTrue};
+ghost use Rattle.network.specs.Limits.{AreStarts};
 
-use network::{Lag, Pair, Parts, Project};
+use network::{Lag, MAX_START, Pair, Parts, Project};
 use std::alloc::Global;
 use std::test::Fail;
 
@@ -19,6 +20,16 @@ pub fn pair(before: usize, after: usize) -> Pair
     ensures { result ≡ record { before = before; after = after } }
 {
     Pair { before, after }
+}
+
+/// Whether there is a start within the limits for each activity.
+pub fn are_starts(project: &Project, starts: &[i64]) -> bool
+    ensures { IsTrue result → AreStarts project.now starts.now }
+{
+    starts.len() == project.activity_count()
+        && starts
+            .iter()
+            .all(|start| -MAX_START <= *start && *start <= MAX_START)
 }
 
 fn of_rows(
@@ -75,6 +86,11 @@ pub fn one_machine(alloc: Global, lags: &[Lag]) -> Result<Project, Fail> {
 /// The same, where each of them has to start before the other ends.
 pub fn both_orders_dead(alloc: Global) -> Result<Project, Fail> {
     one_machine(alloc, &[lag(1, 2, 0), lag(2, 1, -2)])
+}
+
+/// Three activities of 3, 4 and 2 periods that ask for the one unit of a resource.
+pub fn three_in_turn(alloc: Global, lags: &[Lag]) -> Result<Project, Fail> {
+    with_one_resource(alloc, &[0, 3, 4, 2, 0], &[0, 1, 1, 1, 0], 1, lags)
 }
 
 /// Three activities of 2 periods that ask for one of two units of a resource.

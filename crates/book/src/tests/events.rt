@@ -1,5 +1,5 @@
-use crate::tests::{counts_of, open, report_on, root_report, schedule};
-use crate::{CheckFault, CheckedIn, Event, Reply, Take, Verdict, run_events};
+use crate::tests::{counts_of, open, report_on, root_report, schedule, word_of_take};
+use crate::{CheckFault, CheckedIn, Event, Reply, Verdict, run_events};
 use branching::Report;
 use std::alloc::{AllocError, Global};
 use std::process::Abort;
@@ -18,44 +18,60 @@ fn kid_report(alloc: Global) -> Result<Report, Fail> {
     report_on(alloc, kid, None)
 }
 
-/// Twelve events, some of them hostile, for a book of two activities on one machine with two workers.
-fn twelve_events(rt: &impl Abort, alloc: Global) -> Result<Vec<Event>, Fail> {
-    let offered = schedule(rt, alloc, one_machine(alloc, &[])?, &[0, 0, 3, 7])?;
-    let split = split_report(alloc)?;
-    let again = split_report(alloc)?;
-    let unknown = split_report(alloc)?;
-    let solved = kid_report(alloc)?;
-    Ok(vec![in alloc;
-        Event::Take(0),
-        Event::GiveBack(0),
-        Event::Take(1),
-        Event::CheckIn(0, split),
-        Event::CheckIn(0, again),
-        Event::CheckIn(3, unknown),
-        Event::Take(0),
-        Event::Offer(offered),
-        Event::CheckIn(2, solved),
-        Event::Take(1),
-        Event::Halt,
-        Event::Take(0),
-    ]?)
+/// An event, told by its numbers: reports on the root under a name, and on the second kid; and the offer of a schedule
+/// of 7 periods.
+#[derive(Clone, Copy)]
+enum Deed {
+    Take(usize),
+    SplitUnder(u64),
+    GiveBackRoot,
+    SolveSecond,
+    OfferBest,
+    Halt,
 }
 
-/// A word for what a worker is told.
-fn word_of_take(answer: &Take) -> &'static str {
-    match answer {
-        Take::Ticket(ticket) => match ticket.name {
-            0 => "root",
-            1 => "first",
-            2 => "second",
-            _ => "another",
-        },
-        Take::HandsFull => "full",
-        Take::Halted => "halted",
-        Take::Done => "done",
-        Take::Idle => "idle",
-        Take::NoSuchWorker | Take::LimitReached => "stopped",
+/// Twelve events, some of them hostile, for a book of two activities on one machine with two workers.
+const DEEDS: [Deed; 12] = [
+    Deed::Take(0),
+    Deed::GiveBackRoot,
+    Deed::Take(1),
+    Deed::SplitUnder(0),
+    Deed::SplitUnder(0),
+    Deed::SplitUnder(3),
+    Deed::Take(0),
+    Deed::OfferBest,
+    Deed::SolveSecond,
+    Deed::Take(1),
+    Deed::Halt,
+    Deed::Take(0),
+];
+
+/// The offer of a schedule of 7 periods.
+fn best_offer(rt: &impl Abort, alloc: Global) -> Result<Event, Fail> {
+    let best = schedule(rt, alloc, one_machine(alloc, &[])?, &[0, 0, 3, 7])?;
+    Ok(Event::Offer(best))
+}
+
+fn event_of(rt: &impl Abort, alloc: Global, deed: Deed) -> Result<Event, Fail> {
+    match deed {
+        Deed::Take(worker) => Ok(Event::Take(worker)),
+        Deed::SplitUnder(name) => Ok(Event::CheckIn(name, split_report(alloc)?)),
+        Deed::GiveBackRoot => Ok(Event::GiveBack(0)),
+        Deed::SolveSecond => Ok(Event::CheckIn(2, kid_report(alloc)?)),
+        Deed::OfferBest => best_offer(rt, alloc),
+        Deed::Halt => Ok(Event::Halt),
     }
+}
+
+/// The twelve events, without the one at a place if there is such a place.
+fn events_without(rt: &impl Abort, alloc: Global, left_out: usize) -> Result<Vec<Event>, Fail> {
+    let mut events = Vec::new(alloc);
+    for (place, deed) in DEEDS.iter().enumerate() {
+        if place != left_out {
+            events.push(event_of(rt, alloc, *deed)?)?;
+        }
+    }
+    Ok(events)
 }
 
 /// A word for what a report did.
@@ -128,7 +144,7 @@ const NOT_OVER: Verdict = Verdict::Open {
 
 #[test]
 fn hostile_events_leave_a_sound_book(rt: HostRuntime) -> Result<(), Fail> {
-    let events = twelve_events(&rt, rt.alloc())?;
+    let events = events_without(&rt, rt.alloc(), DEEDS.len())?;
     let words = " root back root split gone unknown second shorter solved done halt halted";
     assert_run(&rt, rt.alloc(), events, words, [3, 2, 1, 3, 0, 0], OPTIMAL)
 }
@@ -142,9 +158,7 @@ fn assert_without(
     counts: [u64; 6],
     verdict: Verdict,
 ) -> Result<(), Fail> {
-    let mut events = twelve_events(rt, alloc)?;
-    assert!(rt; place < events.len());
-    events.remove(place);
+    let events = events_without(rt, alloc, place)?;
     assert_run(rt, alloc, events, words, counts, verdict)
 }
 

@@ -1,9 +1,10 @@
 use crate::tests::{
-    best_starts, check_in, counts_of, open, report_on, root_report, schedule, split_book, take,
+    assert_offered, best_starts, check_in, counts_of, open, report_on, root_report, schedule,
+    split_book, take, taken_book,
 };
-use crate::{Book, CheckFault, CheckedIn, OtherProject, Take, Verdict};
+use crate::{Book, CheckFault, CheckedIn, OtherProject, Take, Ticket, Verdict};
 use branching::{Report, expand, root};
-use network::Project;
+use network::{Project, Schedule};
 use std::alloc::Global;
 use std::process::Abort;
 use std::sync::Arc;
@@ -78,16 +79,9 @@ fn a_report_for_another_project_is_refused(rt: HostRuntime) -> Result<(), Fail> 
     assert_refused(&rt, &mut book, 2, report, CheckFault::OtherProject)
 }
 
-/// A book of two activities on one machine, whose root is in hand.
-fn taken_book(alloc: Global) -> Result<Book, Fail> {
-    let mut book = open(alloc, one_machine(alloc, &[])?, 1)?;
-    take(&mut book, 0)?;
-    Ok(book)
-}
-
 #[test]
 fn a_report_under_a_ceiling_is_ahead_of_a_book_without_a_best(rt: HostRuntime) -> Result<(), Fail> {
-    let mut book = taken_book(rt.alloc())?;
+    let mut book = taken_book(rt.alloc(), 1)?;
     let ahead = ahead_report(rt.alloc())?;
     let fault = CheckFault::AheadOfBook { best: None };
     assert_refused(&rt, &mut book, 0, ahead, fault)
@@ -101,9 +95,8 @@ fn ahead_report(alloc: Global) -> Result<Report, Fail> {
 
 /// A book whose root is in hand and whose best takes 8 periods.
 fn offered_book(rt: &impl Abort, alloc: Global) -> Result<Book, Fail> {
-    let mut book = taken_book(alloc)?;
-    let long = schedule(rt, alloc, one_machine(alloc, &[])?, &[0, 5, 0, 8])?;
-    assert!(rt; matches!(book.offer(long), Ok(true)));
+    let mut book = taken_book(alloc, 1)?;
+    assert_offered(rt, alloc, &mut book, &[0, 5, 0, 8], true)?;
     Ok(book)
 }
 
@@ -117,14 +110,26 @@ fn a_report_under_a_lower_ceiling_is_ahead_of_the_book(rt: HostRuntime) -> Resul
     Ok(())
 }
 
-#[test]
-fn a_node_that_is_given_back_is_taken_under_the_best(rt: HostRuntime) -> Result<(), Fail> {
-    let mut book = offered_book(&rt, rt.alloc())?;
+/// A book whose best takes 8 periods, and the ticket for its root, which was given back before.
+fn taken_again(rt: &impl Abort, alloc: Global) -> Result<(Book, Ticket), Fail> {
+    let mut book = offered_book(rt, alloc)?;
     book.give_back(0)?;
     let again = take(&mut book, 0)?;
+    Ok((book, again))
+}
+
+#[test]
+fn a_node_that_is_given_back_is_taken_under_the_best(rt: HostRuntime) -> Result<(), Fail> {
+    let (_, again) = taken_again(&rt, rt.alloc())?;
     assert_eq!(rt; again.name, 0);
     assert_eq!(rt; again.node.pairs().len(), 0);
     assert_eq!(rt; again.ceiling, Some(8));
+    Ok(())
+}
+
+#[test]
+fn a_node_that_was_given_back_is_checked_in(rt: HostRuntime) -> Result<(), Fail> {
+    let (mut book, again) = taken_again(&rt, rt.alloc())?;
     let report = report_on(rt.alloc(), &again.node, again.ceiling)?;
     assert_eq!(rt; check_in(&mut book, 0, report)?.opened, 2);
     Ok(())
@@ -134,58 +139,64 @@ fn a_node_that_is_given_back_is_taken_under_the_best(rt: HostRuntime) -> Result<
 fn the_bound_counts_nodes_in_hand(rt: HostRuntime) -> Result<(), Fail> {
     let mut book = open(rt.alloc(), one_machine(rt.alloc(), &[])?, 1)?;
     assert_eq!(rt; book.lower_bound(), Some(7));
-    let report = next_report(rt.alloc(), &mut book, 0)?;
-    assert_eq!(rt; book.lower_bound(), Some(7));
-    check_in(&mut book, 0, report)?;
+    take(&mut book, 0)?;
     assert_eq!(rt; book.lower_bound(), Some(7));
     Ok(())
 }
 
 #[test]
+fn the_bound_counts_open_nodes(rt: HostRuntime) -> Result<(), Fail> {
+    let book = split_book(rt.alloc(), 1)?;
+    assert_eq!(rt; book.lower_bound(), Some(7));
+    Ok(())
+}
+
+/// Takes a node, and checks the report on it in.
+fn expand_next(alloc: Global, book: &mut Book) -> Result<CheckedIn, Fail> {
+    let ticket = take(book, 0)?;
+    let report = report_on(alloc, &ticket.node, ticket.ceiling)?;
+    Ok(check_in(book, ticket.name, report)?)
+}
+
+#[test]
 fn what_a_report_finds_becomes_the_best(rt: HostRuntime) -> Result<(), Fail> {
     let mut book = split_book(rt.alloc(), 1)?;
-    let report = next_report(rt.alloc(), &mut book, 0)?;
     let done = CheckedIn {
         opened: 0,
         improved: true,
     };
-    assert_eq!(rt; check_in(&mut book, 2, report)?, done);
+    assert_eq!(rt; expand_next(rt.alloc(), &mut book)?, done);
     assert_eq!(rt; best_starts(&book)?, [0, 4, 0, 7].as_slice());
+    assert_eq!(rt; counts_of(&book), [3, 2, 0, 2, 1, 0]);
+    Ok(())
+}
+
+#[test]
+fn what_a_report_finds_settles_the_search(rt: HostRuntime) -> Result<(), Fail> {
+    let mut book = split_book(rt.alloc(), 1)?;
+    expand_next(rt.alloc(), &mut book)?;
     assert!(rt; matches!(book.take(0), Take::Done));
     assert_eq!(rt; counts_of(&book), [3, 2, 1, 2, 0, 0]);
     assert_eq!(rt; book.verdict(), Verdict::Optimal { makespan: 7 });
     Ok(())
 }
 
+/// A schedule of two activities on one machine, the second of which takes 5 periods.
+fn foreign_schedule(rt: &impl Abort, alloc: Global) -> Result<Schedule, Fail> {
+    let longer = with_one_resource(alloc, &[0, 3, 5, 0], &[0, 1, 1, 0], 1, &[])?;
+    schedule(rt, alloc, longer, &[0, 0, 3, 8])
+}
+
 #[test]
 fn a_schedule_of_another_project_is_handed_back(rt: HostRuntime) -> Result<(), Fail> {
-    let alloc = rt.alloc();
-    let mut book = open(alloc, one_machine(alloc, &[])?, 1)?;
-    let longer = with_one_resource(alloc, &[0, 3, 5, 0], &[0, 1, 1, 0], 1, &[])?;
-    let foreign = schedule(&rt, alloc, longer, &[0, 0, 3, 8])?;
-    match book.offer(foreign) {
+    let mut book = open(rt.alloc(), one_machine(rt.alloc(), &[])?, 1)?;
+    match book.offer(foreign_schedule(&rt, rt.alloc())?) {
         Err((back, OtherProject)) => {
             assert_eq!(rt; back.starts(), [0, 0, 3, 8].as_slice());
         }
         Ok(_) => return Err("the schedule was accepted".into()),
     }
     assert!(rt; book.best().is_none());
-    Ok(())
-}
-
-/// That an offered schedule becomes the best, or that it doesn't.
-fn assert_offered(
-    rt: &impl Abort,
-    alloc: Global,
-    book: &mut Book,
-    starts: &[i64],
-    shorter: bool,
-) -> Result<(), Fail> {
-    let offered = schedule(rt, alloc, one_machine(alloc, &[])?, starts)?;
-    match book.offer(offered) {
-        Ok(improved) => assert_eq!(rt; improved, shorter),
-        Err(_) => return Err("the schedule is of another project".into()),
-    }
     Ok(())
 }
 
@@ -201,35 +212,20 @@ fn only_a_shorter_schedule_becomes_the_best(rt: HostRuntime) -> Result<(), Fail>
     Ok(())
 }
 
-/// That a report is accepted with so many kids opened, also where the first try meets a want of memory. Then the
-/// report comes back, and the book is as it was.
-fn assert_accepted(
-    rt: &impl Abort,
-    book: &mut Book,
-    name: u64,
-    report: Report,
-    opened: u64,
-) -> Result<(), Fail> {
-    let counts = counts_of(book);
-    let done = match book.check_in(name, report) {
-        Err((report, CheckFault::Memory)) => {
-            assert_eq!(rt; counts_of(book), counts);
-            check_in(book, name, report)?
-        }
-        Err((_, fault)) => return Err(fault.into()),
-        Ok(done) => done,
-    };
-    assert_eq!(rt; done.opened, opened);
-    Ok(())
+/// What a book says to a report. Where it meets a want of memory, the report comes back, and is checked in again.
+fn check_in_again(book: &mut Book, name: u64, report: Report) -> Result<CheckedIn, CheckFault> {
+    match book.check_in(name, report) {
+        Ok(done) => Ok(done),
+        Err((back, CheckFault::Memory)) => check_in(book, name, back),
+        Err((_, fault)) => Err(fault),
+    }
 }
 
 #[test]
 fn a_report_that_met_a_want_of_memory_is_accepted_later(rt: HostRuntime) -> Result<(), Fail> {
-    let alloc = rt.alloc();
-    let mut book = open(alloc, one_machine(alloc, &[])?, 1)?;
-    let root = take(&mut book, 0)?;
-    let report = report_on(alloc, &root.node, None)?;
-    assert_accepted(&rt, &mut book, 0, report, 2)?;
+    let mut book = taken_book(rt.alloc(), 1)?;
+    let report = root_report(rt.alloc(), one_machine(rt.alloc(), &[])?)?;
+    assert_eq!(rt; check_in_again(&mut book, 0, report)?.opened, 2);
     assert_eq!(rt; counts_of(&book), [3, 1, 0, 1, 2, 0]);
     Ok(())
 }

@@ -1,11 +1,11 @@
 use crate::tests::{best_starts, check_in, counts_of, report_on, schedule};
 use crate::{Book, Take, Verdict};
-use network::{Lag, Project};
+use network::Project;
 use std::alloc::Global;
 use std::sync::Arc;
 use std::test::Fail;
 use test_projects::{
-    backward_lag, both_orders_dead, lag, one_machine, three_on_two, with_one_resource,
+    backward_lag, both_orders_dead, lag, one_machine, three_in_turn, three_on_two,
 };
 
 /// Lets one worker search until the book has no node left.
@@ -28,11 +28,6 @@ fn searched(alloc: Global, project: Project, takes: u64) -> Result<Book, Fail> {
     let mut book = Book::open(alloc, Arc::new(alloc, project)?, 1, takes)?;
     search(alloc, &mut book)?;
     Ok(book)
-}
-
-/// Three activities of 3, 4 and 2 periods that ask for the one unit of a resource.
-fn three_in_turn(alloc: Global, lags: &[Lag]) -> Result<Project, Fail> {
-    with_one_resource(alloc, &[0, 3, 4, 2, 0], &[0, 1, 1, 1, 0], 1, lags)
 }
 
 #[test]
