@@ -1,6 +1,7 @@
 ghost use Rattle.std.specs.Prelude.{◌≡◌, IfOk, IfSome};
 ghost use Rattle.solver_cli.specs.Calls.{IsCall};
 
+use crate::help;
 use branching::MAX_TAKES;
 use clap::error::ErrorKind;
 use clap::{Arg, ArgAction, ArgMatches, Command, value_parser};
@@ -67,10 +68,17 @@ fn words_fault(alloc: Global, error: &clap::Error) -> WordsFault {
     }
 }
 
+/// A subcommand with its help: what it does in a line, and what stands below its options.
+fn subcommand<'a>(alloc: Global, name: &'a str, about: &'a str, more: &'a str) -> Command<'a> {
+    Command::new(alloc, name)
+        .before_help(help::HEADING)
+        .about(about)
+        .after_help(more)
+}
+
 fn earliest_command<'a>(alloc: Global) -> Command<'a> {
-    Command::new(alloc, "earliest").about(
-        "Print the least schedule of the time lags of a project on standard input",
-    )
+    let about = "Print the least schedule of a project's time lags alone";
+    subcommand(alloc, "earliest", about, help::EARLIEST)
 }
 
 fn solve_command<'a>(alloc: Global) -> Result<Command<'a>, AllocError> {
@@ -84,8 +92,8 @@ fn solve_command<'a>(alloc: Global) -> Result<Command<'a>, AllocError> {
         .long("json")
         .help("Print the answer as one line of JSON")
         .action(ArgAction::SetTrue);
-    Command::new(alloc, "solve")
-        .about("Print a shortest schedule of a project on standard input")
+    let about = "Print a shortest schedule of a project";
+    subcommand(alloc, "solve", about, help::SOLVE)
         .arg(nodes)?
         .arg(json)
 }
@@ -94,21 +102,24 @@ fn check_command<'a>(alloc: Global) -> Result<Command<'a>, AllocError> {
     let project = Arg::new(alloc, "project")
         .long("project")
         .value_name("FILE")
+        .help("The project that the starts are checked against")
         .action(ArgAction::Set)
         .required(true);
-    Command::new(alloc, "check")
-        .about("Check a list of starts on standard input against a project in a file")
-        .arg(project)
+    let about = "Check starts against a project in a file";
+    subcommand(alloc, "check", about, help::CHECK).arg(project)
 }
 
 fn tidy_command<'a>(alloc: Global) -> Command<'a> {
-    Command::new(alloc, "tidy").about("Print the canonical text of a project on standard input")
+    let about = "Print the canonical text of a project";
+    subcommand(alloc, "tidy", about, help::TIDY)
 }
 
 fn command<'a>(alloc: Global) -> Result<Command<'a>, AllocError> {
     Command::new(alloc, "psmax")
         .bin_name("psmax")?
+        .before_help(help::HEADING)
         .about("Solve projects with resources and time lags, with every answer proved")
+        .after_help(help::PROGRAM)
         .subcommand_required(true)
         .subcommand(earliest_command(alloc))?
         .subcommand(solve_command(alloc)?)?

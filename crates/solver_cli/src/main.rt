@@ -8,6 +8,7 @@ mod answer;
 mod call;
 mod device;
 mod fault;
+mod help;
 mod jobs;
 mod json_text;
 mod reading;

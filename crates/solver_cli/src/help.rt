@@ -1,0 +1,61 @@
+//! What help says besides the usage and the options that `clap` lists.
+
+/// The heading of every help.
+pub(crate) const HEADING: &str = "psmax 0.9.0";
+
+pub(crate) const PROGRAM: &str = "\
+Projects, starts and answers are texts; docs/FORMAT.md describes them, and 'man psmax' in short.
+'psmax COMMAND --help' says what the command reads and answers, with an example.
+
+Exit status: 0 answered; 1 memory ran out, or a device failed; 2 the words or a text are not
+what they should be; 3 the search was stopped at its limit; 4 the starts are no feasible schedule.
+A fault is one line on standard error.";
+
+pub(crate) const EARLIEST: &str = "\
+Looks at the time lags alone, as if all resources were free: the schedule may overload them.
+Reads a project on standard input. Answers 'earliest C' and a line 'activity start' for each
+activity, or 'positive cycle M': the lags among the activities 0 to M contradict each other.
+
+Example:
+  psmax earliest < project.sch
+
+Exit status: 0 answered; 1 memory ran out, or a device failed; 2 the words or the text are not
+what they should be.";
+
+pub(crate) const SOLVE: &str = "\
+Reads a project on standard input. Answers one of these, the first and the third with a line
+'activity start' for each activity:
+  optimal C           no feasible schedule is shorter
+  no schedule         there is none at all
+  feasible C bound B  stopped at the limit: no feasible schedule is shorter than B
+  unknown bound B     the same, and no schedule was found
+
+Examples:
+  psmax solve < project.sch
+  psmax solve --nodes 1000 --json < project.sch
+
+Exit status: 0 answered; 1 memory ran out, or a device failed; 2 the words or the text are not
+what they should be; 3 the search was stopped at its limit.";
+
+pub(crate) const CHECK: &str = "\
+Reads the project in FILE, and then starts on standard input: a line 'activity start' for each
+activity, or an answer of psmax as it is. Answers 'feasible C', or each violation on a line:
+  start V             the project starts at V and not at 0
+  lag I J W           J starts less than W after I
+  overload T RES USE  at the time T more of the resource RES is in use than there is
+
+Example:
+  psmax check --project project.sch < plan.starts
+
+Exit status: 0 feasible; 1 memory ran out, or a device failed; 2 the words or a text are not
+what they should be; 4 there are violations.";
+
+pub(crate) const TIDY: &str = "\
+Reads a project on standard input. Answers the same project, a line for each row, with one tab
+between words and lags in brackets.
+
+Example:
+  psmax tidy < project.sch
+
+Exit status: 0 answered; 1 memory ran out, or a device failed; 2 the words or the text are not
+what they should be.";
