@@ -53,8 +53,8 @@ impl Model for Book {
     ghost invariant = { λ b. IsKept (state_of b) };
 }
 
-/// Whether a book may have so many workers and takes.
-fn are_allowed(workers: usize, takes: u64) -> bool
+/// Whether a book may have so many workers and takes: 1 to [`MAX_WORKERS`] and 1 to [`MAX_TAKES`].
+pub fn are_allowed(workers: usize, takes: u64) -> bool
     ensures { IsTrue result ↔ AreAllowed workers takes }
 {
     (1..=MAX_WORKERS).contains(&workers) && (1..=MAX_TAKES).contains(&takes)
@@ -75,7 +75,7 @@ fn first_nodes(alloc: Global, project: &Arc<Project>) -> Result<OpenNodes, Alloc
 }
 
 /// Whether the projects are the same, by value.
-fn is_same_project(left: &Project, right: &Project) -> bool
+pub fn is_same_project(left: &Project, right: &Project) -> bool
     ensures { IsTrue result ↔ (left.now ≡ right.now) }
 {
     left == right
@@ -314,6 +314,15 @@ impl Book {
         ensures sound { IsSound self.now }
     {
         self.best.as_ref()
+    }
+
+    /// The best schedule, for which the book is given up.
+    pub fn into_best(self) -> Option<Schedule>
+        ensures best { result ≡ self.best }
+        ensures sound { IsSound self }
+    {
+        let Book { best, .. } = self;
+        best
     }
 
     /// The least of the best makespan and the bounds of the nodes open or in hand, in periods: no feasible schedule is

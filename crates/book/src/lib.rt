@@ -21,6 +21,6 @@ mod tests;
 pub use answers::{
     BookFault, CheckFault, CheckedIn, MAX_WORKERS, OtherProject, Take, Ticket, Verdict,
 };
-pub use book::Book;
+pub use book::{Book, are_allowed, is_same_project};
 pub use counts::Counts;
 pub use events::{Event, Reply, run_events};

@@ -79,6 +79,22 @@ impl Searcher {
         })
     }
 
+    /// A searcher at the root of a node's project.
+    pub fn for_node(alloc: Global, node: &Lean) -> Result<Searcher, AllocError>
+        ensures { IfOk result (λ searcher. searcher ≡ record { project = node.now.project; pairs = [] }) }
+    {
+        let base = node.base();
+        let matrix = base.matrix().try_copy(alloc)?;
+        Searcher::new(alloc, Arc::try_clone(base.project())?, matrix)
+    }
+
+    /// The project of the nodes that it can move to.
+    pub fn project(&self) -> &Arc<Project>
+        ensures { arc_value result.now ≡ self.now.project }
+    {
+        &self.project
+    }
+
     /// The matrix of the project and the pairs of the node that the searcher is at.
     pub fn matrix(&self) -> &Matrix
         ensures { IsProjectMatrix self.now.project self.now.pairs result.now }
@@ -153,6 +169,7 @@ impl Searcher {
         self.keep(shared);
         self.go_on(pairs)
     }
+
     /// Moves to a node and expands it under a ceiling, as [`expand`](crate::expand) does.
     pub fn expand(
         &mut self,

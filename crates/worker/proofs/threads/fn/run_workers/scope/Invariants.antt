@@ -1,0 +1,13 @@
+use Rattle.std.proofs.Common.{◌≡◌, ◌+◌, length, vec_len}
+use Rattle.std.specs.Prelude.{vec_capacity, true}
+use Rattle.worker.specs.Desks.{IsRowAt}
+use Rattle.worker.proofs.threads.fn.run_workers.scope.Given as goal
+
+abbrev pub invariant-loop-desk : goal.invariant-loop-desk
+invariant-loop-desk g l = record {
+  row : IsRowAt l.shared.best (length l.yielded) l.desk-iterator.rest.items;
+  started : vec_len l.running ≡ length l.yielded;
+  room : vec_capacity l.running ≡ vec_capacity l.initial.running;
+  all : length l.yielded + length l.desk-iterator.rest.items ≡ length l.initial.desk-iterator.rest.items;
+  none : l.started ≡ true;
+}

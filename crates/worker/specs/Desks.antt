@@ -1,0 +1,22 @@
+-- The desks of one shared book, and what they count.
+use Rattle.std.specs.Prelude.{◌≡◌, ◌+◌, ℕ, List, [], ◌∷◌}
+use Rattle.best_word.specs.Word.{Word}
+use Rattle.worker.specs.declared.desk.Desk.{Desk}
+use Rattle.worker.specs.declared.desk.Tally.{Tally}
+use Rattle.worker.specs.declared.shared.Shared.{Shared}
+
+-- the desk's seat is one of the best word of this shared book
+abbrev pub SeatedAt : {L : Type 0} → Shared L → Desk L → Type 0
+SeatedAt shared desk = desk.seat.word ≡ shared.best
+
+-- the desks have seats of this word, and the numbers from first on, in their order
+abbrev pub IsRowAt : {L : Type 0} → Word → ℕ → List (Desk L) → Type 0
+IsRowAt word first [] = Unit {0}
+IsRowAt word first (d ∷ ds) = (d.number ≡ first) × (d.seat.word ≡ word) × IsRowAt word (first + 1) ds
+
+-- the desks of this shared book, in their order
+abbrev pub IsRow : {L : Type 0} → Shared L → List (Desk L) → Type 0
+IsRow shared desks = IsRowAt shared.best 0 desks
+
+abbrev pub tally_of : {L : Type 0} → Desk L → Tally
+tally_of d = record { accepted = d.accepted; ahead = d.ahead }

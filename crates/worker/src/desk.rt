@@ -1,0 +1,52 @@
+ghost use Rattle.std.specs.Prelude.{◌≡◌, ◌≤◌};
+
+use best_word::BestSeat;
+use branching::Searcher;
+use std::sync::ledger::{Ledger, Share};
+
+/// One worker's place at a [`Shared`](crate::Shared) book: its number, what it counted, its share of the nodes that were
+/// checked in, and its seat at the best word.
+#[derive(Drop)]
+pub struct Desk<L: Ledger> {
+    pub(crate) number: usize,
+    pub(crate) accepted: u64,
+    pub(crate) ahead: u64,
+    pub(crate) share: Share<L>,
+    pub(crate) seat: BestSeat,
+    /// Made with the first node that is taken.
+    pub(crate) searcher: Option<Searcher>,
+    ghost one_part: { share.parts ≡ 1 },
+    ghost counted: { share.amount ≡ accepted },
+    ghost fits: { accepted ≤ 1000000000 },
+}
+
+impl<L: Ledger> Desk<L> {
+    /// The number of its worker.
+    pub fn number(&self) -> usize
+        ensures { result ≡ self.now.number }
+    {
+        self.number
+    }
+
+    /// How many of its reports were accepted.
+    pub fn accepted(&self) -> u64
+        ensures accepted { result ≡ self.now.accepted }
+        ensures share { self.now.share.amount ≡ self.now.accepted }
+    {
+        self.accepted
+    }
+
+    /// How many of its reports were refused as ahead of the book. It stays at `u64::MAX` once there.
+    pub fn ahead(&self) -> u64
+        ensures { result ≡ self.now.ahead }
+    {
+        self.ahead
+    }
+}
+
+/// What a worker counted: its reports that were accepted, and those that were refused as ahead of the book.
+#[derive(Clone, Copy, Debug, PartialEq, Eq)]
+pub struct Tally {
+    pub accepted: u64,
+    pub ahead: u64,
+}

@@ -1,0 +1,27 @@
+//! Workers that search one project over one locked book.
+//!
+//! [`solve`] does the whole: it opens a book, starts a thread for each worker, joins them and tells what is known then.
+//! [`Shared`], [`Desk`] and [`work`] are its parts, for callers with threads of their own. Whatever the threads do, the
+//! book is sound whenever its lock is free, so its verdict is true of its project.
+//!
+//! A worker takes a node under the lock, expands it without the lock, and checks its report in under the lock. The
+//! best word tells it of shorter schedules that others found meanwhile.
+#![tactic(auto)]
+
+mod desk;
+mod fault;
+mod gate;
+mod locked;
+mod serving;
+mod shared;
+mod solution;
+#[cfg(test)]
+mod tests;
+mod threads;
+
+pub use desk::{Desk, Tally};
+pub use fault::SolveFault;
+pub use gate::{Gate, Moment, OpenGate};
+pub use serving::work;
+pub use shared::Shared;
+pub use solution::{Solved, solve};

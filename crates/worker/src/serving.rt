@@ -1,0 +1,194 @@
+ghost use Rattle.std.specs.Prelude.{◌≡◌, ◌+◌, ◌≤◌, IfOk, IfErr, OnOk, OnErr};
+ghost use Rattle.std.specs.Arc.{arc_value};
+ghost use Rattle.worker.specs.Desks.{SeatedAt};
+ghost use Rattle.worker.specs.Faults.{IsOfWork};
+
+use crate::desk::Desk;
+use crate::fault::{SolveFault, WorkFault};
+use crate::gate::{Gate, Moment};
+use crate::shared::Shared;
+use book::{CheckFault, Ticket, is_same_project};
+use branching::{Lean, Searcher};
+use std::alloc::{AllocError, Global};
+use std::sync::ledger::Ledger;
+use std::sync::{Arc, Wait};
+
+/// The lesser of a ticket's ceiling and the best word, where that is a makespan.
+fn lesser_ceiling(ceiling: Option<i64>, word: u64) -> Option<i64> {
+    let Ok(word) = i64::try_from(word) else {
+        return ceiling;
+    };
+    match ceiling {
+        Some(ceiling) => Some(ceiling.min(word)),
+        None => Some(word),
+    }
+}
+
+/// The kept searcher, if it is one of the node's project, else a new one.
+fn searcher_for(alloc: Global, kept: Option<Searcher>, node: &Lean) -> Result<Searcher, AllocError>
+    ensures { IfOk result (λ searcher. searcher.project ≡ node.now.project) }
+{
+    if let Some(searcher) = kept {
+        if is_same_project(searcher.project(), node.project()) {
+            return Ok(searcher);
+        }
+    }
+    Searcher::for_node(alloc, node)
+}
+
+/// A searcher that is at the node: the kept one, if it is one of the node's project.
+fn searcher_at(alloc: Global, kept: Option<Searcher>, node: &Lean) -> Result<Searcher, AllocError>
+    ensures { IfOk result (λ searcher. searcher.project ≡ node.now.project) }
+{
+    let mut searcher = searcher_for(alloc, kept, node)?;
+    searcher.move_to(node.pairs())?;
+    Ok(searcher)
+}
+
+impl<L: Ledger> Shared<L> {
+    /// Expands a node without the lock, and checks the report in: the makespan that it found.
+    fn attempt<G: Gate, R: Wait>(
+        &self,
+        rt: &R,
+        alloc: Global,
+        desk: &mut Desk<L>,
+        gate: &G,
+        searcher: &mut Searcher,
+        ticket: &Ticket,
+    ) -> Result<Option<i64>, CheckFault>
+        requires { searcher.old.project ≡ (arc_value ticket.now.node).project }
+        ensures searcher { searcher.new.project ≡ searcher.old.project }
+        ensures same { (desk.new.number ≡ desk.old.number) × (desk.new.seat ≡ desk.old.seat) }
+        ensures accepted { OnOk result (desk.new.accepted ≡ desk.old.accepted + 1) }
+        ensures refused { OnErr result (desk.new.accepted ≡ desk.old.accepted) }
+    {
+        let Ok(report) = gate.expand(rt, alloc, searcher, &ticket.node, ticket.ceiling) else {
+            return Err(CheckFault::Memory);
+        };
+        let found = report.found().map(|schedule| schedule.makespan());
+        match self.check_in(rt, desk, ticket.name, report) {
+            Ok(()) => Ok(found),
+            Err(fault) => Err(fault),
+        }
+    }
+
+    /// Expands a node under the lesser of the ticket's ceiling and the best word. Where the book knows of no schedule so
+    /// short, it is expanded again, under the best that the book has.
+    fn settle<G: Gate, R: Wait>(
+        &self,
+        rt: &R,
+        alloc: Global,
+        desk: &mut Desk<L>,
+        gate: &G,
+        mut ticket: Ticket,
+    ) -> Result<Option<i64>, CheckFault>
+        requires { SeatedAt self.now desk.old }
+        ensures seated { SeatedAt self.now desk.new }
+        ensures number { desk.new.number ≡ desk.old.number }
+        ensures accepted { OnOk result (desk.new.accepted ≡ desk.old.accepted + 1) }
+        ensures refused { OnErr result (desk.new.accepted ≡ desk.old.accepted) }
+    {
+        let Ok(mut searcher) = searcher_at(alloc, desk.searcher.take(), &ticket.node) else {
+            return Err(CheckFault::Memory);
+        };
+        let word = self.best.look(&mut desk.seat);
+        ticket.ceiling = lesser_ceiling(ticket.ceiling, word);
+        let mut settled = self.attempt(rt, alloc, desk, gate, &mut searcher, &ticket);
+        if let Err(CheckFault::AheadOfBook { best }) = settled {
+            ticket.ceiling = best;
+            settled = self.attempt(rt, alloc, desk, gate, &mut searcher, &ticket);
+        }
+        desk.searcher = Some(searcher);
+        settled
+    }
+
+    /// Settles one node, and offers what was found to the best word.
+    fn serve<G: Gate, R: Wait>(
+        &self,
+        rt: &R,
+        alloc: Global,
+        desk: &mut Desk<L>,
+        gate: &G,
+        ticket: Ticket,
+    ) -> Result<(), WorkFault>
+        requires { SeatedAt self.now desk.old }
+        ensures seated { SeatedAt self.now desk.new }
+        ensures number { desk.new.number ≡ desk.old.number }
+        ensures accepted { OnOk result (desk.new.accepted ≡ desk.old.accepted + 1) }
+        ensures refused { OnErr result (desk.new.accepted ≡ desk.old.accepted) }
+    {
+        let name = ticket.name;
+        gate.pass(rt, desk.number, Moment::Taken { name });
+        let found = match self.settle(rt, alloc, desk, gate, ticket) {
+            Ok(found) => found,
+            Err(fault) => return Err(self.stop(rt, name, fault)),
+        };
+        if let Some(makespan) = found.and_then(|makespan| u64::try_from(makespan).ok()) {
+            self.best.offer(&mut desk.seat, makespan);
+        }
+        gate.pass(rt, desk.number, Moment::CheckedIn { name });
+        Ok(())
+    }
+
+    /// Serves one node after the other, until the book has none for this worker any more.
+    fn serve_all<G: Gate, R: Wait>(
+        &self,
+        rt: &R,
+        alloc: Global,
+        desk: &mut Desk<L>,
+        gate: &G,
+    ) -> Result<(), WorkFault>
+        requires { SeatedAt self.now desk.old }
+        ensures seated { SeatedAt self.now desk.new }
+        ensures number { desk.new.number ≡ desk.old.number }
+        ensures accepted { desk.old.accepted ≤ desk.new.accepted }
+    {
+        for _ in rt.forever() {
+            let Some(ticket) = self.next_ticket(rt, desk.number) else {
+                break;
+            };
+            self.serve(rt, alloc, desk, gate, ticket)?;
+        }
+        Ok(())
+    }
+
+    /// The loop of one worker, which passes the gate once more at its end.
+    pub(crate) fn serve_to_end<G: Gate, R: Wait>(
+        &self,
+        rt: &R,
+        alloc: Global,
+        desk: &mut Desk<L>,
+        gate: &G,
+    ) -> Result<(), WorkFault>
+        requires { SeatedAt self.now desk.old }
+        ensures seated { SeatedAt self.now desk.new }
+        ensures number { desk.new.number ≡ desk.old.number }
+        ensures accepted { desk.old.accepted ≤ desk.new.accepted }
+    {
+        let ended = self.serve_all(rt, alloc, desk, gate);
+        gate.pass(rt, desk.number, Moment::Ended);
+        ended
+    }
+}
+
+/// The loop of one worker, at a desk of this shared book: it takes nodes, expands them and checks their reports in, until
+/// the search is over or stopped. It ends with [`SolveFault::Memory`] or [`SolveFault::Refused`], and the book is
+/// then halted. At the end it passes the gate with [`Moment::Ended`].
+pub fn work<L: Ledger, G: Gate, R: Wait>(
+    rt: &R,
+    alloc: Global,
+    shared: &Shared<L>,
+    desk: &mut Desk<L>,
+    gate: &G,
+) -> Result<(), SolveFault>
+    requires { SeatedAt shared.now desk.old }
+    ensures seated { SeatedAt shared.now desk.new }
+    ensures number { desk.new.number ≡ desk.old.number }
+    ensures accepted { desk.old.accepted ≤ desk.new.accepted }
+    ensures fault { IfErr result IsOfWork }
+{
+    match shared.serve_to_end(rt, alloc, desk, gate) {
+        Ok(()) => Ok(()),
+        Err(fault) => Err(fault.into()),
+    }
+}

@@ -1,0 +1,241 @@
+ghost use Rattle.std.specs.Prelude.{◌≡◌, ◌+◌, ℕ, IfOk, OnOk, OnErr, map, sum_by, vec_len};
+ghost use Rattle.best_word.specs.View.{Lowers};
+ghost use Rattle.worker.specs.Desks.{IsRow, IsRowAt, SeatedAt, tally_of};
+ghost use Rattle.worker.specs.Faults.{RefusesLimits};
+
+use crate::desk::{Desk, Tally};
+use crate::fault::{SolveFault, WorkFault};
+use crate::locked::Locked;
+use best_word::{BestSeat, BestWord};
+use book::{Book, CheckFault, OtherProject, Take, Ticket};
+use branching::Report;
+use network::{Project, Schedule};
+use std::alloc::{AllocError, Global};
+use std::sync::ledger::{Blank, Ledger, Share};
+use std::sync::{Arc, Condvar, Mutex, Wait};
+
+/// What workers share: the book under its lock, a bell that tells of its changes, and the best word.
+#[derive(Drop)]
+pub struct Shared<L: Ledger> {
+    pub(crate) locked: Mutex<Locked<L>>,
+    changed: Condvar,
+    pub(crate) best: BestWord,
+}
+
+fn new_desk<L: Ledger>(number: usize, share: Share<L>, seat: BestSeat) -> Desk<L>
+    requires { (share.parts ≡ 1) × (share.amount ≡ 0) }
+    ensures { (result.number ≡ number) × (result.accepted ≡ 0) × (result.ahead ≡ 0) × (result.seat ≡ seat) }
+{
+    Desk {
+        number,
+        accepted: 0,
+        ahead: 0,
+        share,
+        seat,
+        searcher: None,
+    }
+}
+
+/// A desk for each worker, with a part each, and the share without a part that is left.
+fn desks_for<L: Ledger>(
+    alloc: Global,
+    workers: usize,
+    best: &BestWord,
+    mut seat: BestSeat,
+    mut all: Share<L>,
+) -> Result<(Vec<Desk<L>>, Share<L>), AllocError>
+    requires { (all.parts ≡ workers) × (all.amount ≡ 0) × (seat.word ≡ best.now) }
+    ensures count { IfOk result (λ r. vec_len r.0 ≡ workers) }
+    ensures each { IfOk result (λ r. IsRowAt best.now 0 r.0.items) }
+    ensures rest { IfOk result (λ r. (r.1.parts ≡ 0) × (r.1.amount ≡ 0)) }
+{
+    let mut desks = Vec::new(alloc);
+    for number in 0..workers {
+        let share = all.split_off(1, 0);
+        let desk = new_desk(number, share, best.split(&mut seat));
+        desks.push(desk)?;
+    }
+    Ok((desks, all))
+}
+
+/// What the desks counted, and their shares as one.
+fn gather<L: Ledger>(
+    alloc: Global,
+    desks: Vec<Desk<L>>,
+    mut all: Share<L>,
+) -> Result<(Vec<Tally>, Share<L>), AllocError>
+    ensures tallies { IfOk result (λ r. r.0.items ≡ map tally_of desks.items) }
+    ensures parts { IfOk result (λ r. r.1.parts ≡ all.parts + vec_len desks) }
+    ensures amount { IfOk result (λ r. r.1.amount ≡ all.amount + sum_by (λ t. t.accepted) r.0.items) }
+{
+    let mut tallies = Vec::with_capacity(alloc, desks.len())?;
+    for desk in desks {
+        let Desk {
+            number: _,
+            accepted,
+            ahead,
+            share,
+            seat: _,
+            searcher: _,
+        } = desk;
+        all.merge(share);
+        tallies.push(Tally { accepted, ahead })?;
+    }
+    Ok((tallies, all))
+}
+
+impl<L: Ledger> Shared<L> {
+    /// A new book of a project under a new lock, and a desk for each worker, in the order of their numbers. The book allows
+    /// 1 to [`MAX_WORKERS`](book::MAX_WORKERS) workers and 1 to [`MAX_TAKES`](branching::MAX_TAKES) takes. The ledger,
+    /// which `blank` becomes, has a part for each worker.
+    pub fn open(
+        alloc: Global,
+        blank: Blank,
+        project: Arc<Project>,
+        workers: usize,
+        takes: u64,
+    ) -> Result<(Shared<L>, Vec<Desk<L>>), SolveFault>
+        requires name { blank.name ≡ L.name }
+        requires parts { blank.parts ≡ L.parts }
+        requires one_each { blank.parts ≡ workers }
+        ensures desks { IfOk result (λ r. vec_len r.1 ≡ workers) }
+        ensures each { IfOk result (λ r. IsRow r.0 r.1.items) }
+        ensures limits { RefusesLimits workers takes result }
+    {
+        let book = Book::open(alloc, project, workers, takes)?;
+        let (best, seat) = BestWord::open(alloc, u64::MAX)?;
+        let (shares, all) = blank.open::<L>();
+        let (desks, rest) = desks_for(alloc, workers, &best, seat, all)?;
+        let shared = Shared {
+            locked: Mutex::new(Locked { book, shares, rest }),
+            changed: Condvar::new(),
+            best,
+        };
+        Ok((shared, desks))
+    }
+
+    /// The next node for a worker, which waits for one while all nodes are in other hands. None where the book has none
+    /// for it any more: the others are woken up, so that they see that too.
+    pub(crate) fn next_ticket<R: Wait>(&self, rt: &R, worker: usize) -> Option<Ticket> {
+        let mut locked = self.locked.lock(rt);
+        for _ in rt.forever() {
+            match locked.book.take(worker) {
+                Take::Ticket(ticket) => return Some(ticket),
+                Take::Idle => locked = self.changed.wait(rt, locked),
+                _ => break,
+            }
+        }
+        self.changed.notify_all();
+        None
+    }
+
+    /// Checks a report in, and counts at the desk what came of it.
+    pub(crate) fn check_in<R: Wait>(
+        &self,
+        rt: &R,
+        desk: &mut Desk<L>,
+        name: u64,
+        report: Report,
+    ) -> Result<(), CheckFault>
+        ensures same { (desk.new.number ≡ desk.old.number) × (desk.new.seat ≡ desk.old.seat) }
+        ensures accepted { OnOk result (desk.new.accepted ≡ desk.old.accepted + 1) }
+        ensures refused { OnErr result (desk.new.accepted ≡ desk.old.accepted) }
+    {
+        let Desk {
+            number: _,
+            accepted,
+            ahead,
+            share,
+            seat: _,
+            searcher: _,
+        } = desk;
+        let checked = self.locked.lock(rt).check_in(share, name, report);
+        match checked {
+            Ok(_) => {
+                *accepted += 1;
+                self.changed.notify_all();
+                Ok(())
+            }
+            Err((_, fault)) => {
+                if let CheckFault::AheadOfBook { .. } = fault {
+                    *ahead = ahead.saturating_add(1);
+                }
+                Err(fault)
+            }
+        }
+    }
+
+    /// Ends the search after a refusal. For want of memory the node is given back first.
+    pub(crate) fn stop<R: Wait>(&self, rt: &R, name: u64, fault: CheckFault) -> WorkFault {
+        let mut locked = self.locked.lock(rt);
+        let ended = match fault {
+            CheckFault::Memory => {
+                let _ = locked.book.give_back(name);
+                WorkFault::Memory
+            }
+            fault => WorkFault::Refused(fault),
+        };
+        locked.book.halt();
+        self.changed.notify_all();
+        ended
+    }
+
+    /// Ends the search: no node is handed out from now on.
+    pub(crate) fn halt<R: Wait>(&self, rt: &R) {
+        self.locked.lock(rt).book.halt();
+        self.changed.notify_all();
+    }
+
+    /// Gives the node in hand under a name back, as [`Book::give_back`] does, and wakes up those who wait. Any thread
+    /// may call it at any time; a worker whose node is given back so ends with [`SolveFault::Refused`].
+    pub fn give_back<R: Wait>(&self, rt: &R, name: u64) -> Result<(), CheckFault> {
+        let given = self.locked.lock(rt).book.give_back(name);
+        self.changed.notify_all();
+        given
+    }
+
+    /// Offers a schedule to the book, as [`Book::offer`] does, and wakes up those who wait. Any thread may call it at any
+    /// time.
+    pub fn offer<R: Wait>(
+        &self,
+        rt: &R,
+        schedule: Schedule,
+    ) -> Result<bool, (Schedule, OtherProject)> {
+        let offered = self.locked.lock(rt).book.offer(schedule);
+        self.changed.notify_all();
+        offered
+    }
+
+    /// Offers a makespan, in periods, to the best word, through the desk's seat. The book knows nothing of it: a number
+    /// that no schedule has costs expansions and no truth.
+    pub fn tell(&self, desk: &mut Desk<L>, makespan: u64)
+        requires { SeatedAt self.now desk.old }
+        ensures seated { SeatedAt self.now desk.new }
+        ensures same { (desk.new.number ≡ desk.old.number) × (desk.new.accepted ≡ desk.old.accepted) }
+        ensures lowered { (found : ℕ) × Lowers desk.old.seat.view found makespan desk.new.seat.view }
+    {
+        self.best.offer(&mut desk.seat, makespan);
+    }
+
+    /// The book, and what the desks counted, in their order. It takes all desks. The nodes that the book has checked in are
+    /// those that were accepted at the desks.
+    pub fn close(self, alloc: Global, desks: Vec<Desk<L>>) -> Result<(Book, Vec<Tally>), AllocError>
+        requires { vec_len desks ≡ L.parts }
+        ensures shares { IfOk result (λ r. sum_by (λ t. t.accepted) r.1.items ≡ r.0.checked) }
+        ensures tallies { IfOk result (λ r. r.1.items ≡ map tally_of desks.items) }
+    {
+        let Shared {
+            locked,
+            changed: _,
+            best: _,
+        } = self;
+        let Locked {
+            book,
+            mut shares,
+            rest,
+        } = locked.into_inner();
+        let (tallies, mut all) = gather(alloc, desks, rest)?;
+        shares.audit(&mut all);
+        Ok((book, tallies))
+    }
+}

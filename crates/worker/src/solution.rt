@@ -1,0 +1,161 @@
+ghost use Rattle.std.specs.Prelude.{◌≡◌, ◌+◌, ◌<◌, ◌↔◌, IfOk, IfErr, length, map, sum_by, vec_len};
+ghost use Rattle.std.specs.Arc.{arc_value};
+ghost use Rattle.std.specs.Bool.{OnTrue};
+ghost use Rattle.book.specs.State.{live};
+ghost use Rattle.book.specs.Opening.{AreAllowed};
+ghost use Rattle.branching.specs.Verdicts.{IsTrueOf};
+ghost use Rattle.worker.specs.Desks.{IsRow};
+ghost use Rattle.worker.specs.Faults.{IsWithinLimits, RefusesLimits};
+ghost use Rattle.worker.specs.Solving.{IsStopped, IsSolution};
+
+use crate::desk::{Desk, Tally};
+use crate::fault::SolveFault;
+use crate::gate::Gate;
+use crate::shared::Shared;
+use crate::threads::run_workers;
+use book::{Book, Counts, Verdict, are_allowed, is_same_project};
+use branching::Outcome;
+use network::{Project, Schedule};
+use std::alloc::{AllocError, Global};
+use std::marker::Brand;
+use std::sync::ledger::{Blank, Ledger};
+use std::sync::{Arc, Wait};
+use std::thread::Threads;
+
+/// The outcome of a search by workers, the counts of its book, and how many reports of each worker were accepted.
+#[derive(Drop, Debug)]
+pub struct Solved {
+    pub outcome: Outcome,
+    pub counts: Counts,
+    pub per_worker: Vec<u64>,
+}
+
+fn accepted(alloc: Global, tallies: &[Tally]) -> Result<Vec<u64>, AllocError>
+    ensures { IfOk result (λ numbers. numbers.items ≡ map (λ t. t.accepted) tallies.now) }
+{
+    tallies.iter().map(|tally| tally.accepted).collect(alloc)
+}
+
+/// Offers a schedule to the book, and its makespan to the best word.
+fn offer_start<L: Ledger, R: Wait>(
+    rt: &R,
+    shared: &Shared<L>,
+    desks: &mut Vec<Desk<L>>,
+    start: Schedule,
+) -> Result<(), SolveFault>
+    requires { IsRow shared.now desks.old.items }
+    ensures row { IsRow shared.now desks.new.items }
+    ensures count { vec_len desks.new ≡ vec_len desks.old }
+    ensures fault { IfErr result IsWithinLimits }
+{
+    let makespan = u64::try_from(start.makespan());
+    if shared.offer(rt, start).is_err() {
+        return Err(SolveFault::OtherProject);
+    }
+    if let (Some(desk), Ok(makespan)) = (desks.first_mut(), makespan) {
+        shared.tell(desk, makespan);
+    }
+    Ok(())
+}
+
+/// What a book says in the end.
+fn outcome_of(book: Book) -> Outcome
+    ensures true_of { IsTrueOf book.project result }
+    ensures left { IsStopped result ↔ (0 < length (live book)) }
+{
+    match book.verdict() {
+        Verdict::Open { best: _, bound } => Outcome::Stopped {
+            best: book.into_best(),
+            bound,
+        },
+        _ => match book.into_best() {
+            Some(best) => Outcome::Optimal(best),
+            None => Outcome::NoSchedule,
+        },
+    }
+}
+
+/// Whether no node is left, or as many were taken as may be.
+fn is_over(counts: &Counts, takes: u64) -> bool
+    ensures { OnTrue result (0 < counts.now.waiting + counts.now.hand → counts.now.taken ≡ takes) }
+{
+    (counts.waiting() == 0 && counts.hand() == 0) || counts.taken() == takes
+}
+
+/// The outcome of a book whose workers have all ended. Its project has to be the one that was handed in.
+fn conclude(
+    alloc: Global,
+    project: &Project,
+    takes: u64,
+    book: Book,
+    tallies: &[Tally],
+) -> Result<Solved, SolveFault>
+    requires { sum_by (λ t. t.accepted) tallies.now ≡ book.checked }
+    ensures solution { IfOk result (IsSolution project.now (length tallies.now) takes) }
+    ensures fault { IfErr result IsWithinLimits }
+{
+    if !is_same_project(book.project(), project) {
+        return Err(SolveFault::OtherProject);
+    }
+    let counts = book.counts();
+    if !is_over(&counts, takes) {
+        return Err(SolveFault::Thread);
+    }
+    let per_worker = accepted(alloc, tallies)?;
+    Ok(Solved {
+        outcome: outcome_of(book),
+        counts,
+        per_worker,
+    })
+}
+
+fn solve_under<L: Ledger + Send + Sync, G: Gate, R: Threads + Wait + Sync>(
+    rt: &R,
+    alloc: Global,
+    blank: Blank,
+    project: Arc<Project>,
+    workers: usize,
+    takes: u64,
+    start: Option<Schedule>,
+    gate: &G,
+) -> Result<Solved, SolveFault>
+    requires name { blank.name ≡ L.name }
+    requires parts { blank.parts ≡ L.parts }
+    requires one_each { blank.parts ≡ workers }
+    requires allowed { AreAllowed workers takes }
+    ensures solution { IfOk result (IsSolution (arc_value project) workers takes) }
+    ensures fault { IfErr result IsWithinLimits }
+{
+    let own = Arc::try_clone(&project)?;
+    let (shared, mut desks) = Shared::<L>::open(alloc, blank, own, workers, takes)?;
+    if let Some(start) = start {
+        offer_start(rt, &shared, &mut desks, start)?;
+    }
+    let desks = run_workers(rt, alloc, &shared, desks, gate)?;
+    let (book, tallies) = shared.close(alloc, desks)?;
+    conclude(alloc, &project, takes, book, tallies.as_slice())
+}
+
+/// Searches a project with workers in threads of their own: 1 to [`MAX_WORKERS`](book::MAX_WORKERS) of them, which
+/// take 1 to [`MAX_TAKES`](branching::MAX_TAKES) nodes in all. A schedule that is known is offered before they start.
+///
+/// Workers pass the gate while they don't hold the lock. Where several ended with faults, that of the one of least number
+/// is answered; [`SolveFault::Thread`] where a thread could not be started.
+pub fn solve<G: Gate, R: Threads + Wait + Sync>(
+    rt: &R,
+    alloc: Global,
+    project: Arc<Project>,
+    workers: usize,
+    takes: u64,
+    start: Option<Schedule>,
+    gate: &G,
+) -> Result<Solved, SolveFault>
+    ensures solution { IfOk result (IsSolution (arc_value project) workers takes) }
+    ensures limits { RefusesLimits workers takes result }
+{
+    if !are_allowed(workers, takes) {
+        return Err(SolveFault::Limit);
+    }
+    let blank = Blank::new(workers as u64);
+    solve_under::<Brand, G, R>(rt, alloc, blank, project, workers, takes, start, gate)
+}
