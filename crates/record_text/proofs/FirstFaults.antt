@@ -51,18 +51,34 @@ one_wrong front here back why.Form why.Form a b = refl
 one_wrong front here back why.Form why.Short a b = absurd (not_ended front here back a.1 b.1 b.2)
 one_wrong front here back why.Form why.Trailing a b = absurd (a.0 b.0)
 one_wrong front here back why.Form why.Memory a b = absurd b
+one_wrong front here back why.Form why.Start a b = absurd b
+one_wrong front here back why.Form why.Force a b = absurd b
+one_wrong front here back why.Form why.Set a b = absurd b
+one_wrong front here back why.Form why.Leaf a b = absurd b
 one_wrong front here back why.Form why.TooLong a b = absurd b
 one_wrong front here back why.Short why.Form a b = absurd (not_ended front here back b.1 a.1 a.2)
 one_wrong front here back why.Short why.Short a b = refl
 one_wrong front here back why.Short why.Trailing a b = absurd (a.0 b.0)
 one_wrong front here back why.Short why.Memory a b = absurd b
+one_wrong front here back why.Short why.Start a b = absurd b
+one_wrong front here back why.Short why.Force a b = absurd b
+one_wrong front here back why.Short why.Set a b = absurd b
+one_wrong front here back why.Short why.Leaf a b = absurd b
 one_wrong front here back why.Short why.TooLong a b = absurd b
 one_wrong front here back why.Trailing why.Form a b = absurd (b.0 a.0)
 one_wrong front here back why.Trailing why.Short a b = absurd (b.0 a.0)
 one_wrong front here back why.Trailing why.Trailing a b = refl
 one_wrong front here back why.Trailing why.Memory a b = absurd b
+one_wrong front here back why.Trailing why.Start a b = absurd b
+one_wrong front here back why.Trailing why.Force a b = absurd b
+one_wrong front here back why.Trailing why.Set a b = absurd b
+one_wrong front here back why.Trailing why.Leaf a b = absurd b
 one_wrong front here back why.Trailing why.TooLong a b = absurd b
 one_wrong front here back why.Memory w a b = absurd a
+one_wrong front here back why.Start w a b = absurd a
+one_wrong front here back why.Force w a b = absurd a
+one_wrong front here back why.Set w a b = absurd a
+one_wrong front here back why.Leaf w a b = absurd a
 one_wrong front here back why.TooLong w a b = absurd a
 
 -- a line before one that a record goes on to is not wrong
@@ -89,6 +105,10 @@ right_before all a b f g before = by_why a.why f.back f.wrong before.backs
     by_why why.Short back wrong e = some_back back e wrong.2
     by_why why.Trailing back wrong e = not_whole wrong.0
     by_why why.Memory back wrong e = absurd wrong
+    by_why why.Start back wrong e = absurd wrong
+    by_why why.Force back wrong e = absurd wrong
+    by_why why.Set back wrong e = absurd wrong
+    by_why why.Leaf back wrong e = absurd wrong
     by_why why.TooLong back wrong e = absurd wrong
 
 one_fault : (all : List (List ℕ)) (a b : RecordFault) → HasFault all a → HasFault all b → a ≡ b

@@ -91,6 +91,10 @@ no_fault r fault is f = by_why fault.why f.back f.wrong (cut (rows_of r) f.front
     by_why why.Trailing back wrong (inl (a, b, c)) = wrong.1 (b, c)
     by_why why.Trailing back wrong (inr (rest, h, b)) = goes_on rest h wrong.0
     by_why why.Memory back wrong c = absurd wrong
+    by_why why.Start back wrong c = absurd wrong
+    by_why why.Force back wrong c = absurd wrong
+    by_why why.Set back wrong c = absurd wrong
+    by_why why.Leaf back wrong c = absurd wrong
     by_why why.TooLong back wrong c = absurd wrong
 
 -- ---- the whole text
@@ -181,11 +185,15 @@ pub spells_no_fault : (text : List ℕ) (r : SearchRecord) (fault : RecordFault)
 spells_no_fault text r fault s (inl (long, is)) = omega (arith, long, s.size)
 spells_no_fault text r fault s (inr (size, f)) = no_fault r fault s.of_record (subst (λ (ps : List (List ℕ)). HasFault ps fault) (record_pieces text r s) f)
 
-is_memory : (w : Why) → (w ≢ why.Memory → ⊥) → w ≡ why.Memory
+pub is_memory : (w : Why) → (w ≢ why.Memory → ⊥) → w ≡ why.Memory
 is_memory why.Memory h = refl
 is_memory why.Form h = absurd (h (λ e. cc))
 is_memory why.Short h = absurd (h (λ e. cc))
 is_memory why.Trailing h = absurd (h (λ e. cc))
+is_memory why.Start h = absurd (h (λ e. cc))
+is_memory why.Force h = absurd (h (λ e. cc))
+is_memory why.Set h = absurd (h (λ e. cc))
+is_memory why.Leaf h = absurd (h (λ e. cc))
 is_memory why.TooLong h = absurd (h (λ e. cc))
 
 -- what is spelled is read, unless memory ran out

@@ -13,14 +13,23 @@ pub enum Why {
     Short,
     /// The line stands after the last node, whatever it holds.
     Trailing,
+    /// The starts are no feasible schedule of the project with the makespan that is claimed. This and the
+    /// next three are never said of a text, but of a record and a project.
+    Start,
+    /// A `force` that is not right.
+    Force,
+    /// A `split` that is not right.
+    Set,
+    /// A `solved`, `cut` or `dead` that is not right.
+    Leaf,
     /// Memory ran out.
     Memory,
     /// The text has more than 268,435,456 bytes, whatever it holds.
     TooLong,
 }
 
-/// Why a text could not be read: its length, then the first fault of its lines. Lines count from 1; where
-/// no line is at fault the line is 0.
+/// Why a text could not be read: its length, then the first fault of its lines; or why a record is not
+/// right. Lines count from 1; where no line is at fault the line is 0.
 #[derive(Clone, Copy, PartialEq, Eq, Debug)]
 pub struct RecordFault {
     pub line: usize,

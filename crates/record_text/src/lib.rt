@@ -22,6 +22,7 @@ pub use laws::{shape_law, text_law};
 pub use line::{Claim, Line};
 pub use members::Members;
 pub use number::MAX_NUMBER_DIGITS;
+pub use read::tree_line;
 pub use record::Record;
 pub use starts::Starts;
 

@@ -94,7 +94,7 @@ pub(crate) fn read_claim(alloc: Global, text: &[u8]) -> Result<(Claim, &[u8]), R
 }
 
 /// The number of the first line of the tree.
-fn tree_line(claim: &Claim) -> usize
+pub fn tree_line(claim: &Claim) -> usize
     ensures { result ≡ length (head_rows claim.now) + 1 }
 {
     match claim {
