@@ -119,9 +119,6 @@ sums_fit x y z within amount within_z =
     let down_z : neg_ℤ MAX_WALK_WEIGHT ≤ℤ z = within_z.at_least in
     omega (arith, ints)
 
-pub positive_unless : (x : ℤ) → le_z x (pos 0) ≡ false → pos 0 <ℤ x
-positive_unless x h = grind (arith, ints)
-
 pub positive_from : (x : ℤ) → lt_z (pos 0) x ≡ true → pos 0 <ℤ x
 positive_from x h = grind (arith, ints)
 

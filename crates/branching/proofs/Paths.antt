@@ -102,14 +102,20 @@ walk_more : (arcs more : List Lag) (a b : ℕ) (es : List Lag) → IsWalk arcs a
 walk_more arcs more a b [] w = w
 walk_more arcs more a b (e ∷ es) w = (Contains-append_left arcs more e w.0, w.1, walk_more arcs more e.to b es w.2)
 
-pub no_cycle_before : (p : Problem) (all some : List Pair) (n : ℕ) → HasNoPositiveCycle (arcs_of p all) → some ≡ take n all → HasPositiveCycle (arcs_of p some) → ⊥
-no_cycle_before p all some n live is cycle =
+-- a closed walk stays where pairs come after
+pub cycle_before : (p : Problem) (all some : List Pair) (n : ℕ) → some ≡ take n all → HasPositiveCycle (arcs_of p some) → HasPositiveCycle (arcs_of p all)
+cycle_before p all some n is cycle =
     let whole : arcs_of p all ≡ arcs_of p some ++ map (pair_arc p) (drop n all) =
     ap (λ (l : List Pair). rules p ++ map (pair_arc p) l) (sym (take-append-drop n all)) ∙ ap (λ (l : List Lag). rules p ++ l) (map-append (pair_arc p) (take n all) (drop n all))
     ∙ sym (append_assoc (rules p) (map (pair_arc p) (take n all)) (map (pair_arc p) (drop n all))) ∙ ap (λ (l : List Pair). arcs_of p l ++ map (pair_arc p) (drop n all)) (sym is) in
     let walk : IsWalk (arcs_of p all) cycle.0 cycle.1 cycle.0 = rw whole (walk_more (arcs_of p some) (map (pair_arc p) (drop n all)) cycle.0 cycle.0 cycle.1 cycle.2.closed) in
-    let low : weight cycle.1 ≤ℤ pos 0 = live cycle.0 cycle.1 walk in
-    let high : pos 0 <ℤ weight cycle.1 = cycle.2.positive in
+    (cycle.0, cycle.1, record { closed = walk; positive = cycle.2.positive })
+
+pub no_cycle_before : (p : Problem) (all some : List Pair) (n : ℕ) → HasNoPositiveCycle (arcs_of p all) → some ≡ take n all → HasPositiveCycle (arcs_of p some) → ⊥
+no_cycle_before p all some n live is cycle =
+    let whole = cycle_before p all some n is cycle in
+    let low : weight whole.1 ≤ℤ pos 0 = live whole.0 whole.1 whole.2.closed in
+    let high : pos 0 <ℤ weight whole.1 = whole.2.positive in
     omega (arith, ints)
 
 -- ---- with how many pairs both lists begin

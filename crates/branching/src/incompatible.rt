@@ -1,5 +1,4 @@
-ghost use Rattle.std.specs.Prelude.{◌<◌, IfOk, [], ◌∷◌};
-ghost use Rattle.std.specs.Bool.{OnTrue};
+ghost use Rattle.std.specs.Prelude.{◌<◌, ◌↔◌, IsTrue, IfOk, [], ◌∷◌};
 ghost use Rattle.network.specs.Problem.{activity_count, NameActivities};
 ghost use Rattle.branching.specs.Incompatible.{AreIncompatible, AllIncompatible, ExceedSome};
 ghost use Rattle.branching.specs.IncompatibleRows.{pairs_before, AreRowsOf};
@@ -10,7 +9,7 @@ use std::alloc::{AllocError, Global};
 /// Whether both together ask for more of some resource than there is.
 fn exceed_some(project: &Project, pair: Pair) -> bool
     requires { NameActivities project.now (pair ∷ []) }
-    ensures { OnTrue result (ExceedSome project.now pair) }
+    ensures { IsTrue result ↔ ExceedSome project.now pair }
 {
     for resource in 0..project.resource_count() {
         let joint = project.demand(resource, pair.before) + project.demand(resource, pair.after);
@@ -21,11 +20,15 @@ fn exceed_some(project: &Project, pair: Pair) -> bool
     false
 }
 
-/// Whether the two can't run at the same time.
-fn are_incompatible(project: &Project, pair: Pair) -> bool
-    requires { NameActivities project.now (pair ∷ []) }
-    ensures { OnTrue result (AreIncompatible project.now pair) }
+/// Whether the two are different activities that can't run at the same time: both take time, and together
+/// they ask for more of some resource than there is.
+pub fn are_incompatible(project: &Project, pair: Pair) -> bool
+    ensures { IsTrue result ↔ AreIncompatible project.now pair }
 {
+    let count = project.activity_count();
+    if pair.before >= count || pair.after >= count {
+        return false;
+    }
     if pair.before == pair.after {
         return false;
     }

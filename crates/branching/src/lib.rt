@@ -28,10 +28,13 @@ mod workspace;
 
 pub use expansion::expand;
 pub use fate::Fate;
+pub use incompatible::are_incompatible;
 pub use lean::Lean;
+pub use marking::insert_under_mark;
 pub use node::{Node, rebuild, root};
 pub use outcome::Outcome;
 pub use pair_list::PairList;
+pub use pairs::ordered_pairs;
 pub use report::{MAX_KIDS, Report};
 pub use search::{MAX_TAKES, search_alone};
 pub use searcher::Searcher;

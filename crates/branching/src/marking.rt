@@ -8,7 +8,7 @@ use longest_path::{MarkedMatrix, PathFault};
 use network::Lag;
 
 /// Makes a mark and adds an arc. A fault leaves all as it was.
-pub(crate) fn insert_under_mark(matrix: &mut MarkedMatrix, arc: Lag) -> Result<(), PathFault>
+pub fn insert_under_mark(matrix: &mut MarkedMatrix, arc: Lag) -> Result<(), PathFault>
     requires from_activity { arc.from < length matrix.old.rows }
     requires to_activity { arc.to < length matrix.old.rows }
     requires light { IsWithin MAX_LAG_WEIGHT arc.weight }

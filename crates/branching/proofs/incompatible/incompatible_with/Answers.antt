@@ -1,4 +1,3 @@
-use Rattle.std.proofs.lemmas.Bool.{OnTrue_at}
 use Rattle.std.proofs.lemmas.List.{map-append}
 use Rattle.std.proofs.lemmas.List.Elements.{All-push}
 use Rattle.branching.specs.Incompatible.{AreIncompatible}
@@ -9,6 +8,6 @@ use Rattle.branching.proofs.incompatible.incompatible_with.Goals.{then-are_incom
 pub loop-other-preserved : goal.loop-other-preserved
 loop-other-preserved c =
     elim c.if-are_incompatible.branch [
-      | then-are_incompatible+in_ok-push w ↦ rw (w.others-is, w.in_ok-push.ensures.items, map-append (pair_of c.args.activity) c.loop-other.others.items) (All-push (AreIncompatible c.args.project.now) _ _ c.loop-other.invariant (OnTrue_at w.if-are_incompatible.true c.are_incompatible.ensures))
+      | then-are_incompatible+in_ok-push w ↦ rw (w.others-is, w.in_ok-push.ensures.items, map-append (pair_of c.args.activity) c.loop-other.others.items) (All-push (AreIncompatible c.args.project.now) _ _ c.loop-other.invariant (c.are_incompatible.ensures.0 w.if-are_incompatible.true))
       | else-are_incompatible w ↦ rw w.others-is c.loop-other.invariant
     ]
