@@ -1,0 +1,33 @@
+use Rattle.std.proofs.Common.{ℕ, ◌<◌, ◌∙◌, List, [], ◌∷◌, ◌++◌, length, map, reverse, ap}
+use Rattle.network.specs.declared.lag.Pair.{Pair}
+use Rattle.network.specs.Problem.{NameActivities}
+use Rattle.branching.specs.Pairs.{ordered_pairs}
+use Rattle.search_record.specs.Later.{later_at, nodes_due}
+use Rattle.search_record.specs.Due.{DueNodes}
+use Rattle.search_record.proofs.Steps.{split_due, split_along, named_pairs}
+use Rattle.search_record.proofs.due.Due.split.Goals as goal
+
+pub invariant_of-self : goal.invariant_of-self
+invariant_of-self c =
+    let node = c.self.inside.node in
+    let named : NameActivities node.project c.in_ok-pairs.pairs.items = rw c.in_ok-pairs.ensures (named_pairs node.project c.args.members.now (rw (ap (λ (d : DueNodes). d.project) c.self.view_is) c.requires.named)) in
+    let some : 0 < length (nodes_due c.self.inside.is_there node.pairs (reverse c.self.inside.later.items)) = rw (ap (λ (d : DueNodes). d.nodes) c.self.view_is) c.requires.there in
+    split_along c.self.inside.is_there node (reverse c.self.inside.later.items) (reverse c.push_later.new.later.items) c.depth-depth.result c.depth-depth.ensures some c.self.invariant (c.push_later.ensures.nested node.project named)
+
+pub invariant_of-self-2 : goal.invariant_of-self-2
+invariant_of-self-2 c =
+    let node = c.self.inside.node in
+    let named : NameActivities node.project c.in_ok-pairs.pairs.items = rw c.in_ok-pairs.ensures (named_pairs node.project c.args.members.now (rw (ap (λ (d : DueNodes). d.project) c.self.view_is) c.requires.named)) in
+    let some : 0 < length (nodes_due c.self.inside.is_there node.pairs (reverse c.self.inside.later.items)) = rw (ap (λ (d : DueNodes). d.nodes) c.self.view_is) c.requires.there in
+    split_along c.self.inside.is_there node (reverse c.self.inside.later.items) (reverse c.push_later.new.later.items) c.depth-depth.result c.depth-depth.ensures some c.self.invariant (c.push_later.ensures.nested node.project named)
+
+pub returns-clause-nodes : goal.returns-clause-nodes
+returns-clause-nodes c = λ pairs rest is.
+    let inside = c.self.inside in
+    let node = c.self.inside.node in
+    c.in_ok-leave.ensures.nodes pairs (map (λ (pair : Pair). pairs ++ pair ∷ []) (ordered_pairs c.args.members.now) ++ rest)
+    (split_due inside.is_there node.pairs (reverse inside.later.items) (reverse c.push_later.new.later.items) (ordered_pairs c.args.members.now)
+    (c.in_ok-push_later.ensures.added
+    ∙ ap (λ (depth : ℕ). map (later_at depth) c.in_ok-pairs.pairs.items ++ reverse inside.later.items) c.depth-depth.ensures
+    ∙ ap (λ (added : List Pair). map (later_at (length node.pairs)) added ++ reverse inside.later.items) c.in_ok-pairs.ensures)
+    c.self.invariant.over pairs rest (ap (λ (d : DueNodes). d.nodes) c.self.view_is ∙ is))

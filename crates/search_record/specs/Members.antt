@@ -1,0 +1,27 @@
+-- Which lines name activities alone.
+use Rattle.std.specs.Prelude.{ℕ, ◌<◌, pos, ◌<ℤ◌, List, [], ◌∷◌, ◌++◌, map}
+use Rattle.std.specs.List.{All}
+use Rattle.network.specs.declared.lag.Pair.{Pair}
+use Rattle.network.specs.Problem.{Problem, activity_count, duration, NameActivities}
+use Rattle.branching.specs.Pairs.{ordered_pairs}
+use Rattle.record_text.specs.declared.line.Line.{Line}
+use Rattle.record_text.specs.declared.line.Line.TheVariants as kind
+
+-- an activity that takes time
+pub record TakesTime (p : Problem) (i : ℕ) : Type 0 where
+  pub named : i < activity_count p
+  pub long : pos 0 <ℤ duration p i
+
+-- the numbers of the line are those of activities
+abbrev pub NamesActivities : Problem → Line → Type 0
+NamesActivities p (kind.Force pair) = NameActivities p (pair ∷ [])
+NamesActivities p (kind.Split resource members) = All (λ i. i < activity_count p) members
+NamesActivities p line = Unit {0}
+
+-- the pairs of the nodes that come next after a line of a node, before any other that is due
+abbrev pub due_after : List Pair → Line → List (List Pair)
+due_after pairs (kind.Force pair) = (pairs ++ pair ∷ []) ∷ []
+due_after pairs (kind.Split resource members) = map (λ pair. pairs ++ pair ∷ []) (ordered_pairs members)
+due_after pairs kind.Solved = []
+due_after pairs kind.Cut = []
+due_after pairs kind.Dead = []

@@ -1,0 +1,121 @@
+ghost use Rattle.std.specs.Prelude.{◌≡◌, ◌<◌, List, [], ◌∷◌, ◌++◌, map, length, IfOk, OnOk, MatchOption};
+ghost use Rattle.network.specs.declared.lag.Pair.{Pair};
+ghost use Rattle.network.specs.Problem.{NameActivities};
+ghost use Rattle.branching.specs.Path.{Path};
+ghost use Rattle.branching.specs.Right.{IsDead};
+ghost use Rattle.search_record.specs.Due.{DueNodes};
+
+use crate::later::{Later, push_later};
+use crate::node::Node;
+use branching::ordered_pairs;
+use network::{Pair, Project};
+use record_text::Line;
+use std::alloc::{AllocError, Global};
+use std::marker::Model;
+
+/// The nodes of a record's tree that are due.
+#[derive(Drop)]
+pub(crate) struct Due<'a> {
+    /// The next one, if it is there.
+    node: Node<'a>,
+    is_there: bool,
+    /// The later ones, the next of them last.
+    later: Vec<Later>,
+}
+
+impl<'a> Model for Due<'a> {
+    ghost use Rattle.std.specs.Prelude.{reverse};
+    ghost use Rattle.search_record.specs.Due.{DueNodes, IsDueAlong};
+    ghost use Rattle.search_record.specs.Later.{nodes_due};
+
+    ghost Value = { DueNodes };
+
+    ghost view = { λ s. record { project = s.node.project; nodes = nodes_due s.is_there s.node.pairs (reverse s.later.items) } };
+
+    ghost invariant = { λ s. IsDueAlong s.is_there s.node (reverse s.later.items) };
+}
+
+impl<'a> Due<'a> {
+    ghost use Rattle.std.specs.List.{All};
+    ghost use Rattle.network.specs.Problem.{activity_count};
+    ghost use Rattle.branching.specs.Pairs.{ordered_pairs};
+    ghost use Rattle.search_record.specs.Members.{NamesActivities, due_after};
+
+    /// The node without pairs alone; none where the project itself has a closed walk of positive weight.
+    pub(crate) fn root(alloc: Global, project: &'a Project) -> Result<Option<Due<'a>>, AllocError>
+        ensures { IfOk result (λ found. MatchOption found (IsDead project.now []) (λ due. due ≡ record { project = project.now; nodes = [] ∷ [] })) }
+    {
+        match Node::root(alloc, project)? {
+            Some(node) => Ok(Some(Due {
+                node,
+                is_there: true,
+                later: Vec::new(alloc),
+            })),
+            None => Ok(None),
+        }
+    }
+
+    /// The next node.
+    pub(crate) fn next(&self) -> &Node<'a>
+        requires { 0 < length self.now.nodes }
+        ensures project { result.now.project ≡ self.now.project }
+        ensures nodes { (rest : List (List Pair)) × (self.now.nodes ≡ result.now.pairs ∷ rest) }
+    {
+        &self.node
+    }
+
+    /// Adds a pair to the next node.
+    fn force(&mut self, pair: Pair) -> Result<(), AllocError>
+        requires there { 0 < length self.old.nodes }
+        requires named { NameActivities self.old.project (pair ∷ []) }
+        ensures project { self.new.project ≡ self.old.project }
+        ensures nodes { OnOk result ((pairs : List Pair) (rest : List (List Pair)) → self.old.nodes ≡ pairs ∷ rest → self.new.nodes ≡ (pairs ++ pair ∷ []) ∷ rest) }
+    {
+        self.node.add(pair)
+    }
+
+    /// Goes on to the node after the next one.
+    fn leave(&mut self) -> Result<(), AllocError>
+        requires { 0 < length self.old.nodes }
+        ensures project { self.new.project ≡ self.old.project }
+        ensures nodes { OnOk result ((pairs : List Pair) (rest : List (List Pair)) → self.old.nodes ≡ pairs ∷ rest → self.new.nodes ≡ rest) }
+    {
+        match self.later.pop() {
+            Some(later) => {
+                self.node.keep(later.depth);
+                self.node.add(later.pair)?;
+            }
+            None => self.is_there = false,
+        }
+        Ok(())
+    }
+
+    /// Goes on to the nodes below the next one.
+    fn split(&mut self, alloc: Global, members: &[usize]) -> Result<(), AllocError>
+        requires there { 0 < length self.old.nodes }
+        requires named { All (λ i. i < activity_count self.old.project) members.now }
+        ensures project { self.new.project ≡ self.old.project }
+        ensures nodes { OnOk result ((pairs : List Pair) (rest : List (List Pair)) → self.old.nodes ≡ pairs ∷ rest → self.new.nodes ≡ map (λ pair. pairs ++ pair ∷ []) (ordered_pairs members.now) ++ rest) }
+    {
+        let pairs = ordered_pairs(alloc, members)?;
+        let depth = self.node.depth();
+        push_later(&mut self.later, depth, pairs)?;
+        self.leave()?;
+        Ok(())
+    }
+
+    /// Goes on from a line of the next node to what comes after it.
+    pub(crate) fn go_on(&mut self, alloc: Global, line: &Line) -> Result<(), AllocError>
+        requires there { 0 < length self.old.nodes }
+        requires named { NamesActivities self.old.project line.now }
+        ensures project { self.new.project ≡ self.old.project }
+        ensures nodes { OnOk result ((pairs : List Pair) (rest : List (List Pair)) → self.old.nodes ≡ pairs ∷ rest → self.new.nodes ≡ due_after pairs line.now ++ rest) }
+    {
+        match line {
+            Line::Force(pair) => self.force(*pair)?,
+            Line::Solved | Line::Cut | Line::Dead => self.leave()?,
+            Line::Split { members, .. } => self.split(alloc, members.as_slice())?,
+        }
+        Ok(())
+    }
+}

@@ -1,0 +1,96 @@
+ghost use Rattle.std.specs.Prelude.{◌↔◌, ◌∷◌, [], List, IsTrue, IfOk};
+ghost use Rattle.network.specs.declared.lag.Pair.{Pair};
+ghost use Rattle.network.specs.Problem.{NameActivities};
+ghost use Rattle.network.specs.ProjectMatrix.{IsProjectMatrix};
+ghost use Rattle.bounds.specs.Bound.{IsMatrixFor};
+ghost use Rattle.branching.specs.Right.{IsTooLateFor, IsForced, IsCut, IsSolved};
+ghost use Rattle.search_record.specs.Right.{IsRightLine};
+
+use crate::members::is_right_set;
+use bounds::bound;
+use branching::are_incompatible;
+use earliest::least_starts;
+use longest_path::Matrix;
+use network::{Pair, Project};
+use profile::first_overload;
+use record_text::Line;
+use std::alloc::{AllocError, Global};
+
+/// Whether the pair's second activity can't end before its first starts.
+fn is_too_late(project: &Project, matrix: &Matrix, pair: Pair) -> bool
+    requires matrix { IsMatrixFor project.now matrix.now }
+    requires named { NameActivities project.now (pair ∷ []) }
+    ensures { (pairs : List Pair) → IsProjectMatrix project.now pairs matrix.now → IsTrue result ↔ IsTooLateFor project.now pairs pair }
+{
+    match matrix.get(pair.before, pair.after) {
+        Some(weight) => weight + project.duration(pair.after) > 0,
+        None => false,
+    }
+}
+
+/// Whether the pair is forced, by the matrix of its node.
+fn is_forced(project: &Project, matrix: &Matrix, pair: Pair) -> bool
+    requires { IsMatrixFor project.now matrix.now }
+    ensures { (pairs : List Pair) → IsProjectMatrix project.now pairs matrix.now → IsTrue result ↔ IsForced project.now pairs pair }
+{
+    if !are_incompatible(project, pair) {
+        return false;
+    }
+    is_too_late(project, matrix, pair)
+}
+
+/// Whether the bound of a node's matrix is at least the limit.
+fn is_cut(alloc: Global, project: &Project, matrix: &Matrix, limit: i64) -> Result<bool, AllocError>
+    requires { IsMatrixFor project.now matrix.now }
+    ensures { IfOk result (λ yes. (pairs : List Pair) → IsProjectMatrix project.now pairs matrix.now → IsTrue yes ↔ IsCut project.now pairs limit) }
+{
+    let bound = bound(alloc, project, matrix)?;
+    Ok(bound >= limit)
+}
+
+/// Whether the least schedule of a node, by its matrix, is feasible and lasts at least the limit.
+fn is_solved(
+    alloc: Global,
+    project: &Project,
+    matrix: &Matrix,
+    limit: i64,
+) -> Result<bool, AllocError>
+    requires { IsMatrixFor project.now matrix.now }
+    ensures { IfOk result (λ yes. (pairs : List Pair) → IsProjectMatrix project.now pairs matrix.now → IsTrue yes ↔ IsSolved project.now pairs limit) }
+{
+    let end = project.activity_count() - 1;
+    let starts = least_starts(alloc, matrix)?;
+    let found = first_overload(alloc, project, starts.as_slice())?;
+    match found {
+        Some(_) => Ok(false),
+        None => Ok(starts[end] >= limit),
+    }
+}
+
+/// Whether a line is right in a node that isn't dead, by the node's matrix. No limit stands for a claim
+/// that there is no schedule.
+pub(crate) fn is_right_by(
+    alloc: Global,
+    project: &Project,
+    matrix: &Matrix,
+    limit: Option<i64>,
+    line: &Line,
+) -> Result<bool, AllocError>
+    requires { IsMatrixFor project.now matrix.now }
+    ensures { IfOk result (λ yes. (pairs : List Pair) → IsProjectMatrix project.now pairs matrix.now → IsTrue yes ↔ IsRightLine project.now limit pairs line.now) }
+{
+    let right = match line {
+        Line::Force(pair) => is_forced(project, matrix, *pair),
+        Line::Solved => match limit {
+            Some(limit) => is_solved(alloc, project, matrix, limit)?,
+            None => false,
+        },
+        Line::Cut => match limit {
+            Some(limit) => is_cut(alloc, project, matrix, limit)?,
+            None => false,
+        },
+        Line::Dead => false,
+        Line::Split { resource, members } => is_right_set(project, *resource, members.as_slice()),
+    };
+    Ok(right)
+}

@@ -1,0 +1,22 @@
+//! Whether a search record is right for a project, line by line, so that what it claims is true.
+//!
+//! A [`Record`] is a claim and the tree of a search. [`verify`] looks at each line with a matrix and a
+//! bound of its own, and trusts nothing of the search that made the record.
+#![tactic(auto)]
+
+mod due;
+mod judge;
+mod later;
+mod laws;
+mod lines;
+mod members;
+mod node;
+mod proved;
+#[cfg(test)]
+mod tests;
+mod verification;
+
+pub use laws::right_law;
+pub use proved::Proved;
+pub use record_text::{Record, RecordFault, Why};
+pub use verification::verify;

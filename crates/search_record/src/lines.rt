@@ -1,0 +1,77 @@
+ghost use Rattle.std.specs.Prelude.{◌≡◌, ◌≢◌, ◌≤◌, ◌↔◌, [], ℤ, Option, IsTrue, OnOk, IfErr};
+ghost use Rattle.network.specs.Problem.{Problem};
+ghost use Rattle.branching.specs.Right.{IsDead};
+ghost use Rattle.record_text.specs.Tree.{Tree};
+ghost use Rattle.record_text.specs.SearchRecord.{IsTreeOf};
+ghost use Rattle.record_text.specs.declared.line.Line.TheVariants as kind;
+ghost use Rattle.record_text.specs.declared.fault.Why.TheVariants.{Memory};
+ghost use Rattle.search_record.specs.Right.{AreRightLines};
+ghost use Rattle.search_record.specs.Faults.{why_wrong, IsFirstWrong};
+
+use crate::due::Due;
+use network::Project;
+use record_text::{Line, RecordFault, Why};
+use std::alloc::Global;
+
+/// What is wrong where a line is.
+fn why_wrong(line: &Line) -> Why
+    ensures { result ≡ why_wrong line.now }
+{
+    match line {
+        Line::Force(_) => Why::Force,
+        Line::Split { .. } => Why::Set,
+        Line::Solved | Line::Cut | Line::Dead => Why::Leaf,
+    }
+}
+
+fn is_dead(line: &Line) -> bool
+    ensures { IsTrue result ↔ (line.now ≡ kind.Dead) }
+{
+    matches!(line, Line::Dead)
+}
+
+/// Checks the lines of a tree whose first node is dead: only `dead` is right there.
+fn check_dead(first: usize, lines: &[Line]) -> Result<(), RecordFault>
+    requires { (t : Tree) × IsTreeOf lines.now t }
+    ensures right { OnOk result ((p : Problem) (limit : Option ℤ) → IsDead p [] → AreRightLines p limit lines.now) }
+    ensures fault { IfErr result (λ fault. (p : Problem) (limit : Option ℤ) → IsDead p [] → IsFirstWrong p limit first lines.now fault) }
+{
+    let line = &lines[0];
+    if is_dead(line) {
+        return Ok(());
+    }
+    Err(RecordFault {
+        line: first,
+        why: why_wrong(line),
+    })
+}
+
+/// Checks the lines of a tree in their order, where they are numbered from this one. No limit stands for
+/// a claim that there is no schedule.
+pub(crate) fn check_lines(
+    alloc: Global,
+    project: &Project,
+    limit: Option<i64>,
+    first: usize,
+    lines: &[Line],
+) -> Result<(), RecordFault>
+    requires tree { (t : Tree) × IsTreeOf lines.now t }
+    requires few { first ≤ 4 }
+    ensures right { OnOk result (AreRightLines project.now limit lines.now) }
+    ensures fault { IfErr result (λ fault. fault.why ≢ Memory → IsFirstWrong project.now limit first lines.now fault) }
+{
+    let Some(mut due) = Due::root(alloc, project)? else {
+        return check_dead(first, lines);
+    };
+    for (index, line) in lines.iter().enumerate() {
+        let right = due.next().is_right(alloc, limit, line)?;
+        if !right {
+            return Err(RecordFault {
+                line: first + index,
+                why: why_wrong(line),
+            });
+        }
+        due.go_on(alloc, line)?;
+    }
+    Ok(())
+}
