@@ -1,0 +1,272 @@
+#!/usr/bin/env python3
+"""Checks a record of a search against a project, as docs/RECORD.md says, and shares nothing with psmax.
+
+    verify.py PROJECT.sch RECORD
+
+Prints `proved optimal C` or `proved no schedule`; else, on standard error, the first fault as psmax names it,
+with exit status 2 for a text that is no record and 4 for a record that is not right. The project's text is taken
+to be right.
+"""
+
+import re
+import sys
+
+MAX_BYTES = 268_435_456
+NUMBER = re.compile(rb"0|[1-9][0-9]{0,9}")
+# No walk: below any sum of weights. What is less than half of it is no walk either.
+NONE = -(10**18)
+LOW = NONE // 2
+
+
+class Fault(Exception):
+    def __init__(self, line, why, status):
+        super().__init__(why if line == 0 else f"line {line}: {why}")
+        self.status = status
+
+
+# ---- the project
+
+
+class Project:
+    """Durations, demands by activity, capacities, and all arcs, those of the start and the end among them."""
+
+    def __init__(self, text):
+        words = iter(int(word) for word in re.split(rb"[ \t\r\n\[\]]+", text) if word)
+        count, resources = next(words) + 2, next(words)
+        next(words), next(words)
+        self.arcs = []
+        for activity in range(count):
+            next(words), next(words)
+            ends = [next(words) for _ in range(next(words))]
+            self.arcs += [(activity, end, next(words)) for end in ends]
+        self.durations, self.demands = [], []
+        for _ in range(count):
+            next(words), next(words)
+            self.durations.append(next(words))
+            self.demands.append([next(words) for _ in range(resources)])
+        self.capacities = [next(words) for _ in range(resources)]
+        self.count, self.end = count, count - 1
+        self.arcs += [(0, activity, 0) for activity in range(1, count)]
+        self.arcs += [(activity, self.end, self.durations[activity]) for activity in range(self.end)]
+
+    def takes_time(self, activity):
+        return activity < self.count and self.durations[activity] > 0
+
+    def exceeds(self, resource, activities):
+        return sum(self.demands[i][resource] for i in activities) > self.capacities[resource]
+
+    def is_feasible(self, starts):
+        if len(starts) != self.count or starts[0] != 0:
+            return False
+        if any(starts[a] + weight > starts[b] for a, b, weight in self.arcs):
+            return False
+        for time in set(starts):
+            running = [
+                i for i in range(self.count) if starts[i] <= time < starts[i] + self.durations[i]
+            ]
+            if any(self.exceeds(k, running) for k in range(len(self.capacities))):
+                return False
+        return True
+
+
+# ---- the record's text
+
+
+def numbers(row, word):
+    """The numbers after a word, or None where the row is another."""
+    fields = row.split(b" ")
+    if fields[0] != word or not all(NUMBER.fullmatch(field) for field in fields[1:]):
+        return None
+    return [int(field) for field in fields[1:]]
+
+
+def tree_line(row):
+    """The kind of a line of the tree and its numbers, or None."""
+    if row in (b"solved", b"cut", b"dead"):
+        return row.decode(), []
+    found = numbers(row, b"force")
+    if found is not None and len(found) == 2:
+        return "force", found
+    found = numbers(row, b"split")
+    if found is not None and len(found) >= 2:
+        return "split", found
+    return None
+
+
+def read_record(text):
+    """The makespan that is claimed (None: no schedule), the starts, and the tree's lines with their numbers."""
+    if len(text) > MAX_BYTES:
+        raise Fault(0, "too long", 2)
+    *rows, tail = text.split(b"\n")
+
+    def row(line):
+        if line > len(rows):
+            raise Fault(line, "form" if tail else "short", 2)
+        return rows[line - 1]
+
+    if row(1) != b"record 1":
+        raise Fault(1, "form", 2)
+    makespan, starts, line = None, [], 3
+    if row(2) != b"no schedule":
+        claimed = numbers(row(2), b"optimal")
+        if claimed is None or len(claimed) != 1:
+            raise Fault(2, "form", 2)
+        makespan = claimed[0]
+        starts = numbers(row(3), b"starts")
+        if not starts:
+            raise Fault(3, "form", 2)
+        line = 4
+    tree, due = [], 1
+    while due > 0:
+        found = tree_line(row(line))
+        if found is None:
+            raise Fault(line, "form", 2)
+        kind, fields = found
+        if kind == "split":
+            members = len(fields) - 1
+            due += members * (members - 1)
+        if kind != "force":
+            due -= 1
+        tree.append((line, kind, fields))
+        line += 1
+    if line <= len(rows) or tail:
+        raise Fault(line, "trailing", 2)
+    return makespan, starts, tree
+
+
+# ---- greatest weights of walks
+
+
+def root_matrix(project):
+    """The greatest weights of walks over the project's arcs, or None where a closed walk is positive."""
+    size = range(project.count)
+    rows = [[0 if a == b else NONE for b in size] for a in size]
+    for a, b, weight in project.arcs:
+        rows[a][b] = max(rows[a][b], weight)
+    for via in size:
+        if rows[via][via] > 0:
+            return None
+        for row in rows:
+            if row[via] > LOW:
+                first = row[via]
+                for b, last in enumerate(rows[via]):
+                    if last > LOW and first + last > row[b]:
+                        row[b] = first + last
+    return rows
+
+
+def with_pair(project, rows, pair):
+    """The weights with the arc of one pair more, or None. Rows that stay are shared."""
+    if rows is None:
+        return None
+    before, after = pair
+    weight = project.durations[before]
+    if rows[after][before] > LOW and rows[after][before] + weight > 0:
+        return None
+    if rows[before][after] >= weight:
+        return rows
+    ways = rows[after]
+    made = []
+    for row in rows:
+        first = row[before]
+        if first > LOW and first + weight > row[after]:
+            first += weight
+            row = [
+                first + last if last > LOW and first + last > old else old
+                for old, last in zip(row, ways)
+            ]
+        made.append(row)
+    return made
+
+
+def bound(project, rows):
+    """The greatest of the critical weight and all numbers a + b + ceil(W / R)."""
+    best = rows[0][project.end]
+    for resource, capacity in enumerate(project.capacities):
+        if capacity == 0:
+            continue
+        tasks = []
+        for i, duration in enumerate(project.durations):
+            work = duration * project.demands[i][resource]
+            if work > 0:
+                tasks.append((rows[0][i], rows[i][project.end] - duration, work))
+        tasks.sort(reverse=True)
+        for least_tail in {tail for _, tail, _ in tasks}:
+            total = 0
+            for head, tail, work in tasks:
+                if tail >= least_tail:
+                    total += work
+                    best = max(best, head + least_tail - (-total // capacity))
+    return best
+
+
+# ---- each line
+
+
+def is_forced(project, rows, pair):
+    before, after = pair
+    if before == after or not project.takes_time(before) or not project.takes_time(after):
+        return False
+    if not any(project.exceeds(k, pair) for k in range(len(project.capacities))):
+        return False
+    return rows[before][after] > LOW and rows[before][after] > -project.durations[after]
+
+
+def is_right_set(project, resource, members):
+    if resource >= len(project.capacities):
+        return False
+    if any(a >= b for a, b in zip(members, members[1:])):
+        return False
+    return all(map(project.takes_time, members)) and project.exceeds(resource, members)
+
+
+def is_right(project, rows, makespan, kind, fields):
+    """Whether a line is right in a node with these weights, None for a dead one."""
+    if rows is None or kind == "dead":
+        return rows is None and kind == "dead"
+    if kind == "force":
+        return is_forced(project, rows, fields)
+    if kind == "split":
+        return is_right_set(project, fields[0], fields[1:])
+    if makespan is None:
+        return False
+    if kind == "cut":
+        return bound(project, rows) >= makespan
+    return rows[0][project.end] >= makespan and project.is_feasible(rows[0])
+
+
+WHY = {"force": "force", "split": "set", "solved": "leaf", "cut": "leaf", "dead": "leaf"}
+
+
+def verify(project, makespan, starts, tree):
+    if makespan is not None and not (project.is_feasible(starts) and starts[-1] == makespan):
+        raise Fault(3, "start", 4)
+    # The nodes that are due: the weights of the node above, and the pair that is added, the next node last.
+    due = [(root_matrix(project), None)]
+    for line, kind, fields in tree:
+        rows, pair = due.pop()
+        if pair is not None:
+            rows = with_pair(project, rows, pair)
+        if not is_right(project, rows, makespan, kind, fields):
+            raise Fault(line, WHY[kind], 4)
+        if kind == "force":
+            due.append((rows, fields))
+        elif kind == "split":
+            members = fields[1:]
+            pairs = [(i, j) for i in members for j in members if i != j]
+            due.extend((rows, pair) for pair in reversed(pairs))
+    return "proved no schedule" if makespan is None else f"proved optimal {makespan}"
+
+
+def main():
+    with open(sys.argv[1], "rb") as project, open(sys.argv[2], "rb") as record:
+        project, record = project.read(), record.read()
+    try:
+        print(verify(Project(project), *read_record(record)))
+    except Fault as fault:
+        print(f"psmax: {fault}", file=sys.stderr)
+        sys.exit(fault.status)
+
+
+if __name__ == "__main__":
+    main()
