@@ -1,7 +1,10 @@
 ghost use Rattle.std.specs.Prelude.{◌<◌, ◌≤◌};
 
-use crate::{Fate, Lean, Outcome, Report, expand, root, search_alone};
-use longest_path::PathFault;
+use crate::{
+    Fate, Lean, Outcome, Report, are_incompatible, expand, insert_under_mark, ordered_pairs, root,
+    search_alone,
+};
+use longest_path::{MarkedMatrix, PathFault, longest};
 use network::{Pair, Project};
 use std::alloc::Global;
 use std::process::Abort;
@@ -295,5 +298,39 @@ fn nine_activities_are_no_want_of_memory(rt: HostRuntime) -> Result<(), Fail> {
     assert_eq!(rt; starts.last(), Some(&9));
     let eight_at_once = with_one_resource(alloc, &ones, &ones, 8, &[])?;
     assert_eq!(rt; expand_root(alloc, eight_at_once, None)?.kids().len(), 72);
+    Ok(())
+}
+
+#[test]
+fn two_that_ask_for_too_much(rt: HostRuntime) -> Result<(), Fail> {
+    let project = backward_lag(rt.alloc())?;
+    assert!(rt; are_incompatible(&project, pair(1, 2)));
+    for (before, after) in [(1, 3), (1, 1), (0, 1), (1, 9), (9, 1)] {
+        assert!(rt; !are_incompatible(&project, pair(before, after)));
+    }
+    Ok(())
+}
+
+#[test]
+fn pairs_go_by_place(rt: HostRuntime) -> Result<(), Fail> {
+    let pairs = ordered_pairs(rt.alloc(), &[4, 2, 7])?;
+    let expected = [(4, 2), (4, 7), (2, 4), (2, 7), (7, 4), (7, 2)];
+    assert_eq!(rt; pairs.len(), expected.len());
+    for (found, (before, after)) in pairs.iter().zip(expected) {
+        assert_eq!(rt; *found, pair(before, after));
+    }
+    Ok(())
+}
+
+#[test]
+fn an_arc_that_closes_a_walk_leaves_no_mark(rt: HostRuntime) -> Result<(), Fail> {
+    let project = one_machine(rt.alloc(), &[])?;
+    let mut marked = MarkedMatrix::new(rt.alloc(), longest(rt.alloc(), &project, &[])?);
+    assert_eq!(rt; marked.matrix().activity_count(), 4);
+    assert_eq!(rt; insert_under_mark(&mut marked, lag(1, 2, 3)), Ok(()));
+    assert_eq!(rt; marked.matrix().activity_count(), 4);
+    let fault = Err(PathFault::PositiveCycle { at: 2 });
+    assert_eq!(rt; insert_under_mark(&mut marked, lag(2, 1, -2)), fault);
+    assert_eq!(rt; marked.mark_count(), 1);
     Ok(())
 }

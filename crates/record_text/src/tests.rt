@@ -1,4 +1,4 @@
-use crate::{Claim, Line, MAX_RECORD_BYTES, Members, Record, RecordFault, Starts, Why};
+use crate::{Claim, Line, MAX_RECORD_BYTES, Members, Record, RecordFault, Starts, Why, tree_line};
 use network::Pair;
 use std::alloc::Global;
 use std::test::Fail;
@@ -108,6 +108,13 @@ fn a_record_has_a_claim_and_lines(rt: HostRuntime) -> Result<(), Fail> {
         }
         _ => assert!(rt; false, "a split and two leaves"),
     }
+    Ok(())
+}
+
+#[test]
+fn the_tree_begins_behind_the_claim(rt: HostRuntime) -> Result<(), Fail> {
+    assert_eq!(rt; tree_line(read(rt.alloc(), FORCED)?.claim()), 4);
+    assert_eq!(rt; tree_line(read(rt.alloc(), BOTH_DEAD)?.claim()), 3);
     Ok(())
 }
 
