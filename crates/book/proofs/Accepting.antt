@@ -1,6 +1,6 @@
 -- What is found in a report is counted, and a report's kids are opened.
 use Rattle.std.proofs.Common.{◌≡◌, ◌∙◌, ◌<◌, ◌+◌, ◌^◌, ℕ, ℤ, Bool, true, false, ◌++◌, Option, Some, None, refl, sym, ap, subst, length, arith}
-use Rattle.std.specs.Prelude.{IfSome, IfNone}
+use Rattle.std.specs.Prelude.{IfSome, IfNone, option_map}
 use Rattle.std.specs.Option.{is_some, option_or}
 use Rattle.std.specs.List.Sorted.{IsPermutation}
 use Rattle.std.proofs.Math.ListN.{set}
@@ -12,8 +12,10 @@ use Rattle.branching.specs.Fair.{Expansion, IsFair}
 use Rattle.book.specs.State.{Named, BookState, in_hand, best_makespan}
 use Rattle.book.specs.Sound.{AreNamedBelow}
 use Rattle.book.specs.Offering.{Improves}
-use Rattle.book.specs.CheckingIn.{is_below, kids_below, named_from, Accepts}
+use Rattle.book.specs.Below.{is_below, kids_below}
+use Rattle.book.specs.CheckingIn.{named_from, Accepts}
 use Rattle.book.specs.OpenNodes.{InsertsKids}
+use Rattle.book.specs.Recording.{checked_in}
 use Rattle.book.specs.Views.{IsKept}
 use Rattle.book.proofs.Lists.{all_left, filter_at_most}
 
@@ -31,11 +33,12 @@ improved old found new (Some length) limit is (s, f, l, below) e same = (
 )
 
 -- the kids were opened
-pub accepts : (old : BookState) (worker : ℕ) (report : Expansion) (better : Bool) (limit : Option ℤ) (count : ℕ) (new : BookState) → Improves old.best report.found better new.best → limit ≡ best_makespan new → InsertsKids old.opened limit report.kids count old.waiting new.waiting → new ≡ record old { best = new.best; waiting = new.waiting; hands = set old.hands worker None; opened = old.opened + count; checked = old.checked + 1 } → Accepts old worker report (record { opened = count; improved = better }) new
-accepts old worker report better limit count new improves is inserts others = record {
+pub accepts : (old : BookState) (worker name : ℕ) (report : Expansion) (better : Bool) (limit : Option ℤ) (count : ℕ) (new : BookState) → Improves old.best report.found better new.best → limit ≡ best_makespan new → InsertsKids old.opened limit report.kids count old.waiting new.waiting → new.trail ≡ option_map (checked_in limit name report) old.trail → new ≡ record old { best = new.best; waiting = new.waiting; hands = set old.hands worker None; opened = old.opened + count; checked = old.checked + 1; trail = new.trail } → Accepts old worker name report (record { opened = count; improved = better }) new
+accepts old worker name report better limit count new improves is inserts noted others = record {
   best = improves;
   count = inserts.count_is ∙ ap (λ (l : Option ℤ). length (kids_below l report.kids)) is;
   opened = subst (λ (l : Option ℤ). IsPermutation (named_from old.opened (kids_below l report.kids) ++ old.waiting) new.waiting) is inserts.nodes;
+  noted = subst (λ (l : Option ℤ). new.trail ≡ option_map (checked_in l name report) old.trail) is noted;
   others = others;
 }
 

@@ -12,7 +12,8 @@ use Rattle.std.proofs.lemmas.List.Sorted.{IsPermutation-refl, IsPermutation-tran
 use Rattle.branching.specs.Subproblem.{Subproblem}
 use Rattle.book.specs.State.{Named}
 use Rattle.book.specs.Sound.{AreNamedBelow}
-use Rattle.book.specs.CheckingIn.{is_below, kids_below, named_from}
+use Rattle.book.specs.Below.{is_below, kids_below}
+use Rattle.book.specs.CheckingIn.{named_from}
 use Rattle.book.specs.OpenNodes.{open_node, IsFiled, IsNamedOtherThan, is_older, Inserts, InsertsKids}
 use Rattle.book.specs.declared.open_nodes.Rank.{Rank}
 use Rattle.book.specs.declared.open_nodes.OpenNode.{OpenNode}
@@ -124,7 +125,7 @@ so_far_inserted first limit kids kid next old between new under so goes_in =
     }
 
 pub all_inserted : (first : ℕ) (limit : Option ℤ) (kids : List Subproblem) (next : ℕ) (old new : List Named) → KidsSoFar first limit kids next old new → InsertsKids first limit kids (next - first) old new
-all_inserted first limit kids next old new so = record { count_is = omega (arith, so.names); nodes = so.nodes }
+all_inserted first limit kids next old new so = record { count_is = omega (arith, so.names); nodes = so.nodes; older = so.older }
 
 -- ---- taking out all but the older ones
 

@@ -6,8 +6,8 @@ use Rattle.std.proofs.Math.ListN.{set, replicate}
 use Rattle.std.specs.List.Sorted.{IsPermutation}
 use Rattle.std.proofs.lemmas.List.{take_more, map-append}
 use Rattle.std.proofs.lemmas.List.Sums.{sum_by-cons}
-use Rattle.std.proofs.lemmas.List.Sorted.{IsPermutation-refl, IsPermutation-cons, IsPermutation-trans, IsPermutation-middle}
-use Rattle.book.specs.State.{Named, in_hand}
+use Rattle.std.proofs.lemmas.List.Sorted.{IsPermutation-refl, IsPermutation-cons, IsPermutation-trans, IsPermutation-middle, IsPermutation-append_right}
+use Rattle.book.specs.State.{Named, BookState, in_hand, live}
 use Rattle.book.specs.Hands.{hand_of}
 use Rattle.book.specs.declared.hands.Held.{Held}
 
@@ -54,3 +54,8 @@ pub length_in_hand : (hands : List (Option Held)) → length (in_hand (map hand_
 length_in_hand [] = refl
 length_in_hand (None ∷ hands) = omega (arith, sum_by-cons (λ (x : Option Held). cond (is_some x) 1 0) None hands, length_in_hand hands)
 length_in_hand (Some h ∷ hands) = omega (arith, sum_by-cons (λ (x : Option Held). cond (is_some x) 1 0) (Some h) hands, length_in_hand hands)
+
+-- the node in a hand, before the other nodes open or in hand
+pub held_first : (s : BookState) (worker : ℕ) (held : Named) → slice_get s.hands worker ≡ Some (Some held) → IsPermutation (live s) (held ∷ (s.waiting ++ in_hand (set s.hands worker None)))
+held_first s worker held holds =
+    IsPermutation-trans _ _ _ (IsPermutation-append_right s.waiting _ _ (in_hand_emptied s.hands worker held holds)) (IsPermutation-middle s.waiting held (in_hand (set s.hands worker None)))

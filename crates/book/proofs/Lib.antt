@@ -2,6 +2,7 @@ pub mod Accepting
 pub mod Covering
 pub mod Filing
 pub mod InHand
+pub mod KeptTrail
 pub mod LeastNumber
 pub mod Lists
 pub mod Names
@@ -9,4 +10,10 @@ pub mod Opened
 pub mod Ranks
 pub mod Runs
 pub mod Steps
+pub mod Recorded
+pub mod RecordedSteps
+pub mod TrailFalls
+pub mod TrailGrowing
+pub mod TrailPaths
+pub mod TrailSteps
 pub mod Verdicts

@@ -1,5 +1,5 @@
 -- Each step of a book leads from a sound state to a sound state.
-use Rattle.std.proofs.Common.{◌≡◌, ◌∙◌, ◌<◌, ◌≤◌, ◌+◌, ℕ, Bool, false, List, [], ◌∷◌, ◌++◌, Option, Some, None, sym, subst, length, length-append, append_assoc, arith, slice_get}
+use Rattle.std.proofs.Common.{◌≡◌, ◌∙◌, ◌<◌, ◌≤◌, ◌+◌, ℕ, Bool, false, List, ◌∷◌, ◌++◌, Option, Some, None, sym, subst, length, length-append, append_assoc, arith, slice_get}
 use Rattle.std.specs.Prelude.{IfSome}
 use Rattle.std.specs.List.{All}
 use Rattle.std.specs.List.Sorted.{IsPermutation}
@@ -10,12 +10,13 @@ use Rattle.network.specs.Schedule.{ScheduleOf}
 use Rattle.branching.specs.Subproblem.{Subproblem}
 use Rattle.branching.specs.Ceiling.{Reaches}
 use Rattle.branching.specs.Covered.{IsScheduleFor}
-use Rattle.branching.specs.Fair.{Expansion, IsFair}
+use Rattle.branching.specs.Fair.{Expansion, IsFair, IsReport}
 use Rattle.book.specs.State.{Named, BookState, in_hand, live, best_makespan}
 use Rattle.book.specs.Sound.{AreNamedOnce, AreNamedBelow, nodes_of, IsSound}
 use Rattle.book.specs.Offering.{Improves}
 use Rattle.book.specs.Taking.{IsFull, HandsOut}
-use Rattle.book.specs.CheckingIn.{is_below, kids_below, named_from, MayCheckIn, Accepts}
+use Rattle.book.specs.Below.{is_below, kids_below}
+use Rattle.book.specs.CheckingIn.{named_from, MayCheckIn, Accepts}
 use Rattle.book.specs.GivingBack.{ReturnsNode}
 use Rattle.book.specs.Views.{IsKept}
 use Rattle.book.specs.OpenNodes.{IsNamedOtherThan}
@@ -23,7 +24,8 @@ use Rattle.book.specs.declared.answers.CheckedIn.{CheckedIn}
 use Rattle.book.specs.declared.answers.Ticket.{Ticket}
 use Rattle.book.proofs.Lists.{all_left, all_right, filter_at_most}
 use Rattle.book.proofs.Names.{named_once_moved, named_once_right, named_once_opened, length_named, below_named, others_named}
-use Rattle.book.proofs.InHand.{in_hand_filled, in_hand_emptied}
+use Rattle.book.proofs.InHand.{in_hand_filled, in_hand_emptied, held_first}
+use Rattle.book.proofs.RecordedSteps.{cut_state, recorded_moved, recorded_cut, recorded_improved, recorded_accepted}
 use Rattle.book.proofs.Covering.{covered_moved, covered_cut, covered_improved, covered_expanded}
 
 -- ---- nodes that move
@@ -55,11 +57,8 @@ kept_handed_out old worker ticket new free within out kept =
         limit = kept.within.limit;
         opened = kept.within.opened;
       };
+      recorded = recorded_moved old new.waiting hands (old.taken + 1) moved kept.recorded;
     })
-
-held_first : (s : BookState) (worker : ℕ) (held : Named) → slice_get s.hands worker ≡ Some (Some held) → IsPermutation (live s) (held ∷ (s.waiting ++ in_hand (set s.hands worker None)))
-held_first s worker held holds =
-    IsPermutation-trans _ _ _ (IsPermutation-append_right s.waiting _ _ (in_hand_emptied s.hands worker held holds)) (IsPermutation-middle s.waiting held (in_hand (set s.hands worker None)))
 
 -- the name of a node in hand is not among the open ones
 pub not_open : (s : BookState) (worker : ℕ) (held : Named) → IsSound s → slice_get s.hands worker ≡ Some (Some held) → All (IsNamedOtherThan held.name) s.waiting
@@ -82,11 +81,12 @@ kept_returned old worker name new returned kept =
         limit = kept.within.limit;
         opened = kept.within.opened;
       };
+      recorded = recorded_moved old new.waiting hands old.taken moved kept.recorded;
     })
 
 -- ---- all open nodes are cut
 
-pub kept_cut : (s : BookState) → All (λ (n : Named). Reaches (best_makespan s) n.node.bound) s.waiting → IsKept s → IsKept (record s { waiting = []; cut = s.cut + length s.waiting })
+pub kept_cut : (s : BookState) → All (λ (n : Named). Reaches (best_makespan s) n.node.bound) s.waiting → IsKept s → IsKept (cut_state s)
 kept_cut s reached kept = record {
   sound = record {
     covered = covered_cut s.project s.best s.waiting (in_hand s.hands) reached kept.sound.covered;
@@ -95,6 +95,7 @@ kept_cut s reached kept = record {
     counted = omega (arith, kept.sound.counted, length-append s.waiting (in_hand s.hands));
   };
   within = record { tickets = kept.within.tickets; taken = kept.within.taken; limit = kept.within.limit; opened = kept.within.opened };
+  recorded = recorded_cut s reached kept.sound kept.recorded;
 }
 
 -- ---- a schedule becomes the best
@@ -108,12 +109,14 @@ kept_improved s found new improved improves of_found kept = record {
     counted = kept.sound.counted;
   };
   within = record { tickets = kept.within.tickets; taken = kept.within.taken; limit = kept.within.limit; opened = kept.within.opened };
+  recorded = recorded_improved s found new improved improves kept.recorded;
 }
 
 -- ---- a node gives way to its kids
 
-pub kept_accepted : (old : BookState) (worker name : ℕ) (report : Expansion) (done : CheckedIn) (new : BookState) → IsFair report → MayCheckIn old worker name report → Accepts old worker report done new → IsKept old → IsKept new
-kept_accepted old worker name report done new fair may accepts kept =
+pub kept_accepted : (old : BookState) (worker name : ℕ) (report : Expansion) (done : CheckedIn) (new : BookState) → IsReport report → MayCheckIn old worker name report → Accepts old worker name report done new → IsKept old → IsKept new
+kept_accepted old worker name report done new told may accepts kept =
+    let fair : IsFair report = told.fair in
     let opened = kids_below (best_makespan new) report.kids in
     let kids = named_from old.opened opened in
     let hands = set old.hands worker None in
@@ -144,4 +147,5 @@ kept_accepted old worker name report done new fair may accepts kept =
         limit = kept.within.limit;
         opened = omega (arith, kept.within.opened, fair.few, few, accepts.count);
       };
+      recorded = recorded_accepted old worker name report done new told may accepts kept.sound kept.recorded;
     })

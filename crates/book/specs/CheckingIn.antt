@@ -1,23 +1,16 @@
 -- What becomes of a book when the report on a node in hand is checked in, and why it may be refused.
-use Rattle.std.specs.Prelude.{◌≡◌, ◌≢◌, ◌+◌, ◌<◌, ◌≤◌, ◌≤ℤ◌, ◌++◌, int_lt, ℕ, ℤ, Bool, true, List, [], ◌∷◌, length, Option, Some, None, MatchOption, Result, Ok, Err, slice_get, slice_set}
-use Rattle.std.specs.List.{All, filter}
+use Rattle.std.specs.Prelude.{◌≡◌, ◌≢◌, ◌+◌, ◌<◌, ◌≤◌, ◌≤ℤ◌, ◌++◌, ℕ, ℤ, List, [], ◌∷◌, length, Option, Some, None, MatchOption, option_map, Result, Ok, Err, slice_get, slice_set}
+use Rattle.std.specs.List.{All}
 use Rattle.std.specs.List.Sorted.{IsPermutation}
 use Rattle.branching.specs.Subproblem.{Subproblem}
 use Rattle.branching.specs.Fair.{Expansion}
 use Rattle.book.specs.State.{Named, BookState, in_hand, best_makespan}
+use Rattle.book.specs.Below.{kids_below}
+use Rattle.book.specs.Recording.{checked_in}
 use Rattle.book.specs.Offering.{Improves}
 use Rattle.book.specs.declared.answers.CheckedIn.{CheckedIn}
 use Rattle.book.specs.declared.answers.CheckFault.{CheckFault}
 use Rattle.book.specs.declared.answers.CheckFault.TheVariants as fault
-
--- whether the number is below the limit, if there is one
-abbrev pub is_below : Option ℤ → ℤ → Bool
-is_below None number = true
-is_below (Some limit) number = int_lt number limit
-
--- the kids that may lead to a schedule shorter than the limit
-abbrev pub kids_below : Option ℤ → List Subproblem → List Subproblem
-kids_below limit kids = filter (λ (kid : Subproblem). is_below limit kid.bound) kids
 
 -- the nodes in their order, under the names from the first on
 abbrev pub named_from : ℕ → List Subproblem → List Named
@@ -48,12 +41,14 @@ pub record MayCheckIn (s : BookState) (worker : ℕ) (name : ℕ) (report : Expa
   pub project : report.node.project ≡ s.project
   pub in_time : IsInTime report.ceiling (best_makespan s)
 
--- the node leaves the hand; what was found counts; and the kids below the best are opened under the next names
-pub record Accepts (old : BookState) (worker : ℕ) (report : Expansion) (done : CheckedIn) (new : BookState) : Type 0 where
+-- the node leaves the hand; what was found counts; the kids below the best are opened under the next names; and the
+-- trail, if one is kept, tells how the node ended
+pub record Accepts (old : BookState) (worker : ℕ) (name : ℕ) (report : Expansion) (done : CheckedIn) (new : BookState) : Type 0 where
   pub best : Improves old.best report.found done.improved new.best
   pub count : done.opened ≡ length (kids_below (best_makespan new) report.kids)
   pub opened : IsPermutation (named_from old.opened (kids_below (best_makespan new) report.kids) ++ old.waiting) new.waiting
-  pub others : new ≡ record old { best = new.best; waiting = new.waiting; hands = slice_set old.hands worker None; opened = old.opened + done.opened; checked = old.checked + 1 }
+  pub noted : new.trail ≡ option_map (checked_in (best_makespan new) name report) old.trail
+  pub others : new ≡ record old { best = new.best; waiting = new.waiting; hands = slice_set old.hands worker None; opened = old.opened + done.opened; checked = old.checked + 1; trail = new.trail }
 
 -- why a report is refused: the first fault that there is, since each says that those before it are not there
 abbrev pub Refuses : BookState → ℕ → Expansion → CheckFault → Type 0
@@ -66,7 +61,7 @@ Refuses s name report fault.Memory = (worker : ℕ) × MayCheckIn s worker name 
 
 -- a refused report is handed back
 abbrev pub ChecksIn : BookState → ℕ → Expansion → Result CheckedIn (Expansion × CheckFault) → BookState → Type 0
-ChecksIn old name report (Ok done) new = (worker : ℕ) × MayCheckIn old worker name report × Accepts old worker report done new
+ChecksIn old name report (Ok done) new = (worker : ℕ) × MayCheckIn old worker name report × Accepts old worker name report done new
 ChecksIn old name report (Err refused) new = Refuses old name report refused.1 × (refused.0 ≡ report) × (new ≡ old)
 
 -- the worker whose node the report is on, or why there is none

@@ -5,7 +5,8 @@ use Rattle.std.specs.List.{filter}
 use Rattle.std.specs.List.Sorted.{IsPermutation}
 use Rattle.branching.specs.Subproblem.{Subproblem}
 use Rattle.book.specs.State.{Named}
-use Rattle.book.specs.CheckingIn.{kids_below, named_from}
+use Rattle.book.specs.Below.{kids_below}
+use Rattle.book.specs.CheckingIn.{named_from}
 use Rattle.book.specs.declared.open_nodes.Rank.{Rank}
 use Rattle.book.specs.declared.open_nodes.OpenNode.{OpenNode}
 
@@ -32,3 +33,4 @@ pub record Inserts (name : ℕ) (node : Subproblem) (old new : List Named) : Typ
 pub record InsertsKids (first : ℕ) (limit : Option ℤ) (kids : List Subproblem) (count : ℕ) (old new : List Named) : Type 0 where
   pub count_is : count ≡ length (kids_below limit kids)
   pub nodes : IsPermutation (named_from first (kids_below limit kids) ++ old) new
+  pub older : filter (is_older first) new ≡ old

@@ -1,11 +1,12 @@
 -- What a book is when it is opened.
-use Rattle.std.specs.Prelude.{◌≡◌, ◌⊎◌, ◌≤◌, ℕ, false, List, [], ◌∷◌, length, replicate, None, Result, Ok, Err}
+use Rattle.std.specs.Prelude.{◌≡◌, ◌⊎◌, ◌≤◌, ℕ, false, List, [], ◌∷◌, length, replicate, None, Some, Result, Ok, Err}
 use Rattle.network.specs.Problem.{Problem, arcs_of}
 use Rattle.network.specs.Walk.{HasPositiveCycle}
 use Rattle.branching.specs.Subproblem.{Subproblem}
 use Rattle.branching.specs.Covered.{IsRootOf}
 use Rattle.branching.specs.declared.search.TheConstants.{MAX_TAKES}
 use Rattle.book.specs.State.{Named, BookState}
+use Rattle.book.specs.Trail.{Entry, no_entry}
 use Rattle.book.specs.declared.answers.TheConstants.{MAX_WORKERS}
 use Rattle.book.specs.declared.answers.BookFault.{BookFault}
 use Rattle.book.specs.declared.answers.BookFault.TheVariants as fault
@@ -48,3 +49,16 @@ abbrev pub Opens : Problem → ℕ → ℕ → Result BookState BookFault → Ty
 Opens p workers takes (Ok new) = AreAllowed workers takes × IsOpened p workers takes new
 Opens p workers takes (Err fault.Limit) = ¬ AreAllowed workers takes
 Opens p workers takes (Err fault.Memory) = AreAllowed workers takes
+
+-- what is known of the first nodes: the root has no parent and no pairs
+abbrev pub first_entries : List Named → List Entry
+first_entries nodes = replicate (length nodes) no_entry
+
+-- the same book with a trail of the first nodes
+abbrev pub IsOpenedRecorded : Problem → ℕ → ℕ → BookState → Type 0
+IsOpenedRecorded p workers takes new = (nodes : List Named) × AreFirst p nodes × (new ≡ record (new_state p workers takes nodes) { trail = Some (first_entries nodes) })
+
+abbrev pub OpensRecorded : Problem → ℕ → ℕ → Result BookState BookFault → Type 0
+OpensRecorded p workers takes (Ok new) = AreAllowed workers takes × IsOpenedRecorded p workers takes new
+OpensRecorded p workers takes (Err fault.Limit) = ¬ AreAllowed workers takes
+OpensRecorded p workers takes (Err fault.Memory) = AreAllowed workers takes

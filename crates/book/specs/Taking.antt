@@ -1,10 +1,11 @@
 -- What becomes of a book when a worker asks for a node, in seven cases.
-use Rattle.std.specs.Prelude.{◌≡◌, ◌⊎◌, ◌+◌, ◌<◌, ◌≤◌, ◌<ℤ◌, ℕ, Bool, true, false, List, [], ◌∷◌, length, Option, Some, None, slice_get, slice_set}
+use Rattle.std.specs.Prelude.{◌≡◌, ◌⊎◌, ◌+◌, ◌<◌, ◌≤◌, ◌<ℤ◌, ℕ, Bool, true, false, List, [], ◌∷◌, length, Option, Some, None, option_map, slice_get, slice_set}
 use Rattle.std.specs.Arc.{arc_value}
 use Rattle.std.specs.List.{All, Any}
 use Rattle.std.specs.List.Sorted.{IsPermutation}
 use Rattle.branching.specs.Ceiling.{IsUnder, Reaches}
 use Rattle.book.specs.State.{Named, BookState, in_hand, best_makespan}
+use Rattle.book.specs.Recording.{note_cut}
 use Rattle.book.specs.declared.answers.Ticket.{Ticket}
 use Rattle.book.specs.declared.answers.Take.{Take}
 use Rattle.book.specs.declared.answers.Take.TheVariants as answer
@@ -31,10 +32,10 @@ CanImprove s = Any (λ (n : Named). IsUnder (best_makespan s) n.node.bound) s.wa
 abbrev pub IsSettled : BookState → Type 0
 IsSettled s = (0 < length s.waiting) × All (λ (n : Named). Reaches (best_makespan s) n.node.bound) s.waiting
 
--- the open nodes of a settled book are cut; any other book stays as it is
+-- the open nodes of a settled book are cut, and the trail, if one is kept, tells it; any other book stays as it is
 abbrev pub Cuts : BookState → BookState → Type 0
 Cuts old new =
-    (IsSettled old × (new ≡ record old { waiting = []; cut = old.cut + length old.waiting }))
+    (IsSettled old × (new ≡ record old { waiting = []; cut = old.cut + length old.waiting; trail = option_map (note_cut old.waiting) old.trail }))
     ⊎ (((old.waiting ≡ []) ⊎ CanImprove old) × (new ≡ old))
 
 -- no node is left open

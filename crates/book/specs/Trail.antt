@@ -1,12 +1,9 @@
 -- What a book that keeps a trail knows of each node that was opened: where it came from, which pairs were forced, and
 -- how it ended.
-use Rattle.std.specs.Prelude.{ℕ, List, Option}
+use Rattle.std.specs.Prelude.{ℕ, List, [], ◌∷◌, ◌++◌, Option, None, Some, slice_index_or}
 use Rattle.network.specs.declared.lag.Pair.{Pair}
-
--- the name of the node that was split, and the pair of the split set that gave this one
-pub record Origin : Type 0 where
-  pub parent : ℕ
-  pub pair : Pair
+use Rattle.network.specs.Problem.{Problem}
+use Rattle.book.specs.declared.trail.Origin.{Origin}
 
 -- what a pair of a split set gave: a node under a name, or none, with the pairs that were forced until then
 pub data PairFate : Type 0 where
@@ -25,3 +22,29 @@ pub record Entry : Type 0 where
   pub origin : Option Origin
   pub forced : List Pair
   pub ending : Ending
+
+-- what a `Trail` is: the project, and an entry for each name from 0 on
+pub record TrailOf : Type 0 where
+  pub project : Problem
+  pub entries : List Entry
+
+-- a node that was not opened
+abbrev pub no_entry : Entry
+no_entry = record { origin = None; forced = []; ending = not_ended }
+
+-- what is known of the node under a name
+abbrev pub entry_at : List Entry → ℕ → Entry
+entry_at entries name = slice_index_or entries name no_entry
+
+-- the pairs of a node, where those of the earlier names are known: its parent's, its own pair, and what that forces
+abbrev pub path_after : List (List Pair) → Option Origin → List Pair → List Pair
+path_after paths None forced = forced
+path_after paths (Some origin) forced = slice_index_or paths origin.parent [] ++ origin.pair ∷ forced
+
+abbrev pub paths_after : List (List Pair) → List Entry → List (List Pair)
+paths_after paths [] = paths
+paths_after paths (entry ∷ entries) = paths_after (paths ++ path_after paths entry.origin entry.forced ∷ []) entries
+
+-- the pairs of the node under a name
+abbrev pub path_to : List Entry → ℕ → List Pair
+path_to entries name = slice_index_or (paths_after [] entries) name []

@@ -1,13 +1,16 @@
-ghost use Rattle.std.specs.Prelude.{◌≡◌, ◌↔◌, ◌<◌, ℕ, IsTrue, true, false, length, IfOk, IfErr, option_map};
+ghost use Rattle.std.specs.Prelude.{◌≡◌, ◌↔◌, ◌<◌, IsTrue, true, false, [], length, IfOk, IfErr, IfSome, option_map};
 ghost use Rattle.std.specs.Arc.{arc_value};
-ghost use Rattle.book.specs.State.{best_makespan};
+ghost use Rattle.book.specs.State.{live, best_makespan};
 ghost use Rattle.book.specs.Sound.{IsSound, IsWithinLimits};
-ghost use Rattle.book.specs.Opening.{AreAllowed, AreFirst, Opens};
+ghost use Rattle.book.specs.Opening.{AreAllowed, AreFirst, Opens, OpensRecorded};
 ghost use Rattle.book.specs.Offering.{Offers};
 ghost use Rattle.book.specs.Taking.{IsFull, Cuts, HandsOut, Takes};
 ghost use Rattle.book.specs.CheckingIn.{MayCheckIn, Judges, Accepts, ChecksIn};
 ghost use Rattle.book.specs.GivingBack.{GivesBack};
 ghost use Rattle.book.specs.Counts.{counts_of};
+ghost use Rattle.book.specs.Recorded.{IsRecorded};
+ghost use Rattle.book.specs.RightTrail.{IsWholeTree};
+ghost use Rattle.book.specs.TrailViews.{trail_for};
 ghost use Rattle.book.specs.Verdicts.{IsLeast, known_bounds, IsBoundFor, IsTrueOf, IsVerdictOf};
 
 use crate::answers::{
@@ -18,6 +21,8 @@ use crate::hands::Hands;
 use crate::least::lesser;
 use crate::limits::{is_below, is_in_time, makespan_of, shorter_found};
 use crate::open_nodes::OpenNodes;
+use crate::recording::{clear_open, open_kids};
+use crate::trail::Trail;
 use branching::{MAX_TAKES, Report, root};
 use longest_path::PathFault;
 use network::{Project, Schedule};
@@ -39,6 +44,7 @@ pub struct Book {
     taken: u64,
     limit: u64,
     halted: bool,
+    trail: Option<Trail>,
 }
 
 impl Model for Book {
@@ -46,11 +52,11 @@ impl Model for Book {
 
     ghost Value = { BookState };
 
-    ghost use Rattle.book.specs.Views.{state_of, IsKept};
+    ghost use Rattle.book.specs.Views.{state_of, KeepsBook};
 
     ghost view = { state_of };
 
-    ghost invariant = { λ b. IsKept (state_of b) };
+    ghost invariant = { KeepsBook };
 }
 
 /// Whether a book may have so many workers and takes: 1 to [`MAX_WORKERS`] and 1 to [`MAX_TAKES`].
@@ -110,7 +116,29 @@ impl Book {
             taken: 0,
             limit: takes,
             halted: false,
+            trail: None,
         })
+    }
+
+    /// The same book with a trail, which tells what becomes of each node.
+    pub fn open_recorded(
+        alloc: Global,
+        project: Arc<Project>,
+        workers: usize,
+        takes: u64,
+    ) -> Result<Book, BookFault>
+        ensures opens { OpensRecorded (arc_value project) workers takes result }
+        ensures sound { IfOk result IsSound }
+    {
+        if !are_allowed(workers, takes) {
+            return Err(BookFault::Limit);
+        }
+        let shared = Arc::try_clone(&project)?;
+        let mut book = Book::open(alloc, shared, workers, takes)?;
+        let roots = book.waiting.len();
+        let trail = Trail::new(alloc, project, roots)?;
+        book.trail = Some(trail);
+        Ok(book)
     }
 
     /// Offers a schedule: whether it was strictly shorter than the best, and so became the best. One of another project is
@@ -148,7 +176,7 @@ impl Book {
             return;
         }
         self.cut += self.waiting.len() as u64;
-        self.waiting.clear();
+        clear_open(&mut self.waiting, &mut self.trail);
     }
 
     /// Moves the first open node into the worker's hand.
@@ -224,16 +252,24 @@ impl Book {
     }
 
     /// Takes the node out of the worker's hand and opens its kids. Where memory runs out, the report comes back.
-    fn accept(&mut self, worker: usize, report: Report) -> Result<CheckedIn, Report>
-        requires { (name : ℕ) × MayCheckIn self.old worker name report }
-        ensures ok { IfOk result (λ done. Accepts self.old worker report done self.new) }
+    fn accept(&mut self, worker: usize, name: u64, report: Report) -> Result<CheckedIn, Report>
+        requires { MayCheckIn self.old worker name report }
+        ensures ok { IfOk result (λ done. Accepts self.old worker name report done self.new) }
         ensures err { IfErr result (λ back. (back ≡ report) × (self.new ≡ self.old)) }
         ensures sound { IsSound self.new }
     {
         let best = makespan_of(&self.best);
         let shorter = shorter_found(&report, best);
         let limit = shorter.or(best);
-        let Ok(opened) = self.waiting.insert_kids(report.kids(), limit, self.opened) else {
+        let first = self.opened;
+        let Ok(opened) = open_kids(
+            &mut self.waiting,
+            &mut self.trail,
+            name,
+            first,
+            limit,
+            &report,
+        ) else {
             return Err(report);
         };
         self.hands.empty(worker);
@@ -261,7 +297,7 @@ impl Book {
             Ok(worker) => worker,
             Err(fault) => return Err((report, fault)),
         };
-        match self.accept(worker, report) {
+        match self.accept(worker, name, report) {
             Ok(done) => Ok(done),
             Err(report) => Err((report, CheckFault::Memory)),
         }
@@ -323,6 +359,26 @@ impl Book {
     {
         let Book { best, .. } = self;
         best
+    }
+
+    /// What became of each node, where the book was opened by [`Book::open_recorded`]. Once no node is open or in hand, it is a
+    /// whole tree.
+    pub fn trail(&self) -> Option<&Trail>
+        ensures trail { option_map (λ trail. trail.now) result ≡ option_map (trail_for self.now.project) self.now.trail }
+        ensures recorded { IfSome self.now.trail (IsRecorded self.now) }
+        ensures whole { live self.now ≡ [] → IfSome self.now.trail (IsWholeTree self.now.project (best_makespan self.now)) }
+    {
+        self.trail.as_ref()
+    }
+
+    /// The trail of a book that is given up.
+    pub fn into_trail(self) -> Option<Trail>
+        ensures trail { result ≡ option_map (trail_for self.project) self.trail }
+        ensures recorded { IfSome self.trail (IsRecorded self) }
+        ensures whole { live self ≡ [] → IfSome self.trail (IsWholeTree self.project (best_makespan self)) }
+    {
+        let Book { trail, .. } = self;
+        trail
     }
 
     /// The least of the best makespan and the bounds of the nodes open or in hand, in periods: no feasible schedule is

@@ -15,8 +15,10 @@ mod hands;
 mod least;
 mod limits;
 mod open_nodes;
+mod recording;
 #[cfg(test)]
 mod tests;
+mod trail;
 
 pub use answers::{
     BookFault, CheckFault, CheckedIn, MAX_WORKERS, OtherProject, Take, Ticket, Verdict,
@@ -24,3 +26,4 @@ pub use answers::{
 pub use book::{Book, are_allowed, is_same_project};
 pub use counts::Counts;
 pub use events::{Event, Reply, run_events};
+pub use trail::{KidFate, NodeEnding, Origin, Trail, TrailEntry};

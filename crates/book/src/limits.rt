@@ -3,7 +3,8 @@ ghost use Rattle.std.specs.Bool.{OnTrue, OnFalse};
 ghost use Rattle.network.specs.Schedule.{ScheduleOf, makespan};
 ghost use Rattle.branching.specs.Ceiling.{IsUnder, Reaches};
 ghost use Rattle.branching.specs.Covered.{ceiling_of};
-ghost use Rattle.book.specs.CheckingIn.{is_below, IsInTime};
+ghost use Rattle.book.specs.Below.{is_below};
+ghost use Rattle.book.specs.CheckingIn.{IsInTime};
 
 use branching::Report;
 use network::Schedule;

@@ -127,7 +127,7 @@ impl OpenNodes {
     }
 
     /// Takes out all nodes but those of names below the first.
-    fn keep_older(&mut self, first: u64)
+    pub(crate) fn keep_older(&mut self, first: u64)
         ensures { self.new ≡ filter (is_older first) self.old }
     {
         self.nodes.retain(|rank, _| rank.name.0 < first);

@@ -54,6 +54,15 @@ fn split_root(alloc: Global, book: &mut Book) -> Result<CheckedIn, Fail> {
     Ok(check_in(book, 0, report)?)
 }
 
+/// What a book says to a report. Where it meets a want of memory, the report comes back, and is checked in again.
+fn check_in_again(book: &mut Book, name: u64, report: Report) -> Result<CheckedIn, CheckFault> {
+    match book.check_in(name, report) {
+        Ok(done) => Ok(done),
+        Err((back, CheckFault::Memory)) => check_in(book, name, back),
+        Err((_, fault)) => Err(fault),
+    }
+}
+
 /// A book of two activities on one machine, whose root was checked in.
 fn split_book(alloc: Global, workers: usize) -> Result<Book, Fail> {
     let mut book = open(alloc, one_machine(alloc, &[])?, workers)?;

@@ -1,6 +1,6 @@
 use crate::tests::{
-    assert_offered, best_starts, check_in, counts_of, open, report_on, root_report, schedule,
-    split_book, take, taken_book,
+    assert_offered, best_starts, check_in, check_in_again, counts_of, open, report_on, root_report,
+    schedule, split_book, take, taken_book,
 };
 use crate::{Book, CheckFault, CheckedIn, OtherProject, Take, Ticket, Verdict};
 use branching::{Report, expand, root};
@@ -210,15 +210,6 @@ fn only_a_shorter_schedule_becomes_the_best(rt: HostRuntime) -> Result<(), Fail>
     assert_offered(&rt, rt.alloc(), &mut book, &[0, 4, 0, 7], false)?;
     assert_eq!(rt; best_starts(&book)?, [0, 0, 3, 7].as_slice());
     Ok(())
-}
-
-/// What a book says to a report. Where it meets a want of memory, the report comes back, and is checked in again.
-fn check_in_again(book: &mut Book, name: u64, report: Report) -> Result<CheckedIn, CheckFault> {
-    match book.check_in(name, report) {
-        Ok(done) => Ok(done),
-        Err((back, CheckFault::Memory)) => check_in(book, name, back),
-        Err((_, fault)) => Err(fault),
-    }
 }
 
 #[test]

@@ -9,7 +9,7 @@ use test_projects::{
 };
 
 /// Lets one worker search until the book has no node left.
-fn search(alloc: Global, book: &mut Book) -> Result<(), Fail> {
+pub(crate) fn search(alloc: Global, book: &mut Book) -> Result<(), Fail> {
     for _ in 0..100 {
         match book.take(0) {
             Take::Ticket(ticket) => {

@@ -1,98 +1,118 @@
-use Rattle.std.proofs.Common.{◌≡◌, ◌+◌, ℕ, ℤ, true, false, List, Option, None, Some, subst, sym, arith, rules}
+use Rattle.std.proofs.Common.{◌≡◌, ◌+◌, ℕ, ℤ, true, false, List, Option, None, Some, subst, sym, ap, ◌∙◌, arith, rules}
 use Rattle.std.specs.Option.{is_some, option_or}
-use Rattle.std.specs.Prelude.{IfSome, IfNone}
+use Rattle.std.specs.Prelude.{IfSome, IfNone, option_map}
+use Rattle.std.specs.Arc.{arc_value}
 use Rattle.network.specs.Schedule.{ScheduleOf, makespan}
 use Rattle.branching.specs.Ceiling.{IsUnder, Reaches}
 use Rattle.branching.specs.Covered.{ceiling_of}
 use Rattle.std.proofs.Math.ListN.{set}
 use Rattle.std.proofs.lemmas.Option.{slice_get_within}
-use Rattle.branching.specs.Subproblem.{Subproblem}
-use Rattle.branching.specs.Fair.{Expansion, IsFair}
+use Rattle.branching.specs.Fair.{Expansion, IsFair, IsReport}
 use Rattle.book.specs.State.{Named, BookState}
 use Rattle.book.specs.CheckingIn.{MayCheckIn, Accepts}
 use Rattle.book.specs.OpenNodes.{InsertsKids}
+use Rattle.book.specs.Trail.{TrailOf}
+use Rattle.book.specs.Recording.{checked_in}
+use Rattle.book.specs.TrailViews.{with_entries}
 use Rattle.book.specs.Views.{state_of}
 use Rattle.book.specs.declared.book.Book.TheInside.{Inside}
 use Rattle.book.proofs.Accepting.{not_improved, improved, accepts, older_than_next, names_last_opened}
+use Rattle.book.proofs.KeptTrail.{entries_in, entries_changed, project_kept, held_known}
 use Rattle.book.proofs.Steps.{kept_accepted}
 use Rattle.book.proofs.book.Book.accept.Goals as goal
 
-may_check_in : (b : Inside) (s : BookState) (worker : ℕ) (report : Expansion) → state_of b ≡ s → ((name : ℕ) × MayCheckIn s worker name report) → (name : ℕ) × MayCheckIn (state_of b) worker name report
-may_check_in b s worker report is may = subst (λ (s : BookState). (name : ℕ) × MayCheckIn s worker name report) (sym is) may
+may_check_in : (b : Inside) (s : BookState) (worker name : ℕ) (report : Expansion) → state_of b ≡ s → MayCheckIn s worker name report → MayCheckIn (state_of b) worker name report
+may_check_in b s worker name report is may = subst (λ (s : BookState). MayCheckIn s worker name report) (sym is) may
 
-pub insert_kids-requires-clause-older : goal.insert_kids-requires-clause-older
-insert_kids-requires-clause-older c = older_than_next (state_of c.self.inside) c.self.invariant
+pub open_kids-requires-clause-older : goal.open_kids-requires-clause-older
+open_kids-requires-clause-older c = older_than_next (state_of c.self.inside) c.self.invariant.kept
+
+pub open_kids-requires-clause-known : goal.open_kids-requires-clause-known
+open_kids-requires-clause-known c =
+    let may = may_check_in c.self.inside c.args.self.now c.args.worker c.args.name c.args.report c.self.view_is c.requires in
+    held_known c.self.inside.trail (state_of c.self.inside) c.args.worker may.held c.args.name c.self.invariant.kept.recorded c.self.invariant.kept.sound may.holds may.named
 
 pub empty-requires : goal.empty-requires
 empty-requires c =
-    let may = may_check_in c.self.inside c.args.self.now c.args.worker c.args.report c.self.view_is c.requires in
-    slice_get_within c.self.inside.hands c.args.worker (Some may.1.held) may.1.holds
+    let may = may_check_in c.self.inside c.args.self.now c.args.worker c.args.name c.args.report c.self.view_is c.requires in
+    slice_get_within c.self.inside.hands c.args.worker (Some may.held) may.holds
 
 pub overflow_add-self-2 : goal.overflow_add-self-2
 overflow_add-self-2 c =
-    let fair : IsFair c.args.report = subst IsFair c.report.view_is c.report.invariant.fair in
-    let inserts : InsertsKids c.self.inside.opened c.or-limit.result c.args.report.kids c.in-Ok.opened c.self.inside.waiting c.insert_kids.new.self = subst (λ (ks : List Subproblem). InsertsKids c.self.inside.opened c.or-limit.result ks c.in-Ok.opened c.self.inside.waiting c.insert_kids.new.self) c.kids.ensures.kids c.in-Ok.ensures.ok in
-    omega (arith, names_last_opened (state_of c.self.inside) c.args.report c.or-limit.result c.in-Ok.opened c.self.invariant fair inserts.count_is)
+    let told : IsReport c.args.report = subst IsReport c.report.view_is c.report.invariant in
+    let fair : IsFair c.args.report = told.fair in
+    let inserts : InsertsKids c.self.inside.opened c.or-limit.result c.args.report.kids c.in-Ok.opened c.self.inside.waiting c.open_kids.new.nodes = c.in-Ok.ensures.opened in
+    omega (arith, names_last_opened (state_of c.self.inside) c.args.report c.or-limit.result c.in-Ok.opened c.self.invariant.kept fair inserts.count_is)
 
 -- the state that is left
-abbrev left : Inside → Option ScheduleOf → List Named → List (Option Named) → ℕ → BookState
-left b best waiting hands count = record (state_of b) { best = best; waiting = waiting; hands = hands; opened = b.opened + count; checked = b.checked + 1 }
+abbrev left : Inside → Option ScheduleOf → List Named → List (Option Named) → ℕ → Option TrailOf → BookState
+left b best waiting hands count trail = record (state_of b) { best = best; waiting = waiting; hands = hands; opened = b.opened + count; checked = b.checked + 1; trail = entries_in trail }
 
-same_left : (b : Inside) (best : Option ScheduleOf) (waiting : List Named) (hands others : List (Option Named)) (count : ℕ) → hands ≡ others → left b best waiting hands count ≡ left b best waiting others count
-same_left b best waiting hands others count e = λ i. left b best waiting (e i) count
+same_left : (b : Inside) (best : Option ScheduleOf) (waiting : List Named) (hands others : List (Option Named)) (count : ℕ) (trail : Option TrailOf) → hands ≡ others → left b best waiting hands count trail ≡ left b best waiting others count trail
+same_left b best waiting hands others count trail e = λ i. left b best waiting (e i) count trail
 
 -- the report was accepted, and nothing shorter was found
-accepted_as_before : (b : Inside) (worker : ℕ) (report : Expansion) (shorter limit : Option ℤ) (count : ℕ) (waiting : List Named) (hands : List (Option Named)) → limit ≡ ceiling_of b.best → IfNone shorter (IfSome report.found (λ s. Reaches limit (makespan s.starts))) → is_some shorter ≡ false → InsertsKids b.opened (option_or shorter limit) report.kids count b.waiting waiting → hands ≡ set b.hands worker None → Accepts (state_of b) worker report (record { opened = count; improved = false }) (left b b.best waiting hands count)
-accepted_as_before b worker report shorter limit count waiting hands is none e inserts emptied =
+accepted_as_before : (b : Inside) (worker name : ℕ) (report : Expansion) (shorter limit : Option ℤ) (count : ℕ) (waiting : List Named) (hands : List (Option Named)) (trail : Option TrailOf) → limit ≡ ceiling_of b.best → IfNone shorter (IfSome report.found (λ s. Reaches limit (makespan s.starts))) → is_some shorter ≡ false → InsertsKids b.opened (option_or shorter limit) report.kids count b.waiting waiting → hands ≡ set b.hands worker None → trail ≡ option_map (with_entries (checked_in (option_or shorter limit) name report)) b.trail → Accepts (state_of b) worker name report (record { opened = count; improved = false }) (left b b.best waiting hands count trail)
+accepted_as_before b worker name report shorter limit count waiting hands trail is none e inserts emptied noted =
     let kept = not_improved b.best report.found shorter limit is none e in
-    accepts (state_of b) worker report false (option_or shorter limit) count (left b b.best waiting hands count) kept.0 kept.1 inserts (same_left b b.best waiting hands (set b.hands worker None) count emptied)
+    accepts (state_of b) worker name report false (option_or shorter limit) count (left b b.best waiting hands count trail) kept.0 kept.1 inserts (ap entries_in noted ∙ entries_changed b.trail (checked_in (option_or shorter limit) name report)) (same_left b b.best waiting hands (set b.hands worker None) count trail emptied)
 
 -- the report was accepted, and what was found is the best
-accepted_as_better : (b : Inside) (worker : ℕ) (report : Expansion) (found : Option ScheduleOf) (shorter limit : Option ℤ) (count : ℕ) (waiting : List Named) (hands : List (Option Named)) → limit ≡ ceiling_of b.best → IfSome shorter (λ length. (s : ScheduleOf) × (report.found ≡ Some s) × (length ≡ makespan s.starts) × IsUnder limit length) → is_some shorter ≡ true → found ≡ report.found → InsertsKids b.opened (option_or shorter limit) report.kids count b.waiting waiting → hands ≡ set b.hands worker None → Accepts (state_of b) worker report (record { opened = count; improved = true }) (left b found waiting hands count)
-accepted_as_better b worker report found shorter limit count waiting hands is some e same inserts emptied =
+accepted_as_better : (b : Inside) (worker name : ℕ) (report : Expansion) (found : Option ScheduleOf) (shorter limit : Option ℤ) (count : ℕ) (waiting : List Named) (hands : List (Option Named)) (trail : Option TrailOf) → limit ≡ ceiling_of b.best → IfSome shorter (λ length. (s : ScheduleOf) × (report.found ≡ Some s) × (length ≡ makespan s.starts) × IsUnder limit length) → is_some shorter ≡ true → found ≡ report.found → InsertsKids b.opened (option_or shorter limit) report.kids count b.waiting waiting → hands ≡ set b.hands worker None → trail ≡ option_map (with_entries (checked_in (option_or shorter limit) name report)) b.trail → Accepts (state_of b) worker name report (record { opened = count; improved = true }) (left b found waiting hands count trail)
+accepted_as_better b worker name report found shorter limit count waiting hands trail is some e same inserts emptied noted =
     let better = improved b.best report.found found shorter limit is some e same in
-    accepts (state_of b) worker report true (option_or shorter limit) count (left b found waiting hands count) better.0 better.1 inserts (same_left b found waiting hands (set b.hands worker None) count emptied)
+    accepts (state_of b) worker name report true (option_or shorter limit) count (left b found waiting hands count trail) better.0 better.1 inserts (ap entries_in noted ∙ entries_changed b.trail (checked_in (option_or shorter limit) name report)) (same_left b found waiting hands (set b.hands worker None) count trail emptied)
 
 pub invariant_of-self-then-is_none : goal.invariant_of-self-then-is_none
 invariant_of-self-then-is_none c =
-    let may = may_check_in c.self.inside c.args.self.now c.args.worker c.args.report c.self.view_is c.requires in
-    let fair : IsFair c.args.report = subst IsFair c.report.view_is c.report.invariant.fair in
+    let may = may_check_in c.self.inside c.args.self.now c.args.worker c.args.name c.args.report c.self.view_is c.requires in
+    let told : IsReport c.args.report = subst IsReport c.report.view_is c.report.invariant in
+    let fair : IsFair c.args.report = told.fair in
     let none : is_some c.shorter_found-shorter.result ≡ false = search rules in
     let not_shorter : IfNone c.shorter_found-shorter.result (IfSome c.args.report.found (λ s. Reaches c.makespan_of-best.result (makespan s.starts))) = c.shorter_found-shorter.ensures.none in
-    let inserts : InsertsKids c.self.inside.opened c.or-limit.result c.args.report.kids c.in-Ok.opened c.self.inside.waiting c.insert_kids.new.self = subst (λ (ks : List Subproblem). InsertsKids c.self.inside.opened c.or-limit.result ks c.in-Ok.opened c.self.inside.waiting c.insert_kids.new.self) c.kids.ensures.kids c.in-Ok.ensures.ok in
-    let limit : InsertsKids c.self.inside.opened (option_or c.shorter_found-shorter.result c.makespan_of-best.result) c.args.report.kids c.in-Ok.opened c.self.inside.waiting c.insert_kids.new.self = subst (λ (l : Option ℤ). InsertsKids c.self.inside.opened l c.args.report.kids c.in-Ok.opened c.self.inside.waiting c.insert_kids.new.self) c.or-limit.ensures inserts in
-    let done = accepted_as_before c.self.inside c.args.worker c.args.report c.shorter_found-shorter.result c.makespan_of-best.result c.in-Ok.opened c.insert_kids.new.self c.empty.new.self c.makespan_of-best.ensures not_shorter none limit c.empty.ensures in
-    kept_accepted (state_of c.self.inside) c.args.worker may.0 c.args.report _ _ fair may.1 done c.self.invariant
+    let inserts : InsertsKids c.self.inside.opened c.or-limit.result c.args.report.kids c.in-Ok.opened c.self.inside.waiting c.open_kids.new.nodes = c.in-Ok.ensures.opened in
+    let noted : c.open_kids.new.trail ≡ option_map (with_entries (checked_in (option_or c.shorter_found-shorter.result c.makespan_of-best.result) c.args.name c.args.report)) c.self.inside.trail = subst (λ (l : Option ℤ). c.open_kids.new.trail ≡ option_map (with_entries (checked_in l c.args.name c.args.report)) c.self.inside.trail) c.or-limit.ensures (search rules) in
+    let limit : InsertsKids c.self.inside.opened (option_or c.shorter_found-shorter.result c.makespan_of-best.result) c.args.report.kids c.in-Ok.opened c.self.inside.waiting c.open_kids.new.nodes = subst (λ (l : Option ℤ). InsertsKids c.self.inside.opened l c.args.report.kids c.in-Ok.opened c.self.inside.waiting c.open_kids.new.nodes) c.or-limit.ensures inserts in
+    let done = accepted_as_before c.self.inside c.args.worker c.args.name c.args.report c.shorter_found-shorter.result c.makespan_of-best.result c.in-Ok.opened c.open_kids.new.nodes c.empty.new.self c.open_kids.new.trail c.makespan_of-best.ensures not_shorter none limit c.empty.ensures noted in
+    let kept = kept_accepted (state_of c.self.inside) c.args.worker c.args.name c.args.report _ _ told may done c.self.invariant.kept in
+    let project = subst (λ (t : Option TrailOf). IfSome t (λ (t : TrailOf). t.project ≡ arc_value c.self.inside.project)) (sym noted) (project_kept (arc_value c.self.inside.project) c.self.inside.trail (checked_in (option_or c.shorter_found-shorter.result c.makespan_of-best.result) c.args.name c.args.report) c.self.invariant.of_trail) in
+    record { kept = kept; of_trail = project }
 
 pub returns-then-is_none-clause-ok : goal.returns-then-is_none-clause-ok
 returns-then-is_none-clause-ok c =
     let none : is_some c.shorter_found-shorter.result ≡ false = search rules in
     let not_shorter : IfNone c.shorter_found-shorter.result (IfSome c.args.report.found (λ s. Reaches c.makespan_of-best.result (makespan s.starts))) = c.shorter_found-shorter.ensures.none in
-    let inserts : InsertsKids c.self.inside.opened c.or-limit.result c.args.report.kids c.in-Ok.opened c.self.inside.waiting c.insert_kids.new.self = subst (λ (ks : List Subproblem). InsertsKids c.self.inside.opened c.or-limit.result ks c.in-Ok.opened c.self.inside.waiting c.insert_kids.new.self) c.kids.ensures.kids c.in-Ok.ensures.ok in
-    let limit : InsertsKids c.self.inside.opened (option_or c.shorter_found-shorter.result c.makespan_of-best.result) c.args.report.kids c.in-Ok.opened c.self.inside.waiting c.insert_kids.new.self = subst (λ (l : Option ℤ). InsertsKids c.self.inside.opened l c.args.report.kids c.in-Ok.opened c.self.inside.waiting c.insert_kids.new.self) c.or-limit.ensures inserts in
-    rw (← c.self.view_is) (accepted_as_before c.self.inside c.args.worker c.args.report c.shorter_found-shorter.result c.makespan_of-best.result c.in-Ok.opened c.insert_kids.new.self c.empty.new.self c.makespan_of-best.ensures not_shorter none limit c.empty.ensures)
+    let inserts : InsertsKids c.self.inside.opened c.or-limit.result c.args.report.kids c.in-Ok.opened c.self.inside.waiting c.open_kids.new.nodes = c.in-Ok.ensures.opened in
+    let noted : c.open_kids.new.trail ≡ option_map (with_entries (checked_in (option_or c.shorter_found-shorter.result c.makespan_of-best.result) c.args.name c.args.report)) c.self.inside.trail = subst (λ (l : Option ℤ). c.open_kids.new.trail ≡ option_map (with_entries (checked_in l c.args.name c.args.report)) c.self.inside.trail) c.or-limit.ensures (search rules) in
+    let limit : InsertsKids c.self.inside.opened (option_or c.shorter_found-shorter.result c.makespan_of-best.result) c.args.report.kids c.in-Ok.opened c.self.inside.waiting c.open_kids.new.nodes = subst (λ (l : Option ℤ). InsertsKids c.self.inside.opened l c.args.report.kids c.in-Ok.opened c.self.inside.waiting c.open_kids.new.nodes) c.or-limit.ensures inserts in
+    rw (← c.self.view_is) (accepted_as_before c.self.inside c.args.worker c.args.name c.args.report c.shorter_found-shorter.result c.makespan_of-best.result c.in-Ok.opened c.open_kids.new.nodes c.empty.new.self c.open_kids.new.trail c.makespan_of-best.ensures not_shorter none limit c.empty.ensures noted)
 
 pub invariant_of-self-2 : goal.invariant_of-self-2
 invariant_of-self-2 c =
-    let may = may_check_in c.self.inside c.args.self.now c.args.worker c.args.report c.self.view_is c.requires in
-    let fair : IsFair c.args.report = subst IsFair c.report.view_is c.report.invariant.fair in
+    let may = may_check_in c.self.inside c.args.self.now c.args.worker c.args.name c.args.report c.self.view_is c.requires in
+    let told : IsReport c.args.report = subst IsReport c.report.view_is c.report.invariant in
+    let fair : IsFair c.args.report = told.fair in
     let some : is_some c.shorter_found-shorter.result ≡ true = search rules in
     let shorter : IfSome c.shorter_found-shorter.result (λ length. (s : ScheduleOf) × (c.args.report.found ≡ Some s) × (length ≡ makespan s.starts) × IsUnder c.makespan_of-best.result length) = c.shorter_found-shorter.ensures.found in
-    let inserts : InsertsKids c.self.inside.opened c.or-limit.result c.args.report.kids c.in-Ok.opened c.self.inside.waiting c.insert_kids.new.self = subst (λ (ks : List Subproblem). InsertsKids c.self.inside.opened c.or-limit.result ks c.in-Ok.opened c.self.inside.waiting c.insert_kids.new.self) c.kids.ensures.kids c.in-Ok.ensures.ok in
-    let limit : InsertsKids c.self.inside.opened (option_or c.shorter_found-shorter.result c.makespan_of-best.result) c.args.report.kids c.in-Ok.opened c.self.inside.waiting c.insert_kids.new.self = subst (λ (l : Option ℤ). InsertsKids c.self.inside.opened l c.args.report.kids c.in-Ok.opened c.self.inside.waiting c.insert_kids.new.self) c.or-limit.ensures inserts in
-    let done = accepted_as_better c.self.inside c.args.worker c.args.report c.into_parts-found.result.0 c.shorter_found-shorter.result c.makespan_of-best.result c.in-Ok.opened c.insert_kids.new.self c.empty.new.self c.makespan_of-best.ensures shorter some c.into_parts-found.ensures.found limit c.empty.ensures in
-    kept_accepted (state_of c.self.inside) c.args.worker may.0 c.args.report _ _ fair may.1 done c.self.invariant
+    let inserts : InsertsKids c.self.inside.opened c.or-limit.result c.args.report.kids c.in-Ok.opened c.self.inside.waiting c.open_kids.new.nodes = c.in-Ok.ensures.opened in
+    let noted : c.open_kids.new.trail ≡ option_map (with_entries (checked_in (option_or c.shorter_found-shorter.result c.makespan_of-best.result) c.args.name c.args.report)) c.self.inside.trail = subst (λ (l : Option ℤ). c.open_kids.new.trail ≡ option_map (with_entries (checked_in l c.args.name c.args.report)) c.self.inside.trail) c.or-limit.ensures (search rules) in
+    let limit : InsertsKids c.self.inside.opened (option_or c.shorter_found-shorter.result c.makespan_of-best.result) c.args.report.kids c.in-Ok.opened c.self.inside.waiting c.open_kids.new.nodes = subst (λ (l : Option ℤ). InsertsKids c.self.inside.opened l c.args.report.kids c.in-Ok.opened c.self.inside.waiting c.open_kids.new.nodes) c.or-limit.ensures inserts in
+    let done = accepted_as_better c.self.inside c.args.worker c.args.name c.args.report c.into_parts-found.result.0 c.shorter_found-shorter.result c.makespan_of-best.result c.in-Ok.opened c.open_kids.new.nodes c.empty.new.self c.open_kids.new.trail c.makespan_of-best.ensures shorter some c.into_parts-found.ensures.found limit c.empty.ensures noted in
+    let kept = kept_accepted (state_of c.self.inside) c.args.worker c.args.name c.args.report _ _ told may done c.self.invariant.kept in
+    let project = subst (λ (t : Option TrailOf). IfSome t (λ (t : TrailOf). t.project ≡ arc_value c.self.inside.project)) (sym noted) (project_kept (arc_value c.self.inside.project) c.self.inside.trail (checked_in (option_or c.shorter_found-shorter.result c.makespan_of-best.result) c.args.name c.args.report) c.self.invariant.of_trail) in
+    record { kept = kept; of_trail = project }
 
 pub returns-clause-ok : goal.returns-clause-ok
 returns-clause-ok c =
     let some : is_some c.shorter_found-shorter.result ≡ true = search rules in
     let shorter : IfSome c.shorter_found-shorter.result (λ length. (s : ScheduleOf) × (c.args.report.found ≡ Some s) × (length ≡ makespan s.starts) × IsUnder c.makespan_of-best.result length) = c.shorter_found-shorter.ensures.found in
-    let inserts : InsertsKids c.self.inside.opened c.or-limit.result c.args.report.kids c.in-Ok.opened c.self.inside.waiting c.insert_kids.new.self = subst (λ (ks : List Subproblem). InsertsKids c.self.inside.opened c.or-limit.result ks c.in-Ok.opened c.self.inside.waiting c.insert_kids.new.self) c.kids.ensures.kids c.in-Ok.ensures.ok in
-    let limit : InsertsKids c.self.inside.opened (option_or c.shorter_found-shorter.result c.makespan_of-best.result) c.args.report.kids c.in-Ok.opened c.self.inside.waiting c.insert_kids.new.self = subst (λ (l : Option ℤ). InsertsKids c.self.inside.opened l c.args.report.kids c.in-Ok.opened c.self.inside.waiting c.insert_kids.new.self) c.or-limit.ensures inserts in
-    rw (← c.self.view_is) (accepted_as_better c.self.inside c.args.worker c.args.report c.into_parts-found.result.0 c.shorter_found-shorter.result c.makespan_of-best.result c.in-Ok.opened c.insert_kids.new.self c.empty.new.self c.makespan_of-best.ensures shorter some c.into_parts-found.ensures.found limit c.empty.ensures)
+    let inserts : InsertsKids c.self.inside.opened c.or-limit.result c.args.report.kids c.in-Ok.opened c.self.inside.waiting c.open_kids.new.nodes = c.in-Ok.ensures.opened in
+    let noted : c.open_kids.new.trail ≡ option_map (with_entries (checked_in (option_or c.shorter_found-shorter.result c.makespan_of-best.result) c.args.name c.args.report)) c.self.inside.trail = subst (λ (l : Option ℤ). c.open_kids.new.trail ≡ option_map (with_entries (checked_in l c.args.name c.args.report)) c.self.inside.trail) c.or-limit.ensures (search rules) in
+    let limit : InsertsKids c.self.inside.opened (option_or c.shorter_found-shorter.result c.makespan_of-best.result) c.args.report.kids c.in-Ok.opened c.self.inside.waiting c.open_kids.new.nodes = subst (λ (l : Option ℤ). InsertsKids c.self.inside.opened l c.args.report.kids c.in-Ok.opened c.self.inside.waiting c.open_kids.new.nodes) c.or-limit.ensures inserts in
+    rw (← c.self.view_is) (accepted_as_better c.self.inside c.args.worker c.args.name c.args.report c.into_parts-found.result.0 c.shorter_found-shorter.result c.makespan_of-best.result c.in-Ok.opened c.open_kids.new.nodes c.empty.new.self c.open_kids.new.trail c.makespan_of-best.ensures shorter some c.into_parts-found.ensures.found limit c.empty.ensures noted)
 
 pub returns-then-is_none-clause-sound : goal.returns-then-is_none-clause-sound
-returns-then-is_none-clause-sound c = (invariant_of-self-then-is_none c).sound
+returns-then-is_none-clause-sound c = (invariant_of-self-then-is_none c).kept.sound
 
 pub returns-clause-sound : goal.returns-clause-sound
-returns-clause-sound c = (invariant_of-self-2 c).sound
+returns-clause-sound c = (invariant_of-self-2 c).kept.sound

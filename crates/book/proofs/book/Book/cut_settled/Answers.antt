@@ -1,4 +1,6 @@
-use Rattle.std.proofs.Common.{◌≡◌, ◌<◌, ◌≤ℤ◌, ◌+◌, ℕ, zero, suc, ℤ, List, [], ◌∷◌, Option, None, Some, refl, sym, subst, inl, inr, length, arith, rules}
+use Rattle.std.proofs.Common.{◌≡◌, ◌<◌, ◌≤ℤ◌, ◌+◌, ℕ, zero, suc, ℤ, List, [], ◌∷◌, Option, None, Some, refl, sym, ap, ◌∙◌, subst, inl, inr, length, arith, rules}
+use Rattle.std.specs.Prelude.{IfSome, option_map}
+use Rattle.std.specs.Arc.{arc_value}
 use Rattle.std.specs.List.{All, Any, Contains}
 use Rattle.std.proofs.lemmas.Int.{ints}
 use Rattle.std.proofs.lemmas.List.Elements.{All-nil, All-cons, All-head, All-tail}
@@ -6,6 +8,10 @@ use Rattle.branching.specs.Ceiling.{IsUnder, Reaches}
 use Rattle.book.specs.State.{Named, BookState, best_makespan}
 use Rattle.book.specs.Verdicts.{IsLeast, bounds_of}
 use Rattle.book.specs.Views.{state_of, IsKept}
+use Rattle.book.specs.Trail.{Entry, TrailOf}
+use Rattle.book.specs.Recording.{note_cut}
+use Rattle.book.proofs.KeptTrail.{entries_in, entries_changed, project_kept}
+use Rattle.book.proofs.RecordedSteps.{cut_state}
 use Rattle.book.proofs.Steps.{kept_cut}
 use Rattle.book.proofs.book.Book.cut_settled.Goals as goal
 
@@ -33,8 +39,8 @@ some_node [] bound (k, l, e) = absurd (omega arith)
 some_node (n ∷ ns) bound among = omega arith
 
 -- what is left
-same_cut : (s : BookState) (waiting : List Named) (count : ℕ) → waiting ≡ [] → count ≡ length s.waiting → ◌≡◌ {A = BookState} (record s { waiting = waiting; cut = s.cut + count }) (record s { waiting = []; cut = s.cut + length s.waiting })
-same_cut s waiting count e f = λ i. record s { waiting = e i; cut = s.cut + f i }
+same_cut : (s : BookState) (waiting : List Named) (count : ℕ) (trail : Option (List Entry)) → waiting ≡ [] → count ≡ length s.waiting → trail ≡ option_map (note_cut s.waiting) s.trail → ◌≡◌ {A = BookState} (record s { waiting = waiting; cut = s.cut + count; trail = trail }) (cut_state s)
+same_cut s waiting count trail e f g = λ i. record s { waiting = e i; cut = s.cut + f i; trail = g i }
 
 pub returns-then-is_below : goal.returns-then-is_below
 returns-then-is_below c =
@@ -48,7 +54,10 @@ invariant_of-self c =
     let least : IsLeast (bounds_of c.self.inside.waiting) (Some c.in-Some.bound) = search rules in
     let reaches : Reaches (best_makespan (state_of c.self.inside)) c.in-Some.bound = search rules in
     let count : c.len.result ≡ length c.self.inside.waiting = search rules in
-    subst IsKept (sym (same_cut s c.clear.new.self c.len.result c.clear.ensures count)) (kept_cut s (all_reach (best_makespan s) c.in-Some.bound c.self.inside.waiting least.1 reaches) c.self.invariant)
+    let cut : entries_in c.clear_open.new.trail ≡ option_map (note_cut s.waiting) s.trail = ap entries_in c.clear_open.ensures.trail ∙ entries_changed c.self.inside.trail (note_cut s.waiting) in
+    let project = subst (λ (t : Option TrailOf). IfSome t (λ (t : TrailOf). t.project ≡ arc_value c.self.inside.project)) (sym c.clear_open.ensures.trail) (project_kept (arc_value c.self.inside.project) c.self.inside.trail (note_cut s.waiting) c.self.invariant.of_trail) in
+    let kept = subst IsKept (sym (same_cut s c.clear_open.new.nodes c.len.result (entries_in c.clear_open.new.trail) c.clear_open.ensures.nodes count cut)) (kept_cut s (all_reach (best_makespan s) c.in-Some.bound c.self.inside.waiting least.1 reaches) c.self.invariant.kept) in
+    record { kept = kept; of_trail = project }
 
 pub returns : goal.returns
 returns c =
@@ -56,5 +65,6 @@ returns c =
     let least : IsLeast (bounds_of c.self.inside.waiting) (Some c.in-Some.bound) = search rules in
     let reaches : Reaches (best_makespan (state_of c.self.inside)) c.in-Some.bound = search rules in
     let count : c.len.result ≡ length c.self.inside.waiting = search rules in
+    let cut : entries_in c.clear_open.new.trail ≡ option_map (note_cut s.waiting) s.trail = ap entries_in c.clear_open.ensures.trail ∙ entries_changed c.self.inside.trail (note_cut s.waiting) in
     rw (← c.self.view_is)
-    (inl ((some_node c.self.inside.waiting c.in-Some.bound least.0, all_reach (best_makespan s) c.in-Some.bound c.self.inside.waiting least.1 reaches), same_cut s c.clear.new.self c.len.result c.clear.ensures count))
+    (inl ((some_node c.self.inside.waiting c.in-Some.bound least.0, all_reach (best_makespan s) c.in-Some.bound c.self.inside.waiting least.1 reaches), same_cut s c.clear_open.new.nodes c.len.result (entries_in c.clear_open.new.trail) c.clear_open.ensures.nodes count cut))

@@ -26,7 +26,7 @@ pub insert-requires : goal.insert-requires
 insert-requires c =
     let held : Named = record { name = c.args.name; node = arc_value c.in_ok-worker.node.now } in
     let holds : slice_get c.self.inside.hands c.in_ok-worker.worker ≡ Some (Some held) = search rules in
-    not_open (state_of c.self.inside) c.in_ok-worker.worker held c.self.invariant.sound holds
+    not_open (state_of c.self.inside) c.in_ok-worker.worker held c.self.invariant.kept.sound holds
 
 pub returns-then-is_err-clause-step : goal.returns-then-is_err-clause-step
 returns-then-is_err-clause-step c =
@@ -46,7 +46,8 @@ invariant_of-self-2 c =
     let held : Named = record { name = c.args.name; node = arc_value c.in_ok-worker.node.now } in
     let holds : slice_get c.self.inside.hands c.in_ok-worker.worker ≡ Some (Some held) = search rules in
     let goes_in : Inserts c.args.name (arc_value c.in_ok-worker.node.now) c.self.inside.waiting c.insert.new.self = search rules in
-    kept_returned (state_of c.self.inside) c.in_ok-worker.worker c.args.name _ (returned (state_of c.self.inside) c.in_ok-worker.worker held c.insert.new.self c.empty.new.self holds goes_in c.empty.ensures) c.self.invariant
+    let kept = kept_returned (state_of c.self.inside) c.in_ok-worker.worker c.args.name (left (state_of c.self.inside) c.insert.new.self c.empty.new.self) (returned (state_of c.self.inside) c.in_ok-worker.worker held c.insert.new.self c.empty.new.self holds goes_in c.empty.ensures) c.self.invariant.kept in
+    record { kept = kept; of_trail = c.self.invariant.of_trail }
 
 pub returns-clause-step : goal.returns-clause-step
 returns-clause-step c =
@@ -56,4 +57,4 @@ returns-clause-step c =
     rw (← c.self.view_is) (c.in_ok-worker.worker, returned (state_of c.self.inside) c.in_ok-worker.worker held c.insert.new.self c.empty.new.self holds goes_in c.empty.ensures)
 
 pub returns-clause-sound : goal.returns-clause-sound
-returns-clause-sound c = (invariant_of-self-2 c).sound
+returns-clause-sound c = (invariant_of-self-2 c).kept.sound

@@ -27,7 +27,7 @@ invariant_of-self c =
     let popped : (c.self.inside.waiting ≡ first ∷ c.pop_first.new.self) × All (GoesBefore first) c.pop_first.new.self × (arc_value c.in-Some.node ≡ first.node) = c.in-Some.ensures.first in
     let free : IsFull s.hands c.args.worker false = subst (λ (s : BookState). IsFull s.hands c.args.worker false) (sym c.self.view_is) c.requires.free in
     let within : s.taken < s.limit = subst (λ (s : BookState). s.taken < s.limit) (sym c.self.view_is) c.requires.within in
-    kept_handed_out s c.args.worker ticket (left s c.pop_first.new.self c.fill.new.self) free within
+    let kept = kept_handed_out s c.args.worker ticket (left s c.pop_first.new.self c.fill.new.self) free within
     (record {
       first = first;
       moved = subst (λ ns. IsPermutation ns (first ∷ c.pop_first.new.self)) (sym popped.0) (IsPermutation-refl _);
@@ -37,7 +37,8 @@ invariant_of-self c =
       node = popped.2;
       ceiling = c.makespan_of.ensures;
     })
-    c.self.invariant
+    c.self.invariant.kept in
+    record { kept = kept; of_trail = c.self.invariant.of_trail }
 
 pub returns-clause-sound : goal.returns-clause-sound
-returns-clause-sound c = (invariant_of-self c).sound
+returns-clause-sound c = (invariant_of-self c).kept.sound

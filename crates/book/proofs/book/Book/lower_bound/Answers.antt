@@ -19,4 +19,4 @@ returns-clause-least c =
     (subst (λ (ns : List ℤ). IsLeast (option_to_list (best_makespan s) ++ ns) c.lesser-2.result) (sym (map-append (λ (n : Named). n.node.bound) s.waiting (in_hand s.hands))) all)
 
 pub returns-clause-bound : goal.returns-clause-bound
-returns-clause-bound c = least_holds c.args.self.now c.lesser-2.result (subst IsSound c.self.view_is c.self.invariant.sound) (returns-clause-least c)
+returns-clause-bound c = least_holds c.args.self.now c.lesser-2.result (subst IsSound c.self.view_is c.self.invariant.kept.sound) (returns-clause-least c)

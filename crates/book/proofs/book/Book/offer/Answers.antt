@@ -16,7 +16,7 @@ invariant_of-self c =
     let found : Option ScheduleOf = Some c.args.schedule in
     let feasible : IsFeasible (arc_value c.self.inside.project) c.args.schedule.starts = subst (λ (p : Problem). IsFeasible p c.args.schedule.starts) same c.makespan.ensures.feasible in
     let of_found : IfSome found (IsScheduleFor (arc_value c.self.inside.project)) = record { project = same; feasible = feasible } in
-    kept_improved (state_of c.self.inside) found found true (c.args.schedule, refl, under, refl) of_found c.self.invariant
+    record { kept = kept_improved (state_of c.self.inside) found found true (c.args.schedule, refl, under, refl) of_found c.self.invariant.kept; of_trail = c.self.invariant.of_trail }
 
 pub returns-clause-sound : goal.returns-clause-sound
-returns-clause-sound c = (invariant_of-self c).sound
+returns-clause-sound c = (invariant_of-self c).kept.sound

@@ -21,8 +21,9 @@ invariant_of-result c =
     let first : AreFirst (arc_value c.args.project) nodes = search rules in
     let hands : c.in_ok-hands.hands ≡ replicate c.args.workers None = search rules in
     let count : c.len-opened.result ≡ length nodes = search rules in
-    subst IsKept (sym (same_state (arc_value c.args.project) nodes c.args.takes c.in_ok-hands.hands (replicate c.args.workers None) c.len-opened.result (length nodes) hands count))
-    (kept_opened (arc_value c.args.project) c.args.workers c.args.takes nodes allowed first)
+    let kept = subst IsKept (sym (same_state (arc_value c.args.project) nodes c.args.takes c.in_ok-hands.hands (replicate c.args.workers None) c.len-opened.result (length nodes) hands count))
+    (kept_opened (arc_value c.args.project) c.args.workers c.args.takes nodes allowed first) in
+    record { kept = kept; of_trail = tt }
 
 pub returns-clause-sound : goal.returns-clause-sound
-returns-clause-sound c = (invariant_of-result c).sound
+returns-clause-sound c = (invariant_of-result c).kept.sound

@@ -37,7 +37,7 @@ returns-then-count-eq0-clause-verdict c =
 
 pub returns-then-count-eq0-clause-holds : goal.returns-then-count-eq0-clause-holds
 returns-then-count-eq0-clause-holds c =
-    verdict_true c.args.self.now (verdict.Optimal (to_z w64 (of_z w64 c.in-Some.bound))) (subst IsSound c.self.view_is c.self.invariant.sound) (returns-then-count-eq0-clause-verdict c)
+    verdict_true c.args.self.now (verdict.Optimal (to_z w64 (of_z w64 c.in-Some.bound))) (subst IsSound c.self.view_is c.self.invariant.kept.sound) (returns-then-count-eq0-clause-verdict c)
 
 pub returns-clause-verdict : goal.returns-clause-verdict
 returns-clause-verdict c =

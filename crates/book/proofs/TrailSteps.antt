@@ -1,0 +1,120 @@
+-- What becomes of a right trail when a node ends.
+use Rattle.std.proofs.Common.{◌≡◌, ℕ, zero, suc, ◌-◌, ◌+◌, ◌<◌, ◌≤◌, Bool, true, false, cond, List, [], ◌∷◌, ◌++◌, length, map, get_or, refl, sym, ap, ◌∙◌, subst, arith, ◌⊎◌, inl, inr, ⊎_elim, length-append, Option}
+use Rattle.std.specs.Prelude.{ℤ}
+use Rattle.std.specs.List.{count_by}
+use Rattle.std.proofs.lemmas.Bool.{cases_lt}
+use Rattle.std.proofs.Math.Seq.{get_or-append_right}
+use Rattle.std.proofs.lemmas.List.{get_or_append_left}
+use Rattle.std.proofs.lemmas.List.Sums.{sum_by-cons}
+use Rattle.std.proofs.Math.ListN.{length-set}
+use Rattle.network.specs.Problem.{Problem}
+use Rattle.branching.specs.Subproblem.{Subproblem}
+use Rattle.book.specs.Trail.{Ending, not_ended, Entry, entry_at, no_entry}
+use Rattle.book.specs.RightTrail.{IsRightEnding, IsRightTrail, IsRooted, has_ended}
+use Rattle.book.specs.Recording.{ended_as, kid_entry}
+use Rattle.book.proofs.TrailPaths.{path_kept, ended_paths}
+use Rattle.book.proofs.TrailGrowing.{Extends, ending_extends}
+
+pub ended_forced : (entries : List Entry) (name : ℕ) (ending : Ending) (n : ℕ) → (entry_at (ended_as entries name ending) n).forced ≡ (entry_at entries n).forced
+ended_forced [] name ending n = refl
+ended_forced (e ∷ es) zero ending zero = refl
+ended_forced (e ∷ es) zero ending (suc n) = refl
+ended_forced (e ∷ es) (suc name) ending zero = refl
+ended_forced (e ∷ es) (suc name) ending (suc n) = ended_forced es name ending n
+
+-- the entry of this name has this ending, the others have theirs
+pub ended_cases : (entries : List Entry) (name : ℕ) (ending : Ending) (n : ℕ) → ((n ≡ name) × ((entry_at (ended_as entries name ending) n).ending ≡ ending)) ⊎ ((entry_at (ended_as entries name ending) n).ending ≡ (entry_at entries n).ending)
+ended_cases [] name ending n = inr refl
+ended_cases (e ∷ es) zero ending zero = inl (refl, refl)
+ended_cases (e ∷ es) zero ending (suc n) = inr refl
+ended_cases (e ∷ es) (suc name) ending zero = inr refl
+ended_cases (e ∷ es) (suc name) ending (suc n) = ⊎_elim (λ (h : (n ≡ name) × ((entry_at (ended_as es name ending) n).ending ≡ ending)). inl (ap suc h.0, h.1)) (λ (h : (entry_at (ended_as es name ending) n).ending ≡ (entry_at es n).ending). inr h) (ended_cases es name ending n)
+
+pub length_ended : (entries : List Entry) (name : ℕ) (ending : Ending) → length (ended_as entries name ending) ≡ length entries
+length_ended entries name ending = length-set entries name _
+
+-- the entry of a name ends, and new ones come
+pub extends_grown : (entries : List Entry) (name : ℕ) (ending : Ending) (more : List Entry) → Extends entries (ended_as entries name ending ++ more)
+extends_grown entries name ending more =
+    let ended = ended_as entries name ending in
+    let same : length ended ≡ length entries = length_ended entries name ending in
+    record {
+      longer = omega (arith, length-append ended more, same);
+      path = λ n known. path_kept ended more n (omega (arith, same, known)) ∙ ap (λ paths. get_or paths n []) (ended_paths [] entries name ending);
+      forced = λ n known. ap (λ (e : Entry). e.forced) (get_or_append_left ended more no_entry n (omega (arith, same, known))) ∙ ended_forced entries name ending n;
+    }
+
+grown_rooted : (p : Problem) (entries : List Entry) (name : ℕ) (ending : Ending) (more : List Entry) → name < length entries → IsRooted p entries → IsRooted p (ended_as entries name ending ++ more)
+grown_rooted p [] name ending more known rooted = absurd (omega (arith, known))
+grown_rooted p (root ∷ entries) zero ending more known rooted = rooted
+grown_rooted p (root ∷ entries) (suc name) ending more known rooted = rooted
+
+-- where a name ends rightly and what comes is open, the trail stays right
+pub trail_grown : (p : Problem) (limit : Option ℤ) (entries : List Entry) (name : ℕ) (ending : Ending) (more : List Entry) → name < length entries → IsRightTrail p limit entries
+    → IsRightEnding p limit (ended_as entries name ending ++ more) name ending → ((n : ℕ) → (entry_at more n).ending ≡ not_ended) → IsRightTrail p limit (ended_as entries name ending ++ more)
+trail_grown p limit entries name ending more known right own all_open = record {
+  rooted = grown_rooted p entries name ending more known right.rooted;
+  endings = λ n there.
+      ⊎_elim
+      (λ (early : n < length entries).
+      subst (IsRightEnding p limit (ended_as entries name ending ++ more) n) (sym (ap (λ (e : Entry). e.ending) (get_or_append_left (ended_as entries name ending) more no_entry n (omega (arith, same, early)))))
+      (⊎_elim
+      (λ (h : (n ≡ name) × ((entry_at (ended_as entries name ending) n).ending ≡ ending)). rw (h.1, h.0) own)
+      (λ (h : (entry_at (ended_as entries name ending) n).ending ≡ (entry_at entries n).ending). rw h (ending_extends p limit entries (ended_as entries name ending ++ more) n (entry_at entries n).ending (extends_grown entries name ending more) early (right.endings n early)))
+      (ended_cases entries name ending n)))
+      (λ (late : length entries ≤ n).
+      subst (IsRightEnding p limit (ended_as entries name ending ++ more) n) (sym (ap (λ (e : Entry). e.ending) (get_or-append_right (ended_as entries name ending) more n no_entry (omega (arith, same, late))) ∙ all_open (n - length (ended_as entries name ending)))) tt)
+      (cases_lt n (length entries));
+}
+  where
+    same : length (ended_as entries name ending) ≡ length entries
+    same = length_ended entries name ending
+
+pub kids_open : (name depth : ℕ) (kids : List Subproblem) (n : ℕ) → (entry_at (map (kid_entry name depth) kids) n).ending ≡ not_ended
+kids_open name depth [] n = refl
+kids_open name depth (kid ∷ kids) zero = refl
+kids_open name depth (kid ∷ kids) (suc n) = kids_open name depth kids n
+
+-- ---- how many have ended
+
+abbrev pub one_ended : Entry → ℕ
+one_ended e = cond (has_ended e.ending) 1 0
+
+pub count_ended : (entries : List Entry) (name : ℕ) (ending : Ending) → name < length entries → (entry_at entries name).ending ≡ not_ended → has_ended ending ≡ true → count_by (λ (e : Entry). has_ended e.ending) (ended_as entries name ending) ≡ count_by (λ (e : Entry). has_ended e.ending) entries + 1
+count_ended [] name ending known is_open ends = absurd (omega (arith, known))
+count_ended (e ∷ es) zero ending known is_open ends =
+    let before = sum_by-cons one_ended e es in
+    let after = sum_by-cons one_ended (record { origin = e.origin; forced = e.forced; ending = ending }) es in
+    let none : ◌≡◌ {A = ℕ} (one_ended e) 0 = ap (λ (x : Ending). let n : ℕ = cond (has_ended x) 1 0 in n) is_open in
+    let one : ◌≡◌ {A = ℕ} (cond (has_ended ending) 1 0) 1 = ap (λ (b : Bool). let n : ℕ = cond b 1 0 in n) ends in
+    omega (arith, before, after, none, one)
+count_ended (e ∷ es) (suc name) ending known is_open ends =
+    let before = sum_by-cons one_ended e es in
+    let after = sum_by-cons one_ended e (ended_as es name ending) in
+    omega (arith, before, after, count_ended es name ending (omega (arith, known)) is_open ends)
+
+pub count_kids : (name depth : ℕ) (kids : List Subproblem) → count_by (λ (e : Entry). has_ended e.ending) (map (kid_entry name depth) kids) ≡ 0
+count_kids name depth [] = refl
+count_kids name depth (kid ∷ kids) = omega (arith, sum_by-cons one_ended (kid_entry name depth kid) (map (kid_entry name depth) kids), count_kids name depth kids)
+
+count_at_most : (entries : List Entry) → count_by (λ (e : Entry). has_ended e.ending) entries ≤ length entries
+count_at_most [] = omega arith
+count_at_most (e ∷ es) = omega (arith, sum_by-cons one_ended e es, at_most (has_ended e.ending), count_at_most es)
+  where
+    at_most : (b : Bool) → ◌≤◌ (cond b 1 0) 1
+    at_most true = omega arith
+    at_most false = omega arith
+
+-- where as many ended as there are, each has
+pub all_ended : (entries : List Entry) → count_by (λ (e : Entry). has_ended e.ending) entries ≡ length entries → (name : ℕ) → name < length entries → has_ended (entry_at entries name).ending ≡ true
+all_ended [] e name known = absurd (omega (arith, known))
+all_ended (x ∷ es) e name known = parts (all_ended es) (has_ended x.ending) refl name known
+  where
+    parts : (count_by (λ (e : Entry). has_ended e.ending) es ≡ length es → (name : ℕ) → name < length es → has_ended (entry_at es name).ending ≡ true) → (b : Bool) → has_ended x.ending ≡ b → (name : ℕ) → name < length (x ∷ es) → has_ended (entry_at (x ∷ es) name).ending ≡ true
+    parts rest true is zero known = is
+    parts rest true is (suc name) known =
+        let one : ◌≡◌ {A = ℕ} (one_ended x) 1 = ap (λ (b : Bool). let n : ℕ = cond b 1 0 in n) is in
+        rest (omega (arith, e, one, sum_by-cons one_ended x es)) name (omega (arith, known))
+    parts rest false is name known =
+        let none : ◌≡◌ {A = ℕ} (one_ended x) 0 = ap (λ (b : Bool). let n : ℕ = cond b 1 0 in n) is in
+        absurd (omega (arith, e, none, sum_by-cons one_ended x es, count_at_most es))

@@ -1,0 +1,12 @@
+use Rattle.std.proofs.Common.{◌≡◌, ◌++◌, ◌+◌, ◌≤◌, map, drop, length}
+use Rattle.std.specs.Arc.{arc_value}
+use Rattle.branching.specs.Fate.{fate_value}
+use Rattle.book.specs.TrailViews.{pair_fate}
+use Rattle.book.specs.Recording.{fates_under}
+use Rattle.book.proofs.trail.fates_of_pairs.Given as goal
+
+abbrev pub invariant-loop-fate : goal.invariant-loop-fate
+invariant-loop-fate l = record {
+  told : map pair_fate l.all.items ++ fates_under l.limit l.depth l.next (map fate_value (drop l.fate-index l.fates)) (map arc_value l.left) ≡ fates_under l.limit l.depth l.first (map fate_value l.fates) (map arc_value l.kids);
+  few : l.next + length l.left ≤ l.first + length l.kids;
+}

@@ -1,0 +1,13 @@
+-- What may lead to a schedule that is shorter than a limit.
+use Rattle.std.specs.Prelude.{int_lt, ℤ, Bool, true, List, Option, None, Some}
+use Rattle.std.specs.List.{filter}
+use Rattle.branching.specs.Subproblem.{Subproblem}
+
+-- whether the number is below the limit, if there is one
+abbrev pub is_below : Option ℤ → ℤ → Bool
+is_below None number = true
+is_below (Some limit) number = int_lt number limit
+
+-- the kids that may lead to a schedule shorter than the limit
+abbrev pub kids_below : Option ℤ → List Subproblem → List Subproblem
+kids_below limit kids = filter (λ (kid : Subproblem). is_below limit kid.bound) kids

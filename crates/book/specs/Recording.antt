@@ -1,0 +1,61 @@
+-- What becomes of a trail when the nodes that it tells of end, and when kids are opened.
+use Rattle.std.specs.Prelude.{ℕ, ◌+◌, ℤ, if◌then◌else◌, Option, None, Some, option_map, List, [], ◌∷◌, ◌++◌, map, length, drop, slice_get, slice_set}
+use Rattle.network.specs.declared.lag.Pair.{Pair}
+use Rattle.network.specs.Schedule.{ScheduleOf}
+use Rattle.forbidden_sets.specs.MinimalSet.{MinimalSet}
+use Rattle.branching.specs.Subproblem.{Subproblem}
+use Rattle.branching.specs.Fates.{FateOf, is_kid, is_dead, is_cut}
+use Rattle.branching.specs.Fair.{Expansion}
+use Rattle.book.specs.State.{Named}
+use Rattle.book.specs.Below.{is_below, kids_below}
+use Rattle.book.specs.Trail.{PairFate, was_named, was_dead, was_not_opened, Ending, not_ended, was_cut, was_solved, was_split, Entry, entry_at}
+use Rattle.book.specs.declared.trail.Origin.{Origin}
+
+-- the node under a name ends so
+abbrev pub ended_as : List Entry → ℕ → Ending → List Entry
+ended_as entries name ending = slice_set entries name (record { origin = (entry_at entries name).origin; forced = (entry_at entries name).forced; ending = ending })
+
+-- these nodes end as cut
+abbrev pub note_cut : List Named → List Entry → List Entry
+note_cut [] entries = entries
+note_cut (n ∷ nodes) entries = note_cut nodes (ended_as entries n.name was_cut)
+
+-- the entry of a kid, whose parent has this name and so many pairs
+abbrev pub kid_entry : ℕ → ℕ → Subproblem → Entry
+kid_entry parent depth kid =
+    record {
+      origin = option_map (λ (pair : Pair). let o : Origin = record { parent = parent; pair = pair } in o) (slice_get kid.pairs depth);
+      forced = drop (depth + 1) kid.pairs;
+      ending = not_ended;
+    }
+
+-- the fate of a kid's pair: the next name where the kid is below the limit
+abbrev pub kid_fate : Option ℤ → ℕ → ℕ → Subproblem → PairFate
+kid_fate limit depth next kid = if is_below limit kid.bound then was_named next else was_not_opened (drop (depth + 1) kid.pairs)
+
+-- the name that comes next after the kid
+abbrev pub next_name : Option ℤ → ℕ → Subproblem → ℕ
+next_name limit next kid = if is_below limit kid.bound then next + 1 else next
+
+-- the fates of a split's pairs, where the kids below the limit are opened under the names from the next on
+abbrev pub fates_under : Option ℤ → ℕ → ℕ → List FateOf → List Subproblem → List PairFate
+fates_under limit depth next [] kids = []
+fates_under limit depth next (is_dead forced ∷ fates) kids = was_dead forced ∷ fates_under limit depth next fates kids
+fates_under limit depth next (is_cut forced ∷ fates) kids = was_not_opened forced ∷ fates_under limit depth next fates kids
+fates_under limit depth next (is_kid ∷ fates) (kid ∷ kids) = kid_fate limit depth next kid ∷ fates_under limit depth (next_name limit next kid) fates kids
+-- there is a kid for each such fate
+fates_under limit depth next (is_kid ∷ fates) [] = []
+
+-- how a node ended, by the set that was split, or by what was found where none was
+abbrev pub ending_by : Option MinimalSet → Option ScheduleOf → List PairFate → Ending
+ending_by None None fates = was_cut
+ending_by None (Some found) fates = was_solved
+ending_by (Some set) found fates = was_split set.resource set.members fates
+
+-- how the node of a report ended, where the kids below the limit are opened under the names from the next on
+abbrev pub ending_of : Option ℤ → ℕ → Expansion → Ending
+ending_of limit next report = ending_by report.split report.found (fates_under limit (length report.node.pairs) next report.fates report.kids)
+
+-- the node of a report ends, and the kids below the limit are opened
+abbrev pub checked_in : Option ℤ → ℕ → Expansion → List Entry → List Entry
+checked_in limit name report entries = ended_as entries name (ending_of limit (length entries) report) ++ map (kid_entry name (length report.node.pairs)) (kids_below limit report.kids)

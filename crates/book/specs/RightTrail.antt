@@ -1,0 +1,58 @@
+-- When a trail is right: what ended could end so, under the makespan that nothing longer than is looked for.
+use Rattle.std.specs.Prelude.{◌≡◌, ℕ, ◌<◌, ℤ, Bool, true, false, Option, None, List, [], ◌∷◌, ◌++◌, length}
+use Rattle.std.specs.List.{AllZip}
+use Rattle.network.specs.declared.lag.Pair.{Pair}
+use Rattle.network.specs.Problem.{Problem}
+use Rattle.branching.specs.Pairs.{ordered_pairs}
+use Rattle.branching.specs.Right.{AllForced, IsRightSet, IsDead, IsCutUnder, IsSolvedUnder}
+use Rattle.book.specs.Trail.{PairFate, was_named, was_dead, was_not_opened, Ending, not_ended, was_cut, was_solved, was_split, Entry, entry_at, path_to}
+
+-- the pair gave the node of this later name, whose pairs are its parent's, the pair, and what that forces
+pub record IsKidUnder (p : Problem) (entries : List Entry) (name : ℕ) (pair : Pair) (later : ℕ) : Type 0 where
+  pub is_later : name < later
+  pub named : later < length entries
+  pub path : path_to entries later ≡ (path_to entries name ++ pair ∷ []) ++ (entry_at entries later).forced
+  pub all_forced : AllForced p (path_to entries name ++ pair ∷ []) (entry_at entries later).forced
+
+-- the pairs and forced pairs close a walk of positive weight
+pub record IsDeadUnder (p : Problem) (pairs forced : List Pair) : Type 0 where
+  pub all_forced : AllForced p pairs forced
+  pub dead : IsDead p (pairs ++ forced)
+
+-- with the pairs and forced pairs the bound is at least the limit
+pub record IsNotOpenedUnder (p : Problem) (limit : Option ℤ) (pairs forced : List Pair) : Type 0 where
+  pub all_forced : AllForced p pairs forced
+  pub cut : IsCutUnder p (pairs ++ forced) limit
+
+abbrev pub IsRightFate : Problem → Option ℤ → List Entry → ℕ → Pair → PairFate → Type 0
+IsRightFate p limit entries name pair (was_named later) = IsKidUnder p entries name pair later
+IsRightFate p limit entries name pair (was_dead forced) = IsDeadUnder p (path_to entries name ++ pair ∷ []) forced
+IsRightFate p limit entries name pair (was_not_opened forced) = IsNotOpenedUnder p limit (path_to entries name ++ pair ∷ []) forced
+
+-- the node under a name could end so: without a limit none is cut, and none is solved
+abbrev pub IsRightEnding : Problem → Option ℤ → List Entry → ℕ → Ending → Type 0
+IsRightEnding p limit entries name not_ended = Unit {0}
+IsRightEnding p limit entries name was_cut = IsCutUnder p (path_to entries name) limit
+IsRightEnding p limit entries name was_solved = IsSolvedUnder p (path_to entries name) limit
+IsRightEnding p limit entries name (was_split resource members fates) = IsRightSet p resource members × AllZip (IsRightFate p limit entries name) (ordered_pairs members) fates
+
+-- the first node is without pairs; where there is none, a closed walk of the project's rules has positive weight
+abbrev pub IsRooted : Problem → List Entry → Type 0
+IsRooted p [] = IsDead p []
+IsRooted p (root ∷ entries) = (root.origin ≡ None) × (root.forced ≡ [])
+
+-- each entry that ended is right for its pairs and the limit
+pub record IsRightTrail (p : Problem) (limit : Option ℤ) (entries : List Entry) : Type 0 where
+  pub rooted : IsRooted p entries
+  pub endings : (name : ℕ) → name < length entries → IsRightEnding p limit entries name (entry_at entries name).ending
+
+abbrev pub has_ended : Ending → Bool
+has_ended not_ended = false
+has_ended was_cut = true
+has_ended was_solved = true
+has_ended (was_split resource members fates) = true
+
+-- right, and each entry has ended: the trail is a whole tree
+pub record IsWholeTree (p : Problem) (limit : Option ℤ) (entries : List Entry) : Type 0 where
+  pub right : IsRightTrail p limit entries
+  pub ended : (name : ℕ) → name < length entries → has_ended (entry_at entries name).ending ≡ true

@@ -1,0 +1,311 @@
+ghost use Rattle.std.specs.Prelude.{◌≡◌, ◌+◌, ◌^◌, ◌<◌, ◌≤◌, ◌++◌, map, drop, length, replicate, IfOk, OnOk, OnErr};
+ghost use Rattle.std.specs.Arc.{arc_value};
+ghost use Rattle.branching.specs.Fate.{fate_value};
+ghost use Rattle.book.specs.Below.{kids_below};
+ghost use Rattle.book.specs.Trail.{no_entry};
+ghost use Rattle.book.specs.TrailViews.{pair_fate, node_ending, trail_entry};
+ghost use Rattle.book.specs.Recording.{ended_as, kid_entry, kid_fate, next_name, fates_under, ending_of, checked_in};
+
+use crate::limits::is_below;
+use branching::{Fate, Lean, PairList, Report};
+use network::{Pair, Project};
+use std::alloc::{AllocError, Global};
+use std::marker::Model;
+use std::sync::Arc;
+
+/// Where a node came from: the name of the node that was split, and the pair of the split set that gave this one.
+#[derive(Clone, Copy, Debug, PartialEq, Eq)]
+pub struct Origin {
+    pub parent: u64,
+    pub pair: Pair,
+}
+
+/// What became of an ordered pair of a split set.
+#[derive(Drop, Debug)]
+pub enum KidFate {
+    /// It gave a node, which was opened under this name.
+    Opened { name: u64 },
+    /// With the pair and these forced pairs some closed walk has positive weight.
+    Dead { forced: Vec<Pair> },
+    /// With the pair and these forced pairs the bound is at least the best makespan.
+    Cut { forced: Vec<Pair> },
+}
+
+/// How a node ended.
+#[derive(Drop, Debug)]
+pub enum NodeEnding {
+    /// It has not ended.
+    Open,
+    /// Its bound is at least the best makespan.
+    Cut,
+    /// Its least schedule is feasible.
+    Solved,
+    /// These members of a forbidden set can't all run together, and each ordered pair of them has its fate, by the place of
+    /// the first and then by that of the second.
+    Split {
+        resource: usize,
+        members: Vec<usize>,
+        fates: Vec<KidFate>,
+    },
+}
+
+/// What is kept of a node that was opened.
+#[derive(Drop, Debug)]
+pub struct TrailEntry {
+    /// None for the root.
+    pub origin: Option<Origin>,
+    /// The pairs that the node's own pair forced.
+    pub forced: Vec<Pair>,
+    pub ending: NodeEnding,
+}
+
+/// What a search did: an entry for each node that was opened, by their names from 0 on.
+#[derive(Drop, Debug)]
+pub struct Trail {
+    alloc: Global,
+    project: Arc<Project>,
+    entries: Vec<TrailEntry>,
+}
+
+impl Model for Trail {
+    ghost use Rattle.book.specs.Trail.{TrailOf};
+
+    ghost Value = { TrailOf };
+
+    ghost use Rattle.book.specs.TrailViews.{trail_of};
+
+    ghost view = { trail_of };
+}
+
+/// The pairs after the one at a place.
+fn pairs_after(alloc: Global, pairs: &PairList, place: usize) -> Result<Vec<Pair>, AllocError>
+    ensures { IfOk result (λ rest. rest.items ≡ drop (place + 1) pairs.now) }
+{
+    let all = pairs.to_vec(alloc)?;
+    if place >= all.len() {
+        return Ok(Vec::new(alloc));
+    }
+    Vec::from_slice(alloc, &all.as_slice()[place + 1..])
+}
+
+/// The entry of a kid, whose parent has this name and so many pairs.
+fn entry_of_kid(
+    alloc: Global,
+    parent: u64,
+    depth: usize,
+    kid: &Lean,
+) -> Result<TrailEntry, AllocError>
+    ensures { IfOk result (λ entry. trail_entry entry ≡ kid_entry parent depth kid.now) }
+{
+    let origin = match kid.pairs().get(depth) {
+        Some(pair) => Some(Origin { parent, pair }),
+        None => None,
+    };
+    let forced = pairs_after(alloc, kid.pairs(), depth)?;
+    Ok(TrailEntry {
+        origin,
+        forced,
+        ending: NodeEnding::Open,
+    })
+}
+
+/// The fate of a kid's pair: the next name where the kid's bound is below the limit.
+fn fate_of_kid(
+    alloc: Global,
+    limit: Option<i64>,
+    depth: usize,
+    next: u64,
+    kid: &Lean,
+) -> Result<KidFate, AllocError>
+    ensures { IfOk result (λ it. pair_fate it ≡ kid_fate limit depth next kid.now) }
+{
+    if is_below(kid.bound(), limit) {
+        return Ok(KidFate::Opened { name: next });
+    }
+    let forced = pairs_after(alloc, kid.pairs(), depth)?;
+    Ok(KidFate::Cut { forced })
+}
+
+/// The name after a kid that is opened under the next name where its bound is below the limit.
+fn name_after(limit: Option<i64>, next: u64, kid: &Lean) -> u64
+    requires { next + 1 < 2 ^ 64 }
+    ensures value { result ≡ next_name limit next kid.now }
+    ensures few { result ≤ next + 1 }
+{
+    if is_below(kid.bound(), limit) {
+        return next + 1;
+    }
+    next
+}
+
+/// The fates of a split's pairs, where the kids below the limit are opened under the names from the first on.
+fn fates_of_pairs(
+    alloc: Global,
+    limit: Option<i64>,
+    depth: usize,
+    first: u64,
+    fates: &[Fate],
+    kids: &[Arc<Lean>],
+) -> Result<Vec<KidFate>, AllocError>
+    requires { first + length kids.now < 2 ^ 64 }
+    ensures { IfOk result (λ all. map pair_fate all.items ≡ fates_under limit depth first (map fate_value fates.now) (map arc_value kids.now)) }
+{
+    let mut all = Vec::with_capacity(alloc, fates.len())?;
+    let mut next = first;
+    let mut left = kids;
+    for fate in fates {
+        match fate {
+            Fate::Dead { forced } => {
+                let forced = Vec::from_slice(alloc, forced.as_slice())?;
+                all.push(KidFate::Dead { forced })?;
+                continue;
+            }
+            Fate::Cut { forced } => {
+                let forced = Vec::from_slice(alloc, forced.as_slice())?;
+                all.push(KidFate::Cut { forced })?;
+                continue;
+            }
+            Fate::Kid => {}
+        }
+        let Some((kid, others)) = left.split_first() else {
+            return Ok(all);
+        };
+        all.push(fate_of_kid(alloc, limit, depth, next, kid)?)?;
+        next = name_after(limit, next, kid);
+        left = others;
+    }
+    Ok(all)
+}
+
+/// How the node of a report ended, where the kids below the limit are opened under the names from the first on.
+fn ending_of_report(
+    alloc: Global,
+    limit: Option<i64>,
+    first: u64,
+    report: &Report,
+) -> Result<NodeEnding, AllocError>
+    requires { first + length report.now.kids < 2 ^ 64 }
+    ensures { IfOk result (λ ending. node_ending ending ≡ ending_of limit first report.now) }
+{
+    let Some(set) = report.split() else {
+        if report.found().is_some() {
+            return Ok(NodeEnding::Solved);
+        }
+        return Ok(NodeEnding::Cut);
+    };
+    let depth = report.node().pairs().len();
+    let members = Vec::from_slice(alloc, set.members())?;
+    let fates = fates_of_pairs(alloc, limit, depth, first, report.fates(), report.kids())?;
+    Ok(NodeEnding::Split {
+        resource: set.resource(),
+        members,
+        fates,
+    })
+}
+
+/// The entries of the kids below the limit.
+fn entries_of_kids(
+    alloc: Global,
+    limit: Option<i64>,
+    parent: u64,
+    depth: usize,
+    kids: &[Arc<Lean>],
+) -> Result<Vec<TrailEntry>, AllocError>
+    ensures { IfOk result (λ entries. map trail_entry entries.items ≡ map (kid_entry parent depth) (kids_below limit (map arc_value kids.now))) }
+{
+    let mut entries = Vec::new(alloc);
+    for kid in kids {
+        if !is_below(kid.bound(), limit) {
+            continue;
+        }
+        entries.push(entry_of_kid(alloc, parent, depth, kid)?)?;
+    }
+    Ok(entries)
+}
+
+fn set_ending(entry: &mut TrailEntry, ending: NodeEnding)
+    ensures { entry.new ≡ record entry.old { ending = ending } }
+{
+    entry.ending = ending;
+}
+
+impl Trail {
+    ghost use Rattle.book.specs.TrailViews.{trail_entry};
+
+    /// The trail of a project before its search: an entry for the root, if that is opened.
+    pub(crate) fn new(
+        alloc: Global,
+        project: Arc<Project>,
+        roots: usize,
+    ) -> Result<Trail, AllocError>
+        ensures { IfOk result (λ trail. trail ≡ record { project = arc_value project; entries = replicate roots no_entry }) }
+    {
+        let mut entries = Vec::with_capacity(alloc, roots)?;
+        for _ in 0..roots {
+            entries.push(TrailEntry {
+                origin: None,
+                forced: Vec::new(alloc),
+                ending: NodeEnding::Open,
+            })?;
+        }
+        Ok(Trail {
+            alloc,
+            project,
+            entries,
+        })
+    }
+
+    /// The project.
+    pub fn project(&self) -> &Arc<Project>
+        ensures { arc_value result.now ≡ self.now.project }
+    {
+        &self.project
+    }
+
+    /// What became of each node, by names.
+    pub fn entries(&self) -> &[TrailEntry]
+        ensures { map trail_entry result.now ≡ self.now.entries }
+    {
+        self.entries.as_slice()
+    }
+
+    /// Ends the node under a name.
+    pub(crate) fn end(&mut self, name: u64, ending: NodeEnding)
+        ensures { self.new ≡ record self.old { entries = ended_as self.old.entries name (node_ending ending) } }
+    {
+        let place = name as usize;
+        if place < self.entries.len() {
+            set_ending(&mut self.entries[place], ending);
+        }
+    }
+
+    /// Adds entries. Where memory runs out, nothing changes.
+    fn add(&mut self, more: &mut Vec<TrailEntry>) -> Result<(), AllocError>
+        ensures ok { OnOk result (self.new ≡ record self.old { entries = self.old.entries ++ map trail_entry more.old.items }) }
+        ensures err { OnErr result (self.new ≡ self.old) }
+    {
+        self.entries.append(more)
+    }
+
+    /// Notes a report on the node under a name: how that node ended, and the kids that are opened, those below the limit.
+    /// Where memory runs out, nothing changes.
+    pub(crate) fn check_in(
+        &mut self,
+        name: u64,
+        limit: Option<i64>,
+        report: &Report,
+    ) -> Result<(), AllocError>
+        requires known { name < length self.old.entries }
+        requires names { length self.old.entries + length report.now.kids < 2 ^ 64 }
+        ensures ok { OnOk result (self.new ≡ record self.old { entries = checked_in limit name report.now self.old.entries }) }
+        ensures err { OnErr result (self.new ≡ self.old) }
+    {
+        let first = self.entries.len() as u64;
+        let ending = ending_of_report(self.alloc, limit, first, report)?;
+        let depth = report.node().pairs().len();
+        let mut more = entries_of_kids(self.alloc, limit, name, depth, report.kids())?;
+        self.add(&mut more)?;
+        self.end(name, ending);
+        Ok(())
+    }
+}
