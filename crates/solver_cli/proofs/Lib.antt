@@ -2,3 +2,4 @@ pub mod DeviceLaws
 pub mod JsonLaws
 pub mod AnswerLaws
 pub mod TextLaws
+pub mod CallLaws

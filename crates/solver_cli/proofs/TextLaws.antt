@@ -1,6 +1,6 @@
 -- What was read of an input stands for all that it tells: a text within the limit is all of it, and a
 -- longer one is too long either way.
-use Rattle.std.proofs.Common.{◌≡◌, ◌≢◌, ℕ, ◌+◌, ◌<◌, List, length, take, refl, sym, ap, subst, ◌∙◌, arith, inl, inr, ◌⊎◌, Some}
+use Rattle.std.proofs.Common.{◌≡◌, ◌≢◌, ℕ, ℤ, ◌+◌, ◌<◌, List, length, take, refl, sym, ap, subst, ◌∙◌, arith, inl, inr, ◌⊎◌, Some}
 use Rattle.std.proofs.lemmas.List.{length-take, take_all}
 use Rattle.std.proofs.lemmas.Bool.{cases_order, lt-ltb}
 use Rattle.network.specs.Problem.{Problem, activity_count}
@@ -14,7 +14,7 @@ use Rattle.words.specs.declared.TheConstants.{MAX_TEXT_BYTES}
 use Rattle.solver_cli.specs.declared.fault.Fault.{Fault}
 use Rattle.solver_cli.specs.declared.fault.Fault.TheVariants as faults
 use Rattle.solver_cli.specs.Faults.{fault_of}
-use Rattle.solver_cli.specs.Outcome.{HasFault, IsReadAndChecked, IsFirstStartsFault}
+use Rattle.solver_cli.specs.Outcome.{HasFault, GivesStarts, IsFirstStartsFault}
 
 same_or_long : (text bytes : List ℕ) → text ≡ take (MAX_TEXT_BYTES + 1) bytes → (text ≡ bytes) ⊎ ((MAX_TEXT_BYTES < length text) × (MAX_TEXT_BYTES < length bytes))
 same_or_long text bytes e = by_length (length bytes) refl
@@ -77,8 +77,9 @@ starts_fault_whole p text bytes fault e h = record {
   told = h.told;
 }
 
-pub checked_whole : (p : Problem) (text bytes : List ℕ) (exit : ℕ) (written : List ℕ) → text ≡ take (MAX_TEXT_BYTES + 1) bytes → IsReadAndChecked p text exit written → IsReadAndChecked p bytes exit written
-checked_whole p text bytes exit written e h = elim (same_or_long text bytes e) [
-  | inl same ↦ subst (λ (t : List ℕ). IsReadAndChecked p t exit written) same h
+-- and so are the starts that it gives
+pub starts_whole : (p : Problem) (text bytes : List ℕ) (P : List ℤ → Type 0) → text ≡ take (MAX_TEXT_BYTES + 1) bytes → GivesStarts p text P → GivesStarts p bytes P
+starts_whole p text bytes P e h = elim (same_or_long text bytes e) [
+  | inl same ↦ subst (λ (t : List ℕ). GivesStarts p t P) same h
   | inr long ↦ let fault = long_starts (activity_count p) text long.0 in let none = h.read in cc
 ]

@@ -119,14 +119,14 @@ pub record IsNoScheduleText (p : Problem) (json : Bool) (exit : ℕ) (written : 
   pub text : written ≡ no_schedule_text json
   pub status : exit ≡ 0
 
--- where the search was stopped: a feasible schedule, and a number below its makespan that no makespan
--- is below
-pub record IsFeasibleBoundText (p : Problem) (json : Bool) (exit : ℕ) (written : List ℕ) : Type 0 where
+-- where the search was stopped: a feasible schedule, and a number that no makespan is below; where one
+-- thread searched by itself, it is below this schedule's
+pub record IsFeasibleBoundText (p : Problem) (alone json : Bool) (exit : ℕ) (written : List ℕ) : Type 0 where
   pub starts : List ℤ
   pub bound : ℤ
   pub feasible : IsFeasible p starts
   pub holds : IsLowerBound p bound
-  pub below : bound <ℤ makespan starts
+  pub below : alone ≡ true → bound <ℤ makespan starts
   pub text : written ≡ feasible_text json bound starts
   pub status : exit ≡ 3
 
@@ -137,10 +137,15 @@ pub record IsUnknownText (p : Problem) (json : Bool) (exit : ℕ) (written : Lis
   pub text : written ≡ unknown_text json bound
   pub status : exit ≡ 3
 
--- as plain lines, or as one line of JSON
-abbrev pub IsSolveText : Problem → Bool → ℕ → List ℕ → Type 0
-IsSolveText p json exit written =
+-- of a search in one thread by itself or by workers; as plain lines, or as one line of JSON
+abbrev pub IsSolveText : Problem → Bool → Bool → ℕ → List ℕ → Type 0
+IsSolveText p alone json exit written =
     IsOptimalText p json exit written
     ⊎ (IsNoScheduleText p json exit written
-    ⊎ (IsFeasibleBoundText p json exit written
+    ⊎ (IsFeasibleBoundText p alone json exit written
     ⊎ IsUnknownText p json exit written))
+
+-- what it says where starts were handed in: all that they violate, or, where they are a feasible
+-- schedule, what a search by workers has found
+abbrev pub IsStartedText : Problem → List ℤ → Bool → ℕ → List ℕ → Type 0
+IsStartedText p starts json exit written = IsViolationsText p starts exit written ⊎ (IsFeasible p starts × IsSolveText p false json exit written)

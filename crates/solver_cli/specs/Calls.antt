@@ -1,30 +1,50 @@
 -- Which calls the program takes.
-use Rattle.std.specs.Prelude.{◌≡◌, ◌≤◌, is_some, Bool, true, false}
+use Rattle.std.specs.Prelude.{◌≡◌, ℕ, ◌||◌, Option, unwrap_or, is_some, Bool, true, false}
 use Rattle.solver_cli.specs.declared.call.Job.{Job}
 use Rattle.solver_cli.specs.declared.call.Job.TheVariants as jobs
 use Rattle.solver_cli.specs.declared.call.Call.{Call}
-use Rattle.branching.specs.declared.search.TheConstants.{MAX_TAKES}
+use Rattle.solver_cli.specs.declared.call.TheConstants.{ONE_WORKER}
+use Rattle.book.specs.Opening.{AreAllowed}
+
+-- how many workers a search has
+abbrev pub worker_count : Option ℕ → ℕ
+worker_count workers = unwrap_or workers ONE_WORKER
 
 -- the numbers of a job are within the limits
 abbrev pub IsJob : Job → Type 0
 IsJob jobs.Earliest = Unit {0}
 IsJob jobs.Check = Unit {0}
 IsJob jobs.Tidy = Unit {0}
-IsJob (jobs.Solve takes json) = (1 ≤ takes) × (takes ≤ MAX_TAKES)
+IsJob (jobs.Solve workers takes start json) = AreAllowed (worker_count workers) takes
 
 -- whether a job reads a second input
 abbrev pub reads_second : Job → Bool
 reads_second jobs.Earliest = false
 reads_second jobs.Check = true
 reads_second jobs.Tidy = false
-reads_second (jobs.Solve takes json) = false
+reads_second (jobs.Solve workers takes start json) = start
 
 -- whether it writes a record
 abbrev pub writes_record : Job → Bool
 writes_record jobs.Earliest = false
 writes_record jobs.Check = false
 writes_record jobs.Tidy = false
-writes_record (jobs.Solve takes json) = false
+writes_record (jobs.Solve workers takes start json) = false
+
+-- whether it reads its project from the second input, and not from the first
+abbrev pub project_is_second : Job → Bool
+project_is_second jobs.Earliest = false
+project_is_second jobs.Check = true
+project_is_second jobs.Tidy = false
+project_is_second (jobs.Solve workers takes start json) = false
+
+-- whether workers search; one thread searches by itself where neither workers are asked for nor starts
+-- are handed in
+abbrev pub has_workers : Job → Bool
+has_workers jobs.Earliest = false
+has_workers jobs.Check = false
+has_workers jobs.Tidy = false
+has_workers (jobs.Solve workers takes start json) = is_some workers || start
 
 -- the job is within the limits, and just the files that it uses have names
 pub record IsCall (c : Call) : Type 0 where

@@ -1,5 +1,5 @@
 -- The faults of the program, and how it ends with each.
-use Rattle.std.specs.Prelude.{ℕ, ◌≢◌}
+use Rattle.std.specs.Prelude.{◌≡◌, ℕ, ◌≢◌, ◌⊎◌}
 use Rattle.sch_reader.specs.declared.fault.SchFault.{SchFault}
 use Rattle.sch_reader.specs.declared.fault.SchFault.TheVariants as texts
 use Rattle.schedule_check.specs.declared.fault.StartsFault.{StartsFault}
@@ -30,11 +30,14 @@ starts_fault_of (starts.Repeated line) = faults.Repeated line
 starts_fault_of (starts.Missing activity) = faults.Missing activity
 starts_fault_of starts.Memory = faults.Memory
 
--- the exit status: 1 for memory and devices, 2 for a text that isn't what it should be
+-- the exit status: 1 for memory, threads and devices, 2 for a text that isn't what it should be
 abbrev pub exit_of : Fault → ℕ
 exit_of faults.Memory = 1
 exit_of faults.ReadFailed = 1
 exit_of faults.WriteFailed = 1
+exit_of faults.Thread = 1
+exit_of faults.OtherProject = 1
+exit_of faults.Refused = 1
 exit_of faults.TooLong = 2
 exit_of (faults.Token index) = 2
 exit_of (faults.Short index) = 2
@@ -53,3 +56,11 @@ exit_of (faults.Missing activity) = 2
 -- it is not that a device failed
 abbrev pub IsNoDeviceFault : Fault → Type 0
 IsNoDeviceFault fault = (fault ≢ faults.ReadFailed) × (fault ≢ faults.WriteFailed)
+
+-- it is one that workers may end with, and nobody else
+abbrev pub IsSearchFault : Fault → Type 0
+IsSearchFault fault = (fault ≡ faults.Thread) ⊎ ((fault ≡ faults.OtherProject) ⊎ (fault ≡ faults.Refused))
+
+-- it is of a text, or want of memory
+abbrev pub IsTextFault : Fault → Type 0
+IsTextFault fault = IsNoDeviceFault fault × (¬ IsSearchFault fault)

@@ -1,8 +1,9 @@
 -- What a run writes for the texts that it reads, and how it ends.
-use Rattle.std.specs.Prelude.{◌≡◌, ◌≢◌, ℕ, List, Option, None, Some, true, ◌⊎◌}
+use Rattle.std.specs.Prelude.{◌≡◌, ◌≢◌, ℕ, List, ℤ, Option, None, Some, true, false, is_none, ◌⊎◌}
 use Rattle.std.specs.Io.KnownBytes.{Appends}
 use Rattle.network.specs.Problem.{Problem, activity_count}
 use Rattle.network.specs.Limits.{IsProject}
+use Rattle.network.specs.Schedule.{IsFeasible}
 use Rattle.sch_reader.specs.declared.fault.SchFault.{SchFault}
 use Rattle.sch_reader.specs.Text.{Spells, IsFirstFault}
 use Rattle.schedule_check.specs.declared.fault.StartsFault.{StartsFault}
@@ -10,7 +11,7 @@ use Rattle.schedule_check.specs.Starts.{starts_fault, starts_of}
 use Rattle.solver_cli.specs.declared.call.Job.{Job}
 use Rattle.solver_cli.specs.declared.call.Job.TheVariants as jobs
 use Rattle.solver_cli.specs.declared.fault.Fault.{Fault}
-use Rattle.solver_cli.specs.Answers.{IsEarliestText, IsCheckText, IsSolveText, IsTidyText}
+use Rattle.solver_cli.specs.Answers.{IsEarliestText, IsCheckText, IsSolveText, IsStartedText, IsTidyText}
 use Rattle.solver_cli.specs.Calls.{reads_second}
 use Rattle.solver_cli.specs.Devices.{TookFront}
 use Rattle.solver_cli.specs.Faults.{fault_of, starts_fault_of}
@@ -33,10 +34,10 @@ pub record HasFault (text : List ℕ) (fault : Fault) : Type 0 where
   pub first : IsFirstFault text cause
   pub told : fault ≡ fault_of cause
 
--- the text gives starts for the project, and this is written of them
-pub record IsReadAndChecked (p : Problem) (text : List ℕ) (exit : ℕ) (written : List ℕ) : Type 0 where
+-- the text gives starts for the project, which have this property
+pub record GivesStarts (p : Problem) (text : List ℕ) (P : List ℤ → Type 0) : Type 0 where
   pub read : starts_fault (activity_count p) text ≡ None
-  pub checked : IsCheckText p (starts_of (activity_count p) text) exit written
+  pub has : P (starts_of (activity_count p) text)
 
 -- the text gives no starts for the project, and this is its first fault
 pub record IsFirstStartsFault (p : Problem) (text : List ℕ) (fault : Fault) : Type 0 where
@@ -47,16 +48,23 @@ pub record IsFirstStartsFault (p : Problem) (text : List ℕ) (fault : Fault) : 
 -- what a job writes for its two texts, and the exit status
 abbrev pub IsAnswer : Job → List ℕ → List ℕ → ℕ → List ℕ → Type 0
 IsAnswer jobs.Earliest text second exit written = SpellsOne text (λ p. IsEarliestText p exit written)
-IsAnswer (jobs.Solve takes json) text second exit written = SpellsOne text (λ p. IsSolveText p json exit written)
-IsAnswer jobs.Check text second exit written = SpellsOne second (λ p. IsReadAndChecked p text exit written)
+IsAnswer (jobs.Solve workers takes false json) text second exit written = SpellsOne text (λ p. IsSolveText p (is_none workers) json exit written)
+IsAnswer (jobs.Solve workers takes true json) text second exit written = SpellsOne text (λ p. GivesStarts p second (λ starts. IsStartedText p starts json exit written))
+IsAnswer jobs.Check text second exit written = SpellsOne second (λ p. GivesStarts p text (λ starts. IsCheckText p starts exit written))
 IsAnswer jobs.Tidy text second exit written = SpellsOne text (λ p. IsTidyText p exit written)
 
 -- why a job has no answer to its two texts
 abbrev pub IsRefusal : Job → List ℕ → List ℕ → Fault → Type 0
 IsRefusal jobs.Earliest text second fault = HasFault text fault
-IsRefusal (jobs.Solve takes json) text second fault = HasFault text fault
+IsRefusal (jobs.Solve workers takes false json) text second fault = HasFault text fault
+IsRefusal (jobs.Solve workers takes true json) text second fault = HasFault text fault ⊎ SpellsOne text (λ p. IsFirstStartsFault p second fault)
 IsRefusal jobs.Check text second fault = HasFault second fault ⊎ SpellsOne second (λ p. IsFirstStartsFault p text fault)
 IsRefusal jobs.Tidy text second fault = HasFault text fault
+
+-- workers have searched: the text spells a project, and starts that were handed in are a feasible
+-- schedule of it
+abbrev pub IsSearched : Job → List ℕ → List ℕ → Type 0
+IsSearched job text second = SpellsOne text (λ p. reads_second job ≡ true → GivesStarts p second (IsFeasible p))
 
 -- a job's answer to its two texts was written whole
 pub record IsAnswered (job : Job) (text second : List ℕ) (exit : ℕ) (before after : Option (List ℕ)) : Type 0 where
@@ -81,6 +89,6 @@ pub record TellsNoProject (left : Option (List ℕ)) : Type 0 where
   pub tells : left ≡ Some text
   pub none : SpellsNone text
 
--- a job's second input gave no project: it failed, or its text spells none
-abbrev pub HasNoProject : Job → Option (List ℕ) → ℕ → ℕ → Type 0
-HasNoProject job second failed failed_new = (reads_second job ≡ true) × ((failed_new ≢ failed) ⊎ TellsNoProject second)
+-- the input gave no project: it failed, or its text spells none
+abbrev pub GaveNoProject : Option (List ℕ) → ℕ → ℕ → Type 0
+GaveNoProject left failed failed_new = (failed_new ≢ failed) ⊎ TellsNoProject left

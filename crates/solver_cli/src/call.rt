@@ -2,6 +2,7 @@ ghost use Rattle.std.specs.Prelude.{◌≡◌, IfOk, IfSome};
 ghost use Rattle.solver_cli.specs.Calls.{IsCall};
 
 use crate::help;
+use book::{MAX_WORKERS, are_allowed};
 use branching::MAX_TAKES;
 use clap::error::ErrorKind;
 use clap::{Arg, ArgAction, ArgMatches, Command, value_parser};
@@ -11,19 +12,44 @@ use thiserror::Error;
 /// How many are taken where nothing else is said.
 const DEFAULT_TAKES: &str = "1000000";
 
+/// How many workers search where their number isn't said.
+pub const ONE_WORKER: usize = 1;
+
 /// What the program is to do.
 #[derive(Clone, Copy, Debug, PartialEq, Eq)]
 pub enum Job {
     /// Print the least schedule of the time lags of a project, or the positive cycle.
     Earliest,
     /// Print the shortest schedule of a project, or that there is none, or, once so many nodes were
-    /// taken, what is known by then; as plain lines or as one line of JSON.
-    Solve { takes: u64, json: bool },
+    /// taken, what is known by then; as plain lines or as one line of JSON. With neither workers nor a
+    /// start, one thread searches by itself; else so many workers do, one if not said, and first they
+    /// are handed the starts of a file, if there is one.
+    Solve {
+        workers: Option<usize>,
+        takes: u64,
+        start: bool,
+        json: bool,
+    },
     /// Say whether the starts on standard input are a feasible schedule of a project in a file, or
     /// every rule that they break.
     Check,
     /// Print the canonical text of a project.
     Tidy,
+}
+
+impl Job {
+    ghost use Rattle.std.specs.Prelude.{◌≡◌};
+    ghost use Rattle.solver_cli.specs.Calls.{has_workers};
+
+    /// Whether workers search, and not one thread by itself.
+    pub fn has_workers(self) -> bool
+        ensures { result ≡ has_workers self }
+    {
+        match self {
+            Job::Solve { workers, start, .. } => workers.is_some() || start,
+            _ => false,
+        }
+    }
 }
 
 /// A job, and the names of the files that it uses.
@@ -88,6 +114,16 @@ fn solve_command<'a>(alloc: Global) -> Result<Command<'a>, AllocError> {
         .help("Stop once L nodes of the search were taken")
         .default_value(DEFAULT_TAKES)
         .value_parser(value_parser!(u64).range(1..=MAX_TAKES as i64));
+    let workers = Arg::new(alloc, "workers")
+        .long("workers")
+        .value_name("N")
+        .help("Search with N workers, each in a thread of its own")
+        .value_parser(value_parser!(u64).range(1..=MAX_WORKERS as i64));
+    let start = Arg::new(alloc, "start")
+        .long("start")
+        .value_name("FILE")
+        .help("Starts of a feasible schedule, from which workers search")
+        .action(ArgAction::Set);
     let json = Arg::new(alloc, "json")
         .long("json")
         .help("Print the answer as one line of JSON")
@@ -95,6 +131,8 @@ fn solve_command<'a>(alloc: Global) -> Result<Command<'a>, AllocError> {
     let about = "Print a shortest schedule of a project";
     subcommand(alloc, "solve", about, help::SOLVE)
         .arg(nodes)?
+        .arg(workers)?
+        .arg(start)?
         .arg(json)
 }
 
@@ -137,23 +175,38 @@ fn earliest_call() -> Call
     }
 }
 
-/// The call of a search; none where the number of nodes is out of its range, which `clap` doesn't let
-/// pass.
-fn solve_call(matches: &ArgMatches<'_>) -> Option<Call>
-    ensures { IfSome result IsCall }
-{
-    let takes = matches.get_one::<u64>("nodes")?;
-    if takes < 1 || takes > MAX_TAKES {
-        return None;
+/// The name of a file that an option gives.
+fn file_name(
+    alloc: Global,
+    matches: &ArgMatches<'_>,
+    option: &str,
+) -> Result<Option<String>, AllocError> {
+    match matches.get_str(option) {
+        Some(name) => Ok(Some(String::from_str(alloc, name)?)),
+        None => Ok(None),
     }
-    Some(Call {
+}
+
+/// The call of a search; none where its numbers are out of their ranges, which `clap` doesn't let pass.
+fn solve_call(alloc: Global, matches: &ArgMatches<'_>) -> Result<Option<Call>, AllocError>
+    ensures { IfOk result (λ call. IfSome call IsCall) }
+{
+    let workers = matches.get_one::<usize>("workers");
+    let takes = matches.get_one::<u64>("nodes").unwrap_or(0);
+    if !are_allowed(workers.unwrap_or(ONE_WORKER), takes) {
+        return Ok(None);
+    }
+    let second = file_name(alloc, matches, "start")?;
+    Ok(Some(Call {
         job: Job::Solve {
+            workers,
             takes,
+            start: second.is_some(),
             json: matches.get_flag("json"),
         },
-        second: None,
+        second,
         record_file: None,
-    })
+    }))
 }
 
 /// The call of a job that reads a project from a file; none where the file isn't named, which `clap`
@@ -161,10 +214,9 @@ fn solve_call(matches: &ArgMatches<'_>) -> Option<Call>
 fn check_call(alloc: Global, matches: &ArgMatches<'_>) -> Result<Option<Call>, AllocError>
     ensures { IfOk result (λ call. IfSome call IsCall) }
 {
-    let Some(name) = matches.get_str("project") else {
+    let Some(name) = file_name(alloc, matches, "project")? else {
         return Ok(None);
     };
-    let name = String::from_str(alloc, name)?;
     Ok(Some(Call {
         job: Job::Check,
         second: Some(name),
@@ -189,7 +241,7 @@ fn found_call(alloc: Global, matches: &ArgMatches<'_>) -> Result<Option<Call>, A
 {
     match matches.subcommand() {
         Some(("earliest", _)) => Ok(Some(earliest_call())),
-        Some(("solve", found)) => Ok(solve_call(found)),
+        Some(("solve", found)) => solve_call(alloc, found),
         Some(("check", found)) => check_call(alloc, found),
         Some(("tidy", _)) => Ok(Some(tidy_call())),
         _ => Ok(None),

@@ -15,6 +15,12 @@ pub enum Fault {
     ReadFailed,
     #[error("cannot write")]
     WriteFailed,
+    #[error("cannot start a thread")]
+    Thread,
+    #[error("another project")]
+    OtherProject,
+    #[error("search refused")]
+    Refused,
     #[error("too long")]
     TooLong,
     #[error("word {index}: not a number")]
@@ -49,12 +55,17 @@ impl Fault {
     ghost use Rattle.std.specs.Prelude.{◌≡◌};
     ghost use Rattle.solver_cli.specs.Faults.{exit_of};
 
-    /// The exit status: 1 for memory and devices, 2 for a text that isn't what it should be.
+    /// The exit status: 1 for memory, threads and devices, 2 for a text that isn't what it should be.
     pub fn exit(self) -> u8
         ensures { result ≡ exit_of self }
     {
         match self {
-            Fault::Memory | Fault::ReadFailed | Fault::WriteFailed => 1,
+            Fault::Memory
+            | Fault::ReadFailed
+            | Fault::WriteFailed
+            | Fault::Thread
+            | Fault::OtherProject
+            | Fault::Refused => 1,
             _ => 2,
         }
     }

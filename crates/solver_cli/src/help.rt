@@ -7,9 +7,9 @@ pub(crate) const PROGRAM: &str = "\
 Projects, starts and answers are texts; docs/FORMAT.md describes them, and 'man psmax' in short.
 'psmax COMMAND --help' says what the command reads and answers, with an example.
 
-Exit status: 0 answered; 1 memory ran out, or a device failed; 2 the words or a text are not
-what they should be; 3 the search was stopped at its limit; 4 the starts are no feasible schedule.
-A fault is one line on standard error.";
+Exit status: 0 answered; 1 memory ran out, a thread could not be started, or a device failed;
+2 the words or a text are not what they should be; 3 the search was stopped at its limit; 4 the
+starts are no feasible schedule. A fault is one line on standard error.";
 
 pub(crate) const EARLIEST: &str = "\
 Looks at the time lags alone, as if all resources were free: the schedule may overload them.
@@ -29,13 +29,18 @@ Reads a project on standard input. Answers one of these, the first and the third
   no schedule         there is none at all
   feasible C bound B  stopped at the limit: no feasible schedule is shorter than B
   unknown bound B     the same, and no schedule was found
+Reads the starts of --start after the project. Where they are no feasible schedule it answers as
+'psmax check' does, and searches nothing. --start alone is one worker; with neither --start nor
+--workers one thread searches by itself.
 
 Examples:
   psmax solve < project.sch
   psmax solve --nodes 1000 --json < project.sch
+  psmax solve --workers 4 --start plan.starts < project.sch
 
-Exit status: 0 answered; 1 memory ran out, or a device failed; 2 the words or the text are not
-what they should be; 3 the search was stopped at its limit.";
+Exit status: 0 answered; 1 memory ran out, a thread could not be started, or a device failed;
+2 the words or a text are not what they should be; 3 the search was stopped at its limit; 4 the
+starts of --start are no feasible schedule.";
 
 pub(crate) const CHECK: &str = "\
 Reads the project in FILE, and then starts on standard input: a line 'activity start' for each

@@ -1,13 +1,12 @@
 //! What each job says of the project and the text that it is given.
 
-ghost use Rattle.std.specs.Prelude.{◌≡◌, ◌≢◌, IfOk, IfErr};
-ghost use Rattle.solver_cli.specs.declared.call.Job.TheVariants as jobs;
+ghost use Rattle.std.specs.Prelude.{◌≡◌, ◌≢◌, ◌≤◌, true, IfOk, IfErr};
+ghost use Rattle.branching.specs.declared.search.TheConstants.{MAX_TAKES};
 ghost use Rattle.solver_cli.specs.declared.fault.Fault.{Fault};
 ghost use Rattle.solver_cli.specs.declared.fault.Fault.TheVariants as faults;
-ghost use Rattle.solver_cli.specs.Answers.{IsEarliestText, IsSolveText, IsTidyText};
-ghost use Rattle.solver_cli.specs.Calls.{IsJob};
-ghost use Rattle.solver_cli.specs.Faults.{exit_of, IsNoDeviceFault};
-ghost use Rattle.solver_cli.specs.Outcome.{IsReadAndChecked, IsFirstStartsFault};
+ghost use Rattle.solver_cli.specs.Answers.{IsEarliestText, IsCheckText, IsSolveText, IsTidyText};
+ghost use Rattle.solver_cli.specs.Faults.{exit_of, IsTextFault};
+ghost use Rattle.solver_cli.specs.Outcome.{GivesStarts, IsFirstStartsFault};
 
 use crate::answer::Answer;
 use crate::fault::Fault;
@@ -38,15 +37,17 @@ pub(crate) fn earliest(alloc: Global, project: &Project) -> Result<Answer, Alloc
     Ok(Answer::of(text, 0))
 }
 
-/// The shortest schedule of a project, or what is known where so many nodes were taken before that.
+/// The shortest schedule of a project, or what is known where so many nodes were taken before that,
+/// by a search in this thread alone.
 pub(crate) fn solve(
     alloc: Global,
     project: Project,
     takes: u64,
     json: bool,
 ) -> Result<Answer, AllocError>
-    requires { IsJob (jobs.Solve takes json) }
-    ensures { IfOk result (λ a. IsSolveText project json a.exit a.text.items) }
+    requires some { 1 ≤ takes }
+    requires limit { takes ≤ MAX_TAKES }
+    ensures { IfOk result (λ a. IsSolveText project true json a.exit a.text.items) }
 {
     let project = Arc::new(alloc, project)?;
     let outcome = search_alone(alloc, &project, takes)?;
@@ -55,9 +56,9 @@ pub(crate) fn solve(
 
 /// Whether the starts in a text are a feasible schedule of a project, or every rule that they break.
 pub(crate) fn check(alloc: Global, project: &Project, text: &[u8]) -> Result<Answer, Fault>
-    ensures said { IfOk result (λ a. IsReadAndChecked project.now text.now a.exit a.text.items) }
+    ensures said { IfOk result (λ a. GivesStarts project.now text.now (λ starts. IsCheckText project.now starts a.exit a.text.items)) }
     ensures refused { IfErr result (λ fault. exit_of fault ≢ 1 → IsFirstStartsFault project.now text.now fault) }
-    ensures devices { IfErr result IsNoDeviceFault }
+    ensures cause { IfErr result IsTextFault }
 {
     let count = project.activity_count();
     let starts = read_starts(alloc, text, count)?;

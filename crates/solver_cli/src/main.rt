@@ -11,6 +11,7 @@ mod fault;
 mod help;
 mod jobs;
 mod json_text;
+mod parallel;
 mod reading;
 mod runs;
 mod solved;
@@ -18,18 +19,25 @@ mod standard;
 #[cfg(test)]
 mod tests;
 mod texts;
+mod workers;
 
 use call::{Call, Job, WordsFault, call_of};
 use device::Input;
 use fault::Fault;
-use runs::{Ended, run};
+use parallel::run_parallel;
+use runs::Ended;
 use standard::{NoInput, Reader, Writer};
+use std::alloc::Global;
 use std::io::ErrorKind;
 use std::process::ExitCode;
+use std::rt::Runtime;
+use std::sync::Wait;
+use std::thread::Threads;
 use std::{env, fs, io};
+use worker::OpenGate;
 
 /// Prints how a run ended, where it has no answer.
-fn report(rt: &HostRuntime, ended: &Ended) -> ExitCode {
+fn report<R: Eprint>(rt: &R, ended: &Ended) -> ExitCode {
     if let Some(fault) = ended.fault {
         let _ = eprintln!(rt; "psmax: {fault}");
     }
@@ -52,26 +60,40 @@ fn refuse(rt: &HostRuntime, fault: &WordsFault) -> ExitCode {
 }
 
 /// Runs the job on standard input and output and a second input, and prints its fault.
-fn perform<S: Input>(rt: &HostRuntime, job: Job, second: &mut S) -> ExitCode
+fn perform<S: Input, R: Runtime + Threads + Wait + Sync>(
+    rt: &R,
+    alloc: Global,
+    job: Job,
+    second: &mut S,
+) -> ExitCode
     requires job { IsJob job }
     requires second { S.failed second.old < u64.MAX }
 {
     let mut input = Reader::new(rt.reader());
     let mut out = Writer::new(io::writer(rt));
     let mut record = Writer::new(io::sink());
-    let ended = run(rt.alloc(), job, &mut input, second, &mut out, &mut record);
+    let ended = run_parallel(
+        rt,
+        alloc,
+        job,
+        &mut input,
+        second,
+        &mut out,
+        &mut record,
+        &OpenGate,
+    );
     report(rt, &ended)
 }
 
 /// Opens the files that the call names, and runs its job.
-fn start(rt: &HostRuntime, call: &Call) -> ExitCode
+fn start<R: Runtime + Threads + Wait + Sync>(rt: &R, alloc: Global, call: &Call) -> ExitCode
     requires { IsCall call.now }
 {
     let Some(name) = &call.second else {
-        return perform(rt, call.job, &mut NoInput);
+        return perform(rt, alloc, call.job, &mut NoInput);
     };
     match fs::open(rt, name.as_str()) {
-        Ok(file) => perform(rt, call.job, &mut Reader::new(file)),
+        Ok(file) => perform(rt, alloc, call.job, &mut Reader::new(file)),
         Err(error) if error.kind() == ErrorKind::OutOfMemory => {
             report(rt, &Ended::with(Fault::Memory))
         }
@@ -99,7 +121,7 @@ fn main(rt: HostRuntime) -> ExitCode {
         }
     };
     match call_of(rt.alloc(), &words) {
-        Ok(call) => start(&rt, &call),
+        Ok(call) => start(&rt, rt.alloc(), &call),
         Err(fault) => refuse(&rt, &fault),
     }
 }

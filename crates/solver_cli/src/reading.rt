@@ -6,7 +6,7 @@ ghost use Rattle.sch_reader.specs.Text.{Spells};
 ghost use Rattle.solver_cli.specs.declared.fault.Fault.{Fault};
 ghost use Rattle.solver_cli.specs.declared.fault.Fault.TheVariants as faults;
 ghost use Rattle.solver_cli.specs.Devices.{CountsWhere, GaveUpTo, IfTold};
-ghost use Rattle.solver_cli.specs.Faults.{exit_of, IsNoDeviceFault};
+ghost use Rattle.solver_cli.specs.Faults.{exit_of, IsSearchFault, IsTextFault};
 ghost use Rattle.solver_cli.specs.Outcome.{HasFault};
 
 use crate::device::Input;
@@ -49,7 +49,7 @@ pub(crate) fn read_text<I: Input>(alloc: Global, input: &mut I) -> Result<Vec<u8
 fn project_of(alloc: Global, text: &[u8]) -> Result<Project, Fault>
     ensures project { IfOk result (λ p. IsProject p × Spells text.now p) }
     ensures refused { IfErr result (λ fault. fault ≢ faults.Memory → HasFault text.now fault) }
-    ensures devices { IfErr result IsNoDeviceFault }
+    ensures cause { IfErr result IsTextFault }
 {
     Ok(read_sch(alloc, text)?)
 }
@@ -60,6 +60,7 @@ pub(crate) fn read_project<I: Input>(alloc: Global, input: &mut I) -> Result<Pro
     ensures project { IfOk result (λ p. IsProject p × IfTold (I.left input.old) (λ bytes. Spells bytes p)) }
     ensures refused { IfErr result (λ fault. exit_of fault ≢ 1 → IfTold (I.left input.old) (λ bytes. HasFault bytes fault)) }
     ensures unwritten { IfErr result (λ fault. fault ≢ faults.WriteFailed) }
+    ensures unsearched { IfErr result (λ fault. ¬ IsSearchFault fault) }
     ensures count { CountsWhere (result ≡ Err faults.ReadFailed) (I.failed input.old) (I.failed input.new) }
     ensures within { GaveUpTo (MAX_TEXT_BYTES + 1) (I.left input.old) (I.left input.new) }
 {

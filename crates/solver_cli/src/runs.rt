@@ -1,13 +1,14 @@
 //! A run over devices.
 
-ghost use Rattle.std.specs.Prelude.{◌≡◌, ◌≢◌, ◌<◌, ◌+◌, false, Some, Err, IfOk, IfErr, IfSome, IfNone};
+ghost use Rattle.std.specs.Prelude.{◌≡◌, ◌≢◌, ◌<◌, ◌+◌, true, false, Some, Err, IfOk, IfErr, IfSome, IfNone};
 ghost use Rattle.solver_cli.specs.declared.fault.Fault.{Fault};
 ghost use Rattle.solver_cli.specs.declared.fault.Fault.TheVariants as faults;
 ghost use Rattle.words.specs.declared.TheConstants.{MAX_TEXT_BYTES};
-ghost use Rattle.solver_cli.specs.Calls.{IsJob, reads_second, writes_record};
-ghost use Rattle.solver_cli.specs.Devices.{CountsWhere, GaveUpTo, OneCountsWhere};
-ghost use Rattle.solver_cli.specs.Faults.{exit_of};
-ghost use Rattle.solver_cli.specs.Outcome.{IsAnswer, IsRefusal, IsAnswered, IsCutShort, IfTextsTold, HasNoProject};
+ghost use Rattle.std.specs.Io.KnownBytes.{Appends};
+ghost use Rattle.solver_cli.specs.Calls.{IsJob, has_workers, project_is_second, reads_second, writes_record};
+ghost use Rattle.solver_cli.specs.Devices.{CountsWhere, GaveUpTo, OneCountsWhere, TookFront};
+ghost use Rattle.solver_cli.specs.Faults.{exit_of, IsSearchFault};
+ghost use Rattle.solver_cli.specs.Outcome.{IsAnswer, IsRefusal, IsAnswered, IsCutShort, IfTextsTold, GaveNoProject};
 
 use crate::answer::Answer;
 use crate::call::Job;
@@ -26,7 +27,7 @@ pub struct Ended {
 
 impl Ended {
     ghost use Rattle.std.specs.Prelude.{◌≡◌, Some};
-    ghost use Rattle.solver_cli.specs.Faults.{exit_of};
+    ghost use Rattle.solver_cli.specs.Faults.{exit_of, IsSearchFault};
 
     /// The end of a run that has no answer.
     pub fn with(fault: Fault) -> Ended
@@ -40,7 +41,8 @@ impl Ended {
     }
 }
 
-/// The answer of a job to what its inputs hold. A project is read and judged before starts are read.
+/// The answer of a job without workers to what its inputs hold. A project is read and judged before
+/// starts are read.
 fn job_answer<I: Input, S: Input>(
     alloc: Global,
     job: Job,
@@ -48,6 +50,7 @@ fn job_answer<I: Input, S: Input>(
     second: &mut S,
 ) -> Result<Answer, Fault>
     requires job { IsJob job }
+    requires alone { has_workers job ≡ false }
     requires input { I.failed input.old < u64.MAX }
     requires second { S.failed second.old < u64.MAX }
     ensures said { IfOk result (λ a. IfTextsTold job (I.left input.old) (S.left second.old)
@@ -55,12 +58,13 @@ fn job_answer<I: Input, S: Input>(
     ensures refused { IfErr result (λ fault. exit_of fault ≢ 1 → IfTextsTold job (I.left input.old) (S.left second.old)
         (λ text more. IsRefusal job text more fault)) }
     ensures unwritten { IfErr result (λ fault. fault ≢ faults.WriteFailed) }
+    ensures unsearched { IfErr result (λ fault. ¬ IsSearchFault fault) }
     ensures count { OneCountsWhere (result ≡ Err faults.ReadFailed)
         (I.failed input.old) (I.failed input.new) (S.failed second.old) (S.failed second.new) }
     ensures within { GaveUpTo (MAX_TEXT_BYTES + 1) (I.left input.old) (I.left input.new) }
     ensures within_second { GaveUpTo (MAX_TEXT_BYTES + 1) (S.left second.old) (S.left second.new) }
     ensures unused_second { reads_second job ≡ false → second.new ≡ second.old }
-    ensures project_first { HasNoProject job (S.left second.old) (S.failed second.old) (S.failed second.new)
+    ensures project_first { project_is_second job ≡ true → GaveNoProject (S.left second.old) (S.failed second.old) (S.failed second.new)
         → input.new ≡ input.old }
 {
     match job {
@@ -68,7 +72,7 @@ fn job_answer<I: Input, S: Input>(
             let project = read_project(alloc, input)?;
             Ok(earliest(alloc, &project)?)
         }
-        Job::Solve { takes, json } => {
+        Job::Solve { takes, json, .. } => {
             let project = read_project(alloc, input)?;
             Ok(solve(alloc, project, takes, json)?)
         }
@@ -84,8 +88,26 @@ fn job_answer<I: Input, S: Input>(
     }
 }
 
-/// Reads what the job needs, and writes its answer and nothing else. An input or output that the
-/// job doesn't use is handed an empty one. After a failure a device isn't called again.
+/// Writes an answer.
+pub(crate) fn write_answer<O: Output>(out: &mut O, answer: &Answer) -> Ended
+    requires { O.failed out.old < u64.MAX }
+    ensures whole { IfNone result.fault ((result.exit ≡ answer.now.exit) × Appends (O.held out.old) (O.held out.new) answer.now.text.items) }
+    ensures fault { IfSome result.fault (λ fault. (fault ≡ faults.WriteFailed) × (result.exit ≡ exit_of fault)) }
+    ensures front { TookFront (O.held out.old) (O.held out.new) answer.now.text.items }
+    ensures count { CountsWhere (result.fault ≡ Some faults.WriteFailed) (O.failed out.old) (O.failed out.new) }
+{
+    match write_all(out, &answer.text) {
+        Ok(()) => Ended {
+            exit: answer.exit,
+            fault: None,
+        },
+        Err(Failed) => Ended::with(Fault::WriteFailed),
+    }
+}
+
+/// Runs a job without workers: reads what the job needs, and writes its answer and nothing else. An
+/// input or output that the job doesn't use is handed an empty one. After a failure a device isn't
+/// called again.
 pub fn run<I: Input, S: Input, O: Output, R: Output>(
     alloc: Global,
     job: Job,
@@ -95,6 +117,7 @@ pub fn run<I: Input, S: Input, O: Output, R: Output>(
     record_out: &mut R,
 ) -> Ended
     requires job { IsJob job }
+    requires alone { has_workers job ≡ false }
     requires input { I.failed input.old < u64.MAX }
     requires second { S.failed second.old < u64.MAX }
     requires out { O.failed out.old < u64.MAX }
@@ -113,6 +136,7 @@ pub fn run<I: Input, S: Input, O: Output, R: Output>(
         (λ text more. IsCutShort job text more (O.held out.old) (O.held out.new)) }
     ensures silent { IfSome result.fault (λ fault. fault ≢ faults.WriteFailed → out.new ≡ out.old) }
     ensures status { IfSome result.fault (λ fault. result.exit ≡ exit_of fault) }
+    ensures unsearched { IfSome result.fault (λ fault. ¬ IsSearchFault fault) }
 
     // A failure that a device counted is told as that, and nothing else is.
     ensures read { OneCountsWhere (result.fault ≡ Some faults.ReadFailed)
@@ -126,17 +150,11 @@ pub fn run<I: Input, S: Input, O: Output, R: Output>(
     ensures unused_record { writes_record job ≡ false → record_out.new ≡ record_out.old }
 
     // The project of a second input is read and judged before the starts.
-    ensures project_first { HasNoProject job (S.left second.old) (S.failed second.old) (S.failed second.new)
+    ensures project_first { project_is_second job ≡ true → GaveNoProject (S.left second.old) (S.failed second.old) (S.failed second.new)
         → input.new ≡ input.old }
 {
     match job_answer(alloc, job, input, second) {
-        Ok(answer) => match write_all(out, &answer.text) {
-            Ok(()) => Ended {
-                exit: answer.exit,
-                fault: None,
-            },
-            Err(Failed) => Ended::with(Fault::WriteFailed),
-        },
+        Ok(answer) => write_answer(out, &answer),
         Err(fault) => Ended::with(fault),
     }
 }

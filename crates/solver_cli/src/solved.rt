@@ -1,6 +1,6 @@
 //! What `solve` says of the outcome of a search.
 
-ghost use Rattle.std.specs.Prelude.{◌≡◌, ◌++◌, IfOk, OnOk, string_bytes, codes};
+ghost use Rattle.std.specs.Prelude.{◌≡◌, ◌++◌, Bool, true, IfOk, OnOk, string_bytes, codes};
 ghost use Rattle.network.specs.Problem.{Problem};
 ghost use Rattle.network.specs.Schedule.{makespan};
 ghost use Rattle.branching.specs.Verdicts.{IsTrueOf, StopsBelowBest};
@@ -80,14 +80,15 @@ fn unknown_text(alloc: Global, bound: i64, json: bool) -> Result<String, AllocEr
     bound_text(alloc, bound)
 }
 
-/// The answer that an outcome makes, true of each project of which the outcome is.
+/// The answer that an outcome makes, true of each project of which the outcome is. That a search in one
+/// thread by itself stops with a bound below its best is passed on.
 pub(crate) fn solved_answer(
     alloc: Global,
     outcome: &Outcome,
     json: bool,
 ) -> Result<Answer, AllocError>
-    requires { StopsBelowBest outcome.now }
-    ensures { IfOk result (λ a. (p : Problem) → IsTrueOf p outcome.now → IsSolveText p json a.exit a.text.items) }
+    ensures { IfOk result (λ a. (p : Problem) (alone : Bool) → IsTrueOf p outcome.now → (alone ≡ true → StopsBelowBest outcome.now)
+        → IsSolveText p alone json a.exit a.text.items) }
 {
     let (text, exit) = match outcome {
         Outcome::Optimal(best) => (optimal_text(alloc, best, json)?, 0),

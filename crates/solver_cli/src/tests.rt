@@ -1,6 +1,7 @@
-ghost use Rattle.std.specs.Prelude.{◌≡◌, ◌≢◌, ◌<◌, [], Some, IfNone, IfSome};
+ghost use Rattle.std.specs.Prelude.{◌≡◌, ◌≢◌, ◌<◌, [], false, None, Some, IfNone, IfSome};
 ghost use Rattle.solver_cli.specs.declared.fault.Fault.TheVariants as faults;
-ghost use Rattle.solver_cli.specs.Calls.{IsJob};
+ghost use Rattle.solver_cli.specs.declared.call.Job.TheVariants as jobs;
+ghost use Rattle.solver_cli.specs.Calls.{IsJob, has_workers};
 ghost use Rattle.solver_cli.specs.Faults.{exit_of};
 ghost use Rattle.solver_cli.specs.Outcome.{IsAnswer, IsRefusal};
 
@@ -11,6 +12,8 @@ use crate::standard::{NoInput, Reader, Writer};
 use std::alloc::{AllocError, Global};
 use std::io::{self, ErrorKind, Read, Write};
 use std::test::Fail;
+
+mod workers;
 
 /// Two activities of 3 and 4 periods that need the same machine.
 const TWO_JOBS: &[u8] =
@@ -65,6 +68,18 @@ impl Write for Bounded {
     }
 }
 
+/// A search in one thread by itself.
+fn solve_job(takes: u64, json: bool) -> Job
+    ensures { result ≡ jobs.Solve None takes false json }
+{
+    Job::Solve {
+        workers: None,
+        takes,
+        start: false,
+        json,
+    }
+}
+
 /// Runs `earliest` on two jobs, with an input that gives so many bytes and an output that takes them in
 /// such pieces, and so many in all.
 fn earliest(alloc: Global, given: usize, chunk: usize, room: usize) -> (Ended, Vec<u8>) {
@@ -94,7 +109,8 @@ fn earliest(alloc: Global, given: usize, chunk: usize, room: usize) -> (Ended, V
 
 /// What a job writes for its two texts, and how it ends.
 fn answer(alloc: Global, job: Job, text: &[u8], second: &[u8]) -> (Ended, Vec<u8>)
-    requires { IsJob job }
+    requires job { IsJob job }
+    requires alone { has_workers job ≡ false }
     ensures answered { IfNone result.0.fault (IsAnswer job text.now second.now result.0.exit result.1.items) }
     ensures refused { IfSome result.0.fault (λ fault. exit_of fault ≢ 1 → IsRefusal job text.now second.now fault) }
     ensures silent { IfSome result.0.fault (λ fault. fault ≢ faults.WriteFailed → result.1.items ≡ []) }
@@ -129,28 +145,19 @@ fn answers_are_those_of_the_bytes(rt: HostRuntime) -> Result<(), Fail> {
     let wanted: [(Job, &[u8], &[u8], &[u8]); 7] = [
         (Job::Earliest, TWO_JOBS, b"", ANSWER),
         (
-            Job::Solve {
-                takes: 10,
-                json: false,
-            },
+            solve_job(10, false),
             TWO_JOBS,
             b"",
             b"optimal 7\n0 0\n1 4\n2 0\n3 7\n",
         ),
         (
-            Job::Solve {
-                takes: 10,
-                json: true,
-            },
+            solve_job(10, true),
             TWO_JOBS,
             b"",
             b"{\"bound\":7,\"makespan\":7,\"starts\":[0,4,0,7],\"status\":\"optimal\"}\n",
         ),
         (
-            Job::Solve {
-                takes: 10,
-                json: true,
-            },
+            solve_job(10, true),
             CLOSE_LAGS,
             b"",
             b"{\"bound\":null,\"makespan\":null,\"starts\":null,\"status\":\"no schedule\"}\n",
@@ -208,6 +215,9 @@ fn faults_have_their_texts(rt: HostRuntime) -> Result<(), Fail> {
         (Fault::Memory, "out of memory"),
         (Fault::ReadFailed, "cannot read"),
         (Fault::WriteFailed, "cannot write"),
+        (Fault::Thread, "cannot start a thread"),
+        (Fault::OtherProject, "another project"),
+        (Fault::Refused, "search refused"),
         (Fault::TooLong, "too long"),
         (Fault::Token { index: 3 }, "word 3: not a number"),
         (Fault::Short { index: 3 }, "ends before word 3"),
@@ -264,24 +274,12 @@ fn words_make_calls(rt: HostRuntime) -> Result<(), Fail> {
     let Ok(call) = call_of(rt.alloc(), &solve) else {
         return Err("refused".into());
     };
-    assert_eq!(rt;
-        call.job,
-        Job::Solve {
-            takes: 7,
-            json: false
-        }
-    );
+    assert_eq!(rt; call.job, solve_job(7, false));
     let json = words(rt.alloc(), &["psmax", "solve", "--json"])?;
     let Ok(call) = call_of(rt.alloc(), &json) else {
         return Err("refused".into());
     };
-    assert_eq!(rt;
-        call.job,
-        Job::Solve {
-            takes: 1_000_000,
-            json: true
-        }
-    );
+    assert_eq!(rt; call.job, solve_job(1_000_000, true));
     let tidy = words(rt.alloc(), &["psmax", "tidy"])?;
     let Ok(call) = call_of(rt.alloc(), &tidy) else {
         return Err("refused".into());
@@ -294,5 +292,20 @@ fn words_make_calls(rt: HostRuntime) -> Result<(), Fail> {
     assert!(rt; matches!(call_of(rt.alloc(), &help), Err(WordsFault::Help { .. })));
     let bad = words(rt.alloc(), &["psmax", "latest"])?;
     assert!(rt; matches!(call_of(rt.alloc(), &bad), Err(WordsFault::Bad { .. })));
+    Ok(())
+}
+
+#[test]
+fn words_ask_for_workers(rt: HostRuntime) -> Result<(), Fail> {
+    for (option, value) in [("--workers", "64"), ("--start", "s")] {
+        let asked = words(rt.alloc(), &["psmax", "solve", option, value])?;
+        let Ok(call) = call_of(rt.alloc(), &asked) else {
+            return Err("refused".into());
+        };
+        assert!(rt; call.job.has_workers());
+        assert_eq!(rt; call.second.is_some(), option == "--start");
+    }
+    let many = words(rt.alloc(), &["psmax", "solve", "--workers", "65"])?;
+    assert!(rt; matches!(call_of(rt.alloc(), &many), Err(WordsFault::Bad { .. })));
     Ok(())
 }

@@ -5,5 +5,5 @@ returns-in-Ok-clause-cut_short g c = λ _ text more told told_more. record {
   exit = c.in-Ok.answer.exit;
   written = c.in-Ok.answer.text.items;
   answer = c.in-Ok.ensures.said text more told told_more;
-  front = rw c.deref.ensures.value at c.in-Err-write_all.ensures.front;
+  front = c.write_answer.ensures.front;
 }

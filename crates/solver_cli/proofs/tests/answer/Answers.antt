@@ -1,7 +1,7 @@
-use Rattle.std.proofs.Common.{◌≡◌, ℕ, List, [], Some, None, Option, refl, sym, subst}
-use Rattle.std.specs.Option.{MatchOption}
+use Rattle.std.proofs.Common.{◌≡◌, ℕ, List, [], Some, refl, sym, subst}
 use Rattle.solver_cli.specs.declared.call.Job.{Job}
 use Rattle.solver_cli.specs.Outcome.{IsAnswer, IsAnswered}
+use Rattle.solver_cli.proofs.CallLaws.{MatchOption-weaker}
 use Rattle.solver_cli.proofs.tests.answer.Goals as goal
 
 -- where nothing was held before, what is held is what was written
@@ -10,24 +10,20 @@ all_written job text second exit before after empty h =
     let held = rw empty at h.held in
     subst (λ (w : List ℕ). IsAnswer job text second exit w) (sym held) h.answer
 
-weaker : {T : Type 0} (o : Option T) {P P' : Type 0} {Q Q' : T → Type 0} → MatchOption o P Q → (P → P') → ((x : T) → Q x → Q' x) → MatchOption o P' Q'
-weaker None h p q = p h
-weaker (Some x) h p q = q x h
-
 pub returns-clause-answered : goal.returns-clause-answered
 returns-clause-answered c =
     let empty : c.new-out.result.inner.items ≡ [] = rw c.new-out.ensures.inner c.new.ensures.items in
-    weaker c.run-ended.result.fault c.run-ended.ensures.answered
+    MatchOption-weaker c.run-ended.result.fault c.run-ended.ensures.answered
     (λ told. rw c.into_inner.ensures (all_written c.args.job c.args.text.now c.args.second.now c.run-ended.result.exit c.new-out.result.inner.items c.run-ended.new.out.inner.items empty
     (told c.args.text.now c.args.second.now (rw c.new-input.ensures.inner refl) (λ _. rw c.new-second.ensures.inner refl))))
     (λ _ _. tt)
 
 pub returns-clause-refused : goal.returns-clause-refused
 returns-clause-refused c =
-    weaker c.run-ended.result.fault c.run-ended.ensures.refused (λ _. tt)
+    MatchOption-weaker c.run-ended.result.fault c.run-ended.ensures.refused (λ _. tt)
     (λ fault refused other. refused other c.args.text.now c.args.second.now (rw c.new-input.ensures.inner refl) (λ _. rw c.new-second.ensures.inner refl))
 
 pub returns-clause-silent : goal.returns-clause-silent
 returns-clause-silent c =
-    weaker c.run-ended.result.fault c.run-ended.ensures.silent (λ _. tt)
+    MatchOption-weaker c.run-ended.result.fault c.run-ended.ensures.silent (λ _. tt)
     (λ fault silent other. rw (c.into_inner.ensures, silent other, c.new-out.ensures.inner) c.new.ensures.items)
