@@ -8,10 +8,12 @@ use crate::fault::Fault;
 use crate::parallel::run_parallel;
 use crate::runs::Ended;
 use crate::standard::{Reader, Writer};
-use std::alloc::Global;
+use branching::{Lean, Report, Searcher};
+use std::alloc::{AllocError, Global};
 use std::io;
-use std::sync::Wait;
 use std::sync::atomic::{AtomicU64, Ordering};
+use std::sync::{Arc, Wait};
+use std::thread;
 use std::thread::Threads;
 use worker::{Gate, Moment, OpenGate};
 
@@ -180,4 +182,66 @@ fn texts_are_judged_in_order(rt: HostRuntime) {
     assert!(rt; fails(&rt, rt.alloc(), job, (TWO_JOBS, b"0 0\n0 0\n"), repeated));
     let short = Fault::Short { index: 2 };
     assert!(rt; fails(&rt, rt.alloc(), job, (b"2 1", b"0 0\n0 0\n"), short));
+}
+
+/// Holds its second call of `expand` until two reports were accepted, for at most a million turns.
+#[derive(Drop)]
+struct HoldsSecond {
+    calls: AtomicU64,
+    accepted: AtomicU64,
+    gave_up: AtomicU64,
+}
+
+impl HoldsSecond {
+    fn new() -> HoldsSecond {
+        HoldsSecond {
+            calls: AtomicU64::new(0),
+            accepted: AtomicU64::new(0),
+            gave_up: AtomicU64::new(0),
+        }
+    }
+
+    /// Yields until two reports were accepted.
+    fn wait(&self) {
+        for _ in 0..1_000_000u32 {
+            if self.accepted.load(Ordering::SeqCst) >= 2 {
+                return;
+            }
+            thread::yield_now();
+        }
+        self.gave_up.fetch_add(1, Ordering::SeqCst);
+    }
+}
+
+impl Gate for HoldsSecond {
+    fn pass<R: Wait>(&self, _rt: &R, _worker: usize, moment: Moment) {
+        if let Moment::CheckedIn { .. } = moment {
+            self.accepted.fetch_add(1, Ordering::SeqCst);
+        }
+    }
+
+    fn expand<R: Wait>(
+        &self,
+        _rt: &R,
+        alloc: Global,
+        searcher: &mut Searcher,
+        node: &Arc<Lean>,
+        ceiling: Option<i64>,
+    ) -> Result<Report, AllocError> {
+        if self.calls.fetch_add(1, Ordering::SeqCst) == 1 {
+            self.wait();
+        }
+        searcher.expand(alloc, node, ceiling)
+    }
+}
+
+#[test]
+fn a_gate_sees_nodes_expanded_by_two_threads(rt: HostRuntime) {
+    let gate = HoldsSecond::new();
+    let job = by_workers(2, 100);
+    let (ended, text) = answer_by(&rt, rt.alloc(), job, (THREE_ON_TWO, b""), &gate);
+    assert!(rt; ended.fault.is_none() && ended.exit == 0);
+    assert!(rt; text.starts_with(b"optimal 4\n"));
+    assert_eq!(rt; gate.gave_up.load(Ordering::SeqCst), 0);
+    assert_eq!(rt; gate.calls.load(Ordering::SeqCst), 3);
 }
