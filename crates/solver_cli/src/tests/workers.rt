@@ -10,11 +10,10 @@ use crate::runs::Ended;
 use crate::standard::{Reader, Writer};
 use branching::{Lean, Report, Searcher};
 use std::alloc::{AllocError, Global};
-use std::io;
 use std::sync::atomic::{AtomicU64, Ordering};
 use std::sync::{Arc, Wait};
-use std::thread;
 use std::thread::Threads;
+use std::{io, thread};
 use worker::{Gate, Moment, OpenGate};
 
 /// Three activities of 2 periods that share two machines.
