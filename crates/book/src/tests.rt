@@ -13,6 +13,7 @@ mod opening;
 mod reports;
 mod searches;
 mod takes;
+mod trails;
 
 /// A book of a project, that allows a thousand takes.
 fn open(alloc: Global, project: Project, workers: usize) -> Result<Book, Fail> {
