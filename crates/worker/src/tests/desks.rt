@@ -3,10 +3,12 @@ ghost use Rattle.std.specs.Prelude.{◌≡◌};
 use crate::tests::{numbers, schedule};
 use crate::{Gate, Moment, OpenGate, Shared, SolveFault, work};
 use book::CheckFault;
+use branching::{Lean, Report, Searcher};
 use network::Schedule;
-use std::alloc::Global;
+use std::alloc::{AllocError, Global};
 use std::marker::Brand;
 use std::process::Abort;
+use std::sync::atomic::{AtomicU64, Ordering};
 use std::sync::ledger::{Blank, Ledger};
 use std::sync::{Arc, Wait};
 use std::test::Fail;
@@ -126,5 +128,71 @@ fn offered<L: Ledger + Sync, R: Wait + Abort>(
 fn kids_that_an_offered_schedule_beats_are_not_opened(rt: HostRuntime) -> Result<(), Fail> {
     let counts = offered::<Brand, _>(&rt, rt.alloc(), Blank::new(1))?;
     assert_eq!(rt; counts, [1, 1, 0, 1, 0, 0]);
+    Ok(())
+}
+
+/// Offers a schedule as soon as the root is taken, and expands it under a ceiling that no schedule is below.
+#[derive(Drop)]
+struct GoesAhead<'a, L: Ledger> {
+    shared: &'a Shared<L>,
+    alloc: Global,
+    start: Schedule,
+    calls: AtomicU64,
+}
+
+impl<'a, L: Ledger + Sync> Gate for GoesAhead<'a, L> {
+    fn pass<R: Wait>(&self, rt: &R, _worker: usize, moment: Moment) {
+        if let Moment::Taken { name: 0 } = moment {
+            if let Ok(start) = self.start.try_copy(self.alloc) {
+                let _ = self.shared.offer(rt, start);
+            }
+        }
+    }
+
+    fn expand<R: Wait>(
+        &self,
+        _rt: &R,
+        alloc: Global,
+        searcher: &mut Searcher,
+        node: &Arc<Lean>,
+        ceiling: Option<i64>,
+    ) -> Result<Report, AllocError> {
+        let first = self.calls.fetch_add(1, Ordering::SeqCst) == 0;
+        searcher.expand(alloc, node, if first { Some(6) } else { ceiling })
+    }
+}
+
+/// How many reports of a worker were accepted and were ahead of a book that is offered a schedule of 8 periods, where the
+/// first was made under a ceiling of 6; and the book's counts.
+fn gone_ahead<L: Ledger + Sync, R: Wait + Abort>(
+    rt: &R,
+    alloc: Global,
+    blank: Blank,
+) -> Result<([u64; 2], [u64; 6]), Fail>
+    requires name { blank.name ≡ L.name }
+    requires parts { blank.parts ≡ L.parts }
+    requires one { blank.parts ≡ 1 }
+{
+    let project = Arc::new(alloc, one_machine(alloc, &[])?)?;
+    let start = schedule(rt, alloc, one_machine(alloc, &[])?, &[0, 5, 0, 8])?;
+    let (shared, mut desks) = Shared::<L>::open(alloc, blank, project, 1, 100)?;
+    let gate = GoesAhead {
+        shared: &shared,
+        alloc,
+        start,
+        calls: AtomicU64::new(0),
+    };
+    work(rt, alloc, &shared, &mut desks[0], &gate)?;
+    drop(gate);
+    let (book, tallies) = shared.close(alloc, desks)?;
+    let counts = numbers(&book.counts());
+    Ok(([tallies[0].accepted, tallies[0].ahead], counts))
+}
+
+#[test]
+fn a_report_ahead_of_the_book_is_made_again(rt: HostRuntime) -> Result<(), Fail> {
+    let (tally, counts) = gone_ahead::<Brand, _>(&rt, rt.alloc(), Blank::new(1))?;
+    assert_eq!(rt; tally, [2, 1]);
+    assert_eq!(rt; counts, [3, 2, 1, 2, 0, 0]);
     Ok(())
 }
