@@ -12,7 +12,7 @@ use Rattle.std.proofs.lemmas.List.Sorted.{IsPermutation-append_left, All-permuta
 use Rattle.network.specs.Problem.{Problem}
 use Rattle.network.specs.Schedule.{ScheduleOf, IsLeastSchedule, makespan}
 use Rattle.forbidden_sets.specs.MinimalSet.{MinimalSet}
-use Rattle.branching.specs.Subproblem.{Subproblem}
+use Rattle.branching.specs.Subproblem.{Subproblem, IsLive}
 use Rattle.branching.specs.Pairs.{ordered_pairs}
 use Rattle.branching.specs.Covered.{IsNodeOf, ceiling_of}
 use Rattle.branching.specs.Ceiling.{Reaches}
@@ -130,7 +130,11 @@ ending_right p limit report name before told same less known path reach = parts 
 
     parts : (split : Option MinimalSet) → MatchOption split (IsUnsplit report) (IsSplitBy report) → IsRightEnding p limit entries name (ending_by split report.found fates)
     parts None is = unsplit_right p limit report name entries fates told same less whole_path report.found told.fair.of_found is.of_found reach
-    parts (Some set) is = (subst (λ (p : Problem). IsRightSet p set.resource set.members) same is.right_set, split_fates p limit report.ceiling report.node name same less before known path (ordered_pairs set.members) report.fates report.kids is.fates)
+    parts (Some set) is = (
+      rw whole_path (subst (λ (p : Problem). IsLive p report.node.pairs) same told.is_node.is_live),
+      subst (λ (p : Problem). IsRightSet p set.resource set.members) same is.right_set,
+      split_fates p limit report.ceiling report.node name same less before known path (ordered_pairs set.members) report.fates report.kids is.fates,
+    )
 
 ending_ends : (split : Option MinimalSet) (found : Option ScheduleOf) (fates : List PairFate) → has_ended (ending_by split found fates) ≡ true
 ending_ends None None fates = refl

@@ -37,7 +37,7 @@ pub ending_falls : (p : Problem) (old new : Option ℤ) (entries : List Entry) (
 ending_falls p old new entries name not_ended less h = tt
 ending_falls p old new entries name was_cut less h = cut_falls p old new (path_to entries name) less h
 ending_falls p old new entries name was_solved less h = solved_falls p old new (path_to entries name) less h
-ending_falls p old new entries name (was_split resource members fates) less h = (h.0, fates_fall p old new entries name (ordered_pairs members) fates less h.1)
+ending_falls p old new entries name (was_split resource members fates) less h = (h.0, h.1, fates_fall p old new entries name (ordered_pairs members) fates less h.2)
 
 -- a best that falls keeps a trail right
 pub trail_falls : (p : Problem) (old new : Option ℤ) (entries : List Entry) → IsInTime old new → IsRightTrail p old entries → IsRightTrail p new entries

@@ -46,7 +46,7 @@ pub ending_extends : (p : Problem) (limit : Option ℤ) (old new : List Entry) (
 ending_extends p limit old new name not_ended more known h = tt
 ending_extends p limit old new name was_cut more known h = rw (more.path name known) h
 ending_extends p limit old new name was_solved more known h = rw (more.path name known) h
-ending_extends p limit old new name (was_split resource members fates) more known h = (h.0, fates_extend p limit old new name more known (ordered_pairs members) fates h.1)
+ending_extends p limit old new name (was_split resource members fates) more known h = (rw (more.path name known) h.0, h.1, fates_extend p limit old new name more known (ordered_pairs members) fates h.2)
 
 -- a kid that is not below the limit reaches it
 reaches : (limit : Option ℤ) (bound : ℤ) → is_below limit bound ≡ false → Reaches limit bound

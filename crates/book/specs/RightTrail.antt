@@ -4,6 +4,7 @@ use Rattle.std.specs.List.{AllZip}
 use Rattle.network.specs.declared.lag.Pair.{Pair}
 use Rattle.network.specs.Problem.{Problem}
 use Rattle.branching.specs.Pairs.{ordered_pairs}
+use Rattle.branching.specs.Subproblem.{IsLive}
 use Rattle.branching.specs.Right.{AllForced, IsRightSet, IsDead, IsCutUnder, IsSolvedUnder}
 use Rattle.book.specs.Trail.{PairFate, was_named, was_dead, was_not_opened, Ending, not_ended, was_cut, was_solved, was_split, Entry, entry_at, path_to}
 
@@ -29,12 +30,12 @@ IsRightFate p limit entries name pair (was_named later) = IsKidUnder p entries n
 IsRightFate p limit entries name pair (was_dead forced) = IsDeadUnder p (path_to entries name ++ pair ∷ []) forced
 IsRightFate p limit entries name pair (was_not_opened forced) = IsNotOpenedUnder p limit (path_to entries name ++ pair ∷ []) forced
 
--- the node under a name could end so: without a limit none is cut, and none is solved
+-- the node under a name could end so: without a limit none is cut, and none is solved, and none is split that is dead
 abbrev pub IsRightEnding : Problem → Option ℤ → List Entry → ℕ → Ending → Type 0
 IsRightEnding p limit entries name not_ended = Unit {0}
 IsRightEnding p limit entries name was_cut = IsCutUnder p (path_to entries name) limit
 IsRightEnding p limit entries name was_solved = IsSolvedUnder p (path_to entries name) limit
-IsRightEnding p limit entries name (was_split resource members fates) = IsRightSet p resource members × AllZip (IsRightFate p limit entries name) (ordered_pairs members) fates
+IsRightEnding p limit entries name (was_split resource members fates) = IsLive p (path_to entries name) × IsRightSet p resource members × AllZip (IsRightFate p limit entries name) (ordered_pairs members) fates
 
 -- the first node is without pairs; where there is none, a closed walk of the project's rules has positive weight
 abbrev pub IsRooted : Problem → List Entry → Type 0
