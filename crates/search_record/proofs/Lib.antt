@@ -6,3 +6,7 @@ pub mod Flat
 pub mod Truth
 pub mod Reached
 pub mod Wrong
+pub mod TrailLines
+pub mod TrailTrees
+pub mod Spelled
+pub mod WholeTrails

@@ -6,3 +6,5 @@ pub mod Members
 pub mod Later
 pub mod Node
 pub mod Due
+pub mod Claims
+pub mod TrailTree

@@ -1,10 +1,12 @@
 //! Whether a search record is right for a project, line by line, so that what it claims is true.
 //!
 //! A [`Record`] is a claim and the tree of a search. [`verify`] looks at each line with a matrix and a
-//! bound of its own, and trusts nothing of the search that made the record.
+//! bound of its own, and trusts nothing of the search that made the record. [`of_trail`] makes the record of a search
+//! from what its book kept of each node.
 #![tactic(auto)]
 
 mod due;
+mod from_trail;
 mod judge;
 mod later;
 mod laws;
@@ -15,7 +17,9 @@ mod proved;
 #[cfg(test)]
 mod tests;
 mod verification;
+mod walk;
 
+pub use from_trail::of_trail;
 pub use laws::right_law;
 pub use proved::Proved;
 pub use record_text::{Record, RecordFault, Why};

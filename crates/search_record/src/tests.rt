@@ -6,6 +6,8 @@ use test_projects::{
     backward_lag, both_orders_dead, lag, one_machine, three_on_two, with_one_resource,
 };
 
+mod searches;
+
 /// What a record proves of a project, by its text.
 fn verdict(alloc: Global, project: &Project, text: &str) -> Result<Proved, RecordFault> {
     let record = Record::read(alloc, text.as_bytes())?;

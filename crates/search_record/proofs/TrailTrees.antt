@@ -1,0 +1,117 @@
+-- The tree of a whole trail is right.
+use Rattle.std.proofs.Common.{◌≡◌, ◌≢◌, ℕ, zero, suc, ◌+◌, ◌<◌, ◌≤◌, Bool, true, false, List, [], ◌∷◌, ◌++◌, length, get_or, refl, sym, ap, ◌∙◌, subst, arith, append_assoc, append-nil, Option, Some, None}
+use Rattle.std.specs.Prelude.{ℤ}
+use Rattle.std.specs.List.{All, AllZip}
+use Rattle.std.proofs.lemmas.List.Elements.{All-nil, All-cons, All-append}
+use Rattle.network.specs.declared.lag.Pair.{Pair}
+use Rattle.network.specs.Forbidden.{IsForbidden}
+use Rattle.network.specs.Problem.{Problem}
+use Rattle.branching.specs.Pairs.{ordered_pairs}
+use Rattle.branching.specs.Right.{AllForced}
+use Rattle.branching.proofs.OrderedPairs.{count_pairs}
+use Rattle.book.specs.declared.trail.Origin.{Origin}
+use Rattle.book.specs.Trail.{PairFate, was_named, was_dead, was_not_opened, Ending, not_ended, was_cut, was_solved, was_split, Entry, entry_at, path_after, paths_after, path_to}
+use Rattle.book.specs.RightTrail.{IsKidUnder, IsRightFate, IsRightEnding, IsRightTrail, has_ended, IsWholeTree}
+use Rattle.record_text.specs.declared.line.Line.{Line}
+use Rattle.record_text.specs.declared.line.Line.TheVariants as kind
+use Rattle.record_text.specs.Tree.{Tree, cut, dead, Trees, count_trees, IsTree, AreTrees}
+use Rattle.search_record.specs.Places.{place, places, kid_places}
+use Rattle.search_record.specs.Right.{IsRightLine, IsRightPlace}
+use Rattle.search_record.specs.TrailTree.{with_forced, fate_tree, fate_trees, ending_tree, tree_within, tree_under}
+
+-- what a tree is to be, below a node's pairs
+pub record IsRightTree (p : Problem) (limit : Option ℤ) (pairs : List Pair) (t : Tree) : Type 0 where
+  pub shape : IsTree t
+  pub right : All (IsRightPlace p limit) (places pairs t)
+
+-- a leaf of one line
+leaf_right : (p : Problem) (limit : Option ℤ) (pairs : List Pair) (leaf : Tree) (line : Line) → IsTree leaf → places pairs leaf ≡ place pairs line ∷ [] → IsRightLine p limit pairs line → IsRightTree p limit pairs leaf
+leaf_right p limit pairs leaf line shape only right = record { shape = shape; right = rw only (All-cons (IsRightPlace p limit) (place pairs line) [] right (All-nil (IsRightPlace p limit))) }
+
+-- right forced pairs, and a right tree below them
+forced_right : (p : Problem) (limit : Option ℤ) (pairs forced : List Pair) (t : Tree) → AllForced p pairs forced → IsRightTree p limit (pairs ++ forced) t → IsRightTree p limit pairs (with_forced forced t)
+forced_right p limit pairs [] t all below = subst (λ (ps : List Pair). IsRightTree p limit ps t) (append-nil pairs) below
+forced_right p limit pairs (pair ∷ forced) t all below =
+    let others = forced_right p limit (pairs ++ pair ∷ []) forced t all.1 (subst (λ (ps : List Pair). IsRightTree p limit ps t) (sym (append_assoc pairs (pair ∷ []) forced)) below) in
+    record {
+      shape = others.shape;
+      right = All-cons (IsRightPlace p limit) (place pairs (kind.Force pair)) (places (pairs ++ pair ∷ []) (with_forced forced t)) all.0 others.right;
+    }
+
+-- the trees under the names that come up are right
+abbrev NamedAreRight : Problem → Option ℤ → List Entry → ℕ → (ℕ → Tree) → Type 0
+NamedAreRight p limit entries name named = (pair : Pair) (later : ℕ) → IsKidUnder p entries name pair later → IsRightTree p limit (path_to entries name ++ pair ∷ []) (named later)
+
+fate_right : (p : Problem) (limit : Option ℤ) (entries : List Entry) (name : ℕ) (named : ℕ → Tree) → NamedAreRight p limit entries name named → (pair : Pair) (fate : PairFate) → IsRightFate p limit entries name pair fate
+    → IsRightTree p limit (path_to entries name ++ pair ∷ []) (fate_tree named fate)
+fate_right p limit entries name named later_right pair (was_named later) h = later_right pair later h
+fate_right p limit entries name named later_right pair (was_dead forced) h =
+    let pairs = path_to entries name ++ pair ∷ [] in
+    forced_right p limit pairs forced dead h.all_forced (leaf_right p limit (pairs ++ forced) dead kind.Dead tt refl h.dead)
+fate_right p limit entries name named later_right pair (was_not_opened forced) h =
+    let pairs = path_to entries name ++ pair ∷ [] in
+    forced_right p limit pairs forced cut h.all_forced (leaf_right p limit (pairs ++ forced) cut kind.Cut tt refl h.cut)
+
+record AreRightKids (p : Problem) (limit : Option ℤ) (pairs added : List Pair) (kids : Trees) : Type 0 where
+  count : count_trees kids ≡ length added
+  shapes : AreTrees kids
+  right : All (IsRightPlace p limit) (kid_places pairs added kids)
+
+fates_right : (p : Problem) (limit : Option ℤ) (entries : List Entry) (name : ℕ) (named : ℕ → Tree) → NamedAreRight p limit entries name named → (added : List Pair) (fates : List PairFate) → AllZip (IsRightFate p limit entries name) added fates
+    → AreRightKids p limit (path_to entries name) added (fate_trees named fates)
+fates_right p limit entries name named later_right [] [] h = record { count = refl; shapes = tt; right = All-nil (IsRightPlace p limit) }
+fates_right p limit entries name named later_right [] (fate ∷ fates) h = absurd h
+fates_right p limit entries name named later_right (pair ∷ added) [] h = absurd h
+fates_right p limit entries name named later_right (pair ∷ added) (fate ∷ fates) h =
+    let one = fate_right p limit entries name named later_right pair fate h.0 in
+    let others = fates_right p limit entries name named later_right added fates h.1 in
+    record {
+      count = ap suc others.count;
+      shapes = (one.shape, others.shapes);
+      right = All-append (IsRightPlace p limit) (places (path_to entries name ++ pair ∷ []) (fate_tree named fate)) (kid_places (path_to entries name) added (fate_trees named fates)) one.right others.right;
+    }
+
+-- a forbidden set has a member
+some_member : (p : Problem) (k : ℕ) (members : List ℕ) → IsForbidden p k members → 0 < length members
+some_member p k [] over = absurd (omega (arith, over))
+some_member p k (i ∷ members) over = omega arith
+
+ending_right : (p : Problem) (limit : Option ℤ) (entries : List Entry) (name : ℕ) (named : ℕ → Tree) → NamedAreRight p limit entries name named → (ending : Ending) → IsRightEnding p limit entries name ending → has_ended ending ≡ true
+    → IsRightTree p limit (path_to entries name) (ending_tree named ending)
+ending_right p limit entries name named later_right not_ended h ended = absurd (cc)
+ending_right p limit entries name named later_right was_cut h ended = leaf_right p limit (path_to entries name) (ending_tree named was_cut) kind.Cut tt refl h
+ending_right p limit entries name named later_right was_solved h ended = leaf_right p limit (path_to entries name) (ending_tree named was_solved) kind.Solved tt refl h
+ending_right p limit entries name named later_right (was_split resource members fates) h ended =
+    let pairs = path_to entries name in
+    let kids = fates_right p limit entries name named later_right (ordered_pairs members) fates h.2 in
+    record {
+      shape = (some_member p resource members h.1.forbidden, kids.count ∙ count_pairs members, kids.shapes);
+      right = All-cons (IsRightPlace p limit) (place pairs (kind.Split resource members)) (kid_places pairs (ordered_pairs members) (fate_trees named fates)) (h.0, h.1) kids.right;
+    }
+
+-- the tree under a name is right, below the pairs that its forced ones come after
+within_right : (p : Problem) (limit : Option ℤ) (entries : List Entry) → IsWholeTree p limit entries → (depth name : ℕ) → length entries ≤ name + depth → name < length entries
+    → (pairs : List Pair) → path_to entries name ≡ pairs ++ (entry_at entries name).forced → AllForced p pairs (entry_at entries name).forced → IsRightTree p limit pairs (tree_within entries depth name)
+within_right p limit entries is zero name deep known pairs path all = absurd (omega arith)
+within_right p limit entries is (suc depth) name deep known pairs path all =
+    let below = ending_tree (tree_within entries depth) (entry_at entries name).ending in
+    let own = ending_right p limit entries name (tree_within entries depth)
+    (λ pair later under. within_right p limit entries is depth later (omega (arith, under.is_later)) under.named (path_to entries name ++ pair ∷ []) under.path under.all_forced)
+    (entry_at entries name).ending (is.right.endings name known) (is.ended name known) in
+    forced_right p limit pairs (entry_at entries name).forced below all (subst (λ (ps : List Pair). IsRightTree p limit ps below) path own)
+
+-- the first name's pairs are those of its entry
+first_path : (entries : List Entry) (path : List Pair) (paths : List (List Pair)) → get_or (paths_after (path ∷ paths) entries) 0 [] ≡ path
+first_path [] path paths = refl
+first_path (entry ∷ entries) path paths = first_path entries path (paths ++ path_after (path ∷ paths) entry.origin entry.forced ∷ [])
+
+root_path : (entries : List Entry) (origin : Option Origin) (forced : List Pair) → origin ≡ None → get_or (paths_after (path_after [] origin forced ∷ []) entries) 0 [] ≡ forced
+root_path entries None forced none = first_path entries forced []
+root_path entries (Some o) forced none = absurd (cc)
+
+pub trail_right : (p : Problem) (limit : Option ℤ) (entries : List Entry) → IsWholeTree p limit entries → IsRightTree p limit [] (tree_under entries 0)
+trail_right p limit [] is = leaf_right p limit [] dead kind.Dead tt refl is.right.rooted
+trail_right p limit (root ∷ entries) is =
+    within_right p limit (root ∷ entries) is (length (root ∷ entries)) 0 (omega arith) (omega arith) []
+    (root_path entries root.origin root.forced is.right.rooted.0)
+    (subst (AllForced p []) (sym is.right.rooted.1) tt)

@@ -1,0 +1,10 @@
+-- What a search claims in the end.
+use Rattle.std.specs.Prelude.{Option, Some, None}
+use Rattle.network.specs.Schedule.{ScheduleOf, makespan}
+use Rattle.record_text.specs.declared.line.Claim.{Claim}
+use Rattle.record_text.specs.declared.line.Claim.TheVariants as claims
+
+-- that its best schedule is a shortest one, or that there is no schedule where it found none
+abbrev pub claim_of : Option ScheduleOf → Claim
+claim_of None = claims.NoSchedule
+claim_of (Some best) = claims.Optimal (makespan best.starts) best.starts

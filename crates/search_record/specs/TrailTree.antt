@@ -1,0 +1,93 @@
+-- The tree that a trail tells of, and how its lines come one after another.
+use Rattle.std.specs.Prelude.{ℕ, zero, suc, ◌<◌, List, [], ◌∷◌, ◌++◌, map, length}
+use Rattle.network.specs.declared.lag.Pair.{Pair}
+use Rattle.book.specs.Trail.{PairFate, was_named, was_dead, was_not_opened, Ending, not_ended, was_cut, was_solved, was_split, Entry, entry_at}
+use Rattle.record_text.specs.declared.line.Line.{Line}
+use Rattle.record_text.specs.declared.line.Line.TheVariants as kind
+use Rattle.record_text.specs.Tree.{Tree, force, solved, cut, dead, split, Trees, no_trees, tree}
+
+-- the forced pairs, and then the tree
+abbrev pub with_forced : List Pair → Tree → Tree
+with_forced [] t = t
+with_forced (pair ∷ forced) t = force pair (with_forced forced t)
+
+-- the tree of a pair, where those under the names are known
+abbrev pub fate_tree : (ℕ → Tree) → PairFate → Tree
+fate_tree named (was_named name) = named name
+fate_tree named (was_dead forced) = with_forced forced dead
+fate_tree named (was_not_opened forced) = with_forced forced cut
+
+abbrev pub fate_trees : (ℕ → Tree) → List PairFate → Trees
+fate_trees named [] = no_trees
+fate_trees named (fate ∷ fates) = tree (fate_tree named fate) (fate_trees named fates)
+
+-- how a node ended; one that has not ended stands as dead
+abbrev pub ending_tree : (ℕ → Tree) → Ending → Tree
+ending_tree named not_ended = dead
+ending_tree named was_cut = cut
+ending_tree named was_solved = solved
+ending_tree named (was_split resource members fates) = split resource members (fate_trees named fates)
+
+abbrev pub entry_tree : (ℕ → Tree) → Entry → Tree
+entry_tree named entry = with_forced entry.forced (ending_tree named entry.ending)
+
+-- the tree under a name, followed so many names deep
+abbrev pub tree_within : List Entry → ℕ → ℕ → Tree
+tree_within entries zero name = dead
+tree_within entries (suc depth) name = entry_tree (tree_within entries depth) (entry_at entries name)
+
+-- and to its end, since kids have later names; without entries it is dead
+abbrev pub tree_under : List Entry → ℕ → Tree
+tree_under entries name = tree_within entries (length entries) name
+
+-- ---- the lines of a node, and the fates of the nodes below it
+
+abbrev pub ending_line : Ending → Line
+ending_line not_ended = kind.Dead
+ending_line was_cut = kind.Cut
+ending_line was_solved = kind.Solved
+ending_line (was_split resource members fates) = kind.Split resource members
+
+abbrev pub ending_fates : Ending → List PairFate
+ending_fates not_ended = []
+ending_fates was_cut = []
+ending_fates was_solved = []
+ending_fates (was_split resource members fates) = fates
+
+-- a line for each forced pair, and the one that a node ends with
+abbrev pub node_lines : List Pair → Line → List Line
+node_lines forced last = map kind.Force forced ++ last ∷ []
+
+-- the lines of a pair's own node
+abbrev pub fate_lines : List Entry → PairFate → List Line
+fate_lines entries (was_named name) = node_lines (entry_at entries name).forced (ending_line (entry_at entries name).ending)
+fate_lines entries (was_dead forced) = node_lines forced kind.Dead
+fate_lines entries (was_not_opened forced) = node_lines forced kind.Cut
+
+-- the fates of the nodes below it
+abbrev pub fates_behind : List Entry → PairFate → List PairFate
+fates_behind entries (was_named name) = ending_fates (entry_at entries name).ending
+fates_behind entries (was_dead forced) = []
+fates_behind entries (was_not_opened forced) = []
+
+-- ---- names
+
+-- a name in the fate is one of so many
+abbrev pub IsNamed : ℕ → PairFate → Type 0
+IsNamed count (was_named later) = later < count
+IsNamed count (was_dead forced) = Unit {0}
+IsNamed count (was_not_opened forced) = Unit {0}
+
+-- and later than this one
+abbrev pub LeadsOn : ℕ → ℕ → PairFate → Type 0
+LeadsOn count name (was_named later) = (name < later) × (later < count)
+LeadsOn count name (was_dead forced) = Unit {0}
+LeadsOn count name (was_not_opened forced) = Unit {0}
+
+abbrev pub LeadOn : ℕ → ℕ → List PairFate → Type 0
+LeadOn count name [] = Unit {0}
+LeadOn count name (fate ∷ fates) = LeadsOn count name fate × LeadOn count name fates
+
+-- each node's kids have later names
+abbrev pub KidsAreLater : List Entry → Type 0
+KidsAreLater entries = (name : ℕ) → name < length entries → LeadOn (length entries) name (ending_fates (entry_at entries name).ending)

@@ -1,0 +1,123 @@
+ghost use Rattle.std.specs.Prelude.{◌≡◌, ◌<◌, ◌++◌, map, length, IfOk, OnOk};
+ghost use Rattle.book.specs.TrailViews.{pair_fate, node_ending, trail_entry};
+ghost use Rattle.record_text.specs.Tree.{lines_of};
+ghost use Rattle.record_text.specs.declared.line.Line.TheVariants as kind;
+ghost use Rattle.search_record.specs.TrailTree.{tree_under, ending_line, ending_fates, node_lines, fate_lines, fates_behind};
+ghost use Rattle.search_record.specs.TrailTree.{IsNamed, KidsAreLater};
+
+use book::{KidFate, NodeEnding, TrailEntry};
+use network::Pair;
+use record_text::{Line, Members};
+use std::alloc::{AllocError, Global};
+
+/// Adds a line for each forced pair.
+fn write_forced(lines: &mut Vec<Line>, forced: &[Pair]) -> Result<(), AllocError>
+    ensures { OnOk result (lines.new.items ≡ lines.old.items ++ map kind.Force forced.now) }
+{
+    for pair in forced {
+        lines.push(Line::Force(*pair))?;
+    }
+    Ok(())
+}
+
+/// The line that a node ends with.
+fn line_of(alloc: Global, ending: &NodeEnding) -> Result<Line, AllocError>
+    ensures { IfOk result (λ line. line ≡ ending_line (node_ending ending.now)) }
+{
+    match ending {
+        NodeEnding::Open => Ok(Line::Dead),
+        NodeEnding::Cut => Ok(Line::Cut),
+        NodeEnding::Solved => Ok(Line::Solved),
+        NodeEnding::Split {
+            resource,
+            members,
+            ..
+        } => {
+            let members = Vec::from_slice(alloc, members.as_slice())?;
+            Ok(Line::Split {
+                resource: *resource,
+                members: Members::new(members),
+            })
+        }
+    }
+}
+
+/// The fates of a split's pairs, none of a leaf.
+fn fates_of(ending: &NodeEnding) -> &[KidFate]
+    ensures { map pair_fate result.now ≡ ending_fates (node_ending ending.now) }
+{
+    match ending {
+        NodeEnding::Split { fates, .. } => fates,
+        NodeEnding::Open | NodeEnding::Cut | NodeEnding::Solved => &[],
+    }
+}
+
+/// Adds the lines of a node: its forced pairs, and the line that it ends with.
+fn write_node(lines: &mut Vec<Line>, forced: &[Pair], last: Line) -> Result<(), AllocError>
+    ensures { OnOk result (lines.new.items ≡ lines.old.items ++ node_lines forced.now last) }
+{
+    write_forced(lines, forced)?;
+    lines.push(last)?;
+    Ok(())
+}
+
+/// Adds the lines of a pair's own node, and answers the fates of the nodes below it, whose lines come next.
+fn write_kid<'a>(
+    alloc: Global,
+    lines: &mut Vec<Line>,
+    entries: &'a [TrailEntry],
+    kid: &KidFate,
+) -> Result<&'a [KidFate], AllocError>
+    requires { IsNamed (length entries.now) (pair_fate kid.now) }
+    ensures lines { OnOk result (lines.new.items ≡ lines.old.items ++ fate_lines (map trail_entry entries.now) (pair_fate kid.now)) }
+    ensures behind { IfOk result (λ fates. map pair_fate fates.now ≡ fates_behind (map trail_entry entries.now) (pair_fate kid.now)) }
+{
+    match kid {
+        KidFate::Opened { name } => {
+            let entry = &entries[*name as usize];
+            let last = line_of(alloc, &entry.ending)?;
+            write_node(lines, &entry.forced, last)?;
+            Ok(fates_of(&entry.ending))
+        }
+        KidFate::Dead { forced } => {
+            write_node(lines, forced, Line::Dead)?;
+            Ok(&[])
+        }
+        KidFate::Cut { forced } => {
+            write_node(lines, forced, Line::Cut)?;
+            Ok(&[])
+        }
+    }
+}
+
+/// The lines of the tree under the first name. The stack has the fates that are left of each split, so no node is
+/// looked at twice, however deep the tree is.
+fn tree_lines(alloc: Global, entries: &[TrailEntry]) -> Result<Vec<Line>, AllocError>
+    requires some { 0 < length entries.now }
+    requires later { KidsAreLater (map trail_entry entries.now) }
+    ensures { IfOk result (λ lines. lines.items ≡ lines_of (tree_under (map trail_entry entries.now) 0)) }
+{
+    let root = [KidFate::Opened { name: 0 }];
+    let mut splits = Vec::new(alloc);
+    splits.push(root.as_slice())?;
+    let mut lines = Vec::new(alloc);
+    while let Some(fates) = splits.pop() {
+        if let Some((kid, others)) = fates.split_first() {
+            splits.push(others)?;
+            let behind = write_kid(alloc, &mut lines, entries, kid)?;
+            splits.push(behind)?;
+        }
+    }
+    Ok(lines)
+}
+
+/// The lines of the tree of a trail: `dead` alone where no node was opened.
+pub(crate) fn trail_lines(alloc: Global, entries: &[TrailEntry]) -> Result<Vec<Line>, AllocError>
+    requires { KidsAreLater (map trail_entry entries.now) }
+    ensures { IfOk result (λ lines. lines.items ≡ lines_of (tree_under (map trail_entry entries.now) 0)) }
+{
+    if entries.is_empty() {
+        return Ok(vec![in alloc; Line::Dead]?);
+    }
+    tree_lines(alloc, entries)
+}
