@@ -1,5 +1,5 @@
 -- The numbers of a right record can be spelled.
-use Rattle.std.proofs.Common.{◌≡◌, refl, sym, ap, ◌∙◌, ℕ, zero, suc, ◌+◌, ◌-◌, ◌<◌, ◌≤◌, arith, ℤ, pos, negsuc, ◌≤ℤ◌, List, [], ◌∷◌, ◌++◌, length, map}
+use Rattle.std.proofs.Common.{◌≡◌, refl, sym, ap, ◌∙◌, ℕ, zero, suc, ◌-◌, ◌<◌, ◌≤◌, arith, ℤ, pos, negsuc, ◌≤ℤ◌, List, [], ◌∷◌, ◌++◌, length, map}
 use Rattle.std.specs.Prelude.{Option}
 use Rattle.std.specs.List.{All, AllByRecursion, Contains, range_with_len}
 use Rattle.std.proofs.lemmas.Int.{ints}
@@ -17,7 +17,7 @@ use Rattle.record_text.specs.declared.line.Line.{Line}
 use Rattle.record_text.specs.declared.line.Line.TheVariants as kind
 use Rattle.record_text.specs.Text.{IsNumber, IsWritableTime, IsWritableClaim, IsWritableLine}
 use Rattle.record_text.specs.Tree.{Tree, force, solved, cut, dead, split, Trees, no_trees, tree, count_trees, IsTree, AreTrees, lines_of, lines_of_all}
-use Rattle.search_record.specs.Places.{Place, place, places, kid_places}
+use Rattle.search_record.specs.Places.{Place, places, kid_places}
 use Rattle.search_record.specs.Right.{IsRightLine, IsRightPlace}
 use Rattle.search_record.proofs.Flat.{kid_for_each}
 

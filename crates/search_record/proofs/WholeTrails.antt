@@ -1,16 +1,15 @@
 -- The record of a whole trail is right.
 use Rattle.std.proofs.Common.{◌≡◌, List, [], refl, sym, ap, ◌∙◌, subst, Option, Some, None, ℤ}
 use Rattle.std.specs.Prelude.{IfSome}
-use Rattle.std.specs.List.{All, AllByRecursion}
+use Rattle.std.specs.List.{All}
 use Rattle.network.specs.Limits.{IsProject, AreStarts}
 use Rattle.network.specs.Problem.{Problem}
 use Rattle.network.specs.Schedule.{ScheduleOf, IsFeasible}
 use Rattle.branching.specs.Covered.{ceiling_of}
 use Rattle.book.specs.Trail.{Entry}
 use Rattle.book.specs.RightTrail.{IsWholeTree}
-use Rattle.record_text.specs.declared.line.Line.{Line}
 use Rattle.record_text.specs.SearchRecord.{SearchRecord}
-use Rattle.record_text.specs.Text.{IsWritableClaim, IsWritableLine, IsRecord}
+use Rattle.record_text.specs.Text.{IsWritableClaim, IsRecord}
 use Rattle.record_text.specs.Tree.{lines_of}
 use Rattle.search_record.specs.Claims.{claim_of}
 use Rattle.search_record.specs.Places.{places}

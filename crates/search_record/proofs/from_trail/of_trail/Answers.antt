@@ -1,4 +1,4 @@
-use Rattle.std.proofs.Common.{List, Option, ◌≡◌, sym, subst, ap, ◌∙◌, option_map}
+use Rattle.std.proofs.Common.{List, Option, sym, subst, ap, ◌∙◌, option_map}
 use Rattle.network.specs.Limits.{IsProject}
 use Rattle.network.specs.Schedule.{ScheduleOf}
 use Rattle.branching.specs.Covered.{ceiling_of}

@@ -26,13 +26,13 @@ write_kid-requires c =
 pub loop-fates-preserved-in-Continue-branch-4 : goal.loop-fates-preserved-in-Continue-branch-4
 loop-fates-preserved-in-Continue-branch-4 c =
     (stack_more (λ fates. map pair_fate fates.now) (map trail_entry c.args.entries.now) c.loop-fates.lines.items c.write_kid.new.lines.items c.loop-fates.splits.items c.pop.new.self.items
-        c.push-in-Some-split_first.new.self.items c.push-in-Some-split_first-2.new.self.items c.in-Some.fates c.in-Some-split_first.others c.in_ok-behind.behind (pair_fate c.in-Some-split_first.kid.now) c.requires.later
-        c.in-Some.ensures.items (ap (λ (fates : List KidFate). map pair_fate fates) c.in-Some-split_first.ensures.cases.0) c.in_ok-push-2.ensures.items c.in_ok-push-3.ensures.items c.in_ok-behind.ensures.behind c.in_ok-behind.ensures.lines
-        c.loop-fates.invariant).0
+    c.push-in-Some-split_first.new.self.items c.push-in-Some-split_first-2.new.self.items c.in-Some.fates c.in-Some-split_first.others c.in_ok-behind.behind (pair_fate c.in-Some-split_first.kid.now) c.requires.later
+    c.in-Some.ensures.items (ap (λ (fates : List KidFate). map pair_fate fates) c.in-Some-split_first.ensures.cases.0) c.in_ok-push-2.ensures.items c.in_ok-push-3.ensures.items c.in_ok-behind.ensures.behind c.in_ok-behind.ensures.lines
+    c.loop-fates.invariant).0
 
 pub loop-fates-smaller-in-Continue-branch-4 : goal.loop-fates-smaller-in-Continue-branch-4
 loop-fates-smaller-in-Continue-branch-4 c =
     (stack_more (λ fates. map pair_fate fates.now) (map trail_entry c.args.entries.now) c.loop-fates.lines.items c.write_kid.new.lines.items c.loop-fates.splits.items c.pop.new.self.items
-        c.push-in-Some-split_first.new.self.items c.push-in-Some-split_first-2.new.self.items c.in-Some.fates c.in-Some-split_first.others c.in_ok-behind.behind (pair_fate c.in-Some-split_first.kid.now) c.requires.later
-        c.in-Some.ensures.items (ap (λ (fates : List KidFate). map pair_fate fates) c.in-Some-split_first.ensures.cases.0) c.in_ok-push-2.ensures.items c.in_ok-push-3.ensures.items c.in_ok-behind.ensures.behind c.in_ok-behind.ensures.lines
-        c.loop-fates.invariant).1
+    c.push-in-Some-split_first.new.self.items c.push-in-Some-split_first-2.new.self.items c.in-Some.fates c.in-Some-split_first.others c.in_ok-behind.behind (pair_fate c.in-Some-split_first.kid.now) c.requires.later
+    c.in-Some.ensures.items (ap (λ (fates : List KidFate). map pair_fate fates) c.in-Some-split_first.ensures.cases.0) c.in_ok-push-2.ensures.items c.in_ok-push-3.ensures.items c.in_ok-behind.ensures.behind c.in_ok-behind.ensures.lines
+    c.loop-fates.invariant).1
