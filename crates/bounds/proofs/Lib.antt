@@ -5,8 +5,11 @@ pub mod Between
 pub mod Tasks
 pub mod EnergyHolds
 pub mod TrueBounds
-pub mod Sweeps
-pub mod SweepLimits
+pub mod LateWork
+pub mod ShareLimits
+pub mod Rooms
+pub mod Marks
+pub mod Fills
 pub mod Ranking
 pub mod Ranked
 pub mod Ranks

@@ -1,9 +1,9 @@
--- Room for a sweep over tasks.
-use Rattle.std.specs.Prelude.{◌≡◌, length}
+-- Room for the greatest share of tasks.
+use Rattle.std.specs.Prelude.{◌≡◌, ◌+◌, length}
 use Rattle.bounds.specs.declared.task_room.TaskRoom.TheInside.{Inside}
 use Rattle.orders.specs.Orders.{IsOrder}
 
--- two orders of the tasks, and a place for each of them in each list
+-- two orders of the tasks, and a place for each of them in each list; and one mark more
 pub record IsRoom (s : Inside) : Type 0 where
   pub head_order : IsOrder (length s.tasks.items) s.by_head.items
   pub tail_order : IsOrder (length s.tasks.items) s.by_tail.items
@@ -11,4 +11,6 @@ pub record IsRoom (s : Inside) : Type 0 where
   pub ranks_long : length s.ranks.items ≡ length s.tasks.items
   pub rising_long : length s.rising.items ≡ length s.tasks.items
   pub loads_long : length s.loads.items ≡ length s.tasks.items
-  pub shares_long : length s.shares.items ≡ length s.tasks.items
+  pub line_long : length s.line.items ≡ length s.tasks.items + 1
+  pub rooms_long : length s.rooms.items ≡ length s.tasks.items
+  pub skips_long : length s.skips.items ≡ length s.tasks.items

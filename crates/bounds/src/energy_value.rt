@@ -59,9 +59,8 @@ pub(crate) fn energy_between(
 /// work of the activities with at least this head and this tail, shared out over the capacity, has
 /// to fit between a and the makespan less b. 0 where no resource has a capacity.
 ///
-/// A sweep for each resource over the activities that have work for it, by falling head, which keeps
-/// for each of their tails the greatest share of the tails up to it: of the order of `m²` steps with
-/// m of them, all but `m` in two loops over one slice.
+/// For each resource the activities that have work for it fill a line of slots between their tails, by
+/// falling head: a few steps each, beside the repair of their two orders.
 pub fn energy(alloc: Global, project: &Project, matrix: &Matrix) -> Result<i64, AllocError>
     requires { IsMatrixFor project.now matrix.now }
     ensures value { IfOk result (λ energy. IsEnergyOf project.now matrix.now energy) }

@@ -14,7 +14,7 @@ ghost use Rattle.bounds.specs.Bound.{critical_weight, IsMatrixFor, IsTrueBoundFo
 mod energy_value;
 mod limits;
 mod load;
-mod sweep;
+mod slots;
 mod task;
 mod task_room;
 mod with_pair;

@@ -19,3 +19,6 @@ pub(crate) const MAX_WORK: u64 = 1_000_000_000_000;
 
 /// What no share is beyond: a capacity times a head and a tail, and the work of all activities.
 pub(crate) const MAX_SHARE: u64 = 4_000_000_000_000_000;
+
+/// A mark in a line of slots that no work reaches.
+pub(crate) const FAR_MARK: u64 = 9_000_000_000_000_000;

@@ -1,4 +1,4 @@
-ghost use Rattle.std.specs.Prelude.{◌≡◌, ◌<◌, ◌≤◌, length, map, take, IfOk};
+ghost use Rattle.std.specs.Prelude.{◌≡◌, ◌+◌, ◌<◌, ◌≤◌, length, map, take, IfOk};
 ghost use Rattle.network.specs.Problem.{resource_count};
 ghost use Rattle.bounds.specs.Ends.{AreEnds};
 ghost use Rattle.bounds.specs.Tasks.{tasks_of, all_tasks, AreTasks};
@@ -8,14 +8,14 @@ ghost use Rattle.bounds.specs.Loads.{AreLoads, IsGreatestShare, IsGreatestShareO
 
 use crate::limits::{MAX_CAPACITY, MAX_END, MAX_SHARE};
 use crate::load::{Load, rank_tasks, take_loads};
-use crate::sweep::greatest_share;
+use crate::slots::greatest_share;
 use crate::task::{Task, tasks_of};
 use network::Project;
 use orders::first_order;
 use std::alloc::{AllocError, Global};
 use std::marker::Model;
 
-/// The tasks of a resource, and the memory that a sweep over them takes. Its value is the tasks.
+/// The tasks of a resource, and the memory that their greatest share takes. Its value is the tasks.
 #[derive(Drop, Debug)]
 pub(crate) struct TaskRoom {
     tasks: Vec<Task>,
@@ -27,7 +27,10 @@ pub(crate) struct TaskRoom {
     ranks: Vec<usize>,
     rising: Vec<u64>,
     loads: Vec<Load>,
-    shares: Vec<u64>,
+    /// One mark more than there are tasks.
+    line: Vec<u64>,
+    rooms: Vec<u64>,
+    skips: Vec<usize>,
 }
 
 impl Model for TaskRoom {
@@ -61,7 +64,9 @@ impl TaskRoom {
         let ranks = vec![in alloc; 0; tasks.len()]?;
         let rising = vec![in alloc; 0; tasks.len()]?;
         let loads = vec![in alloc; load; tasks.len()]?;
-        let shares = vec![in alloc; 0; tasks.len()]?;
+        let line = vec![in alloc; 0; tasks.len() + 1]?;
+        let rooms = vec![in alloc; 0; tasks.len()]?;
+        let skips = vec![in alloc; 0; tasks.len()]?;
         Ok(TaskRoom {
             tasks,
             by_head,
@@ -70,7 +75,9 @@ impl TaskRoom {
             ranks,
             rising,
             loads,
-            shares,
+            line,
+            rooms,
+            skips,
         })
     }
 
@@ -105,7 +112,9 @@ impl TaskRoom {
             capacity,
             self.rising.as_slice(),
             count,
-            self.shares.as_mut_slice(),
+            self.line.as_mut_slice(),
+            self.rooms.as_mut_slice(),
+            self.skips.as_mut_slice(),
         )
     }
 }
@@ -116,10 +125,14 @@ fn share_under(
     capacity: u64,
     rising: &[u64],
     count: usize,
-    shares: &mut [u64],
+    line: &mut [u64],
+    rooms: &mut [u64],
+    skips: &mut [usize],
 ) -> u64
     requires count { count ≤ length rising.now }
-    requires room { length shares.old ≡ length rising.now }
+    requires line { length line.old ≡ length rising.now + 1 }
+    requires rooms { length rooms.old ≡ length rising.now }
+    requires skips { length skips.old ≡ length rising.now }
     requires loads { AreLoads (take count rising.now) loads.now }
     requires capacity { capacity ≤ MAX_CAPACITY }
     requires tails { All (λ b. b ≤ MAX_END) (take count rising.now) }
@@ -127,7 +140,16 @@ fn share_under(
     ensures greatest { IsGreatestShare capacity (take count rising.now) loads.now result }
     ensures limit { result ≤ MAX_SHARE }
 {
-    greatest_share(loads, capacity, &rising[..count], &mut shares[..count])
+    let tails = &rising[..count];
+    let line = &mut line[..count + 1];
+    greatest_share(
+        loads,
+        capacity,
+        tails,
+        line,
+        &mut rooms[..count],
+        &mut skips[..count],
+    )
 }
 
 /// Room for the tasks of each resource.

@@ -1,0 +1,104 @@
+use Rattle.std.proofs.Common.{◌≡◌, ◌∙◌, ◌-◌, subst, ℕ, ◌+◌, ◌*◌, ◌<◌, ◌≤◌, max, List, length, take, get_or, slice_index_or, arith}
+use Rattle.std.proofs.lemmas.List.{take_all, get_or_default}
+use Rattle.bounds.specs.declared.load.Load.{Load}
+use Rattle.bounds.specs.Loads.{IsSmall, IsAbove}
+use Rattle.bounds.proofs.LateWork.{ord_max-max}
+use Rattle.bounds.proofs.ShareLimits.{product_small, reached_small}
+use Rattle.bounds.proofs.Marks.{line_long, line_rises}
+use Rattle.bounds.proofs.Fills.{Filled, AreOnLine, IsNext, IsStep, filled_start, filled_more, filled_small, room_enough, own_small}
+use Rattle.bounds.proofs.slots.greatest_share.Goals as goal
+use Rattle.bounds.proofs.slots.greatest_share.Goals.{After-fill-last, After-max-filled}
+
+abbrev none : Load
+none = record { head = 0; rank = 0; work = 0 }
+
+pub take_rooms-requires-clause-rising : goal.take_rooms-requires-clause-rising
+take_rooms-requires-clause-rising c =
+    line_rises c.args.capacity c.args.tails.now c.take_line.new.line c.take_line.ensures c.requires.capacity c.requires.tails c.requires.rising
+
+pub loop-load-init : goal.loop-load-init
+loop-load-init c =
+    let line : List ℕ = c.take_line.new.line in
+    let rooms : List ℕ = c.take_rooms.new.rooms in
+    let long : length line ≡ length c.args.tails.now + 1 = line_long c.args.capacity c.args.tails.now line c.take_line.ensures in
+    record {
+      filled = filled_start c.args.capacity c.args.tails.now c.args.loads.now line rooms
+          (line_rises c.args.capacity c.args.tails.now line c.take_line.ensures c.requires.capacity c.requires.tails c.requires.rising) long (omega arith) c.take_rooms.ensures;
+      skips = c.take_skips.ensures rooms (omega arith);
+    }
+
+pub fill-last-requires-clause-enough : goal.fill-last-requires-clause-enough
+fill-last-requires-clause-enough c =
+    let i : ℕ = c.loop-load.load-index in
+    let x : Load = slice_index_or c.args.loads.now i none in
+    let lt : i < length c.args.loads.now = omega arith in
+    let small : IsSmall c.args.tails.now x = c.requires.loads.small i none lt in
+    let on : AreOnLine c.args.capacity c.args.tails.now c.args.loads.now c.take_line.new.line = record { are = c.requires.loads; few = c.requires.capacity; low = c.requires.tails; rising = c.requires.rising; is = c.take_line.ensures } in
+    room_enough c.args.capacity c.args.tails.now c.args.loads.now c.take_line.new.line i c.loop-load.rooms c.loop-load.filled c.loop-load.greatest x on small c.loop-load.invariant.filled
+
+-- the next load fills slots
+step : (c : After-fill-last) → IsStep c.args.capacity c.args.tails.now c.args.loads.now c.take_line.new.line c.loop-load.load-index c.loop-load.rooms c.fill-last.new.rooms c.loop-load.filled c.loop-load.greatest (slice_index_or c.args.loads.now c.loop-load.load-index none) c.fill-last.result
+step c =
+    let i : ℕ = c.loop-load.load-index in
+    let x : Load = slice_index_or c.args.loads.now i none in
+    let lt : i < length c.args.loads.now = omega arith in
+    let on : AreOnLine c.args.capacity c.args.tails.now c.args.loads.now c.take_line.new.line = record { are = c.requires.loads; few = c.requires.capacity; low = c.requires.tails; rising = c.requires.rising; is = c.take_line.ensures } in
+    let next : IsNext c.args.capacity c.args.tails.now c.args.loads.now c.take_line.new.line i c.loop-load.rooms c.loop-load.filled c.loop-load.greatest x =
+    record { on = on; was = c.loop-load.invariant.filled; inside = lt; at = get_or_default c.args.loads.now i none x lt; small = c.requires.loads.small i none lt } in
+    record { next = next; fills = c.fill-last.ensures.filled }
+
+pub overflow_sub-end : goal.overflow_sub-end
+overflow_sub-end c =
+    own_small c.args.capacity c.args.tails.now c.args.loads.now c.take_line.new.line c.loop-load.load-index c.loop-load.rooms c.fill-last.new.rooms c.loop-load.filled c.loop-load.greatest
+    (slice_index_or c.args.loads.now c.loop-load.load-index none) c.fill-last.result (step (goal.at.overflow_sub-end c).After-fill-last)
+
+more : (c : After-max-filled) →
+    let x : Load = slice_index_or c.args.loads.now c.loop-load.load-index none in
+    let filled : ℕ = c.max-filled.result in
+    Filled c.args.capacity c.args.tails.now c.args.loads.now c.take_line.new.line (c.loop-load.load-index + 1) c.fill-last.new.rooms filled (max c.loop-load.greatest (c.args.capacity * x.head + filled))
+more c =
+    let i : ℕ = c.loop-load.load-index in
+    let capacity : ℕ = c.args.capacity in
+    let tails : List ℕ = c.args.tails.now in
+    let loads : List Load = c.args.loads.now in
+    let line : List ℕ = c.take_line.new.line in
+    let x : Load = slice_index_or c.args.loads.now i none in
+    let rooms : List ℕ = c.fill-last.new.rooms in
+    let last : ℕ = c.fill-last.result in
+    let lt : i < length c.args.loads.now = omega arith in
+    let on : AreOnLine capacity tails loads line = record { are = c.requires.loads; few = c.requires.capacity; low = c.requires.tails; rising = c.requires.rising; is = c.take_line.ensures } in
+    let next : IsNext capacity tails loads line i c.loop-load.rooms c.loop-load.filled c.loop-load.greatest x =
+    record { on = on; was = c.loop-load.invariant.filled; inside = lt; at = get_or_default loads i none x lt; small = c.requires.loads.small i none lt } in
+    let s : IsStep capacity tails loads line i c.loop-load.rooms rooms c.loop-load.filled c.loop-load.greatest x last = record { next = next; fills = c.fill-last.ensures.filled } in
+    let under = own_small capacity tails loads line i c.loop-load.rooms rooms c.loop-load.filled c.loop-load.greatest x last s in
+    let end : ℕ = get_or line (last + 1) 0 - get_or rooms last 0 in
+    let filled_is : c.max-filled.result ≡ max c.loop-load.filled end = c.max-filled.ensures ∙ ord_max-max c.loop-load.filled end in
+    rw filled_is (filled_more capacity tails loads line i c.loop-load.rooms rooms c.loop-load.filled c.loop-load.greatest x last end s (omega arith))
+
+pub overflow_add-capacity : goal.overflow_add-capacity
+overflow_add-capacity c =
+    let i : ℕ = c.loop-load.load-index in
+    let x : Load = slice_index_or c.args.loads.now i none in
+    let lt : i < length c.args.loads.now = omega arith in
+    let small : IsSmall c.args.tails.now x = c.requires.loads.small i none lt in
+    let on : AreOnLine c.args.capacity c.args.tails.now c.args.loads.now c.take_line.new.line = record { are = c.requires.loads; few = c.requires.capacity; low = c.requires.tails; rising = c.requires.rising; is = c.take_line.ensures } in
+    let limit = filled_small c.args.capacity c.args.tails.now c.args.loads.now c.take_line.new.line (i + 1) c.fill-last.new.rooms c.max-filled.result (max c.loop-load.greatest (c.args.capacity * x.head + c.max-filled.result)) on (omega arith) (more (goal.at.overflow_add-capacity c).After-max-filled) in
+    omega (arith, limit, product_small c.args.capacity x.head c.requires.capacity small.head_limit)
+
+pub loop-load-preserved : goal.loop-load-preserved
+loop-load-preserved c =
+    let x : Load = slice_index_or c.args.loads.now c.loop-load.load-index none in
+    let value : ℕ = c.args.capacity * x.head + c.max-filled.result in
+    let greatest_is : c.max-greatest.result ≡ max c.loop-load.greatest value = c.max-greatest.ensures ∙ ord_max-max c.loop-load.greatest value in
+    record { filled = rw greatest_is (more (goal.at.loop-load-preserved c).After-max-filled); skips = c.fill-last.ensures.skips }
+
+pub returns-clause-greatest : goal.returns-clause-greatest
+returns-clause-greatest c =
+    let all : take c.loop-load.load-index c.args.loads.now ≡ c.args.loads.now = take_all c.loop-load.load-index c.args.loads.now (omega arith) in
+    record {
+      reached = c.loop-load.invariant.filled.reached;
+      above = subst (λ (xs : List Load). IsAbove c.args.capacity c.args.tails.now xs c.loop-load.greatest) all c.loop-load.invariant.filled.above;
+    }
+
+pub returns-clause-limit : goal.returns-clause-limit
+returns-clause-limit c = reached_small c.args.capacity c.args.tails.now c.args.loads.now c.loop-load.greatest c.requires.loads c.requires.capacity c.requires.tails c.loop-load.invariant.filled.reached

@@ -1,0 +1,6 @@
+use Rattle.std.proofs.Common.{◌<◌, ℕ, arith}
+use Rattle.bounds.proofs.Marks.{line_written}
+use Rattle.bounds.proofs.slots.take_line.Goals as goal
+
+pub returns : goal.returns
+returns c = line_written c.args.capacity c.args.tails.now c.loop-place.line (omega arith) (λ q lt. c.loop-place.invariant q (omega arith))
