@@ -84,12 +84,13 @@ fn assert_same_by_dice(
     dice: &mut Dice,
     lists: usize,
 ) -> Result<(), Fail> {
-    let mut rooms = task_rooms(alloc, project)?;
+    let mut kept = task_rooms(alloc, project)?;
+    let rooms = kept.as_mut_slice();
     for _ in 0..lists {
         let sides = 1 + dice.roll(30);
         let heads = rolls(alloc, dice, project.activity_count(), sides)?;
         let tails = rolls(alloc, dice, project.activity_count(), sides)?;
-        assert_same_between(rt, project, &heads, &tails, rooms.as_mut_slice());
+        assert_same_between(rt, project, &heads, &tails, rooms);
     }
     Ok(())
 }
