@@ -1,13 +1,13 @@
 -- What a line of slots has found, once some loads by falling head have filled it.
-use Rattle.std.proofs.Common.{◌≡◌, refl, sym, ap, ◌∙◌, subst, ℕ, suc, ◌+◌, ◌-◌, ◌*◌, ◌<◌, ◌≤◌, max, ◌⊎◌, inl, inr, ⊎_elim, List, [], ◌∷◌, length, get_or, take, map, arith, length-append}
+use Rattle.std.proofs.Common.{◌≡◌, refl, sym, ap, ◌∙◌, subst, ℕ, suc, ◌+◌, ◌-◌, ◌*◌, ◌<◌, ◌≤◌, max, ◌⊎◌, inl, inr, ⊎_elim, List, [], ◌∷◌, length, get_or, take, arith}
 use Rattle.std.specs.List.{All, Contains, sum_by}
 use Rattle.std.specs.List.Sorted.{IsNonDecreasing}
 use Rattle.std.proofs.lemmas.Bool.{cases_lt}
-use Rattle.std.proofs.lemmas.List.{get_or_default, get_or_append_left, get_or_push, get_or-map, length-map}
+use Rattle.std.proofs.lemmas.List.{get_or_default}
 use Rattle.std.proofs.lemmas.List.Sums.{sum_by-cons, sum_by-take-le, sum_by-le-sum_by}
 use Rattle.std.proofs.Math.Nat.{mul-le-mul_left}
 use Rattle.bounds.specs.declared.load.Load.{Load}
-use Rattle.bounds.specs.declared.limits.TheConstants.{FAR_MARK, MAX_CAPACITY, MAX_END, MAX_WORK}
+use Rattle.bounds.specs.declared.limits.TheConstants.{MAX_CAPACITY, MAX_END, MAX_WORK}
 use Rattle.bounds.specs.Loads.{IsSmall, AreLoads, work_after, share, IsReached, IsAbove}
 use Rattle.bounds.specs.Slots.{line_of, room_before, IsFilled}
 use Rattle.bounds.proofs.Rooms.{room_more}

@@ -1,7 +1,6 @@
-use Rattle.std.proofs.Common.{◌≡◌, ap, ◌<◌, ℕ, List, ◌-◌, get_or, set, length, subst, sym, arith}
+use Rattle.std.proofs.Common.{◌≡◌, ◌<◌, ℕ, List, ◌-◌, get_or, set, length, subst, sym, arith}
 use Rattle.std.proofs.lemmas.List.{length-set}
-use Rattle.bounds.specs.Slots.{AreSkips}
-use Rattle.bounds.proofs.Rooms.{IsFilling, filling_on, filling_inside, filling_end, skips_more}
+use Rattle.bounds.proofs.Rooms.{IsFilling, filling_on, filling_inside, filling_end}
 use Rattle.bounds.proofs.slots.fill.Goals as goal
 
 pub hop-place-requires-clause-next : goal.hop-place-requires-clause-next

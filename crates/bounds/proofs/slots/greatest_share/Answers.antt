@@ -1,4 +1,4 @@
-use Rattle.std.proofs.Common.{◌≡◌, ◌∙◌, ◌-◌, subst, ℕ, ◌+◌, ◌*◌, ◌<◌, ◌≤◌, max, List, length, take, get_or, slice_index_or, arith}
+use Rattle.std.proofs.Common.{◌≡◌, ◌∙◌, ◌-◌, subst, ℕ, ◌+◌, ◌*◌, ◌<◌, max, List, length, take, get_or, slice_index_or, arith}
 use Rattle.std.proofs.lemmas.List.{take_all, get_or_default}
 use Rattle.bounds.specs.declared.load.Load.{Load}
 use Rattle.bounds.specs.Loads.{IsSmall, IsAbove}

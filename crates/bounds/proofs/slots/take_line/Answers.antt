@@ -1,4 +1,4 @@
-use Rattle.std.proofs.Common.{◌<◌, ℕ, arith}
+use Rattle.std.proofs.Common.{arith}
 use Rattle.bounds.proofs.Marks.{line_written}
 use Rattle.bounds.proofs.slots.take_line.Goals as goal
 
