@@ -352,15 +352,6 @@ impl Book {
         self.best.as_ref()
     }
 
-    /// The best schedule, for which the book is given up.
-    pub fn into_best(self) -> Option<Schedule>
-        ensures best { result ≡ self.best }
-        ensures sound { IsSound self }
-    {
-        let Book { best, .. } = self;
-        best
-    }
-
     /// What became of each node, where the book was opened by [`Book::open_recorded`]. Once no node is open or in hand, it is a
     /// whole tree.
     pub fn trail(&self) -> Option<&Trail>
@@ -379,6 +370,18 @@ impl Book {
     {
         let Book { trail, .. } = self;
         trail
+    }
+
+    /// The best schedule and the trail of a book that is given up.
+    pub fn into_best_and_trail(self) -> (Option<Schedule>, Option<Trail>)
+        ensures best { result.0 ≡ self.best }
+        ensures trail { result.1 ≡ option_map (trail_for self.project) self.trail }
+        ensures sound { IsSound self }
+        ensures recorded { IfSome self.trail (IsRecorded self) }
+        ensures whole { live self ≡ [] → IfSome self.trail (IsWholeTree self.project (best_makespan self)) }
+    {
+        let Book { best, trail, .. } = self;
+        (best, trail)
     }
 
     /// The least of the best makespan and the bounds of the nodes open or in hand, in periods: no feasible schedule is
