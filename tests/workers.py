@@ -5,14 +5,15 @@ Runs the program N times (1,000 by default) with two to eight workers, each time
 small seeded ones, and compares what it says with what one thread says without workers: both have to give the same
 verdict, and each schedule has to pass `check`. Where one of them stops at its limit, its bound has to be at most what the
 other found, and a schedule that it found has to be at least as long as a shortest one. The last line counts the runs, and with
---counted, what the last such line of a log counts is added, as tests/run.py does."""
+--counted, what the last such line of a log counts is added."""
 import argparse
 import itertools
 import pathlib
-import re
 import subprocess
 import sys
 import tempfile
+
+from counting import counted
 
 ROOT = pathlib.Path(__file__).resolve().parent.parent
 sys.path.insert(0, str(ROOT / "bench"))
@@ -78,11 +79,6 @@ def is_refused(program, text, many):
     return (told.returncode, told.stdout) != (0, f"feasible {many.most}\n".encode())
 
 
-def counted(log):
-    lines = re.findall(r"^(\d+) passed, (\d+) failed", pathlib.Path(log).read_text(), re.M)
-    return tuple(map(int, lines[-1])) if lines else (0, 1)
-
-
 def main():
     parser = argparse.ArgumentParser()
     parser.add_argument("program")
@@ -92,7 +88,7 @@ def main():
     program = str(pathlib.Path(options.program).resolve())
     given = [(name, text, Answer(run(program, ["solve", "--nodes", TAKES], text))) for name, text in project_texts()]
     turns = zip(itertools.cycle(given), itertools.cycle(range(2, 9)), range(options.runs))
-    passed, failed = counted(options.counted) if options.counted else (0, 0)
+    passed, failed = counted(options.counted)
     for (name, text, alone), workers, _ in turns:
         many = Answer(run(program, ["solve", "--workers", str(workers), "--nodes", TAKES], text))
         why = disagreement(alone, many)
