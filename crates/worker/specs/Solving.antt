@@ -1,9 +1,13 @@
 -- What a search by workers says in the end.
-use Rattle.std.specs.Prelude.{◌≡◌, ◌+◌, ◌<◌, ◌↔◌, ℕ, sum, vec_len}
+use Rattle.std.specs.Prelude.{◌≡◌, ◌+◌, ◌<◌, ◌↔◌, ℕ, Option, None, Some, sum, vec_len}
 use Rattle.network.specs.Problem.{Problem}
+use Rattle.network.specs.Schedule.{ScheduleOf}
+use Rattle.branching.specs.Covered.{ceiling_of}
 use Rattle.branching.specs.Verdicts.{IsTrueOf}
 use Rattle.branching.specs.declared.outcome.Outcome.{Outcome}
 use Rattle.branching.specs.declared.outcome.Outcome.TheVariants.{Optimal, NoSchedule, Stopped}
+use Rattle.book.specs.Trail.{TrailOf}
+use Rattle.book.specs.RightTrail.{IsWholeTree}
 use Rattle.worker.specs.declared.solution.Solved.{Solved}
 
 -- the search was stopped before it was over
@@ -20,3 +24,14 @@ pub record IsSolution (p : Problem) (workers takes : ℕ) (solved : Solved) : Ty
   pub taken : IsStopped solved.outcome → solved.counts.taken ≡ takes
   pub each : vec_len solved.per_worker ≡ workers
   pub shares : sum solved.per_worker.items ≡ solved.counts.checked
+
+-- the shortest schedule that was found
+abbrev pub best_of : Outcome → Option ScheduleOf
+best_of (Optimal best) = Some best
+best_of NoSchedule = None
+best_of (Stopped best bound) = best
+
+-- The trail is of the project. Where the search was not stopped, it is a whole tree under the makespan of the outcome.
+pub record IsTrailOf (p : Problem) (outcome : Outcome) (trail : TrailOf) : Type 0 where
+  pub of_project : trail.project ≡ p
+  pub whole : ¬ IsStopped outcome → IsWholeTree p (ceiling_of (best_of outcome)) trail.entries

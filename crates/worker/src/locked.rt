@@ -12,6 +12,8 @@ pub(crate) struct Locked<L: Ledger> {
     pub(crate) shares: ledger::Book<L>,
     /// A share without a part, for whoever gathers the others in the end.
     pub(crate) rest: Share<L>,
+    /// Whether a worker waits for a change of the book.
+    pub(crate) awaited: bool,
     ghost tied: { book.checked ≡ shares.total },
     ghost no_part: { (rest.parts ≡ 0) × (rest.amount ≡ 0) },
 }
@@ -34,6 +36,7 @@ impl<L: Ledger> Locked<L> {
             book,
             shares,
             rest: _,
+            awaited: _,
         } = self;
         let checked = book.check_in(name, report);
         if checked.is_ok() {

@@ -11,8 +11,9 @@ use book::{Book, CheckFault, OtherProject, Take, Ticket};
 use branching::Report;
 use network::{Project, Schedule};
 use std::alloc::{AllocError, Global};
+use std::mem;
 use std::sync::ledger::{Blank, Ledger, Share};
-use std::sync::{Arc, Condvar, Mutex, Wait};
+use std::sync::{Arc, Condvar, Mutex, MutexGuard, Wait};
 
 /// What workers share: the book under its lock, a bell that tells of its changes, and the best word.
 #[derive(Drop)]
@@ -103,15 +104,47 @@ impl<L: Ledger> Shared<L> {
         ensures limits { RefusesLimits workers takes result }
     {
         let book = Book::open(alloc, project, workers, takes)?;
+        let opened = Shared::around(alloc, blank, book, workers)?;
+        Ok(opened)
+    }
+
+    /// A book that has checked nothing in under a new lock, and a desk for each worker.
+    pub(crate) fn around(
+        alloc: Global,
+        blank: Blank,
+        book: Book,
+        workers: usize,
+    ) -> Result<(Shared<L>, Vec<Desk<L>>), AllocError>
+        requires name { blank.name ≡ L.name }
+        requires parts { blank.parts ≡ L.parts }
+        requires one_each { blank.parts ≡ workers }
+        requires unused { book.checked ≡ 0 }
+        ensures desks { IfOk result (λ r. vec_len r.1 ≡ workers) }
+        ensures each { IfOk result (λ r. IsRow r.0 r.1.items) }
+    {
         let (best, seat) = BestWord::open(alloc, u64::MAX)?;
         let (shares, all) = blank.open::<L>();
         let (desks, rest) = desks_for(alloc, workers, &best, seat, all)?;
         let shared = Shared {
-            locked: Mutex::new(Locked { book, shares, rest }),
+            locked: Mutex::new(Locked {
+                book,
+                shares,
+                rest,
+                awaited: false,
+            }),
             changed: Condvar::new(),
             best,
         };
         Ok((shared, desks))
+    }
+
+    /// Gives the lock back, and wakes up those who wait for a change.
+    fn wake_up(&self, mut locked: MutexGuard<Locked<L>>) {
+        let awaited = mem::replace(&mut locked.awaited, false);
+        drop(locked);
+        if awaited {
+            self.changed.notify_all();
+        }
     }
 
     /// The next node for a worker, which waits for one while all nodes are in other hands. None where the book has none
@@ -121,11 +154,14 @@ impl<L: Ledger> Shared<L> {
         for _ in rt.forever() {
             match locked.book.take(worker) {
                 Take::Ticket(ticket) => return Some(ticket),
-                Take::Idle => locked = self.changed.wait(rt, locked),
+                Take::Idle => {
+                    locked.awaited = true;
+                    locked = self.changed.wait(rt, locked);
+                }
                 _ => break,
             }
         }
-        self.changed.notify_all();
+        self.wake_up(locked);
         None
     }
 
@@ -149,11 +185,12 @@ impl<L: Ledger> Shared<L> {
             seat: _,
             searcher: _,
         } = desk;
-        let checked = self.locked.lock(rt).check_in(share, name, report);
+        let mut locked = self.locked.lock(rt);
+        let checked = locked.check_in(share, name, report);
+        self.wake_up(locked);
         match checked {
             Ok(_) => {
                 *accepted += 1;
-                self.changed.notify_all();
                 Ok(())
             }
             Err((_, fault)) => {
@@ -176,21 +213,23 @@ impl<L: Ledger> Shared<L> {
             fault => WorkFault::Refused(fault),
         };
         locked.book.halt();
-        self.changed.notify_all();
+        self.wake_up(locked);
         ended
     }
 
     /// Ends the search: no node is handed out from now on.
     pub(crate) fn halt<R: Wait>(&self, rt: &R) {
-        self.locked.lock(rt).book.halt();
-        self.changed.notify_all();
+        let mut locked = self.locked.lock(rt);
+        locked.book.halt();
+        self.wake_up(locked);
     }
 
     /// Gives the node in hand under a name back, as [`Book::give_back`] does, and wakes up those who wait. Any thread
     /// may call it at any time; a worker whose node is given back so ends with [`SolveFault::Refused`].
     pub fn give_back<R: Wait>(&self, rt: &R, name: u64) -> Result<(), CheckFault> {
-        let given = self.locked.lock(rt).book.give_back(name);
-        self.changed.notify_all();
+        let mut locked = self.locked.lock(rt);
+        let given = locked.book.give_back(name);
+        self.wake_up(locked);
         given
     }
 
@@ -201,8 +240,9 @@ impl<L: Ledger> Shared<L> {
         rt: &R,
         schedule: Schedule,
     ) -> Result<bool, (Schedule, OtherProject)> {
-        let offered = self.locked.lock(rt).book.offer(schedule);
-        self.changed.notify_all();
+        let mut locked = self.locked.lock(rt);
+        let offered = locked.book.offer(schedule);
+        self.wake_up(locked);
         offered
     }
 
@@ -233,6 +273,7 @@ impl<L: Ledger> Shared<L> {
             book,
             mut shares,
             rest,
+            awaited: _,
         } = locked.into_inner();
         let (tallies, mut all) = gather(alloc, desks, rest)?;
         shares.audit(&mut all);

@@ -1,4 +1,4 @@
-ghost use Rattle.std.specs.Prelude.{◌≡◌, ◌+◌, ◌<◌, ◌↔◌, IfOk, IfErr, length, map, sum_by, vec_len};
+ghost use Rattle.std.specs.Prelude.{◌≡◌, ◌+◌, ◌<◌, ◌↔◌, IfOk, IfErr, IfSome, length, map, sum_by, vec_len};
 ghost use Rattle.std.specs.Arc.{arc_value};
 ghost use Rattle.std.specs.Bool.{OnTrue};
 ghost use Rattle.book.specs.State.{live};
@@ -6,14 +6,14 @@ ghost use Rattle.book.specs.Opening.{AreAllowed};
 ghost use Rattle.branching.specs.Verdicts.{IsTrueOf};
 ghost use Rattle.worker.specs.Desks.{IsRow};
 ghost use Rattle.worker.specs.Faults.{IsWithinLimits, RefusesLimits};
-ghost use Rattle.worker.specs.Solving.{IsStopped, IsSolution};
+ghost use Rattle.worker.specs.Solving.{IsStopped, IsSolution, IsTrailOf};
 
 use crate::desk::{Desk, Tally};
 use crate::fault::SolveFault;
 use crate::gate::Gate;
 use crate::shared::Shared;
 use crate::threads::run_workers;
-use book::{Book, Counts, Verdict, are_allowed, is_same_project};
+use book::{Book, Counts, Trail, Verdict, are_allowed, is_same_project};
 use branching::Outcome;
 use network::{Project, Schedule};
 use std::alloc::{AllocError, Global};
@@ -58,20 +58,20 @@ fn offer_start<L: Ledger, R: Wait>(
     Ok(())
 }
 
-/// What a book says in the end.
-fn outcome_of(book: Book) -> Outcome
-    ensures true_of { IsTrueOf book.project result }
-    ensures left { IsStopped result ↔ (0 < length (live book)) }
+/// What a book says in the end, and its trail, if it kept one.
+fn outcome_of(book: Book) -> (Outcome, Option<Trail>)
+    ensures true_of { IsTrueOf book.project result.0 }
+    ensures left { IsStopped result.0 ↔ (0 < length (live book)) }
+    ensures trail { IfSome result.1 (IsTrailOf book.project result.0) }
 {
-    match book.verdict() {
-        Verdict::Open { best: _, bound } => Outcome::Stopped {
-            best: book.into_best(),
-            bound,
-        },
-        _ => match book.into_best() {
-            Some(best) => Outcome::Optimal(best),
-            None => Outcome::NoSchedule,
-        },
+    let verdict = book.verdict();
+    let (best, trail) = book.into_best_and_trail();
+    if let Verdict::Open { best: _, bound } = verdict {
+        return (Outcome::Stopped { best, bound }, trail);
+    }
+    match best {
+        Some(best) => (Outcome::Optimal(best), trail),
+        None => (Outcome::NoSchedule, trail),
     }
 }
 
@@ -82,16 +82,17 @@ fn is_over(counts: &Counts, takes: u64) -> bool
     (counts.waiting() == 0 && counts.hand() == 0) || counts.taken() == takes
 }
 
-/// The outcome of a book whose workers have all ended. Its project has to be the one that was handed in.
+/// The outcome of a book whose workers have all ended, and its trail. Its project has to be the one that was handed in.
 fn conclude(
     alloc: Global,
     project: &Project,
     takes: u64,
     book: Book,
     tallies: &[Tally],
-) -> Result<Solved, SolveFault>
+) -> Result<(Solved, Option<Trail>), SolveFault>
     requires { sum_by (λ t. t.accepted) tallies.now ≡ book.checked }
-    ensures solution { IfOk result (IsSolution project.now (length tallies.now) takes) }
+    ensures solution { IfOk result (λ r. IsSolution project.now (length tallies.now) takes r.0) }
+    ensures trail { IfOk result (λ r. IfSome r.1 (IsTrailOf project.now r.0.outcome)) }
     ensures fault { IfErr result IsWithinLimits }
 {
     if !is_same_project(book.project(), project) {
@@ -102,38 +103,42 @@ fn conclude(
         return Err(SolveFault::Thread);
     }
     let per_worker = accepted(alloc, tallies)?;
-    Ok(Solved {
-        outcome: outcome_of(book),
+    let (outcome, trail) = outcome_of(book);
+    let solved = Solved {
+        outcome,
         counts,
         per_worker,
-    })
+    };
+    Ok((solved, trail))
 }
 
-fn solve_under<L: Ledger + Send + Sync, G: Gate, R: Threads + Wait + Sync>(
+/// Searches with a book that has checked nothing in, and that allows so many workers and takes.
+fn search_with<L: Ledger + Send + Sync, G: Gate, R: Threads + Wait + Sync>(
     rt: &R,
     alloc: Global,
     blank: Blank,
-    project: Arc<Project>,
+    project: &Project,
+    book: Book,
     workers: usize,
     takes: u64,
     start: Option<Schedule>,
     gate: &G,
-) -> Result<Solved, SolveFault>
+) -> Result<(Solved, Option<Trail>), SolveFault>
     requires name { blank.name ≡ L.name }
     requires parts { blank.parts ≡ L.parts }
     requires one_each { blank.parts ≡ workers }
-    requires allowed { AreAllowed workers takes }
-    ensures solution { IfOk result (IsSolution (arc_value project) workers takes) }
+    requires unused { book.checked ≡ 0 }
+    ensures solution { IfOk result (λ r. IsSolution project.now workers takes r.0) }
+    ensures trail { IfOk result (λ r. IfSome r.1 (IsTrailOf project.now r.0.outcome)) }
     ensures fault { IfErr result IsWithinLimits }
 {
-    let own = Arc::try_clone(&project)?;
-    let (shared, mut desks) = Shared::<L>::open(alloc, blank, own, workers, takes)?;
+    let (shared, mut desks) = Shared::<L>::around(alloc, blank, book, workers)?;
     if let Some(start) = start {
         offer_start(rt, &shared, &mut desks, start)?;
     }
     let desks = run_workers(rt, alloc, &shared, desks, gate)?;
     let (book, tallies) = shared.close(alloc, desks)?;
-    conclude(alloc, &project, takes, book, tallies.as_slice())
+    conclude(alloc, project, takes, book, tallies.as_slice())
 }
 
 /// Searches a project with workers in threads of their own: 1 to [`MAX_WORKERS`](book::MAX_WORKERS) of them, which
@@ -156,6 +161,39 @@ pub fn solve<G: Gate, R: Threads + Wait + Sync>(
     if !are_allowed(workers, takes) {
         return Err(SolveFault::Limit);
     }
+    let book = Book::open(alloc, Arc::try_clone(&project)?, workers, takes)?;
     let blank = Blank::new(workers as u64);
-    solve_under::<Brand, G, R>(rt, alloc, blank, project, workers, takes, start, gate)
+    let (solved, _) = search_with::<Brand, G, R>(
+        rt, alloc, blank, &project, book, workers, takes, start, gate,
+    )?;
+    Ok(solved)
+}
+
+/// Searches as [`solve`] does, and keeps a trail: what became of each node that was opened. Where the search was not
+/// stopped, a record of it can be made of the trail and the shortest schedule.
+pub fn solve_recorded<G: Gate, R: Threads + Wait + Sync>(
+    rt: &R,
+    alloc: Global,
+    project: Arc<Project>,
+    workers: usize,
+    takes: u64,
+    start: Option<Schedule>,
+    gate: &G,
+) -> Result<(Solved, Trail), SolveFault>
+    ensures solution { IfOk result (λ r. IsSolution (arc_value project) workers takes r.0) }
+    ensures trail { IfOk result (λ r. IsTrailOf (arc_value project) r.0.outcome r.1) }
+    ensures limits { RefusesLimits workers takes result }
+{
+    if !are_allowed(workers, takes) {
+        return Err(SolveFault::Limit);
+    }
+    let book = Book::open_recorded(alloc, Arc::try_clone(&project)?, workers, takes)?;
+    let blank = Blank::new(workers as u64);
+    let (solved, trail) = search_with::<Brand, G, R>(
+        rt, alloc, blank, &project, book, workers, takes, start, gate,
+    )?;
+    match trail {
+        Some(trail) => Ok((solved, trail)),
+        None => Err(SolveFault::Thread),
+    }
 }

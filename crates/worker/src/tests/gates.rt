@@ -2,7 +2,7 @@ ghost use Rattle.std.specs.Prelude.{◌≡◌};
 ghost use Rattle.std.specs.Arc.{arc_value};
 
 use crate::tests::{fault_of, numbers, optimal_starts, searched};
-use crate::{Gate, Moment, SolveFault, solve};
+use crate::{Gate, Moment, SolveFault, solve, solve_recorded};
 use branching::{Lean, Report, Searcher};
 use std::alloc::{AllocError, Global};
 use std::sync::atomic::{AtomicU64, Ordering};
@@ -74,6 +74,18 @@ fn nodes_are_expanded_by_several_threads_without_the_lock(rt: HostRuntime) -> Re
     assert_eq!(rt; gate.gave_up.load(Ordering::SeqCst), 0);
     assert_eq!(rt; gate.calls.load(Ordering::SeqCst), 3);
     assert_eq!(rt; numbers(&solved.counts), [7, 3, 4, 3, 0, 0]);
+    Ok(())
+}
+
+#[test]
+fn a_search_by_several_threads_keeps_a_trail(rt: HostRuntime) -> Result<(), Fail> {
+    let gate = holds_second();
+    let project = Arc::new(rt.alloc(), three_on_two(rt.alloc())?)?;
+    let (solved, trail) = solve_recorded(&rt, rt.alloc(), project, 2, 100, None, &gate)?;
+    assert_eq!(rt; optimal_starts(&solved.outcome)?.last(), Some(&4));
+    assert_eq!(rt; gate.gave_up.load(Ordering::SeqCst), 0);
+    assert_eq!(rt; gate.calls.load(Ordering::SeqCst), 3);
+    assert_eq!(rt; trail.entries().len(), 7);
     Ok(())
 }
 

@@ -1,5 +1,5 @@
 use crate::tests::{alone, fault_of, numbers, optimal_starts, schedule, searched};
-use crate::{OpenGate, SolveFault, solve};
+use crate::{OpenGate, SolveFault, solve, solve_recorded};
 use branching::Outcome;
 use std::sync::Arc;
 use std::test::Fail;
@@ -90,6 +90,15 @@ fn a_start_that_is_shortest_needs_no_take(rt: HostRuntime) -> Result<(), Fail> {
     let solved = solve(&rt, rt.alloc(), project, 1, 100, Some(start), &OpenGate)?;
     assert_eq!(rt; optimal_starts(&solved.outcome)?, [0, 0, 3, 7].as_slice());
     assert_eq!(rt; numbers(&solved.counts), [1, 0, 1, 0, 0, 0]);
+    Ok(())
+}
+
+#[test]
+fn a_recorded_search_that_is_stopped_has_a_trail(rt: HostRuntime) -> Result<(), Fail> {
+    let project = Arc::new(rt.alloc(), one_machine(rt.alloc(), &[])?)?;
+    let (solved, trail) = solve_recorded(&rt, rt.alloc(), project, 1, 1, None, &OpenGate)?;
+    assert_eq!(rt; numbers(&solved.counts), [3, 1, 0, 1, 2, 0]);
+    assert_eq!(rt; trail.entries().len(), 3);
     Ok(())
 }
 

@@ -1,4 +1,4 @@
 use Rattle.worker.proofs.solution.solve.Given as goal
 
-abbrev pub ghosts-solve_under : goal.ghosts-solve_under
-ghosts-solve_under g a = record { name = a.blank.name; parts = a.blank.parts }
+abbrev pub ghosts-search_with : goal.ghosts-search_with
+ghosts-search_with g a = record { name = a.blank.name; parts = a.blank.parts }
