@@ -17,6 +17,7 @@ pub reads_none : (job : Job) → has_workers job ≡ false → project_is_second
 reads_none jobs.Earliest alone first = refl
 reads_none jobs.Check alone first = cc
 reads_none jobs.Tidy alone first = refl
+reads_none jobs.Verify alone first = cc
 reads_none (jobs.Solve None takes start json) alone first = alone
 reads_none (jobs.Solve (Some n) takes start json) alone first = cc
 
@@ -25,6 +26,7 @@ pub project_is_first : (job : Job) → has_workers job ≡ true → project_is_s
 project_is_first jobs.Earliest workers = refl
 project_is_first jobs.Check workers = cc
 project_is_first jobs.Tidy workers = refl
+project_is_first jobs.Verify workers = cc
 project_is_first (jobs.Solve n takes start json) workers = refl
 
 -- what a search in one thread by itself answers is an answer of a job without workers

@@ -10,6 +10,11 @@ use Rattle.sch_reader.specs.Canonical.{canonical_text}
 use Rattle.schedule_check.specs.declared.violation.Violation.{Violation}
 use Rattle.schedule_check.specs.declared.violation.Violation.TheVariants as violation
 use Rattle.schedule_check.specs.Violations.{violations}
+use Rattle.record_text.specs.SearchRecord.{SearchRecord}
+use Rattle.search_record.specs.Right.{IsRight}
+use Rattle.search_record.specs.Proves.{proved_of, IsTrueOf}
+use Rattle.search_record.specs.declared.proved.Proved.{Proved}
+use Rattle.search_record.specs.declared.proved.Proved.TheVariants as proved
 use Rattle.solver_cli.specs.JsonLine.{json_line}
 
 -- a line for each activity, from this one on: its number and its start
@@ -77,6 +82,19 @@ IsCheckText p starts exit written = IsFeasibleText p starts exit written ⊎ IsV
 -- the canonical text of the project
 pub record IsTidyText (p : Problem) (exit : ℕ) (written : List ℕ) : Type 0 where
   pub text : written ≡ canonical_text p
+  pub status : exit ≡ 0
+
+-- ---- what `verify` says
+
+abbrev pub proved_line : Proved → List ℕ
+proved_line (proved.Optimal makespan) = codes "proved optimal " ++ (signed_decimal makespan ++ codes "\n")
+proved_line proved.NoSchedule = codes "proved no schedule\n"
+
+-- the record is right for the project: what it claims, which is true
+pub record IsProvedText (p : Problem) (shown : SearchRecord) (exit : ℕ) (written : List ℕ) : Type 0 where
+  pub right : IsRight p shown
+  pub true_of : IsTrueOf p (proved_of shown.claim)
+  pub text : written ≡ proved_line (proved_of shown.claim)
   pub status : exit ≡ 0
 
 -- ---- what `solve` says

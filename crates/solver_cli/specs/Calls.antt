@@ -5,6 +5,8 @@ use Rattle.solver_cli.specs.declared.call.Job.TheVariants as jobs
 use Rattle.solver_cli.specs.declared.call.Call.{Call}
 use Rattle.solver_cli.specs.declared.call.TheConstants.{ONE_WORKER}
 use Rattle.book.specs.Opening.{AreAllowed}
+use Rattle.words.specs.declared.TheConstants.{MAX_TEXT_BYTES}
+use Rattle.record_text.specs.declared.TheConstants.{MAX_RECORD_BYTES}
 
 -- how many workers a search has
 abbrev pub worker_count : Option ℕ → ℕ
@@ -15,6 +17,7 @@ abbrev pub IsJob : Job → Type 0
 IsJob jobs.Earliest = Unit {0}
 IsJob jobs.Check = Unit {0}
 IsJob jobs.Tidy = Unit {0}
+IsJob jobs.Verify = Unit {0}
 IsJob (jobs.Solve workers takes start json) = AreAllowed (worker_count workers) takes
 
 -- whether a job reads a second input
@@ -22,6 +25,7 @@ abbrev pub reads_second : Job → Bool
 reads_second jobs.Earliest = false
 reads_second jobs.Check = true
 reads_second jobs.Tidy = false
+reads_second jobs.Verify = true
 reads_second (jobs.Solve workers takes start json) = start
 
 -- whether it writes a record
@@ -29,6 +33,7 @@ abbrev pub writes_record : Job → Bool
 writes_record jobs.Earliest = false
 writes_record jobs.Check = false
 writes_record jobs.Tidy = false
+writes_record jobs.Verify = false
 writes_record (jobs.Solve workers takes start json) = false
 
 -- whether it reads its project from the second input, and not from the first
@@ -36,6 +41,7 @@ abbrev pub project_is_second : Job → Bool
 project_is_second jobs.Earliest = false
 project_is_second jobs.Check = true
 project_is_second jobs.Tidy = false
+project_is_second jobs.Verify = true
 project_is_second (jobs.Solve workers takes start json) = false
 
 -- whether workers search; one thread searches by itself where neither workers are asked for nor starts
@@ -44,7 +50,16 @@ abbrev pub has_workers : Job → Bool
 has_workers jobs.Earliest = false
 has_workers jobs.Check = false
 has_workers jobs.Tidy = false
+has_workers jobs.Verify = false
 has_workers (jobs.Solve workers takes start json) = is_some workers || start
+
+-- how many bytes its first input may have: a project, starts, or a record
+abbrev pub input_limit : Job → ℕ
+input_limit jobs.Earliest = MAX_TEXT_BYTES
+input_limit jobs.Check = MAX_TEXT_BYTES
+input_limit jobs.Tidy = MAX_TEXT_BYTES
+input_limit jobs.Verify = MAX_RECORD_BYTES
+input_limit (jobs.Solve workers takes start json) = MAX_TEXT_BYTES
 
 -- the job is within the limits, and just the files that it uses have names
 pub record IsCall (c : Call) : Type 0 where

@@ -4,6 +4,9 @@ use Rattle.sch_reader.specs.declared.fault.SchFault.{SchFault}
 use Rattle.sch_reader.specs.declared.fault.SchFault.TheVariants as texts
 use Rattle.schedule_check.specs.declared.fault.StartsFault.{StartsFault}
 use Rattle.schedule_check.specs.declared.fault.StartsFault.TheVariants as starts
+use Rattle.record_text.specs.declared.fault.RecordFault.{RecordFault}
+use Rattle.record_text.specs.declared.fault.Why.{Why}
+use Rattle.record_text.specs.declared.fault.Why.TheVariants as why
 use Rattle.solver_cli.specs.declared.fault.Fault.{Fault}
 use Rattle.solver_cli.specs.declared.fault.Fault.TheVariants as faults
 
@@ -30,7 +33,24 @@ starts_fault_of (starts.Repeated line) = faults.Repeated line
 starts_fault_of (starts.Missing activity) = faults.Missing activity
 starts_fault_of starts.Memory = faults.Memory
 
--- the exit status: 1 for memory, threads and devices, 2 for a text that isn't what it should be
+-- what is wrong with a line of a record
+abbrev pub line_fault : ℕ → Why → Fault
+line_fault line why.Form = faults.RecordForm line
+line_fault line why.Short = faults.RecordShort line
+line_fault line why.Trailing = faults.RecordTrailing line
+line_fault line why.Start = faults.RecordStart line
+line_fault line why.Force = faults.RecordForce line
+line_fault line why.Set = faults.RecordSet line
+line_fault line why.Leaf = faults.RecordLeaf line
+line_fault line why.Memory = faults.Memory
+line_fault line why.TooLong = faults.TooLong
+
+-- the fault of a record's text, or of what the record says
+abbrev pub record_fault_of : RecordFault → Fault
+record_fault_of fault = line_fault fault.line fault.why
+
+-- the exit status: 1 for memory, threads and devices, 2 for a text that isn't what it should be, 4 for a
+-- record that isn't right
 abbrev pub exit_of : Fault → ℕ
 exit_of faults.Memory = 1
 exit_of faults.ReadFailed = 1
@@ -52,6 +72,13 @@ exit_of (faults.StartsToken line) = 2
 exit_of (faults.StartsActivity line) = 2
 exit_of (faults.Repeated line) = 2
 exit_of (faults.Missing activity) = 2
+exit_of (faults.RecordForm line) = 2
+exit_of (faults.RecordShort line) = 2
+exit_of (faults.RecordTrailing line) = 2
+exit_of (faults.RecordStart line) = 4
+exit_of (faults.RecordForce line) = 4
+exit_of (faults.RecordSet line) = 4
+exit_of (faults.RecordLeaf line) = 4
 
 -- it is not that a device failed
 abbrev pub IsNoDeviceFault : Fault → Type 0

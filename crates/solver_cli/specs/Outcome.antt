@@ -8,13 +8,18 @@ use Rattle.sch_reader.specs.declared.fault.SchFault.{SchFault}
 use Rattle.sch_reader.specs.Text.{Spells, IsFirstFault}
 use Rattle.schedule_check.specs.declared.fault.StartsFault.{StartsFault}
 use Rattle.schedule_check.specs.Starts.{starts_fault, starts_of}
+use Rattle.record_text.specs.SearchRecord.{SearchRecord}
+use Rattle.record_text.specs.Text as records
+use Rattle.record_text.specs.TextFaults.{IsFirstTextFault}
+use Rattle.record_text.specs.declared.fault.RecordFault.{RecordFault}
+use Rattle.search_record.specs.Faults as wrongs
 use Rattle.solver_cli.specs.declared.call.Job.{Job}
 use Rattle.solver_cli.specs.declared.call.Job.TheVariants as jobs
 use Rattle.solver_cli.specs.declared.fault.Fault.{Fault}
-use Rattle.solver_cli.specs.Answers.{IsEarliestText, IsCheckText, IsSolveText, IsStartedText, IsTidyText}
+use Rattle.solver_cli.specs.Answers.{IsEarliestText, IsCheckText, IsSolveText, IsStartedText, IsTidyText, IsProvedText}
 use Rattle.solver_cli.specs.Calls.{reads_second}
 use Rattle.solver_cli.specs.Devices.{TookFront}
-use Rattle.solver_cli.specs.Faults.{fault_of, starts_fault_of}
+use Rattle.solver_cli.specs.Faults.{fault_of, starts_fault_of, record_fault_of}
 
 -- the text spells a project, which has this property
 pub record SpellsOne (text : List ℕ) (P : Problem → Type 0) : Type 0 where
@@ -45,6 +50,28 @@ pub record IsFirstStartsFault (p : Problem) (text : List ℕ) (fault : Fault) : 
   pub first : starts_fault (activity_count p) text ≡ Some cause
   pub told : fault ≡ starts_fault_of cause
 
+-- the text is that of a record, which has this property
+pub record GivesRecord (text : List ℕ) (P : SearchRecord → Type 0) : Type 0 where
+  pub shown : SearchRecord
+  pub spells : records.Spells text shown
+  pub has : P shown
+
+-- the text is that of no record, and this is its first fault
+pub record IsRecordTextFault (text : List ℕ) (fault : Fault) : Type 0 where
+  pub cause : RecordFault
+  pub first : IsFirstTextFault text cause
+  pub told : fault ≡ record_fault_of cause
+
+-- the record isn't right for the project, and this is its first fault
+pub record IsRecordFault (p : Problem) (shown : SearchRecord) (fault : Fault) : Type 0 where
+  pub cause : RecordFault
+  pub first : wrongs.IsFirstFault p shown cause
+  pub told : fault ≡ record_fault_of cause
+
+-- why a text proves nothing of the project
+abbrev pub IsNoProof : Problem → List ℕ → Fault → Type 0
+IsNoProof p text fault = IsRecordTextFault text fault ⊎ GivesRecord text (λ shown. IsRecordFault p shown fault)
+
 -- what a job writes for its two texts, and the exit status
 abbrev pub IsAnswer : Job → List ℕ → List ℕ → ℕ → List ℕ → Type 0
 IsAnswer jobs.Earliest text second exit written = SpellsOne text (λ p. IsEarliestText p exit written)
@@ -52,6 +79,7 @@ IsAnswer (jobs.Solve workers takes false json) text second exit written = Spells
 IsAnswer (jobs.Solve workers takes true json) text second exit written = SpellsOne text (λ p. GivesStarts p second (λ starts. IsStartedText p starts json exit written))
 IsAnswer jobs.Check text second exit written = SpellsOne second (λ p. GivesStarts p text (λ starts. IsCheckText p starts exit written))
 IsAnswer jobs.Tidy text second exit written = SpellsOne text (λ p. IsTidyText p exit written)
+IsAnswer jobs.Verify text second exit written = SpellsOne second (λ p. GivesRecord text (λ shown. IsProvedText p shown exit written))
 
 -- why a job has no answer to its two texts
 abbrev pub IsRefusal : Job → List ℕ → List ℕ → Fault → Type 0
@@ -60,6 +88,7 @@ IsRefusal (jobs.Solve workers takes false json) text second fault = HasFault tex
 IsRefusal (jobs.Solve workers takes true json) text second fault = HasFault text fault ⊎ SpellsOne text (λ p. IsFirstStartsFault p second fault)
 IsRefusal jobs.Check text second fault = HasFault second fault ⊎ SpellsOne second (λ p. IsFirstStartsFault p text fault)
 IsRefusal jobs.Tidy text second fault = HasFault text fault
+IsRefusal jobs.Verify text second fault = HasFault second fault ⊎ SpellsOne second (λ p. IsNoProof p text fault)
 
 -- workers have searched: the text spells a project, and starts that were handed in are a feasible
 -- schedule of it

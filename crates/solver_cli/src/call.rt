@@ -1,5 +1,5 @@
-ghost use Rattle.std.specs.Prelude.{◌≡◌, IfOk, IfSome};
-ghost use Rattle.solver_cli.specs.Calls.{IsCall};
+ghost use Rattle.std.specs.Prelude.{◌≡◌, true, false, IfOk, IfSome};
+ghost use Rattle.solver_cli.specs.Calls.{IsCall, IsJob, reads_second, writes_record};
 
 use crate::help;
 use book::{MAX_WORKERS, are_allowed};
@@ -35,6 +35,8 @@ pub enum Job {
     Check,
     /// Print the canonical text of a project.
     Tidy,
+    /// Say what the record on standard input proves of a project in a file.
+    Verify,
 }
 
 impl Job {
@@ -147,6 +149,17 @@ fn check_command<'a>(alloc: Global) -> Result<Command<'a>, AllocError> {
     subcommand(alloc, "check", about, help::CHECK).arg(project)
 }
 
+fn verify_command<'a>(alloc: Global) -> Result<Command<'a>, AllocError> {
+    let project = Arg::new(alloc, "project")
+        .long("project")
+        .value_name("FILE")
+        .help("The project that the record is checked against")
+        .action(ArgAction::Set)
+        .required(true);
+    let about = "Check the record of a search against a project in a file";
+    subcommand(alloc, "verify", about, help::VERIFY).arg(project)
+}
+
 fn tidy_command<'a>(alloc: Global) -> Command<'a> {
     let about = "Print the canonical text of a project";
     subcommand(alloc, "tidy", about, help::TIDY)
@@ -162,7 +175,8 @@ fn command<'a>(alloc: Global) -> Result<Command<'a>, AllocError> {
         .subcommand(earliest_command(alloc))?
         .subcommand(solve_command(alloc)?)?
         .subcommand(check_command(alloc)?)?
-        .subcommand(tidy_command(alloc))
+        .subcommand(tidy_command(alloc))?
+        .subcommand(verify_command(alloc)?)
 }
 
 fn earliest_call() -> Call
@@ -209,16 +223,23 @@ fn solve_call(alloc: Global, matches: &ArgMatches<'_>) -> Result<Option<Call>, A
     }))
 }
 
-/// The call of a job that reads a project from a file; none where the file isn't named, which `clap`
-/// doesn't let pass.
-fn check_call(alloc: Global, matches: &ArgMatches<'_>) -> Result<Option<Call>, AllocError>
+/// The call of a job that reads a project from a file and has no more to be said; none where the file isn't
+/// named, which `clap` doesn't let pass.
+fn project_call(
+    alloc: Global,
+    job: Job,
+    matches: &ArgMatches<'_>,
+) -> Result<Option<Call>, AllocError>
+    requires job { IsJob job }
+    requires second { reads_second job ≡ true }
+    requires unrecorded { writes_record job ≡ false }
     ensures { IfOk result (λ call. IfSome call IsCall) }
 {
     let Some(name) = file_name(alloc, matches, "project")? else {
         return Ok(None);
     };
     Ok(Some(Call {
-        job: Job::Check,
+        job,
         second: Some(name),
         record_file: None,
     }))
@@ -242,8 +263,9 @@ fn found_call(alloc: Global, matches: &ArgMatches<'_>) -> Result<Option<Call>, A
     match matches.subcommand() {
         Some(("earliest", _)) => Ok(Some(earliest_call())),
         Some(("solve", found)) => solve_call(alloc, found),
-        Some(("check", found)) => check_call(alloc, found),
+        Some(("check", found)) => project_call(alloc, Job::Check, found),
         Some(("tidy", _)) => Ok(Some(tidy_call())),
+        Some(("verify", found)) => project_call(alloc, Job::Verify, found),
         _ => Ok(None),
     }
 }

@@ -1,12 +1,13 @@
 ghost use Rattle.std.specs.Prelude.{◌≡◌};
 
+use record_text::{RecordFault, Why};
 use sch_reader::SchFault;
 use schedule_check::StartsFault;
 use std::alloc::{AllocError, AllocFailed};
 use thiserror::Error;
 
 /// Why a run has no answer, with the text that is printed after `psmax: `. Words and rows of a project
-/// text count from 0, lines of a starts text from 1.
+/// text count from 0, lines of starts and of a record from 1.
 #[derive(Clone, Copy, Debug, PartialEq, Eq, Error)]
 pub enum Fault {
     #[error("out of memory")]
@@ -49,13 +50,28 @@ pub enum Fault {
     Repeated { line: usize },
     #[error("activity {activity}: no start")]
     Missing { activity: usize },
+    #[error("line {line}: form")]
+    RecordForm { line: usize },
+    #[error("line {line}: short")]
+    RecordShort { line: usize },
+    #[error("line {line}: trailing")]
+    RecordTrailing { line: usize },
+    #[error("line {line}: start")]
+    RecordStart { line: usize },
+    #[error("line {line}: force")]
+    RecordForce { line: usize },
+    #[error("line {line}: set")]
+    RecordSet { line: usize },
+    #[error("line {line}: leaf")]
+    RecordLeaf { line: usize },
 }
 
 impl Fault {
     ghost use Rattle.std.specs.Prelude.{◌≡◌};
     ghost use Rattle.solver_cli.specs.Faults.{exit_of};
 
-    /// The exit status: 1 for memory, threads and devices, 2 for a text that isn't what it should be.
+    /// The exit status: 1 for memory, threads and devices, 2 for a text that isn't what it should be, 4 for
+    /// a record that isn't right.
     pub fn exit(self) -> u8
         ensures { result ≡ exit_of self }
     {
@@ -66,6 +82,10 @@ impl Fault {
             | Fault::Thread
             | Fault::OtherProject
             | Fault::Refused => 1,
+            Fault::RecordStart { .. }
+            | Fault::RecordForce { .. }
+            | Fault::RecordSet { .. }
+            | Fault::RecordLeaf { .. } => 4,
             _ => 2,
         }
     }
@@ -130,6 +150,28 @@ impl From<StartsFault> for Fault {
             StartsFault::Repeated { line } => Fault::Repeated { line },
             StartsFault::Missing { activity } => Fault::Missing { activity },
             StartsFault::Memory => Fault::Memory,
+        }
+    }
+}
+
+impl From<RecordFault> for Fault {
+    ghost use Rattle.std.specs.Prelude.{◌≡◌};
+    ghost use Rattle.solver_cli.specs.Faults.{record_fault_of};
+
+    ghost from_gives = { λ cause fault. fault ≡ record_fault_of cause };
+
+    fn from(cause: RecordFault) -> Fault {
+        let line = cause.line;
+        match cause.why {
+            Why::Form => Fault::RecordForm { line },
+            Why::Short => Fault::RecordShort { line },
+            Why::Trailing => Fault::RecordTrailing { line },
+            Why::Start => Fault::RecordStart { line },
+            Why::Force => Fault::RecordForce { line },
+            Why::Set => Fault::RecordSet { line },
+            Why::Leaf => Fault::RecordLeaf { line },
+            Why::Memory => Fault::Memory,
+            Why::TooLong => Fault::TooLong,
         }
     }
 }

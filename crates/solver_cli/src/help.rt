@@ -9,7 +9,8 @@ Projects, starts and answers are texts; docs/FORMAT.md describes them, and 'man 
 
 Exit status: 0 answered; 1 memory ran out, a thread could not be started, or a device failed;
 2 the words or a text are not what they should be; 3 the search was stopped at its limit; 4 the
-starts are no feasible schedule. A fault is one line on standard error.";
+starts are no feasible schedule, or the record is not right. A fault is one line on standard
+error.";
 
 pub(crate) const EARLIEST: &str = "\
 Looks at the time lags alone, as if all resources were free: the schedule may overload them.
@@ -64,3 +65,25 @@ Example:
 
 Exit status: 0 answered; 1 memory ran out, or a device failed; 2 the words or the text are not
 what they should be.";
+
+pub(crate) const VERIFY: &str = "\
+Reads the project in FILE, and then a record of a search on standard input: what was claimed of
+the project, and a tree that shows why. docs/RECORD.md describes it. Looks at each line for
+itself, and trusts nothing of the search. Where all are right it answers what is so proved:
+  proved optimal C    the shortest feasible schedule takes C
+  proved no schedule  there is none at all
+Else the first line L that is wrong is told on standard error. A text that is no record:
+  line L: form        the line is not one that may stand there
+  line L: short       the text ends before this line
+  line L: trailing    the record ends before this line
+And a record that is not right:
+  line L: start       the starts are no feasible schedule of the makespan that is claimed
+  line L: force       the pair is not forced
+  line L: set         the members may run together, or the node is dead
+  line L: leaf        the node is not solved, cut or dead, as the line says
+
+Example:
+  psmax verify --project project.sch < project.record
+
+Exit status: 0 proved; 1 memory ran out, or a device failed; 2 the words or a text are not what
+they should be; 4 the record is not right.";

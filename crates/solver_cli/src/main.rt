@@ -19,6 +19,7 @@ mod standard;
 #[cfg(test)]
 mod tests;
 mod texts;
+mod verified;
 mod workers;
 
 use call::{Call, Job, WordsFault, call_of};

@@ -3,7 +3,7 @@
 ghost use Rattle.std.specs.Prelude.{◌≡◌, ◌≢◌, ◌<◌, ◌+◌, true, false, Some, Err, IfOk, IfErr, IfSome, IfNone};
 ghost use Rattle.solver_cli.specs.declared.fault.Fault.TheVariants as faults;
 ghost use Rattle.words.specs.declared.TheConstants.{MAX_TEXT_BYTES};
-ghost use Rattle.solver_cli.specs.Calls.{IsJob, has_workers, project_is_second, reads_second, writes_record};
+ghost use Rattle.solver_cli.specs.Calls.{IsJob, has_workers, input_limit, project_is_second, reads_second, writes_record};
 ghost use Rattle.solver_cli.specs.Devices.{CountsWhere, GaveUpTo, OneCountsWhere};
 ghost use Rattle.solver_cli.specs.Faults.{exit_of, IsSearchFault};
 ghost use Rattle.solver_cli.specs.Outcome.{IsAnswer, IsRefusal, IsAnswered, IsCutShort, IsSearched, IfTextsTold, GaveNoProject};
@@ -18,6 +18,7 @@ use crate::workers::{Terms, searched, searched_from};
 use std::alloc::Global;
 use std::sync::{Arc, Wait};
 use std::thread::Threads;
+use words::MAX_TEXT_BYTES;
 use worker::Gate;
 
 /// The answer of a search by workers to what its inputs hold. The project is read and judged before the
@@ -43,7 +44,7 @@ fn searched_answer<I: Input, S: Input, G: Gate, R: Threads + Wait + Sync>(
     ensures unwritten { IfErr result (λ fault. fault ≢ faults.WriteFailed) }
     ensures count { OneCountsWhere (result ≡ Err faults.ReadFailed)
         (I.failed input.old) (I.failed input.new) (S.failed second.old) (S.failed second.new) }
-    ensures within { GaveUpTo (MAX_TEXT_BYTES + 1) (I.left input.old) (I.left input.new) }
+    ensures within { GaveUpTo (input_limit job + 1) (I.left input.old) (I.left input.new) }
     ensures within_second { GaveUpTo (MAX_TEXT_BYTES + 1) (S.left second.old) (S.left second.new) }
     ensures unused_second { reads_second job ≡ false → second.new ≡ second.old }
     ensures start_last { GaveNoProject (I.left input.old) (I.failed input.old) (I.failed input.new) → second.new ≡ second.old }
@@ -67,7 +68,7 @@ fn searched_answer<I: Input, S: Input, G: Gate, R: Threads + Wait + Sync>(
         let project = Arc::new(alloc, project)?;
         return searched(rt, alloc, terms, project, None, gate);
     }
-    let starts = read_text(alloc, second)?;
+    let starts = read_text(alloc, MAX_TEXT_BYTES, second)?;
     searched_from(rt, alloc, terms, project, &starts, gate)
 }
 
@@ -113,12 +114,12 @@ pub fn run_parallel<I: Input, S: Input, O: Output, D: Output, G: Gate, R: Thread
     ensures written { CountsWhere (result.fault ≡ Some faults.WriteFailed) (O.failed out.old) (O.failed out.new) }
 
     // No input is read beyond its limit and one byte, and what the job doesn't use not at all.
-    ensures within { GaveUpTo (MAX_TEXT_BYTES + 1) (I.left input.old) (I.left input.new) }
+    ensures within { GaveUpTo (input_limit job + 1) (I.left input.old) (I.left input.new) }
     ensures within_second { GaveUpTo (MAX_TEXT_BYTES + 1) (S.left second.old) (S.left second.new) }
     ensures unused_second { reads_second job ≡ false → second.new ≡ second.old }
     ensures unused_record { writes_record job ≡ false → record_out.new ≡ record_out.old }
 
-    // The project is read and judged before the starts, whichever input has it.
+    // The project is read and judged before starts or a record, whichever input has it.
     ensures project_first { project_is_second job ≡ true → GaveNoProject (S.left second.old) (S.failed second.old) (S.failed second.new)
         → input.new ≡ input.old }
     ensures start_last { project_is_second job ≡ false → GaveNoProject (I.left input.old) (I.failed input.old) (I.failed input.new)

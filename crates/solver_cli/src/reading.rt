@@ -1,13 +1,14 @@
-//! What is read of an input: a whole text, and the project that it spells.
+//! What is read of inputs: a whole text, and the project that it spells.
 
-ghost use Rattle.std.specs.Prelude.{◌≡◌, ◌≢◌, ◌<◌, ◌+◌, Err, take, IfOk, IfErr, ◌⊎◌};
+ghost use Rattle.std.specs.Prelude.{◌≡◌, ◌≢◌, ◌<◌, ◌≤◌, ◌+◌, Err, take, IfOk, IfErr, ◌⊎◌};
 ghost use Rattle.network.specs.Limits.{IsProject};
+ghost use Rattle.record_text.specs.declared.TheConstants.{MAX_RECORD_BYTES};
 ghost use Rattle.sch_reader.specs.Text.{Spells};
 ghost use Rattle.solver_cli.specs.declared.fault.Fault.{Fault};
 ghost use Rattle.solver_cli.specs.declared.fault.Fault.TheVariants as faults;
-ghost use Rattle.solver_cli.specs.Devices.{CountsWhere, GaveUpTo, IfTold};
+ghost use Rattle.solver_cli.specs.Devices.{CountsWhere, GaveUpTo, IfTold, OneCountsWhere};
 ghost use Rattle.solver_cli.specs.Faults.{exit_of, IsSearchFault, IsTextFault};
-ghost use Rattle.solver_cli.specs.Outcome.{HasFault};
+ghost use Rattle.solver_cli.specs.Outcome.{GaveNoProject, HasFault};
 
 use crate::device::Input;
 use crate::fault::Fault;
@@ -19,21 +20,26 @@ use words::MAX_TEXT_BYTES;
 /// How many bytes are read at once, at most.
 const CHUNK: usize = 16_384;
 
-/// Reads a whole text, and of a longer one no more than one byte beyond the limit.
+/// Reads a whole text of so many bytes at most, and of a longer one no more than one byte beyond that.
 ///
 /// std's `read_to_end` under a `take` says neither how far the reader itself was read nor whether
 /// it failed or memory ran out.
-pub(crate) fn read_text<I: Input>(alloc: Global, input: &mut I) -> Result<Vec<u8>, Fault>
-    requires { I.failed input.old < u64.MAX }
-    ensures told { IfOk result (λ text. IfTold (I.left input.old) (λ bytes. text.items ≡ take (MAX_TEXT_BYTES + 1) bytes)) }
+pub(crate) fn read_text<I: Input>(
+    alloc: Global,
+    most: usize,
+    input: &mut I,
+) -> Result<Vec<u8>, Fault>
+    requires most { most ≤ MAX_RECORD_BYTES }
+    requires input { I.failed input.old < u64.MAX }
+    ensures told { IfOk result (λ text. IfTold (I.left input.old) (λ bytes. text.items ≡ take (most + 1) bytes)) }
     ensures faults { IfErr result (λ fault. (fault ≡ faults.ReadFailed) ⊎ (fault ≡ faults.Memory)) }
     ensures count { CountsWhere (result ≡ Err faults.ReadFailed) (I.failed input.old) (I.failed input.new) }
-    ensures within { GaveUpTo (MAX_TEXT_BYTES + 1) (I.left input.old) (I.left input.new) }
+    ensures within { GaveUpTo (most + 1) (I.left input.old) (I.left input.new) }
 {
     let mut text = Vec::new(alloc);
     let mut buffer = [0u8; CHUNK];
-    while text.len() <= MAX_TEXT_BYTES {
-        let room = (MAX_TEXT_BYTES + 1 - text.len()).min(CHUNK);
+    while text.len() <= most {
+        let room = (most + 1 - text.len()).min(CHUNK);
         let Ok(n) = input.pull(&mut buffer[..room]) else {
             return Err(Fault::ReadFailed);
         };
@@ -64,6 +70,32 @@ pub(crate) fn read_project<I: Input>(alloc: Global, input: &mut I) -> Result<Pro
     ensures count { CountsWhere (result ≡ Err faults.ReadFailed) (I.failed input.old) (I.failed input.new) }
     ensures within { GaveUpTo (MAX_TEXT_BYTES + 1) (I.left input.old) (I.left input.new) }
 {
-    let text = read_text(alloc, input)?;
+    let text = read_text(alloc, MAX_TEXT_BYTES, input)?;
     project_of(alloc, &text)
+}
+
+/// Reads a project from the second input, and then a text of so many bytes at most from the first.
+pub(crate) fn read_both<I: Input, S: Input>(
+    alloc: Global,
+    most: usize,
+    input: &mut I,
+    second: &mut S,
+) -> Result<(Project, Vec<u8>), Fault>
+    requires most { most ≤ MAX_RECORD_BYTES }
+    requires input { I.failed input.old < u64.MAX }
+    requires second { S.failed second.old < u64.MAX }
+    ensures project { IfOk result (λ r. IsProject r.0 × IfTold (S.left second.old) (λ bytes. Spells bytes r.0)) }
+    ensures told { IfOk result (λ r. IfTold (I.left input.old) (λ bytes. r.1.items ≡ take (most + 1) bytes)) }
+    ensures refused { IfErr result (λ fault. exit_of fault ≢ 1 → IfTold (S.left second.old) (λ bytes. HasFault bytes fault)) }
+    ensures unwritten { IfErr result (λ fault. fault ≢ faults.WriteFailed) }
+    ensures unsearched { IfErr result (λ fault. ¬ IsSearchFault fault) }
+    ensures count { OneCountsWhere (result ≡ Err faults.ReadFailed)
+        (I.failed input.old) (I.failed input.new) (S.failed second.old) (S.failed second.new) }
+    ensures within { GaveUpTo (most + 1) (I.left input.old) (I.left input.new) }
+    ensures within_second { GaveUpTo (MAX_TEXT_BYTES + 1) (S.left second.old) (S.left second.new) }
+    ensures project_first { GaveNoProject (S.left second.old) (S.failed second.old) (S.failed second.new) → input.new ≡ input.old }
+{
+    let project = read_project(alloc, second)?;
+    let text = read_text(alloc, most, input)?;
+    Ok((project, text))
 }

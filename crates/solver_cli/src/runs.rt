@@ -5,7 +5,7 @@ ghost use Rattle.solver_cli.specs.declared.fault.Fault.{Fault};
 ghost use Rattle.solver_cli.specs.declared.fault.Fault.TheVariants as faults;
 ghost use Rattle.words.specs.declared.TheConstants.{MAX_TEXT_BYTES};
 ghost use Rattle.std.specs.Io.KnownBytes.{Appends};
-ghost use Rattle.solver_cli.specs.Calls.{IsJob, has_workers, project_is_second, reads_second, writes_record};
+ghost use Rattle.solver_cli.specs.Calls.{IsJob, has_workers, input_limit, project_is_second, reads_second, writes_record};
 ghost use Rattle.solver_cli.specs.Devices.{CountsWhere, GaveUpTo, OneCountsWhere, TookFront};
 ghost use Rattle.solver_cli.specs.Faults.{exit_of, IsSearchFault};
 ghost use Rattle.solver_cli.specs.Outcome.{IsAnswer, IsRefusal, IsAnswered, IsCutShort, IfTextsTold, GaveNoProject};
@@ -15,8 +15,11 @@ use crate::call::Job;
 use crate::device::{Failed, Input, Output, write_all};
 use crate::fault::Fault;
 use crate::jobs::{check, earliest, solve, tidy};
-use crate::reading::{read_project, read_text};
+use crate::reading::{read_both, read_project};
+use crate::verified::verified;
+use record_text::MAX_RECORD_BYTES;
 use std::alloc::Global;
+use words::MAX_TEXT_BYTES;
 
 /// How a run ended: the exit status, and the fault that is printed, if any.
 #[derive(Clone, Copy, Debug, PartialEq, Eq)]
@@ -42,7 +45,7 @@ impl Ended {
 }
 
 /// The answer of a job without workers to what its inputs hold. A project is read and judged before
-/// starts are read.
+/// starts or a record are read.
 fn job_answer<I: Input, S: Input>(
     alloc: Global,
     job: Job,
@@ -61,7 +64,7 @@ fn job_answer<I: Input, S: Input>(
     ensures unsearched { IfErr result (λ fault. ¬ IsSearchFault fault) }
     ensures count { OneCountsWhere (result ≡ Err faults.ReadFailed)
         (I.failed input.old) (I.failed input.new) (S.failed second.old) (S.failed second.new) }
-    ensures within { GaveUpTo (MAX_TEXT_BYTES + 1) (I.left input.old) (I.left input.new) }
+    ensures within { GaveUpTo (input_limit job + 1) (I.left input.old) (I.left input.new) }
     ensures within_second { GaveUpTo (MAX_TEXT_BYTES + 1) (S.left second.old) (S.left second.new) }
     ensures unused_second { reads_second job ≡ false → second.new ≡ second.old }
     ensures project_first { project_is_second job ≡ true → GaveNoProject (S.left second.old) (S.failed second.old) (S.failed second.new)
@@ -77,13 +80,16 @@ fn job_answer<I: Input, S: Input>(
             Ok(solve(alloc, project, takes, json)?)
         }
         Job::Check => {
-            let project = read_project(alloc, second)?;
-            let starts = read_text(alloc, input)?;
+            let (project, starts) = read_both(alloc, MAX_TEXT_BYTES, input, second)?;
             check(alloc, &project, &starts)
         }
         Job::Tidy => {
             let project = read_project(alloc, input)?;
             tidy(alloc, &project)
+        }
+        Job::Verify => {
+            let (project, text) = read_both(alloc, MAX_RECORD_BYTES, input, second)?;
+            verified(alloc, &project, &text)
         }
     }
 }
@@ -144,12 +150,12 @@ pub fn run<I: Input, S: Input, O: Output, R: Output>(
     ensures written { CountsWhere (result.fault ≡ Some faults.WriteFailed) (O.failed out.old) (O.failed out.new) }
 
     // No input is read beyond its limit and one byte, and what the job doesn't use not at all.
-    ensures within { GaveUpTo (MAX_TEXT_BYTES + 1) (I.left input.old) (I.left input.new) }
+    ensures within { GaveUpTo (input_limit job + 1) (I.left input.old) (I.left input.new) }
     ensures within_second { GaveUpTo (MAX_TEXT_BYTES + 1) (S.left second.old) (S.left second.new) }
     ensures unused_second { reads_second job ≡ false → second.new ≡ second.old }
     ensures unused_record { writes_record job ≡ false → record_out.new ≡ record_out.old }
 
-    // The project of a second input is read and judged before the starts.
+    // The project of a second input is read and judged before starts or a record.
     ensures project_first { project_is_second job ≡ true → GaveNoProject (S.left second.old) (S.failed second.old) (S.failed second.new)
         → input.new ≡ input.old }
 {

@@ -139,10 +139,16 @@ const CLOSE_LAGS: &[u8] = b"2 1 0 0 0 1 0 1 1 1 2 [0] 2 1 1 1 [-2] 3 1 0 \
 const CANONICAL: &[u8] = b"2\t1\t0\t0\n0\t1\t0\n1\t1\t0\n2\t1\t0\n3\t1\t0\n\
     0\t1\t0\t0\n1\t1\t3\t1\n2\t1\t4\t1\n3\t1\t0\t0\n1\n";
 
+/// A record of the two jobs.
+const RECORD: &[u8] = b"record 1\noptimal 7\nstarts 0 4 0 7\nsplit 0 1 2\ncut\nsolved\n";
+
+/// A record of the two jobs with close lags.
+const NO_SCHEDULE_RECORD: &[u8] = b"record 1\nno schedule\nsplit 0 1 2\ndead\ndead\n";
+
 #[test]
 fn answers_are_those_of_the_bytes(rt: HostRuntime) -> Result<(), Fail> {
     let starts = b"0 0\n1 0\n2 3\n3 7\n";
-    let wanted: [(Job, &[u8], &[u8], &[u8]); 7] = [
+    let wanted: [(Job, &[u8], &[u8], &[u8]); 9] = [
         (Job::Earliest, TWO_JOBS, b"", ANSWER),
         (
             solve_job(10, false),
@@ -165,6 +171,13 @@ fn answers_are_those_of_the_bytes(rt: HostRuntime) -> Result<(), Fail> {
         (Job::Check, starts, TWO_JOBS, b"feasible 7\n"),
         (Job::Tidy, TWO_JOBS, b"", CANONICAL),
         (Job::Tidy, CANONICAL, b"", CANONICAL),
+        (Job::Verify, RECORD, TWO_JOBS, b"proved optimal 7\n"),
+        (
+            Job::Verify,
+            NO_SCHEDULE_RECORD,
+            CLOSE_LAGS,
+            b"proved no schedule\n",
+        ),
     ];
     for (job, text, second, bytes) in wanted {
         let (ended, written) = answer(rt.alloc(), job, text, second);
@@ -182,6 +195,33 @@ fn a_text_that_is_none_gets_no_answer(rt: HostRuntime) {
     let (ended, written) = answer(rt.alloc(), Job::Tidy, b"2 1 0", b"");
     assert_eq!(rt; ended, Ended::with(Fault::Short { index: 3 }));
     assert!(rt; written.is_empty());
+}
+
+#[test]
+fn a_record_that_proves_nothing_gets_no_answer(rt: HostRuntime) {
+    let wanted: [(&[u8], &[u8], Fault, u8); 5] = [
+        (b"record 2\n", TWO_JOBS, Fault::RecordForm { line: 1 }, 2),
+        (b"record 1\n", TWO_JOBS, Fault::RecordShort { line: 2 }, 2),
+        (RECORD, CLOSE_LAGS, Fault::RecordStart { line: 3 }, 4),
+        (
+            NO_SCHEDULE_RECORD,
+            TWO_JOBS,
+            Fault::RecordLeaf { line: 4 },
+            4,
+        ),
+        (b"record 2\n", b"2 1 0", Fault::Short { index: 3 }, 2),
+    ];
+    for (text, project, fault, exit) in wanted {
+        let (ended, written) = answer(rt.alloc(), Job::Verify, text, project);
+        assert_eq!(rt;
+            ended,
+            Ended {
+                exit,
+                fault: Some(fault)
+            }
+        );
+        assert!(rt; written.is_empty());
+    }
 }
 
 #[test]
@@ -241,6 +281,13 @@ fn faults_have_their_texts(rt: HostRuntime) -> Result<(), Fail> {
         ),
         (Fault::Repeated { line: 3 }, "line 3: repeated"),
         (Fault::Missing { activity: 3 }, "activity 3: no start"),
+        (Fault::RecordForm { line: 3 }, "line 3: form"),
+        (Fault::RecordShort { line: 3 }, "line 3: short"),
+        (Fault::RecordTrailing { line: 3 }, "line 3: trailing"),
+        (Fault::RecordStart { line: 3 }, "line 3: start"),
+        (Fault::RecordForce { line: 3 }, "line 3: force"),
+        (Fault::RecordSet { line: 3 }, "line 3: set"),
+        (Fault::RecordLeaf { line: 3 }, "line 3: leaf"),
     ];
     for (fault, text) in wanted {
         assert_eq!(rt; format!(in rt.alloc(); "{fault}")?.as_str(), text);
@@ -286,6 +333,12 @@ fn words_make_calls(rt: HostRuntime) -> Result<(), Fail> {
     };
     assert_eq!(rt; call.job, Job::Tidy);
     assert!(rt; call.second.is_none() && call.record_file.is_none());
+    let verify = words(rt.alloc(), &["psmax", "verify", "--project", "p.sch"])?;
+    let Ok(call) = call_of(rt.alloc(), &verify) else {
+        return Err("refused".into());
+    };
+    assert_eq!(rt; call.job, Job::Verify);
+    assert!(rt; call.second.is_some() && call.record_file.is_none());
     let none = words(rt.alloc(), &["psmax", "solve", "--nodes", "0"])?;
     assert!(rt; matches!(call_of(rt.alloc(), &none), Err(WordsFault::Bad { .. })));
     let help = words(rt.alloc(), &["psmax", "--help"])?;

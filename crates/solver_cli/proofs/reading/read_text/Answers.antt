@@ -1,7 +1,6 @@
 use Rattle.std.proofs.Common.{◌≡◌, ◌+◌, ◌<◌, ◌≤◌, ◌++◌, take, length, arith}
 use Rattle.std.proofs.lemmas.List.{length-take, length-append}
 use Rattle.std.proofs.KnownBytes.{Consumes-trans}
-use Rattle.words.specs.declared.TheConstants.{MAX_TEXT_BYTES}
 use Rattle.solver_cli.proofs.DeviceLaws.{whole_to_limit, whole_to_end}
 use Rattle.solver_cli.proofs.reading.read_text.Goals as goal
 use Rattle.solver_cli.proofs.reading.read_text.Goals.{else-loop-buffer-test, then-loop-buffer-test+in-Ok+then-n-eq0}
@@ -21,9 +20,9 @@ pub returns-clause-told : goal.returns-clause-told
 returns-clause-told g c = λ bytes e.
     let left = g.I.Input.left in
     elim c.loop-buffer-test.branch [
-      | else-loop-buffer-test w ↦ whole_to_limit (left c.args.input.now) (left c.loop-buffer.input) c.loop-buffer.text.items bytes (MAX_TEXT_BYTES + 1) c.loop-buffer.invariant.given e (omega arith)
+      | else-loop-buffer-test w ↦ whole_to_limit (left c.args.input.now) (left c.loop-buffer.input) c.loop-buffer.text.items bytes (c.args.most + 1) c.loop-buffer.invariant.given e (omega arith)
       | then-loop-buffer-test+in-Ok+then-n-eq0 w ↦
           let none : w.in-Ok.n ≡ 0 = w.if-n-eq0.true in
           let room : 0 < length w.pull.new.buffer = omega (arith, w.pull.auto.buffer, length-take w.min-room.result c.loop-buffer.buffer) in
-          whole_to_end (left c.args.input.now) (left c.loop-buffer.input) (left w.pull.new.self) c.loop-buffer.text.items bytes (MAX_TEXT_BYTES + 1) c.loop-buffer.invariant.given (rw none at w.in-Ok.ensures.told.0) (w.in-Ok.ensures.told.1 none room) e (omega arith)
+          whole_to_end (left c.args.input.now) (left c.loop-buffer.input) (left w.pull.new.self) c.loop-buffer.text.items bytes (c.args.most + 1) c.loop-buffer.invariant.given (rw none at w.in-Ok.ensures.told.0) (w.in-Ok.ensures.told.1 none room) e (omega arith)
     ]
