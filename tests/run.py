@@ -8,7 +8,9 @@ counts is added.
 A case is one line of JSON: name, args, exit, and, where they matter: stdin, stdin_pieces (standard input is then a
 pipe that holds at most so many bytes at once), files (made before the run), stdout, stdout_first (its first line
 alone), stderr, stdout_to (a device in place of a pipe), stdout_limit (standard output is then a file that may have so
-many bytes). What is wanted of stdout and stderr is a text or an input. A word that is not UTF-8 has its bytes as
+many bytes), out_files (files as they are after the run), verified (a project, and the name of a file with a record, which
+`verify` and tests/verify.py must accept with the verdict that was printed). What is wanted of stdout, stderr and files
+is a text or an input. A word that is not UTF-8 has its bytes as
 Python's os.fsdecode gives them. An input is one of
   {"text": TEXT}            this text
   {"file": NAME}            a file of inputs/ beside the cases, with "cut": its first so many bytes,
@@ -74,6 +76,20 @@ def give(pipe, data, most):
         os.close(pipe)
 
 
+def verified(program, folder, inputs, project, record, out):
+    """What is wrong with a record: psmax and a checker that shares nothing with it must accept it with the verdict."""
+    (folder / ".project").write_bytes(content(project, inputs))
+    want = b"proved " + out.split(b"\n")[0] + b"\n"
+    checker = [sys.executable, TOP / "tests" / "verify.py", ".project", record]
+    bad = []
+    for words in ([program, "verify", "--project", ".project"], checker):
+        with open(folder / record, "rb") as shown:
+            ran = subprocess.run(words, stdin=shown, capture_output=True, cwd=folder, timeout=TIMEOUT)
+        if (ran.returncode, ran.stdout, ran.stderr) != (0, want, b""):
+            bad.append(f"{words[1]}: exit {ran.returncode}, {ran.stdout!r}, {ran.stderr!r}, not {want!r}")
+    return bad
+
+
 def limit_files(most):
     """No file may have more bytes; a write beyond fails, and kills nobody."""
     signal.signal(signal.SIGXFSZ, signal.SIG_IGN)
@@ -114,7 +130,13 @@ def failures(program, case, inputs):
             return [f"no answer in {TIMEOUT} s"]
         if limit is not None:
             out = to.read_bytes()
-    bad = []
+        bad = []
+        for name, spec in case.get("out_files", {}).items():
+            got = (folder / name).read_bytes() if (folder / name).exists() else b"no such file"
+            if got != wanted(spec, inputs):
+                bad.append(f"{name} {got[:300]!r}, not {wanted(spec, inputs)[:300]!r}")
+        if "verified" in case:
+            bad += verified(program, folder, inputs, *case["verified"], out)
     if ran.returncode != case["exit"]:
         bad.append(f"exit {ran.returncode}, not {case['exit']}")
     for name, got in (("stdout", out or b""), ("stderr", err)):

@@ -3,3 +3,4 @@ pub mod JsonLaws
 pub mod AnswerLaws
 pub mod TextLaws
 pub mod CallLaws
+pub mod RecordLaws

@@ -4,3 +4,4 @@ pub mod Answers
 pub mod Faults
 pub mod Calls
 pub mod Outcome
+pub mod Recording

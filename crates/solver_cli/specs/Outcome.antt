@@ -1,5 +1,5 @@
 -- What a run writes for the texts that it reads, and how it ends.
-use Rattle.std.specs.Prelude.{◌≡◌, ◌≢◌, ℕ, List, ℤ, Option, None, Some, true, false, is_none, ◌⊎◌}
+use Rattle.std.specs.Prelude.{◌≡◌, ◌≢◌, ℕ, List, ℤ, Option, None, Some, true, false, not, is_some, ◌||◌, ◌⊎◌}
 use Rattle.std.specs.Io.KnownBytes.{Appends}
 use Rattle.network.specs.Problem.{Problem, activity_count}
 use Rattle.network.specs.Limits.{IsProject}
@@ -75,8 +75,8 @@ IsNoProof p text fault = IsRecordTextFault text fault ⊎ GivesRecord text (λ s
 -- what a job writes for its two texts, and the exit status
 abbrev pub IsAnswer : Job → List ℕ → List ℕ → ℕ → List ℕ → Type 0
 IsAnswer jobs.Earliest text second exit written = SpellsOne text (λ p. IsEarliestText p exit written)
-IsAnswer (jobs.Solve workers takes false json) text second exit written = SpellsOne text (λ p. IsSolveText p (is_none workers) json exit written)
-IsAnswer (jobs.Solve workers takes true json) text second exit written = SpellsOne text (λ p. GivesStarts p second (λ starts. IsStartedText p starts json exit written))
+IsAnswer (jobs.Solve workers takes false json recorded) text second exit written = SpellsOne text (λ p. IsSolveText p (not (is_some workers || recorded)) json exit written)
+IsAnswer (jobs.Solve workers takes true json recorded) text second exit written = SpellsOne text (λ p. GivesStarts p second (λ starts. IsStartedText p starts json exit written))
 IsAnswer jobs.Check text second exit written = SpellsOne second (λ p. GivesStarts p text (λ starts. IsCheckText p starts exit written))
 IsAnswer jobs.Tidy text second exit written = SpellsOne text (λ p. IsTidyText p exit written)
 IsAnswer jobs.Verify text second exit written = SpellsOne second (λ p. GivesRecord text (λ shown. IsProvedText p shown exit written))
@@ -84,8 +84,8 @@ IsAnswer jobs.Verify text second exit written = SpellsOne second (λ p. GivesRec
 -- why a job has no answer to its two texts
 abbrev pub IsRefusal : Job → List ℕ → List ℕ → Fault → Type 0
 IsRefusal jobs.Earliest text second fault = HasFault text fault
-IsRefusal (jobs.Solve workers takes false json) text second fault = HasFault text fault
-IsRefusal (jobs.Solve workers takes true json) text second fault = HasFault text fault ⊎ SpellsOne text (λ p. IsFirstStartsFault p second fault)
+IsRefusal (jobs.Solve workers takes false json recorded) text second fault = HasFault text fault
+IsRefusal (jobs.Solve workers takes true json recorded) text second fault = HasFault text fault ⊎ SpellsOne text (λ p. IsFirstStartsFault p second fault)
 IsRefusal jobs.Check text second fault = HasFault second fault ⊎ SpellsOne second (λ p. IsFirstStartsFault p text fault)
 IsRefusal jobs.Tidy text second fault = HasFault text fault
 IsRefusal jobs.Verify text second fault = HasFault second fault ⊎ SpellsOne second (λ p. IsNoProof p text fault)

@@ -19,3 +19,10 @@ impl Answer {
         }
     }
 }
+
+/// An answer, and the text of the record that is written after it, if any.
+#[derive(Drop)]
+pub(crate) struct Found {
+    pub(crate) answer: Answer,
+    pub(crate) recorded: Option<Vec<u8>>,
+}

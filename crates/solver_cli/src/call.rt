@@ -22,13 +22,15 @@ pub enum Job {
     Earliest,
     /// Print the shortest schedule of a project, or that there is none, or, once so many nodes were
     /// taken, what is known by then; as plain lines or as one line of JSON. With neither workers nor a
-    /// start, one thread searches by itself; else so many workers do, one if not said, and first they
-    /// are handed the starts of a file, if there is one.
+    /// start nor a record, one thread searches by itself; else so many workers do, one if not said, and
+    /// first they are handed the starts of a file, if there is one. A search that isn't stopped is
+    /// recorded, where that is asked for.
     Solve {
         workers: Option<usize>,
         takes: u64,
         start: bool,
         json: bool,
+        recorded: bool,
     },
     /// Say whether the starts on standard input are a feasible schedule of a project in a file, or
     /// every rule that they break.
@@ -48,7 +50,12 @@ impl Job {
         ensures { result ≡ has_workers self }
     {
         match self {
-            Job::Solve { workers, start, .. } => workers.is_some() || start,
+            Job::Solve {
+                workers,
+                start,
+                recorded,
+                ..
+            } => workers.is_some() || start || recorded,
             _ => false,
         }
     }
@@ -130,12 +137,18 @@ fn solve_command<'a>(alloc: Global) -> Result<Command<'a>, AllocError> {
         .long("json")
         .help("Print the answer as one line of JSON")
         .action(ArgAction::SetTrue);
+    let record = Arg::new(alloc, "record")
+        .long("record")
+        .value_name("FILE")
+        .help("Write a record that proves the answer into FILE")
+        .action(ArgAction::Set);
     let about = "Print a shortest schedule of a project";
     subcommand(alloc, "solve", about, help::SOLVE)
         .arg(nodes)?
         .arg(workers)?
         .arg(start)?
-        .arg(json)
+        .arg(json)?
+        .arg(record)
 }
 
 fn check_command<'a>(alloc: Global) -> Result<Command<'a>, AllocError> {
@@ -211,15 +224,17 @@ fn solve_call(alloc: Global, matches: &ArgMatches<'_>) -> Result<Option<Call>, A
         return Ok(None);
     }
     let second = file_name(alloc, matches, "start")?;
+    let record_file = file_name(alloc, matches, "record")?;
     Ok(Some(Call {
         job: Job::Solve {
             workers,
             takes,
             start: second.is_some(),
             json: matches.get_flag("json"),
+            recorded: record_file.is_some(),
         },
         second,
-        record_file: None,
+        record_file,
     }))
 }
 

@@ -31,13 +31,16 @@ Reads a project on standard input. Answers one of these, the first and the third
   feasible C bound B  stopped at the limit: no feasible schedule is shorter than B
   unknown bound B     the same, and no schedule was found
 Reads the starts of --start after the project. Where they are no feasible schedule it answers as
-'psmax check' does, and searches nothing. --start alone is one worker; with neither --start nor
---workers one thread searches by itself.
+'psmax check' does, and searches nothing. With --record the file is made empty first, and once
+the answer is 'optimal C' or 'no schedule' and printed, a record of the search is written into
+it, which 'psmax verify' checks. --start or --record alone is one worker; with neither of them
+nor --workers one thread searches by itself.
 
 Examples:
   psmax solve < project.sch
   psmax solve --nodes 1000 --json < project.sch
   psmax solve --workers 4 --start plan.starts < project.sch
+  psmax solve --record project.record < project.sch
 
 Exit status: 0 answered; 1 memory ran out, a thread could not be started, or a device failed;
 2 the words or a text are not what they should be; 3 the search was stopped at its limit; 4 the

@@ -13,6 +13,8 @@ mod jobs;
 mod json_text;
 mod parallel;
 mod reading;
+mod record_output;
+mod recorded;
 mod runs;
 mod solved;
 mod standard;
@@ -23,7 +25,7 @@ mod verified;
 mod workers;
 
 use call::{Call, Job, WordsFault, call_of};
-use device::Input;
+use device::{Input, Output};
 use fault::Fault;
 use parallel::run_parallel;
 use runs::Ended;
@@ -60,48 +62,66 @@ fn refuse(rt: &HostRuntime, fault: &WordsFault) -> ExitCode {
     }
 }
 
-/// Runs the job on standard input and output and a second input, and prints its fault.
-fn perform<S: Input, R: Runtime + Threads + Wait + Sync>(
+/// Runs the job on standard input and output, a second input and an output for a record, and prints its
+/// fault.
+fn perform<S: Input, D: Output, R: Runtime + Threads + Wait + Sync>(
     rt: &R,
     alloc: Global,
     job: Job,
     second: &mut S,
+    record_out: &mut D,
 ) -> ExitCode
     requires job { IsJob job }
     requires second { S.failed second.old < u64.MAX }
+    requires record_out { D.failed record_out.old < u64.MAX }
 {
     let mut input = Reader::new(rt.reader());
     let mut out = Writer::new(io::writer(rt));
-    let mut record = Writer::new(io::sink());
     let ended = run_parallel(
-        rt,
-        alloc,
-        job,
-        &mut input,
-        second,
-        &mut out,
-        &mut record,
-        &OpenGate,
+        rt, alloc, job, &mut input, second, &mut out, record_out, &OpenGate,
     );
     report(rt, &ended)
 }
 
-/// Opens the files that the call names, and runs its job.
+/// Prints that a file can't be opened.
+fn cannot_open<R: Eprint>(rt: &R, error: &io::Error, name: &str) -> ExitCode {
+    if error.kind() == ErrorKind::OutOfMemory {
+        return report(rt, &Ended::with(Fault::Memory));
+    }
+    let _ = eprintln!(rt; "psmax: cannot open {name}");
+    ExitCode::from(1)
+}
+
+/// Makes the file of the record empty, where the call names one, and runs its job.
+fn start_with<S: Input, R: Runtime + Threads + Wait + Sync>(
+    rt: &R,
+    alloc: Global,
+    call: &Call,
+    second: &mut S,
+) -> ExitCode
+    requires call { IsCall call.now }
+    requires second { S.failed second.old < u64.MAX }
+{
+    let Some(name) = &call.record_file else {
+        let mut none = Writer::new(io::sink());
+        return perform(rt, alloc, call.job, second, &mut none);
+    };
+    match fs::create(rt, name.as_str()) {
+        Ok(file) => perform(rt, alloc, call.job, second, &mut Writer::new(file)),
+        Err(error) => cannot_open(rt, &error, name),
+    }
+}
+
+/// Opens the files that the call names, that of the record last, and runs its job.
 fn start<R: Runtime + Threads + Wait + Sync>(rt: &R, alloc: Global, call: &Call) -> ExitCode
     requires { IsCall call.now }
 {
     let Some(name) = &call.second else {
-        return perform(rt, alloc, call.job, &mut NoInput);
+        return start_with(rt, alloc, call, &mut NoInput);
     };
     match fs::open(rt, name.as_str()) {
-        Ok(file) => perform(rt, alloc, call.job, &mut Reader::new(file)),
-        Err(error) if error.kind() == ErrorKind::OutOfMemory => {
-            report(rt, &Ended::with(Fault::Memory))
-        }
-        Err(_) => {
-            let _ = eprintln!(rt; "psmax: cannot open {name}");
-            ExitCode::from(1)
-        }
+        Ok(file) => start_with(rt, alloc, call, &mut Reader::new(file)),
+        Err(error) => cannot_open(rt, &error, name),
     }
 }
 

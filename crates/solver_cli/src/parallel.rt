@@ -1,19 +1,21 @@
 //! A run over devices, with workers where the job asks for them.
 
-ghost use Rattle.std.specs.Prelude.{◌≡◌, ◌≢◌, ◌<◌, ◌+◌, true, false, Some, Err, IfOk, IfErr, IfSome, IfNone};
+ghost use Rattle.std.specs.Prelude.{◌≡◌, ◌≢◌, ◌<◌, ◌+◌, ◌⊎◌, true, false, Some, Err, IfOk, IfErr, IfSome, IfNone, IsSomeAnd};
 ghost use Rattle.solver_cli.specs.declared.fault.Fault.TheVariants as faults;
 ghost use Rattle.words.specs.declared.TheConstants.{MAX_TEXT_BYTES};
-ghost use Rattle.solver_cli.specs.Calls.{IsJob, has_workers, input_limit, project_is_second, reads_second, writes_record};
-ghost use Rattle.solver_cli.specs.Devices.{CountsWhere, GaveUpTo, OneCountsWhere};
+ghost use Rattle.solver_cli.specs.Calls.{IsJob, answers_json, has_workers, input_limit, project_is_second, reads_second, writes_record};
+ghost use Rattle.solver_cli.specs.Devices.{GaveUpTo, IfTold, OneCountsWhere};
 ghost use Rattle.solver_cli.specs.Faults.{exit_of, IsSearchFault};
-ghost use Rattle.solver_cli.specs.Outcome.{IsAnswer, IsRefusal, IsAnswered, IsCutShort, IsSearched, IfTextsTold, GaveNoProject};
+ghost use Rattle.solver_cli.specs.Outcome.{IsAnswer, IsRefusal, IsAnswered, IsCutShort, IsSearched, IfTextsTold, GaveNoProject, SpellsOne};
+ghost use Rattle.solver_cli.specs.Recording.{IsRecorded, IsRecordCutShort, IsRightRecord};
 
-use crate::answer::Answer;
+use crate::answer::Found;
 use crate::call::{Job, ONE_WORKER};
 use crate::device::{Input, Output};
 use crate::fault::Fault;
 use crate::reading::{read_project, read_text};
-use crate::runs::{Ended, run, write_answer};
+use crate::record_output::write_found;
+use crate::runs::{Ended, run};
 use crate::workers::{Terms, searched, searched_from};
 use std::alloc::Global;
 use std::sync::{Arc, Wait};
@@ -21,7 +23,7 @@ use std::thread::Threads;
 use words::MAX_TEXT_BYTES;
 use worker::Gate;
 
-/// The answer of a search by workers to what its inputs hold. The project is read and judged before the
+/// The answer of a search by workers to what its inputs hold, and its record. The project is read and judged before the
 /// starts, and these before anything is searched.
 fn searched_answer<I: Input, S: Input, G: Gate, R: Threads + Wait + Sync>(
     rt: &R,
@@ -30,13 +32,16 @@ fn searched_answer<I: Input, S: Input, G: Gate, R: Threads + Wait + Sync>(
     input: &mut I,
     second: &mut S,
     gate: &G,
-) -> Result<Answer, Fault>
+) -> Result<Found, Fault>
     requires job { IsJob job }
     requires workers { has_workers job ≡ true }
     requires input { I.failed input.old < u64.MAX }
     requires second { S.failed second.old < u64.MAX }
-    ensures said { IfOk result (λ a. IfTextsTold job (I.left input.old) (S.left second.old)
-        (λ text more. IsAnswer job text more a.exit a.text.items)) }
+    ensures said { IfOk result (λ f. IfTextsTold job (I.left input.old) (S.left second.old)
+        (λ text more. IsAnswer job text more f.answer.exit f.answer.text.items)) }
+    ensures only { IfOk result (λ f. IfSome f.recorded (λ _. (writes_record job ≡ true) × (f.answer.exit ≡ 0))) }
+    ensures recorded { IfOk result (λ f. writes_record job ≡ true → f.answer.exit ≡ 0 → IfTold (I.left input.old)
+        (λ text. IsSomeAnd f.recorded (λ r. SpellsOne text (λ p. IsRightRecord p (answers_json job) f.answer.text.items r.items)))) }
     ensures refused { IfErr result (λ fault. exit_of fault ≢ 1 → IfTextsTold job (I.left input.old) (S.left second.old)
         (λ text more. IsRefusal job text more fault)) }
     ensures searched { IfErr result (λ fault. IsSearchFault fault → IfTextsTold job (I.left input.old) (S.left second.old)
@@ -54,6 +59,7 @@ fn searched_answer<I: Input, S: Input, G: Gate, R: Threads + Wait + Sync>(
         takes,
         start,
         json,
+        recorded,
     } = job
     else {
         unreachable!()
@@ -62,6 +68,7 @@ fn searched_answer<I: Input, S: Input, G: Gate, R: Threads + Wait + Sync>(
         workers: workers.unwrap_or(ONE_WORKER),
         takes,
         json,
+        recorded,
     };
     let project = read_project(alloc, input)?;
     if !start {
@@ -72,9 +79,9 @@ fn searched_answer<I: Input, S: Input, G: Gate, R: Threads + Wait + Sync>(
     searched_from(rt, alloc, terms, project, &starts, gate)
 }
 
-/// Runs a job: reads what it needs, and writes its answer and nothing else. A search by workers passes the
-/// gate. An input or output that the job doesn't use is handed an empty one. After a failure a device isn't
-/// called again.
+/// Runs a job: reads what it needs, and writes its answer, then the record of a search where that is asked
+/// for, and nothing else. A search by workers passes the gate. An input or output that the job doesn't use is
+/// handed an empty one. After a failure a device isn't called again.
 pub fn run_parallel<I: Input, S: Input, O: Output, D: Output, G: Gate, R: Threads + Wait + Sync>(
     rt: &R,
     alloc: Global,
@@ -102,7 +109,16 @@ pub fn run_parallel<I: Input, S: Input, O: Output, D: Output, G: Gate, R: Thread
     ensures searched { IfSome result.fault (λ fault. IsSearchFault fault → IfTextsTold job (I.left input.old) (S.left second.old)
         (λ text more. IsSearched job text more)) }
 
-    // Where the output failed it holds a beginning of the answer; at any other fault it is as it was.
+    // With exit status 0 a recorded search has written a record that is right for the project and claims what
+    // the answer says; with any other none.
+    ensures recorded { IfNone result.fault (writes_record job ≡ true → result.exit ≡ 0 → IfTold (I.left input.old)
+        (λ text. IsRecorded text (answers_json job) (O.held out.old) (O.held out.new) (D.held record_out.old) (D.held record_out.new))) }
+    ensures unrecorded { result.exit ≢ 0 → result.fault ≢ Some faults.WriteFailed → record_out.new ≡ record_out.old }
+
+    // Where an output failed it holds a beginning of what it was to hold: the answer comes first, and stands whole
+    // where the record's output failed. At any other fault both are as they were.
+    ensures record_cut { result.fault ≡ Some faults.WriteFailed → (record_out.new ≡ record_out.old) ⊎ IfTold (I.left input.old)
+        (λ text. IsRecordCutShort text (answers_json job) (O.held out.old) (O.held out.new) (D.held record_out.old) (D.held record_out.new)) }
     ensures cut_short { result.fault ≡ Some faults.WriteFailed → IfTextsTold job (I.left input.old) (S.left second.old)
         (λ text more. IsCutShort job text more (O.held out.old) (O.held out.new)) }
     ensures silent { IfSome result.fault (λ fault. fault ≢ faults.WriteFailed → out.new ≡ out.old) }
@@ -111,7 +127,8 @@ pub fn run_parallel<I: Input, S: Input, O: Output, D: Output, G: Gate, R: Thread
     // A failure that a device counted is told as that, and nothing else is.
     ensures read { OneCountsWhere (result.fault ≡ Some faults.ReadFailed)
         (I.failed input.old) (I.failed input.new) (S.failed second.old) (S.failed second.new) }
-    ensures written { CountsWhere (result.fault ≡ Some faults.WriteFailed) (O.failed out.old) (O.failed out.new) }
+    ensures written { OneCountsWhere (result.fault ≡ Some faults.WriteFailed)
+        (O.failed out.old) (O.failed out.new) (D.failed record_out.old) (D.failed record_out.new) }
 
     // No input is read beyond its limit and one byte, and what the job doesn't use not at all.
     ensures within { GaveUpTo (input_limit job + 1) (I.left input.old) (I.left input.new) }
@@ -129,7 +146,7 @@ pub fn run_parallel<I: Input, S: Input, O: Output, D: Output, G: Gate, R: Thread
         return run(alloc, job, input, second, out, record_out);
     }
     match searched_answer(rt, alloc, job, input, second, gate) {
-        Ok(answer) => write_answer(out, &answer),
+        Ok(found) => write_found(out, record_out, &found),
         Err(fault) => Ended::with(fault),
     }
 }

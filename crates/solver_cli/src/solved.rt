@@ -5,6 +5,7 @@ ghost use Rattle.network.specs.Problem.{Problem};
 ghost use Rattle.network.specs.Schedule.{makespan};
 ghost use Rattle.branching.specs.Verdicts.{IsTrueOf, StopsBelowBest};
 ghost use Rattle.solver_cli.specs.Answers.{stopped_text, bound_text, optimal_text, no_schedule_text, feasible_text, unknown_text, IsSolveText};
+ghost use Rattle.solver_cli.specs.Recording.{SaysOutcome};
 
 use crate::answer::Answer;
 use crate::json_text::json_line;
@@ -87,7 +88,8 @@ pub(crate) fn solved_answer(
     outcome: &Outcome,
     json: bool,
 ) -> Result<Answer, AllocError>
-    ensures { IfOk result (λ a. (p : Problem) (alone : Bool) → IsTrueOf p outcome.now → (alone ≡ true → StopsBelowBest outcome.now)
+    ensures outcome { IfOk result (λ a. SaysOutcome outcome.now json a.exit a.text.items) }
+    ensures said { IfOk result (λ a. (p : Problem) (alone : Bool) → IsTrueOf p outcome.now → (alone ≡ true → StopsBelowBest outcome.now)
         → IsSolveText p alone json a.exit a.text.items) }
 {
     let (text, exit) = match outcome {

@@ -13,6 +13,7 @@ use std::alloc::{AllocError, Global};
 use std::io::{self, ErrorKind, Read, Write};
 use std::test::Fail;
 
+mod records;
 mod workers;
 
 /// Two activities of 3 and 4 periods that need the same machine.
@@ -70,13 +71,14 @@ impl Write for Bounded {
 
 /// A search in one thread by itself.
 fn solve_job(takes: u64, json: bool) -> Job
-    ensures { result ≡ jobs.Solve None takes false json }
+    ensures { result ≡ jobs.Solve None takes false json false }
 {
     Job::Solve {
         workers: None,
         takes,
         start: false,
         json,
+        recorded: false,
     }
 }
 
@@ -350,13 +352,14 @@ fn words_make_calls(rt: HostRuntime) -> Result<(), Fail> {
 
 #[test]
 fn words_ask_for_workers(rt: HostRuntime) -> Result<(), Fail> {
-    for (option, value) in [("--workers", "64"), ("--start", "s")] {
+    for (option, value) in [("--workers", "64"), ("--start", "s"), ("--record", "r")] {
         let asked = words(rt.alloc(), &["psmax", "solve", option, value])?;
         let Ok(call) = call_of(rt.alloc(), &asked) else {
             return Err("refused".into());
         };
         assert!(rt; call.job.has_workers());
         assert_eq!(rt; call.second.is_some(), option == "--start");
+        assert_eq!(rt; call.record_file.is_some(), option == "--record");
     }
     let many = words(rt.alloc(), &["psmax", "solve", "--workers", "65"])?;
     assert!(rt; matches!(call_of(rt.alloc(), &many), Err(WordsFault::Bad { .. })));

@@ -26,25 +26,27 @@ const BACKWARD_LAG: &[u8] = b"3 1 0 0 0 1 0 1 1 1 3 [1] 2 1 0 3 1 1 1 [-3] 4 1 0
 
 /// A search by so many workers.
 fn by_workers(workers: usize, takes: u64) -> Job
-    ensures { result ≡ jobs.Solve (Some workers) takes false false }
+    ensures { result ≡ jobs.Solve (Some workers) takes false false false }
 {
     Job::Solve {
         workers: Some(workers),
         takes,
         start: false,
         json: false,
+        recorded: false,
     }
 }
 
 /// A search from starts.
 fn from_starts(json: bool) -> Job
-    ensures { result ≡ jobs.Solve None 100 true json }
+    ensures { result ≡ jobs.Solve None 100 true json false }
 {
     Job::Solve {
         workers: None,
         takes: 100,
         start: true,
         json,
+        recorded: false,
     }
 }
 

@@ -65,7 +65,7 @@ returns-in_ok-project-in-Verify-clause-refused g c =
 
 pub returns-in_ok-solve-in-Solve-clause-said : goal.returns-in_ok-solve-in-Solve-clause-said
 returns-in_ok-solve-in-Solve-clause-said g c = λ text more told told_more.
-    answers_alone c.args.job c.in-Solve.workers c.in-Solve.takes c.in-Solve.start c.in-Solve.json text more c.in_ok-solve-in-Solve.field-0.exit c.in_ok-solve-in-Solve.field-0.text.items c.in-Solve.is c.requires.alone (record {
+    answers_alone c.args.job c.in-Solve.workers c.in-Solve.takes c.in-Solve.start c.in-Solve.json c.in-Solve.recorded text more c.in_ok-solve-in-Solve.field-0.exit c.in_ok-solve-in-Solve.field-0.text.items c.in-Solve.is c.requires.alone (record {
       project = c.in_ok-project-in-Solve.project;
       is_project = c.in_ok-project-in-Solve.ensures.project.0;
       spells = c.in_ok-project-in-Solve.ensures.project.1 text told;
