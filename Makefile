@@ -25,6 +25,7 @@ build/book_bench: $(SOURCES)
 bench: build/psmax build/book_bench
 	python3 bench/run.py build/psmax
 	python3 bench/workers.py build/psmax
+	python3 bench/records.py build/psmax
 	python3 bench/book.py build/book_bench
 
 # A program that stands already is installed as it is: that needs no toolchain.

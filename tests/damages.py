@@ -1,0 +1,64 @@
+"""Damages to a record's text: each makes other lines of its lines."""
+import re
+
+LEAVES = [b"solved", b"cut", b"dead"]
+NUMBER = re.compile(rb"[0-9]+")
+
+
+def without_line(rng, lines):
+    del lines[rng.randrange(len(lines))]
+
+
+def line_twice(rng, lines):
+    lines.insert(rng.randrange(len(lines) + 1), rng.choice(lines))
+
+
+def lines_swapped(rng, lines):
+    a, b = rng.randrange(len(lines)), rng.randrange(len(lines))
+    lines[a], lines[b] = lines[b], lines[a]
+
+
+def other_leaf(rng, lines):
+    leaves = [place for place, line in enumerate(lines) if line in LEAVES]
+    if leaves:
+        lines[rng.choice(leaves)] = rng.choice(LEAVES)
+
+
+def other_number(rng, lines):
+    place = rng.randrange(len(lines))
+    found = list(NUMBER.finditer(lines[place]))
+    if found:
+        number = rng.choice(found)
+        value = int(number.group())
+        value = rng.choice([value + 1, max(0, value - 1), rng.randrange(20), rng.randrange(10**11)])
+        lines[place] = lines[place][: number.start()] + b"%d" % value + lines[place][number.end() :]
+
+
+def other_claim(rng, lines):
+    if rng.randrange(2) or lines[1] == b"no schedule":
+        lines[1] = b"optimal %d" % rng.randrange(60)
+    else:
+        lines[1:3] = [b"no schedule"]
+
+
+def other_byte(rng, lines):
+    place = rng.randrange(len(lines))
+    at = rng.randrange(len(lines[place]) + 1)
+    lines[place] = lines[place][:at] + bytes([rng.randrange(256)]) + lines[place][at + rng.randrange(2) :]
+
+
+def cut_off(rng, lines):
+    text = b"\n".join(lines)
+    lines[:] = text[: rng.randrange(len(text))].split(b"\n")
+
+
+DAMAGES = [without_line, line_twice, lines_swapped, other_leaf, other_number, other_claim, other_byte, cut_off]
+
+
+def damaged(rng, record):
+    """The record with one to three damages."""
+    lines = record.split(b"\n")
+    for _ in range(rng.randint(1, 3)):
+        if len(lines) > 2:
+            rng.choice(DAMAGES)(rng, lines)
+    return b"\n".join(lines)
