@@ -24,7 +24,6 @@ import fcntl
 import json
 import os
 import pathlib
-import re
 import resource
 import select
 import signal
@@ -34,6 +33,8 @@ import sys
 import tempfile
 import termios
 import threading
+
+from counting import counted
 
 TOP = pathlib.Path(__file__).resolve().parent.parent
 TIMEOUT = 60
@@ -147,11 +148,6 @@ def failures(program, case, inputs):
     return bad
 
 
-def counted(log):
-    lines = re.findall(r"^(\d+) passed, (\d+) failed", pathlib.Path(log).read_text(), re.M)
-    return tuple(map(int, lines[-1])) if lines else (0, 1)
-
-
 def main():
     parser = argparse.ArgumentParser()
     parser.add_argument("program")
@@ -159,7 +155,7 @@ def main():
     parser.add_argument("--counted")
     options = parser.parse_args()
     program = str(pathlib.Path(options.program).resolve())
-    passed, failed = counted(options.counted) if options.counted else (0, 0)
+    passed, failed = counted(options.counted)
     for cases in (TOP / "tests" / "cases.jsonl", TOP / "examples" / "cases.jsonl"):
         inputs = cases.parent if cases.parent.name == "examples" else cases.parent / "inputs"
         for line in cases.read_text().splitlines():
