@@ -16,7 +16,7 @@ use Rattle.book.specs.Below.{is_below, kids_below}
 use Rattle.book.specs.CheckingIn.{IsInTime}
 use Rattle.book.specs.Trail.{PairFate, was_named, was_dead, was_not_opened, Ending, not_ended, was_cut, was_solved, was_split, Entry, entry_at, no_entry, path_to}
 use Rattle.book.specs.RightTrail.{IsNotOpenedUnder, IsRightFate, IsRightEnding}
-use Rattle.book.specs.Recording.{kid_entry, fates_under}
+use Rattle.book.specs.Recording.{kid_entry, opened_or_cut, fates_under}
 use Rattle.book.proofs.TrailFalls.{cut_falls}
 use Rattle.book.proofs.TrailPaths.{path_kept, path_opens}
 
@@ -97,7 +97,7 @@ living : (p : Problem) (limit : Option ℤ) (node kid : Subproblem) (name : ℕ)
     → AllZip (IsRightFate p limit ((before ++ kid_entry name (length node.pairs) kid ∷ []) ++ map (kid_entry name (length node.pairs)) (kids_below limit kids)) name) added (fates_under limit (length node.pairs) (length (before ++ kid_entry name (length node.pairs) kid ∷ [])) fates kids)
     → (b : Bool) → is_below limit kid.bound ≡ b
     → AllZip (IsRightFate p limit (before ++ map (kid_entry name (length node.pairs)) (cond b (kid ∷ kids_below limit kids) (kids_below limit kids))) name) (pair ∷ added)
-    (cond b (was_named (length before)) (was_not_opened (drop (length node.pairs + 1) kid.pairs)) ∷ fates_under limit (length node.pairs) (cond b (length before + 1) (length before)) fates kids)
+    (opened_or_cut b (length before) (drop (length node.pairs + 1) kid.pairs) ∷ fates_under limit (length node.pairs) (cond b (length before + 1) (length before)) fates kids)
 living p limit node kid name same before known path pair added fates kids by if_cut if_opened false over =
     let opened = kid_entry name (length node.pairs) in
     (rw (path_kept before (map opened (kids_below limit kids)) name known ∙ path) (not_opened p limit node kid pair same by over), if_cut)

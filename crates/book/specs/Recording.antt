@@ -1,5 +1,5 @@
 -- What becomes of a trail when the nodes that it tells of end, and when kids are opened.
-use Rattle.std.specs.Prelude.{ℕ, ◌+◌, ℤ, if◌then◌else◌, Option, None, Some, option_map, List, [], ◌∷◌, ◌++◌, map, length, drop, slice_get, slice_set}
+use Rattle.std.specs.Prelude.{ℕ, ◌+◌, ℤ, Bool, true, false, if◌then◌else◌, Option, None, Some, option_map, List, [], ◌∷◌, ◌++◌, map, length, drop, slice_get, slice_set}
 use Rattle.network.specs.declared.lag.Pair.{Pair}
 use Rattle.network.specs.Schedule.{ScheduleOf}
 use Rattle.forbidden_sets.specs.MinimalSet.{MinimalSet}
@@ -29,9 +29,14 @@ kid_entry parent depth kid =
       ending = not_ended;
     }
 
--- the fate of a kid's pair: the next name where the kid is below the limit
+-- what a pair that gave a kid gave the book: a node under the next name where the kid is opened
+abbrev pub opened_or_cut : Bool → ℕ → List Pair → PairFate
+opened_or_cut true next forced = was_named next
+opened_or_cut false next forced = was_not_opened forced
+
+-- the fate of a kid's pair: the kid is opened where it is below the limit
 abbrev pub kid_fate : Option ℤ → ℕ → ℕ → Subproblem → PairFate
-kid_fate limit depth next kid = if is_below limit kid.bound then was_named next else was_not_opened (drop (depth + 1) kid.pairs)
+kid_fate limit depth next kid = opened_or_cut (is_below limit kid.bound) next (drop (depth + 1) kid.pairs)
 
 -- the name that comes next after the kid
 abbrev pub next_name : Option ℤ → ℕ → Subproblem → ℕ
