@@ -112,10 +112,23 @@ fn start_with<S: Input, R: Runtime + Threads + Wait + Sync>(
     }
 }
 
+/// Whether the call names one file for its starts and for its record, by the same words: the record would empty it
+/// before the starts are read.
+fn loses_starts(call: &Call) -> bool {
+    match (&call.second, &call.record_file) {
+        (Some(second), Some(record)) => second == record,
+        _ => false,
+    }
+}
+
 /// Opens the files that the call names, that of the record last, and runs its job.
 fn start<R: Runtime + Threads + Wait + Sync>(rt: &R, alloc: Global, call: &Call) -> ExitCode
     requires { IsCall call.now }
 {
+    if loses_starts(call) {
+        let _ = eprintln!(rt; "error: --start and --record name the same file");
+        return ExitCode::from(2);
+    }
     let Some(name) = &call.second else {
         return start_with(rt, alloc, call, &mut NoInput);
     };
