@@ -3,19 +3,27 @@ import re
 from dataclasses import dataclass
 
 from .errors import BadInput
+from .files import read_input
+from .json_answer import as_lines
+from .letters import short
 from .names import Names
 from .project import Project, parse
 from .psmax import Psmax
 
-SAYS_WHAT = {
-    b"no schedule": "there is no schedule to draw; `plan why` says why",
-    b"unknown bound ": "no schedule was found before the search stopped, so there is none to draw",
-    b"positive cycle ": "the lags contradict each other, so there is no schedule to draw; `plan why` says which",
-    b"start ": "these are violations that `check` found, and no starts",
-    b"lag ": "these are violations that `check` found, and no starts",
-    b"overload ": "these are violations that `check` found, and no starts",
+VIOLATIONS = "these are violations that `check` found, and no starts"
+SAYS_WHAT = {  # the beginning of an answer without starts, and what it means
+    b"no schedule": "there is none to show; `plan why` says why",
+    b"unknown bound ": "no schedule was found before the search stopped, so there is none to show",
+    b"positive cycle ": "the lags contradict each other, so there is no schedule to show; `plan why` says which",
+    b"start ": VIOLATIONS,
+    b"lag ": VIOLATIONS,
+    b"overload ": VIOLATIONS,
+    b"proved ": "this is what a record proves, and there are no starts in it",
+    b"record ": "this is the record of a search, which `psmax verify` checks, and no starts",
     b"psmax: ": "this is a fault that psmax told, and no answer",
 }
+WITH_STARTS = (b"optimal ", b"feasible ", b"earliest ")  # the beginnings of those that have starts below
+TIDY = re.compile(rb"\d+\s+\d+\s+0\s+0\s")  # the beginning of a project
 
 
 @dataclass(frozen=True)
@@ -33,14 +41,23 @@ class Answer:
         return f"check: {verdict}" + (f"   (the answer says: {self.said})" if self.said else "")
 
 
+def read_answer(path: str | None) -> bytes:
+    """The answer or the starts in a file, or on standard input where none is named; JSON becomes lines."""
+    return as_lines(read_input(path))
+
+
 def sentence(given: bytes) -> str | None:
     """A sentence for an answer without starts; none where there are starts to read."""
-    first = given.strip().partition(b"\n")[0].strip()
+    first, _, rest = given.strip().partition(b"\n")
+    said = short(first.decode("utf-8", "replace").strip())
     if not first:
-        return "The answer is empty, so there is nothing to draw."
+        return "The answer is empty."
+    if TIDY.match(given):
+        return "This is a project, and no answer."
+    if first.startswith(WITH_STARTS) and not rest:
+        return f"The answer is `{said}`: there are no starts below it, so there is no schedule to show."
     for begin, meaning in SAYS_WHAT.items():
         if first.startswith(begin):
-            said = first.decode("utf-8", "replace")
             return f"The answer is `{said}`: {meaning}."
     return None
 
@@ -57,12 +74,25 @@ def judged(text: bytes, given: bytes, psmax: Psmax, called: str) -> Answer:
     return Answer(project, ordered, said, result.makespan, result.violations)
 
 
+def feasible(text: bytes, given: bytes, psmax: Psmax, called: str, names: Names) -> Answer:
+    """The same where psmax finds it feasible; whatever else is told as a fault of what is `called` so."""
+    instead = sentence(given)
+    if instead is not None:
+        raise BadInput(f"{called}: {instead}")
+    known = judged(text, given, psmax, called)
+    if known.makespan is None:
+        more = f", and {len(known.violations) - 1} more" if len(known.violations) > 1 else ""
+        first = in_words(known.violations[0], names.with_dummies(known.project.end))
+        raise BadInput(f"{called}: not a schedule: {first}{more}")
+    return known
+
+
 def read_starts(given: bytes) -> tuple[str, dict[int, int]]:
     """The first line of an answer, and the starts of a text that psmax has read."""
     said = ""
     lines = given.split(b"\n")
-    if given.startswith((b"optimal ", b"feasible ", b"earliest ")):
-        said = lines.pop(0).decode("utf-8", "replace").strip()
+    if given.startswith(WITH_STARTS):
+        said = short(lines.pop(0).decode("utf-8", "replace").strip())
     fields = [line.split() for line in lines if line.strip()]
     return said, {int(activity): int(start) for activity, start in fields}
 

@@ -20,7 +20,11 @@ def read_bytes(path: str) -> bytes:
 
 def read_input(path: str | None) -> bytes:
     """What the file holds, or standard input where there is no name."""
-    return read_bytes(path) if path is not None else sys.stdin.buffer.read(LARGEST + 1)
+    if path is not None:
+        return read_bytes(path)
+    if sys.stdin is None:
+        raise Failed("standard input is closed")
+    return sys.stdin.buffer.read(LARGEST + 1)
 
 
 def read_text(path: str) -> str:
@@ -47,6 +51,11 @@ def must_be_writable(path: str) -> None:
         raise Failed(f"cannot write {path}: it is no ordinary file")
     if not os.access(folder, os.W_OK):
         raise Failed(f"cannot write {path}: the folder {folder} may not be changed")
+
+
+def same_file(one: str, other: str) -> bool:
+    """Whether both names lead to one file, which need not be there."""
+    return pathlib.Path(one).resolve() == pathlib.Path(other).resolve()
 
 
 def write_whole(path: str, data: bytes) -> None:

@@ -1,15 +1,15 @@
 """`plan gantt`: a schedule as a chart, in plain text or as SVG."""
 from . import drawing, names, svg
-from .answer import in_words, judged, sentence
+from .answer import in_words, judged, read_answer, sentence
 from .clock import Clock
 from .drawing import Bar, Drawing, Load
-from .files import must_be_writable, read_bytes, read_input, write_whole
-from .names import Names
+from .files import must_be_writable, read_bytes, write_whole
 from .psmax import Psmax
 
 MARK = 10  # columns from one number of the ruler to the next
 LONGEST_NAME = 40
 SECONDS = 600.0  # the most that psmax may take for a check
+STANDARD_INPUT = "standard input"  # where an answer comes from that is in no file
 
 
 def text(shown: Drawing, width: int) -> str:
@@ -81,14 +81,14 @@ def gantt(path: str, given: str | None, chart: str | None, page: str | None, wid
     if chart is not None:
         must_be_writable(chart)
     project = read_bytes(path)
-    called: Names = names.read_page(page) if page is not None else names.beside(path)
-    answer = read_input(given)
+    called = names.chosen(path, page)
+    answer = read_answer(given)
     psmax = Psmax(Clock(SECONDS), path)
     instead = sentence(answer)
     if instead is not None:
         print(instead)
         return 0
-    known = judged(project, answer, psmax, given or "standard input")
+    known = judged(project, answer, psmax, given or STANDARD_INPUT)
     with_dummies = called.with_dummies(known.project.end)
     notes = tuple(in_words(violation, with_dummies) for violation in known.violations)
     shown = drawing.make(known.project, known.starts, called, known.title(), notes)

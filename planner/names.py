@@ -3,6 +3,8 @@ import pathlib
 import re
 from dataclasses import dataclass, field
 
+from .errors import Failed
+from .files import read_bytes
 from .project import Project
 
 CELL = re.compile(r"(?<!\\)\|")
@@ -21,28 +23,32 @@ class Names:
     def resource(self, number: int) -> str:
         return self.resources[number] if number < len(self.resources) else f"resource {number}"
 
-
     def with_dummies(self, end: int) -> "Names":
         """The same with names for the start and the end."""
         return Names(self.activities | {0: "the start", end: "the end"}, self.resources)
 
 
+def chosen(project_path: str, page_path: str | None) -> Names:
+    """The names of the page that is named, which must be there, or else of the one beside the project."""
+    return read_page(read_bytes(page_path)) if page_path is not None else beside(project_path)
+
+
 def beside(project_path: str) -> Names:
     """The names of the page beside the project (.md for .sch), or none."""
-    return read_page(str(pathlib.Path(project_path).with_suffix(".md")))
-
-
-def read_page(path: str) -> Names:
     try:
-        text = pathlib.Path(path).read_text("utf-8", "replace")
-    except (OSError, ValueError):
+        return read_page(read_bytes(str(pathlib.Path(project_path).with_suffix(".md"))))
+    except Failed:
         return Names()
+
+
+def read_page(data: bytes) -> Names:
+    text = data.decode("utf-8", "replace")
     found = Names()
     rows = [[cell_text(cell) for cell in CELL.split(line)[1:-1]] for line in text.splitlines() if line.startswith("|")]
     for place, row in enumerate(rows):
         if place > 0 and len(row) >= 3 and all(re.fullmatch(":?-+:?", cell) for cell in row) and not found.resources:
             found.resources = rows[place - 1][3:]
-        elif len(row) >= 2 and re.fullmatch(r"\d+(, *\d+)*", row[0]):
+        elif len(row) >= 2 and re.fullmatch(r"\d{1,9}(, *\d{1,9})*", row[0]):
             found.activities |= {int(number): row[1] for number in row[0].split(",")}
     return found
 

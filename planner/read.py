@@ -5,8 +5,9 @@ import sys
 
 from .clock import Clock
 from .errors import BadInput
-from .files import read_bytes, read_text, write_whole
+from .files import read_bytes, read_text, same_file, write_whole
 from .gantt import SECONDS
+from .letters import printable
 from .names import made_from, page
 from .psmax import Earliest, Psmax
 from .table import read_table
@@ -28,18 +29,21 @@ def read(path: str, out: str | None) -> int:
 
 def read_activities(path: str, out: str | None) -> int:
     """The table to a .sch file beside it, or to the one that is named, and the page of names beside that."""
+    table = read_text(path)
     target = pathlib.Path(out) if out is not None else pathlib.Path(path).with_suffix(".sch")
-    if target == pathlib.Path(path) or target.suffix == ".md":
-        raise BadInput(f"the project can't be written to {target}; name a .sch file with --out")
-    project, names, unit = read_table(path, read_text(path))
+    if not target.name or target.suffix == ".md" or same_file(str(target), path):
+        raise BadInput(f"the project can't be written to '{target}'; name a .sch file with --out")
+    project, names, unit = read_table(path, table)
     text = project.text()
     answer = Psmax(Clock(SECONDS), path).earliest(text)
-    source = pathlib.Path(path).name
+    source = printable(pathlib.Path(path).name)
     named = target.with_suffix(".md")
-    if named.exists() and made_from(source) not in named.read_text("utf-8", "replace"):
-        raise BadInput(f"{named} is there, and was not made from {source}; move it, or name another file with --out")
+    ours = named.exists() and made_from(source) in read_bytes(str(named)).decode("utf-8", "replace")
+    for there in (named, target):
+        if there.exists() and not ours and (there == named or out is None):
+            raise BadInput(f"{there} is there, and was not made from {source}; move it, or name another file with --out")
     write_whole(str(target), text)
-    write_whole(str(named), page(target.stem, source, project, names, unit).encode())
+    write_whole(str(named), page(printable(target.stem), source, project, names, unit).encode())
     sizes = f"{project.end - 1} activities, {len(project.capacities)} resources, {len(project.arcs)} lags"
     print(f"{target}: {sizes}; names in {named}")
     print(lags_say(answer))

@@ -5,6 +5,7 @@ import re
 from dataclasses import dataclass, field
 
 from .errors import BadInput
+from .letters import short
 from .names import Names
 from .project import MOST_ACTIVITIES, MOST_ARCS, MOST_RESOURCES, MOST_UNITS, Arc, Project
 
@@ -41,7 +42,7 @@ class Row:
 
     def fault(self, column: int, text: str) -> BadInput:
         head = self.columns.heads[column] if column < len(self.columns.heads) else ""
-        called = f"column {letters(column)}" + (f" ({head})" if head else "")
+        called = f"column {letters(column)}" + (f" ({short(head)})" if head else "")
         return BadInput(f"{self.file}: row {self.number}, {called}: {text}")
 
     def units(self, column: int, empty: int | None = None) -> int:
@@ -50,7 +51,7 @@ class Row:
         if not text and empty is not None:
             return empty
         if not re.fullmatch(r"[0-9]{1,9}", text):
-            raise self.fault(column, f"'{text}' is not a whole number" if text else "a whole number is missing")
+            raise self.fault(column, f"'{short(text)}' is not a whole number" if text else "a whole number is missing")
         if int(text) > MOST_UNITS:
             raise self.fault(column, f"{text} is more than {MOST_UNITS:,}")
         return int(text)
@@ -60,7 +61,7 @@ class Row:
 class Plan:
     """The activities of a table as they are read, one after another."""
 
-    names: list[str] = field(default_factory=list)
+    names: dict[str, int] = field(default_factory=dict)  # the number of each
     durations: list[int] = field(default_factory=list)
     demands: list[tuple[int, ...]] = field(default_factory=list)
     after: list[tuple[Row, int]] = field(default_factory=list)  # rows that say what an activity comes after
@@ -91,18 +92,20 @@ def read_table(file: str, text: str) -> tuple[Project, Names, str]:
         raise BadInput(f"{file}: {len(arcs):,} lags, and a project has at most {MOST_ARCS:,}")
     none = (0,) * len(capacities)
     project = Project((0, *plan.durations, 0), (none, *plan.demands, none), tuple(capacities), tuple(arcs))
-    names = Names(dict(enumerate(plan.names, 1)), [found[1] for found in resources])
+    names = Names({number: name for name, number in plan.names.items()}, [found[1] for found in resources])
     unit = columns.heads[columns.duration].lower()
     return project, names, "periods" if unit == "duration" else unit
 
 
 def split(file: str, text: str) -> list[list[str]]:
-    """The cells of each row, trimmed. The separator is the one of comma, semicolon and tab that row 1 has most of."""
+    """The cells of each row, trimmed, and the heads with one blank between words. The separator is the one of comma,
+    semicolon and tab that row 1 has most of."""
     first = text.partition("\n")[0]
     separator = max(",;\t", key=first.count)
     try:
         found = csv.reader(io.StringIO(text, newline=""), delimiter=separator, strict=True)
         rows = [[cell.strip() for cell in row] for row in found]
+        rows[:1] = [[" ".join(head.split()) for head in row] for row in rows[:1]]
     except csv.Error as fault:
         raise BadInput(f"{file}: not a table in CSV: {fault}") from None
     if not rows or not any(rows[0]):
@@ -153,7 +156,7 @@ def check_resources(row: Row, resources: list[int]) -> None:
         if found and (len(found[2]) > 9 or int(found[2]) > MOST_UNITS):
             raise row.fault(column, f"a capacity is at most {MOST_UNITS:,}")
         if found and found[1] in seen:
-            raise row.fault(column, f"a second resource '{found[1]}'")
+            raise row.fault(column, f"a second resource '{short(found[1])}'")
         seen.add(found[1] if found else "")
 
 
@@ -179,19 +182,15 @@ def read_row(plan: Plan, row: Row) -> None:
 def add_activity(plan: Plan, row: Row, name: str) -> None:
     columns = row.columns
     if name in plan.names:
-        raise row.fault(columns.name, f"a second activity '{name}'")
+        raise row.fault(columns.name, f"a second activity '{short(name)}'")
     lower = name.lower()
     if lower in (START, "end") or lower.startswith(START + " of ") or ";" in name or not name.isprintable():
-        raise row.fault(columns.name, f"'{printable(name)}' can't be the name of an activity")
+        raise row.fault(columns.name, f"'{short(name)}' can't be the name of an activity")
     if len(plan.names) == MOST_ACTIVITIES:
         raise row.fault(columns.name, f"a project has at most {MOST_ACTIVITIES:,} activities")
-    plan.names.append(name)
+    plan.names[name] = len(plan.names) + 1
     plan.durations.append(row.units(columns.duration))
     plan.demands.append(tuple(row.units(column, 0) for column in columns.resources))
-
-
-def printable(name: str) -> str:
-    return "".join(letter if letter.isprintable() else "?" for letter in name)
 
 
 def check_continuation(plan: Plan, row: Row) -> None:
@@ -238,9 +237,9 @@ def find(plan: Plan, row: Row, text: str) -> tuple[int, int]:
         return 0, 0
     name = text[len(START) + 4 :].strip() if text.lower().startswith(START + " of ") else text
     if name not in plan.names:
-        raise row.fault(column, f"no activity '{printable(name)}'" if name else "a name is missing beside a ';'")
-    place = plan.names.index(name)
-    return place + 1, 0 if name != text else plan.durations[place]
+        raise row.fault(column, f"no activity '{short(name)}'" if name else "a name is missing beside a ';'")
+    number = plan.names[name]
+    return number, 0 if name != text else plan.durations[number - 1]
 
 
 def lag(row: Row, column: int | None, empty: int | None) -> int | None:
@@ -251,7 +250,7 @@ def lag(row: Row, column: int | None, empty: int | None) -> int | None:
     if text.lower() == ANY and row.columns.lags.get("at least") == column:
         return None
     if not re.fullmatch(r"-?[0-9]{1,9}", text):
-        raise row.fault(column, f"'{text}' is not a whole number")
+        raise row.fault(column, f"'{short(text)}' is not a whole number")
     return int(text)
 
 

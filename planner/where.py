@@ -7,6 +7,7 @@ from .errors import BadInput
 from .files import LARGEST, read_bytes
 from .gantt import SECONDS
 from .layout import Place, Word, layout, words
+from .letters import short
 from .names import Names
 from .psmax import Psmax
 
@@ -41,7 +42,7 @@ def details(data: bytes, fault: str, called: Names) -> list[str]:
         return []
     index, place = place_of_fault
     if index < len(found):
-        told = [f"  {position(data, found[index].begins)}: '{shown(found[index])}'"]
+        told = [f"  {position(data, found[index].begins)}: '{short(found[index].text.decode('utf-8', 'replace'))}'"]
     else:
         told = [f"  {position(data, len(data))}: the text ends here"]
     if place is None:
@@ -102,8 +103,3 @@ def position(data: bytes, begins: int) -> str:
     line = data.count(b"\n", 0, begins) + 1
     column = len(data[data.rfind(b"\n", 0, begins) + 1 : begins].decode("utf-8", "replace")) + 1
     return f"line {line}, column {column}"
-
-
-def shown(word: Word) -> str:
-    text = word.text[:40].decode("utf-8", "replace")
-    return "".join(letter if letter.isprintable() else "?" for letter in text) + (".." if len(word.text) > 40 else "")

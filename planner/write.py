@@ -5,11 +5,11 @@ import io
 import sys
 
 from . import names
-from .answer import Answer, in_words, judged, sentence
+from .answer import Answer, feasible, read_answer
 from .clock import Clock
 from .errors import BadInput
-from .files import must_be_writable, read_bytes, read_input, write_whole
-from .gantt import SECONDS
+from .files import must_be_writable, read_bytes, write_whole
+from .gantt import SECONDS, STANDARD_INPUT
 from .names import Names
 from .psmax import Psmax
 
@@ -34,9 +34,9 @@ class Calendar:
         except OverflowError:
             raise BadInput("the schedule goes beyond the year 9999") from None
         if not self.by_day:
-            return [f"{start:%Y-%m-%d %H:%M}", f"{end:%Y-%m-%d %H:%M}"]
+            return [start.isoformat(" ", "minutes"), end.isoformat(" ", "minutes")]
         last = end - datetime.timedelta(days=1) if ends > begins else end
-        return [f"{start:%Y-%m-%d}", f"{last:%Y-%m-%d}"]
+        return [start.date().isoformat(), last.date().isoformat()]
 
 
 def calendar(first: str | None, period: str) -> Calendar | None:
@@ -66,17 +66,8 @@ def write(path: str, given: str | None, out: str | None, first: str | None, peri
     if out is not None:
         must_be_writable(out)
     project = read_bytes(path)
-    called = names.read_page(page) if page is not None else names.beside(path)
-    answer = read_input(given)
-    shown = given or "standard input"
-    instead = sentence(answer)
-    if instead is not None:
-        raise BadInput(f"{shown}: {instead}")
-    known = judged(project, answer, Psmax(Clock(SECONDS), path), shown)
-    if known.makespan is None:
-        called = called.with_dummies(known.project.end)
-        more = f", and {len(known.violations) - 1} more" if len(known.violations) > 1 else ""
-        raise BadInput(f"{shown}: not a schedule: {in_words(known.violations[0], called)}{more}")
+    called = names.chosen(path, page)
+    known = feasible(project, read_answer(given), Psmax(Clock(SECONDS), path), given or STANDARD_INPUT, called)
     text = table(known, called, days)
     if out is not None:
         write_whole(out, text.encode())

@@ -60,11 +60,38 @@ class Charts(InFolder):
         self.assertIn("feasible 0", self.drawn(INPUTS / "empty-project.sch", "0 0\n1 0\n"))
 
     def test_answers_without_starts(self) -> None:
-        for answer in ("no schedule\n", "unknown bound 7\n", "positive cycle 2\n", "", "psmax: too long\n",
-                       "lag 2 3 4\n"):
+        """Each answer of psmax that has none (docs/FORMAT.md, docs/RECORD.md), and those of `plan solve --out`."""
+        none = '{"bound":null,"makespan":null,"starts":null,"status":"no schedule"}\n'
+        unknown = '{"bound":7,"makespan":null,"starts":null,"status":"unknown"}\n'
+        for answer in ("no schedule\n", "unknown bound 7\n", "positive cycle 2\n", "", " \n\n", "psmax: too long\n",
+                       "start 1\nlag 0 1 0\n", "lag 2 3 4\n", "overload 2 0 2\n", "feasible 7\n", "optimal 7\n",
+                       "feasible 9 bound 7\n", "proved optimal 7\n", "proved no schedule\n",
+                       "record 1\noptimal 7\nstarts 0 0 3 7\ncut\n", none, unknown):
             with self.subTest(answer):
                 text = self.drawn(INPUTS / "two-jobs.sch", answer)
                 self.assertTrue(text.startswith("The answer is ") and len(text.splitlines()) == 1, text)
+                self.refused(plan("write", INPUTS / "two-jobs.sch", given=answer.encode()), 2, text.strip())
+        self.assertEqual(self.drawn(INPUTS / "two-jobs.sch", TWO_JOBS), "This is a project, and no answer.\n")
+
+    def test_answers_of_psmax(self) -> None:
+        """By hand, as above; plain and in JSON, of a whole search, of one that was stopped, and of `earliest`."""
+        path = INPUTS / "three-jobs-lags.sch"
+        text = path.read_bytes()
+        for words, title in ((["solve"], "feasible 5   (the answer says: optimal 5)"),
+                             (["solve", "--nodes", "2"], "feasible 6   (the answer says: feasible 6 bound 5)"),
+                             (["earliest"], "not feasible   (the answer says: earliest")):
+            with self.subTest(words):
+                plain = self.drawn(path, psmax(*words, given=text))
+                self.assertTrue(plain.startswith(f"check: {title}"), plain)
+                if words[0] == "solve":
+                    self.assertEqual(self.drawn(path, psmax(*words, "--json", given=text)), plain)
+
+    def test_signs_that_can_not_be_printed(self) -> None:
+        answer = "optimal \x1b[2J\x00" + "7" * 200 + "\n0 0\n1 4\n2 0\n3 7\n"
+        title = self.drawn(INPUTS / "two-jobs.sch", answer).splitlines()[0]
+        self.assertTrue(title.isprintable() and len(title) < 120, title)
+        self.drawn(INPUTS / "two-jobs.sch", answer, "--svg", str(self.folder / "c.svg"))
+        ElementTree.parse(self.folder / "c.svg")
 
     def test_svg(self) -> None:
         self.file("p.sch", TWO_JOBS)
@@ -77,7 +104,12 @@ class Charts(InFolder):
         self.assertIn('1 a < b & "c"', [node.text for node in picture.iter("{http://www.w3.org/2000/svg}text")])
 
     def test_faults(self) -> None:
+        odd = '{"bound":7,"makespan":7,"starts":%s,"status":"optimal"}'
         for given, text in (("hello\n", "line 1: not an activity and a start"), ('{"bound":7}\n', "line 1"),
+                            ("{" * 100_000, "line 1"), (odd % "[0,4,0]", "activity 3: no start"),
+                            (odd % "[0,4,0,7,7]", "line 6: no such activity"), (odd % "[0,4,0,true]", "line 1"),
+                            (odd % '"0 4"', "line 1"), (odd % ("[" + "9" * 5000 + "]"), "line 1"),
+                            (odd.replace("optimal", "best") % "[0,4,0,7]", "line 1"), ("[1]", "line 1"),
                             ("0 0\n4 0\n", "line 2: no such activity"), ("0 0\n1 0\n2 3\n", "activity 3: no start")):
             with self.subTest(given):
                 self.refused(plan("gantt", INPUTS / "two-jobs.sch", given=given.encode()), 2, "standard input", text)

@@ -1,3 +1,5 @@
+import os
+
 from .helpers import INPUTS, PROJECTS, TWO_JOBS, InFolder, plan, psmax
 
 # A small site, and by hand what it means: lags from start to start, "after" counting from the end.
@@ -57,6 +59,31 @@ class Tables(InFolder):
         self.file("site.md", "my own words")
         self.refused(plan("read", table), 2, "site.md")
         self.assertEqual((self.folder / "site.md").read_text(), "my own words")
+
+    def test_a_project_of_somebody_else(self) -> None:
+        """It stays, unless --out names it."""
+        table = self.file("site.csv", TABLE)
+        self.file("site.sch", TWO_JOBS)
+        self.refused(plan("read", table), 2, "site.sch is there")
+        self.assertEqual((self.folder / "site.sch").read_text(), TWO_JOBS)
+        self.assertEqual(plan("read", table, "--out", self.folder / "site.sch").returncode, 0)
+        self.assertEqual((self.folder / "site.sch").read_text().split(), PROJECT.split())
+
+    def test_the_table_is_not_lost(self) -> None:
+        table = self.file("site.csv", TABLE)
+        (self.folder / "link.sch").symlink_to(table)
+        for out in (str(table), f"{self.folder}/../{self.folder.name}/site.csv", f"{self.folder}/link.sch", "", ".",
+                    f"{self.folder}/site.md"):
+            with self.subTest(out):
+                self.refused(plan("read", table, "--out", out), 2, "can't be written")
+        self.assertEqual(table.read_text(), TABLE)
+
+    def test_names_of_files_that_are_no_text(self) -> None:
+        table = self.folder / os.fsdecode(b"t\xff.csv")
+        table.write_text(TABLE)
+        for _ in range(2):
+            self.assertEqual(plan("read", table).returncode, 0)
+        self.assertEqual(table.with_suffix(".sch").read_text().split(), PROJECT.split())
 
     def test_contradicting_lags_are_told(self) -> None:
         ran = plan("read", self.file("t.csv", "activity,days,after,at most\na,3,,\nb,2,a,\n,,start,1\n"))
@@ -125,6 +152,8 @@ class Faults(InFolder):
         self.told(b"PK\x03\x04", "spreadsheet")
         self.told('activity,days\n"a,3\n', "not a table in CSV")
         self.told("activity,days\n,3\n", "row 2, column A (activity)")
+        self.told("activity,days,crew" + " " * 100_000 + "x\n", "row 1, column C (crew x)")
+        self.told("activity,days\na,\x1b[2J\n", "row 2, column B (days): '?[2J'")
 
     def test_limits(self) -> None:
         """1,000 activities and 32 resources (docs/FORMAT.md)."""
