@@ -1,5 +1,6 @@
-"""How much time is left."""
+"""How much time is left, and lines of progress that say when."""
 import signal
+import sys
 import time
 
 
@@ -27,3 +28,11 @@ class Clock:
         """From now on Ctrl-C and a request to end stop this clock, and interrupt nothing."""
         signal.signal(signal.SIGINT, self.stop)
         signal.signal(signal.SIGTERM, self.stop)
+
+
+def tell(clock: Clock, text: str) -> None:
+    """A line of progress; where nobody reads them any more, the search goes on without."""
+    try:
+        print(f"{clock.elapsed():7.2f} s  {text}", file=sys.stderr, flush=True)
+    except OSError:
+        pass

@@ -1,7 +1,5 @@
 """What is known of a project: every number here was confirmed by psmax. Each is told when it becomes known."""
-import sys
-
-from .clock import Clock
+from .clock import tell
 from .errors import Failed
 from .psmax import Psmax, starts_text
 
@@ -63,11 +61,3 @@ class Known:
     def answer(self) -> bytes:
         """What is known, in the words of psmax; `psmax check` and `plan gantt` read it."""
         return starts_text(self.starts or (), self.first_line())
-
-
-def tell(clock: Clock, text: str) -> None:
-    """A line of progress; where nobody reads them any more, the search goes on without."""
-    try:
-        print(f"{clock.elapsed():7.2f} s  {text}", file=sys.stderr, flush=True)
-    except OSError:
-        pass

@@ -1,15 +1,18 @@
 """Calls of psmax, each under the clock, and what its answers say. Every fact that `plan` prints comes from here."""
+import contextlib
 import os
 import pathlib
 import re
+import resource
 import shutil
 import subprocess
 import tempfile
 from dataclasses import dataclass
 
-from .clock import Clock
-from .errors import BadInput, Failed, TimeUp
+from .clock import Clock, tell
+from .errors import BadInput, Failed, NoMemory, TimeUp
 
+ALONE = 0  # workers: one thread searches by itself, deep first
 GLANCE = 0.05  # seconds between two looks at the clock while psmax runs
 MOST_NODES = 1_000_000_000
 FEWEST_NODES = 1_000
@@ -33,9 +36,8 @@ class Solved:
     bound: int | None
     starts: tuple[int, ...] | None
 
-    @property
-    def settled(self) -> bool:
-        return self.none or (self.makespan is not None and self.makespan == self.bound)
+
+NOTHING = Solved(False, None, None, None)
 
 
 @dataclass(frozen=True)
@@ -70,7 +72,8 @@ class Psmax:
         self.clock = clock
         self.name = name
         self.program = program or find_program()
-        self.pace: float | None = None  # nodes a second, as the last search showed that its limit stopped
+        self.paces: dict[int, float] = {}  # by workers: nodes a second of the last search that its limit stopped
+        self.most: dict[int, int] = {}  # by workers: half of the nodes of the last search that memory stopped
 
     def earliest(self, project: bytes) -> Earliest:
         status, out = self._call(["earliest"], project)
@@ -81,21 +84,38 @@ class Psmax:
         return Earliest(number, None) if found[1] == b"earliest" else Earliest(None, number)
 
     def solve(self, project: bytes, nodes: int) -> Solved:
-        """A search of at most so many nodes. A feature of psmax's search is added to its words here."""
+        """A search of at most so many nodes in one thread."""
+        return self._search(project, nodes, ALONE, [])
+
+    def solve_from(self, project: bytes, nodes: int, workers: int, starts: tuple[int, ...]) -> Solved:
+        """A search of at most so many nodes by workers, the least bound first, from starts that are feasible."""
+        with tempfile.NamedTemporaryFile(prefix="plan-") as file:
+            file.write(starts_text(starts))
+            file.flush()
+            return self._search(project, nodes, workers, ["--workers", str(workers), "--start", file.name])
+
+    def _search(self, project: bytes, nodes: int, workers: int, words: list[str]) -> Solved:
         begun = self.clock.elapsed()
-        status, out = self._call(["solve", "--nodes", str(nodes)], project)
+        try:
+            status, out = self._call(["solve", "--nodes", str(nodes), *words], project)
+        except NoMemory:
+            self.most[workers] = max(1, nodes // 2)
+            tell(self.clock, f"psmax ran out of memory: {' '.join(['solve --nodes', str(nodes), *words[:2]])}")
+            return NOTHING
         answer = read_solved(out)
         if status not in (0, 3) or answer is None:
             raise self._odd("solve")
         if status == 3:
-            self.pace = nodes / max(self.clock.elapsed() - begun, 0.001)
+            self.paces[workers] = nodes / max(self.clock.elapsed() - begun, 0.001)
         return answer
 
-    def affordable(self, nodes: int) -> int:
-        """So many nodes, or fewer where the clock would else cut the search off, and its answer be lost."""
-        if self.pace is None:
+    def affordable(self, nodes: int, workers: int = ALONE) -> int:
+        """So many nodes, or fewer where the clock would else cut the search off, and its answer be lost, or where
+        memory would not do."""
+        nodes = min(nodes, self.most.get(workers, MOST_NODES))
+        if workers not in self.paces:
             return nodes
-        return min(nodes, max(FEWEST_NODES, int(TIME_TO_USE * self.pace * self.clock.left())))
+        return min(nodes, max(FEWEST_NODES, int(TIME_TO_USE * self.paces[workers] * self.clock.left())))
 
     def check(self, project: bytes, starts: bytes, called: str = "the starts") -> Checked:
         """What psmax says of the starts, which are `called` so in faults; the project is one that it has read."""
@@ -123,6 +143,8 @@ class Psmax:
             raise BadInput(f"{called or self.name}: {text}")
         if status < 0:
             raise Failed(f"psmax {words[0]} was ended by signal {-status}")
+        if status == 1 and text == "out of memory":
+            raise NoMemory("psmax ran out of memory")
         if status in (0, 3, 4):
             return status, out
         raise Failed(f"psmax {words[0]} failed, exit status {status}" + (f": {text}" if text else ""))
@@ -139,6 +161,8 @@ class Psmax:
             except OSError as fault:
                 raise Failed(f"cannot start {self.program}: {fault.strerror}") from None
         try:
+            if "--workers" in words:
+                limit_memory(child.pid)
             return self._wait(child)
         finally:
             if child.poll() is None:
@@ -153,6 +177,16 @@ class Psmax:
             except subprocess.TimeoutExpired:
                 if self.clock.over():
                     raise TimeUp from None
+
+
+def limit_memory(process: int) -> None:
+    """A process that would take more than half of the machine's memory is told that there is no more: the book of a
+    search by workers keeps each open node."""
+    most = os.sysconf("SC_PAGE_SIZE") * os.sysconf("SC_PHYS_PAGES") // 2
+    if hasattr(resource, "prlimit"):
+        with contextlib.suppress(OSError, ValueError):  # where the limit is lower already
+            _, hard = resource.prlimit(process, resource.RLIMIT_DATA)
+            resource.prlimit(process, resource.RLIMIT_DATA, (most, hard))
 
 
 def read_solved(out: bytes) -> Solved | None:

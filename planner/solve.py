@@ -3,15 +3,18 @@ import sys
 from collections.abc import Callable
 
 from . import drawing, names, svg
-from .clock import Clock
+from .answer import feasible
+from .clock import Clock, tell
 from .deadlines import Deadlines, with_fewer_resources
-from .errors import Failed, TimeUp
-from .files import must_be_writable, read_bytes, write_whole
-from .known import Known, tell
+from .errors import BadInput, Failed, TimeUp
+from .files import must_be_writable, read_bytes, same_file, write_whole
+from .json_answer import as_lines
+from .known import Known
 from .lags import longest
+from .names import Names
 from .neighbours import Neighbours
 from .project import Project, alone, parse, too_needy
-from .psmax import MOST_NODES, Psmax
+from .psmax import MOST_NODES, Psmax, Solved
 from .rule import LARGEST, Rule
 
 FIRST_NODES = 1_000
@@ -24,18 +27,22 @@ MOST_IDLE = 200  # proposals in a row that are no shorter, after which they leav
 
 
 class Search:
-    """One search. What psmax is asked next is decided here alone: a schedule that it could start from, or a number of
-    workers, would be handed on in `plain` and by `Deadlines.ask`."""
+    """One search. What psmax is asked next is decided here alone."""
 
-    def __init__(self, text: bytes, psmax: Psmax) -> None:
+    def __init__(self, text: bytes, psmax: Psmax, called: Names, workers: int) -> None:
         self.text = text
+        self.names = called
         self.psmax = psmax
+        self.workers = workers  # for psmax's search from the best schedule
         self.clock = psmax.clock
         self.known = Known(psmax, text)
 
-    def run(self) -> None:
-        """Runs until everything is known or the time is over; what is known stands in `known`."""
+    def run(self, called: str = "", start: bytes | None = None) -> None:
+        """Runs until everything is known or the time is over; what is known stands in `known`. A start must be a
+        feasible schedule; it is `called` so."""
         try:
+            if start is not None:
+                self.known.offer(feasible(self.text, start, self.psmax, called, self.names).starts, called)
             if self.by_lags():
                 self.by_all(parse(self.text))
         except TimeUp:
@@ -70,6 +77,7 @@ class Search:
             self.for_a_share(NEIGHBOURS_SHARE, neighbours.ask)
             nodes = min(nodes * GROWTH, MOST_NODES)
             self.plain(PLAIN * nodes)
+            self.from_best(nodes)
             deadlines.from_below(nodes)
             deadlines.from_above(nodes)
 
@@ -84,8 +92,19 @@ class Search:
         if self.known.settled:
             return
         nodes = self.psmax.affordable(nodes)
-        answer = self.psmax.solve(self.text, nodes)
-        call = f"solve --nodes {nodes}"
+        self.learn(self.psmax.solve(self.text, nodes), f"solve --nodes {nodes}")
+
+    def from_best(self, nodes: int) -> None:
+        """psmax's search of the project as it stands, by workers from the best schedule: it proves more than it finds,
+        since it takes the least bound first."""
+        if self.known.settled or self.known.starts is None:
+            return
+        nodes = self.psmax.affordable(nodes, self.workers)
+        call = f"solve --nodes {nodes} --workers {self.workers} --start the {self.known.makespan}"
+        self.learn(self.psmax.solve_from(self.text, nodes, self.workers, self.known.starts), call)
+
+    def learn(self, answer: Solved, call: str) -> None:
+        """Takes what psmax says of the project as it stands."""
         if answer.none:
             self.known.no_schedule(call)
         if answer.starts is not None:
@@ -115,16 +134,15 @@ class Search:
             idle = 0 if improve() else idle + 1
 
 
-def solve(path: str, seconds: float, out: str | None, chart: str | None) -> int:
-    for target in (out, chart):
-        if target is not None:
-            must_be_writable(target)
-    clock = Clock(seconds)
+def solve(path: str, seconds: float, workers: int | None, start: str | None, out: str | None, chart: str | None) -> int:
+    check_targets(path, out, chart)
     text = read_bytes(path)
-    search = Search(text, Psmax(clock, path))
+    given = None if start is None else as_lines(read_bytes(start))
+    clock = Clock(seconds)
+    search = Search(text, Psmax(clock, path), names.beside(path), workers or 1)
     clock.listen()
     try:
-        search.run()
+        search.run(start or "", given)
     except Failed:
         if search.known.starts is not None:
             give(search.known, path, out, chart)
@@ -133,12 +151,27 @@ def solve(path: str, seconds: float, out: str | None, chart: str | None) -> int:
     return 0 if search.known.settled else 3
 
 
+def check_targets(path: str, out: str | None, chart: str | None) -> None:
+    """Tells before anything is searched that a file could not be written, or would take the place of another."""
+    for target in (out, chart):
+        if target is not None:
+            must_be_writable(target)
+            if same_file(target, path):
+                raise BadInput(f"{target} is the project, which would be lost")
+    if out is not None and chart is not None and same_file(out, chart):
+        raise BadInput(f"{out} can't hold both the schedule and the chart")
+
+
 def give(known: Known, path: str, out: str | None, chart: str | None) -> None:
-    """Prints what is known, and writes the files that were asked for."""
+    """Prints what is known, and writes the files that were asked for. A schedule that can't be written is printed."""
     if out is None or known.starts is None:
         sys.stdout.write(known.answer().decode())
     else:
-        write_whole(out, known.answer())
+        try:
+            write_whole(out, known.answer())
+        except Failed:
+            sys.stdout.write(known.answer().decode())
+            raise
         print(known.first_line())
     if chart is not None and known.starts is not None:
         drawn = drawing.make(parse(known.project), known.starts, names.beside(path), known.first_line(), ())

@@ -1,10 +1,9 @@
 """`plan why`: why a project has no schedule. Every cause is confirmed by psmax on a smaller project."""
 from . import names
 from .answer import lag_in_words
-from .clock import Clock
+from .clock import Clock, tell
 from .errors import TimeUp
 from .files import read_bytes
-from .known import tell
 from .lags import positive_cycle
 from .names import Names
 from .project import Arc, Project, alone, lags_only, parse, too_needy, without

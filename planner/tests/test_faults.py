@@ -1,9 +1,10 @@
 import os
 import shutil
+import signal
 import subprocess
 import sys
 
-from .helpers import EXAMPLES, PLAN, PROJECTS, PSMAX, InFolder, plan, started
+from .helpers import EXAMPLES, PLAN, PROJECTS, PSMAX, InFolder, plan, psmax, started
 
 COMMANDS = ("solve", "why", "where", "gantt", "write")
 SITE = EXAMPLES / "building-site.sch"
@@ -61,12 +62,67 @@ class Faults(InFolder):
 
     def test_bad_words(self) -> None:
         for words in ((), ("draw",), ("solve",), ("solve", SITE, "--seconds", "0"), ("solve", SITE, "--seconds", "nan"),
-                      ("gantt", SITE, "--width", "7"), ("write", SITE, "--period", "years")):
+                      ("solve", SITE, "--seconds", "soon"), ("solve", SITE, "--workers", "0"),
+                      ("solve", SITE, "--workers", "65"), ("solve", SITE, "--workers", "-1"),
+                      ("solve", SITE, "--workers", "two"), ("solve", SITE, "--workers", ""), ("solve", SITE, "--start"),
+                      ("solve", SITE, "--x\n\x1b[2J"), ("gantt", SITE, "--width", "7"),
+                      ("write", SITE, "--period", "years")):
             with self.subTest(words):
-                ran = plan(*words)
-                self.assertEqual((ran.returncode, ran.stdout), (2, ""))
-                self.assertNotIn("Traceback", ran.stderr)
+                self.refused(plan(*words), 2, "plan: ")
         self.assertEqual(plan("--help").returncode, 0)
+        self.assertIn("--workers N", plan("solve", "--help").stdout)
+
+    def test_closed_streams(self) -> None:
+        for closed, status, text in ((">&-", 1, "plan: standard output is closed\n"),
+                                     ("<&-", 1, "plan: standard input is closed\n"), ("2>&-", 0, "")):
+            with self.subTest(closed):
+                words = ["sh", "-c", f'exec "$@" {closed}', "sh", sys.executable, PLAN, "gantt", SITE]
+                with open(EXAMPLES / "building-site-feasible.starts", "rb") as starts:
+                    ran = subprocess.run(words, stdin=starts, capture_output=True, text=True,
+                                         env={**os.environ, "PSMAX": PSMAX})
+                self.assertEqual((ran.returncode, ran.stderr), (status, text))
+                self.assertEqual(ran.stdout != "", status == 0)
+
+    def test_files_that_would_be_lost(self) -> None:
+        project = self.file("p.sch", SITE.read_bytes())
+        (self.folder / "link").symlink_to(project)
+        for name in ("p.sch", "link", "./p.sch"):
+            self.refused(plan("solve", project, "--out", f"{self.folder}/{name}"), 2, "is the project")
+            self.refused(plan("solve", project, "--svg", f"{self.folder}/{name}"), 2, "is the project")
+        both = self.folder / "both"
+        self.refused(plan("solve", project, "--out", both, "--svg", both), 2, "both the schedule and the chart")
+        self.assertEqual(project.read_bytes(), SITE.read_bytes())
+
+    def test_a_folder_that_vanishes(self) -> None:
+        """The schedule that can't be written any more goes to standard output."""
+        folder = self.folder / "gone"
+        folder.mkdir()
+        with started("solve", PROJECTS / "assay-lab.sch", "--out", folder / "best") as child:
+            assert child.stdout is not None and child.stderr is not None
+            while "by check" not in child.stderr.readline():
+                pass
+            folder.rmdir()
+            child.send_signal(signal.SIGINT)
+            told = child.stderr.read()
+            out = child.stdout.read()
+            self.assertEqual(child.wait(timeout=10), 1)
+        self.assertIn("plan: cannot write", told.splitlines()[-1])
+        self.assertEqual(out.split()[0], "feasible")
+        self.assertTrue(psmax("check", "--project", PROJECTS / "assay-lab.sch", given=out.encode()).startswith("feasible"))
+
+    def test_a_page_that_is_named_and_gone(self) -> None:
+        starts = EXAMPLES / "building-site-feasible.starts"
+        for command in ("gantt", "write"):
+            ran = plan(command, SITE, starts, "--names", self.folder / "gone.md")
+            self.refused(ran, 1, "cannot read", "gone.md")
+
+    def test_odd_pages(self) -> None:
+        project = self.file("p.sch", SITE.read_bytes())
+        for page in (b"| " + b"1" * 5000 + b" | a | b |\n", b"\xff\x00|\n", b"|" * 1000, b"|-|-|-|\n"):
+            with self.subTest(page[:20]):
+                self.file("p.md", page)
+                ran = plan("gantt", project, EXAMPLES / "building-site-feasible.starts")
+                self.assertEqual((ran.returncode, ran.stderr), (0, ""))
 
     def test_output_that_nobody_reads(self) -> None:
         for target, status in ((os.devnull, 0), ("/dev/full", 1)):

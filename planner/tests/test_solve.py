@@ -1,9 +1,16 @@
+import io
 import pathlib
 import re
 import signal
 import time
+from unittest import mock
 
-from .helpers import EXAMPLES, INPUTS, PROJECTS, TWO_JOBS, InFolder, plan, psmax, started
+from planner.clock import Clock
+from planner.names import Names
+from planner.psmax import Psmax
+from planner.solve import Search
+
+from .helpers import EXAMPLES, INPUTS, PROJECTS, PSMAX, TWO_JOBS, InFolder, plan, psmax, started
 
 HARD = PROJECTS / "assay-lab.sch"  # plain psmax does not settle it in minutes
 
@@ -64,6 +71,100 @@ class Answers(InFolder):
         ran = plan("solve", INPUTS / "two-jobs-close-lags.sch", "--out", self.folder / "best")
         self.assertEqual((ran.returncode, ran.stdout), (0, "no schedule\n"))
         self.assertEqual(list(self.folder.iterdir()), [])
+
+
+class Starts(InFolder):
+    """A schedule that is handed in, and the best schedule, which is handed on."""
+
+    def test_by_hand(self) -> None:
+        """Two jobs of 3 and 4 on one machine, one after the other, as starts and as answers of psmax."""
+        path = INPUTS / "two-jobs.sch"
+        for given in ("0 0\n1 0\n2 3\n3 7\n", "optimal 7\n0 0\n1 0\n2 3\n3 7\n",
+                      '{"bound":6,"makespan":7,"starts":[0,0,3,7],"status":"feasible"}\n'):
+            with self.subTest(given):
+                starts = self.file("given", given)
+                ran = plan("solve", path, "--start", starts)
+                self.assertEqual((ran.returncode, ran.stdout), (0, "optimal 7\n0 0\n1 0\n2 3\n3 7\n"), ran.stderr)
+                self.assertIn(f"7 by check: {starts}\n", ran.stderr)
+
+    def test_it_is_not_lost(self) -> None:
+        """What is known at the end is at least as short, however little time there was, and may go where it came from."""
+        best = self.folder / "best"
+        best.write_text(psmax("solve", "--nodes", "1000", given=HARD.read_bytes()))
+        most = int(best.read_text().split()[1])
+        ran = plan("solve", HARD, "--start", best, "--out", best, "--seconds", "0.5")
+        self.assertEqual(ran.returncode, 3, ran.stderr)
+        told = psmax("check", "--project", HARD, given=best.read_bytes())
+        self.assertLessEqual(int(told.split()[1]), most)
+
+    def test_what_is_no_schedule(self) -> None:
+        path = INPUTS / "two-jobs.sch"
+        for given, text in (("0 0\n1 0\n2 2\n3 6\n", "not a schedule: overload 2 0 2"), ("0 0\n", "activity 1: no start"),
+                            ("hello\n", "line 1: not an activity"), ("no schedule\n", "no schedule"), ("", "empty"),
+                            ("optimal 7\n", "no starts below it")):
+            with self.subTest(given):
+                self.refused(plan("solve", path, "--start", self.file("given", given)), 2, "given", text)
+        self.refused(plan("solve", path, "--start", self.folder / "gone"), 1, "cannot read", "gone")
+        starts = self.file("given", "0 0\n")
+        self.refused(plan("solve", self.file("bad.sch", "x"), "--start", starts), 2, "bad.sch: word 0")
+
+    def search(self, text: bytes, workers: int, program: str = PSMAX) -> Search:
+        """A search that knows a schedule, found in 100 nodes."""
+        search = Search(text, Psmax(Clock(60), "a project", program), Names(), workers)
+        search.from_best(100)  # nothing to begin with, so nothing is asked
+        search.plain(100)
+        return search
+
+    def test_from_the_best(self) -> None:
+        """By one worker and by two: from a schedule after 100 nodes to 55, the optimum of Fisher and Thompson's first
+        job shop, and the proof."""
+        text = (INPUTS / "job-shop-6-by-6.sch").read_bytes()
+        for workers in (1, 2):
+            with self.subTest(workers), mock.patch("sys.stderr", io.StringIO()) as told:
+                search = self.search(text, workers)
+                first = search.known.makespan or 0
+                self.assertGreater(first, 55)
+                search.from_best(100_000)
+                self.assertEqual(search.known.first_line(), "optimal 55")
+                self.assertIn(f"by check: solve --nodes 100000 --workers {workers} --start the {first}", told.getvalue())
+
+    def test_what_psmax_is_handed(self) -> None:
+        """The search from the best schedule has that schedule and the workers, the plain one has neither."""
+        calls, handed = self.file("calls", ""), self.folder / "handed"
+        spy = self.file("spy", f"""#!/bin/sh
+            echo "$@" >> {calls}
+            case "$*" in *--start*) for file; do :; done; cat "$file" > {handed}; esac
+            exec {PSMAX} "$@"
+            """)
+        spy.chmod(0o755)
+        with mock.patch("sys.stderr", io.StringIO()):
+            search = self.search(HARD.read_bytes(), 3, str(spy))
+            best = search.known.makespan
+            search.from_best(100)
+        words = [line for line in calls.read_text().splitlines() if line.startswith("solve")]
+        self.assertEqual(words[0], "solve --nodes 100")
+        self.assertRegex(words[1], r"^solve --nodes 100 --workers 3 --start \S+$")
+        self.assertEqual(psmax("check", "--project", HARD, given=handed.read_bytes()), f"feasible {best}\n")
+
+    def test_workers(self) -> None:
+        ran = plan("solve", INPUTS / "three-jobs-lags.sch", "--workers", "2")
+        self.assertEqual((ran.returncode, ran.stdout.partition("\n")[0]), (0, "optimal 5"))
+
+    def test_no_memory_for_workers(self) -> None:
+        """A search that runs out of memory says nothing, and later ones of its kind get half of its nodes."""
+        small = self.file("small", f"""#!/bin/sh
+            case "$*" in *--start*) echo 'psmax: out of memory' >&2; exit 1; esac
+            exec {PSMAX} "$@"
+            """)
+        small.chmod(0o755)
+        with mock.patch("sys.stderr", io.StringIO()) as told:
+            search = self.search(HARD.read_bytes(), 1, str(small))
+            before = search.known.first_line()
+            search.from_best(1000)
+        self.assertEqual(search.known.first_line(), before)
+        self.assertIn("psmax ran out of memory: solve --nodes 1000 --workers 1\n", told.getvalue())
+        self.assertEqual(search.psmax.affordable(9000, 1), 500)
+        self.assertGreater(search.psmax.affordable(9000), 500)
 
 
 class Progress(InFolder):
