@@ -51,6 +51,17 @@ def started(*words: object, **more: object) -> subprocess.Popen[str]:
                             **{"stdout": subprocess.PIPE, "stderr": subprocess.PIPE, **more})
 
 
+def told_until(child: subprocess.Popen[str], text: str) -> str:
+    """What a command told until a line with this text, or until its end."""
+    assert child.stderr is not None
+    told = ""
+    for line in child.stderr:
+        told += line
+        if text in line:
+            break
+    return told
+
+
 def psmax(*words: object, given: bytes = b"") -> str:
     """What psmax itself answers."""
     return subprocess.run([PSMAX, *map(str, words)], input=given, capture_output=True, timeout=60).stdout.decode()

@@ -4,7 +4,7 @@ import signal
 import subprocess
 import sys
 
-from .helpers import EXAMPLES, PLAN, PROJECTS, PSMAX, InFolder, plan, psmax, started
+from .helpers import EXAMPLES, PLAN, PROJECTS, PSMAX, InFolder, plan, psmax, started, told_until
 
 COMMANDS = ("solve", "why", "where", "gantt", "write")
 SITE = EXAMPLES / "building-site.sch"
@@ -99,8 +99,7 @@ class Faults(InFolder):
         folder.mkdir()
         with started("solve", PROJECTS / "assay-lab.sch", "--out", folder / "best") as child:
             assert child.stdout is not None and child.stderr is not None
-            while "by check" not in child.stderr.readline():
-                pass
+            told_until(child, "by check")
             folder.rmdir()
             child.send_signal(signal.SIGINT)
             told = child.stderr.read()

@@ -10,7 +10,7 @@ from planner.names import Names
 from planner.psmax import Psmax
 from planner.solve import Search
 
-from .helpers import EXAMPLES, INPUTS, PROJECTS, PSMAX, TWO_JOBS, InFolder, plan, psmax, started
+from .helpers import EXAMPLES, INPUTS, PROJECTS, PSMAX, TWO_JOBS, InFolder, plan, psmax, started, told_until
 
 HARD = PROJECTS / "assay-lab.sch"  # plain psmax does not settle it in minutes
 
@@ -202,9 +202,7 @@ class Progress(InFolder):
         for sent in (signal.SIGINT, signal.SIGTERM):
             with self.subTest(sent), started("solve", HARD) as child:
                 assert child.stdout is not None and child.stderr is not None
-                told = ""
-                while "by check" not in told:
-                    told += child.stderr.readline()
+                told = told_until(child, "by check")
                 child.send_signal(sent)
                 told += child.stderr.read()
                 out = child.stdout.read()
