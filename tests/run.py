@@ -20,20 +20,15 @@ Python's os.fsdecode gives them. An input is one of
   {"concat": [INPUT, ..]}   these one after another
   {"path": PATH}            this file or device itself"""
 import argparse
-import fcntl
 import json
 import os
 import pathlib
-import resource
-import select
-import signal
-import struct
 import subprocess
 import sys
 import tempfile
-import termios
 import threading
 
+from channels import give, limit_files
 from counting import counted
 
 TOP = pathlib.Path(__file__).resolve().parent.parent
@@ -61,22 +56,6 @@ def wanted(spec, inputs):
     return spec.encode() if isinstance(spec, str) else content(spec, inputs)
 
 
-def give(pipe, data, most):
-    """Writes the data into the pipe, each piece once the one before was read, and closes it."""
-    closed = select.poll()
-    closed.register(pipe, 0)
-    try:
-        for start in range(0, len(data), most):
-            os.write(pipe, data[start : start + most])
-            while struct.unpack("i", fcntl.ioctl(pipe, termios.FIONREAD, b"\0" * 4))[0]:
-                if closed.poll(1):  # a millisecond, or at once where the program reads no further
-                    return
-    except BrokenPipeError:
-        pass
-    finally:
-        os.close(pipe)
-
-
 def verified(program, folder, inputs, project, record, out):
     """What is wrong with a record: psmax and a checker that shares nothing with it must accept it with the verdict."""
     (folder / ".project").write_bytes(content(project, inputs))
@@ -89,12 +68,6 @@ def verified(program, folder, inputs, project, record, out):
         if (ran.returncode, ran.stdout, ran.stderr) != (0, want, b""):
             bad.append(f"{words[1]}: exit {ran.returncode}, {ran.stdout!r}, {ran.stderr!r}, not {want!r}")
     return bad
-
-
-def limit_files(most):
-    """No file may have more bytes; a write beyond fails, and kills nobody."""
-    signal.signal(signal.SIGXFSZ, signal.SIG_IGN)
-    resource.setrlimit(resource.RLIMIT_FSIZE, (most, most))
 
 
 def failures(program, case, inputs):

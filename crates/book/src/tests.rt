@@ -55,11 +55,21 @@ fn split_root(alloc: Global, book: &mut Book) -> Result<CheckedIn, Fail> {
     Ok(check_in(book, 0, report)?)
 }
 
-/// What a book says to a report. Where it meets a want of memory, the report comes back, and is checked in again.
-fn check_in_again(book: &mut Book, name: u64, report: Report) -> Result<CheckedIn, CheckFault> {
+/// What a book says to a report. Where it meets a want of memory, its counts are as before and the report comes back, and
+/// is checked in again.
+fn check_in_again(
+    rt: &impl Abort,
+    book: &mut Book,
+    name: u64,
+    report: Report,
+) -> Result<CheckedIn, CheckFault> {
+    let before = counts_of(book);
     match book.check_in(name, report) {
         Ok(done) => Ok(done),
-        Err((back, CheckFault::Memory)) => check_in(book, name, back),
+        Err((back, CheckFault::Memory)) => {
+            assert_eq!(rt; counts_of(book), before);
+            check_in(book, name, back)
+        }
         Err((_, fault)) => Err(fault),
     }
 }

@@ -13,6 +13,7 @@ use std::alloc::{AllocError, Global};
 use std::io::{self, ErrorKind, Read, Write};
 use std::test::Fail;
 
+mod devices;
 mod records;
 mod workers;
 

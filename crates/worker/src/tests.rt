@@ -12,6 +12,7 @@ use test_projects::are_starts;
 
 mod desks;
 mod gates;
+mod growths;
 mod rows;
 
 /// What workers say of a project that they search through, with at most a hundred takes.

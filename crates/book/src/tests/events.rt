@@ -74,6 +74,18 @@ fn events_without(rt: &impl Abort, alloc: Global, left_out: usize) -> Result<Vec
     Ok(events)
 }
 
+/// The twelve events, the one at a place twice.
+fn events_with_two_at(rt: &impl Abort, alloc: Global, doubled: usize) -> Result<Vec<Event>, Fail> {
+    let mut events = Vec::new(alloc);
+    for (place, deed) in DEEDS.iter().enumerate() {
+        events.push(event_of(rt, alloc, *deed)?)?;
+        if place == doubled {
+            events.push(event_of(rt, alloc, *deed)?)?;
+        }
+    }
+    Ok(events)
+}
+
 /// A word for what a report did.
 fn word_of_check_in(done: &CheckedIn) -> &'static str {
     match (done.opened, done.improved) {
@@ -103,6 +115,7 @@ fn word_of(reply: &Reply) -> &'static str {
         Reply::GivenBack(Ok(())) => "back",
         Reply::GivenBack(Err(fault)) => word_of_fault(fault),
         Reply::Offered(Ok(true)) => "shorter",
+        Reply::Offered(Ok(false)) => "kept",
         Reply::Offered(_) => "another",
         Reply::Halted => "halt",
     }
@@ -232,4 +245,27 @@ fn without_the_halt(rt: HostRuntime) -> Result<(), Fail> {
 fn without_the_last_take(rt: HostRuntime) -> Result<(), Fail> {
     let words = " root back root split gone unknown second shorter solved done halt";
     assert_without(&rt, rt.alloc(), 11, words, [3, 2, 1, 3, 0, 0], OPTIMAL)
+}
+
+#[test]
+fn each_event_may_come_twice(rt: HostRuntime) -> Result<(), Fail> {
+    let replies = [
+        " root full back root split gone unknown second shorter solved done halt halted",
+        " root back gone root split gone unknown second shorter solved done halt halted",
+        " root back root full split gone unknown second shorter solved done halt halted",
+        " root back root split gone gone unknown second shorter solved done halt halted",
+        " root back root split gone gone unknown second shorter solved done halt halted",
+        " root back root split gone unknown unknown second shorter solved done halt halted",
+        " root back root split gone unknown second full shorter solved done halt halted",
+        " root back root split gone unknown second shorter kept solved done halt halted",
+        " root back root split gone unknown second shorter solved gone done halt halted",
+        " root back root split gone unknown second shorter solved done done halt halted",
+        " root back root split gone unknown second shorter solved done halt halt halted",
+        " root back root split gone unknown second shorter solved done halt halted halted",
+    ];
+    for (doubled, words) in replies.iter().enumerate() {
+        let events = events_with_two_at(&rt, rt.alloc(), doubled)?;
+        assert_run(&rt, rt.alloc(), events, words, [3, 2, 1, 3, 0, 0], OPTIMAL)?;
+    }
+    Ok(())
 }

@@ -216,7 +216,7 @@ fn only_a_shorter_schedule_becomes_the_best(rt: HostRuntime) -> Result<(), Fail>
 fn a_report_that_met_a_want_of_memory_is_accepted_later(rt: HostRuntime) -> Result<(), Fail> {
     let mut book = taken_book(rt.alloc(), 1)?;
     let report = root_report(rt.alloc(), one_machine(rt.alloc(), &[])?)?;
-    assert_eq!(rt; check_in_again(&mut book, 0, report)?.opened, 2);
+    assert_eq!(rt; check_in_again(&rt, &mut book, 0, report)?.opened, 2);
     assert_eq!(rt; counts_of(&book), [3, 1, 0, 1, 2, 0]);
     Ok(())
 }

@@ -109,7 +109,12 @@ fn dropping_book(rt: &impl Abort, alloc: Global) -> Result<Book, Fail> {
     let mut book = open_recorded(alloc, one_machine(alloc, &[])?)?;
     take(&mut book, 0)?;
     assert_offered(rt, alloc, &mut book, &[0, 0, 3, 7], true)?;
-    check_in_again(&mut book, 0, root_report(alloc, one_machine(alloc, &[])?)?)?;
+    check_in_again(
+        rt,
+        &mut book,
+        0,
+        root_report(alloc, one_machine(alloc, &[])?)?,
+    )?;
     Ok(book)
 }
 
@@ -128,7 +133,7 @@ fn a_report_that_met_a_want_of_memory_is_noted_once(rt: HostRuntime) -> Result<(
     let mut book = open_recorded(rt.alloc(), one_machine(rt.alloc(), &[])?)?;
     take(&mut book, 0)?;
     let report = root_report(rt.alloc(), one_machine(rt.alloc(), &[])?)?;
-    check_in_again(&mut book, 0, report)?;
+    check_in_again(&rt, &mut book, 0, report)?;
     assert_eq!(rt; counts_of(&book), [3, 1, 0, 1, 2, 0]);
     let endings = endings_of(rt.alloc(), entries_of(&book)?)?;
     assert_eq!(rt; endings.as_str(), " split open open");

@@ -14,7 +14,7 @@ use std::thread::Threads;
 use worker::OpenGate;
 
 /// A search by one worker, with a record.
-fn recorded(takes: u64, start: bool, json: bool) -> Job
+pub(super) fn recorded(takes: u64, start: bool, json: bool) -> Job
     ensures { result ≡ jobs.Solve None takes start json true }
 {
     Job::Solve {

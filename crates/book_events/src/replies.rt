@@ -1,0 +1,94 @@
+//! What a book answers, as words.
+
+use book::{Book, CheckFault, CheckedIn, Reply, Take, Ticket};
+use branching::Lean;
+use std::alloc::{AllocError, Global};
+
+/// A number, or a dash.
+fn or_dash(alloc: Global, number: Option<i64>) -> Result<String, AllocError> {
+    match number {
+        Some(number) => format!(in alloc; "{number}"),
+        None => String::from_str(alloc, "-"),
+    }
+}
+
+/// The pairs of a node, with a blank before each.
+pub fn pairs_text(alloc: Global, node: &Lean) -> Result<String, AllocError> {
+    let mut text = String::new(alloc);
+    for pair in &node.pairs().to_vec(alloc)? {
+        text.push_str(&format!(in alloc; " {}-{}", pair.before, pair.after)?)?;
+    }
+    Ok(text)
+}
+
+/// The name of a node that is handed out, the ceiling, its bound and its pairs.
+fn ticket_text(alloc: Global, ticket: &Ticket) -> Result<String, AllocError> {
+    let ceiling = or_dash(alloc, ticket.ceiling)?;
+    let pairs = pairs_text(alloc, &ticket.node)?;
+    let bound = ticket.node.bound();
+    format!(in alloc; "ticket {} {ceiling} {bound}{pairs}", ticket.name)
+}
+
+fn take_text(alloc: Global, answer: &Take) -> Result<String, AllocError> {
+    let word = match answer {
+        Take::Ticket(ticket) => return ticket_text(alloc, ticket),
+        Take::NoSuchWorker => "nobody",
+        Take::HandsFull => "full",
+        Take::Halted => "halted",
+        Take::Done => "done",
+        Take::Idle => "idle",
+        Take::LimitReached => "limit",
+    };
+    String::from_str(alloc, word)
+}
+
+fn fault_text(alloc: Global, fault: &CheckFault) -> Result<String, AllocError> {
+    let word = match fault {
+        CheckFault::Unknown => "unknown",
+        CheckFault::NotInHand => "gone",
+        CheckFault::OtherNode => "other node",
+        CheckFault::OtherProject => "other project",
+        CheckFault::AheadOfBook { best } => {
+            let best = or_dash(alloc, *best)?;
+            return format!(in alloc; "ahead {best}");
+        }
+        CheckFault::Memory => "memory",
+    };
+    String::from_str(alloc, word)
+}
+
+fn accepted_text(alloc: Global, done: &CheckedIn) -> Result<String, AllocError> {
+    let opened = done.opened;
+    let improved = if done.improved {
+        "improved"
+    } else {
+        "as before"
+    };
+    format!(in alloc; "opened {opened} {improved}")
+}
+
+/// What a book replies to an event.
+pub fn reply_text(alloc: Global, reply: &Reply) -> Result<String, AllocError> {
+    let word = match reply {
+        Reply::Taken(answer) => return take_text(alloc, answer),
+        Reply::CheckedIn(Ok(done)) => return accepted_text(alloc, done),
+        Reply::CheckedIn(Err((_, fault))) => return fault_text(alloc, fault),
+        Reply::GivenBack(Err(fault)) => return fault_text(alloc, fault),
+        Reply::GivenBack(Ok(())) => "back",
+        Reply::Offered(Ok(true)) => "shorter",
+        Reply::Offered(Ok(false)) => "kept",
+        Reply::Offered(Err(_)) => "other project",
+        Reply::Halted => "halt",
+    };
+    String::from_str(alloc, word)
+}
+
+/// The counts of a book, its best makespan and its lower bound.
+pub fn told(alloc: Global, book: &Book) -> Result<String, AllocError> {
+    let counts = book.counts();
+    let (opened, checked, cut) = (counts.opened(), counts.checked(), counts.cut());
+    let (taken, waiting, hand) = (counts.taken(), counts.waiting(), counts.hand());
+    let best = or_dash(alloc, book.best().map(|best| best.makespan()))?;
+    let bound = or_dash(alloc, book.lower_bound())?;
+    format!(in alloc; "{opened} {checked} {cut} {taken} {waiting} {hand} {best} {bound}")
+}

@@ -1,0 +1,101 @@
+"""Calls of the program on the smallest projects that reach each of its paths, and what it has to answer."""
+import pathlib
+
+import verify
+
+INPUTS = pathlib.Path(__file__).resolve().parent / "inputs"
+
+
+def project(name):
+    return (INPUTS / f"{name}.sch").read_bytes()
+
+
+TWO, THREE, LAGS = project("two-jobs"), project("three-jobs-capacity-two"), project("three-jobs-lags")
+FORCED, DEAD, CYCLE = project("forced-order"), project("two-jobs-close-lags"), project("two-jobs-positive-cycle")
+STARTS, OVERLOADED = b"0 0\n1 0\n2 3\n3 7\n", b"0 0\n1 0\n2 2\n3 6\n"
+TWO_SOLVED = b"optimal 7\n0 0\n1 4\n2 0\n3 7\n"
+TWO_RECORD = b"record 1\noptimal 7\nstarts 0 4 0 7\nsplit 0 1 2\ncut\nsolved\n"
+DEAD_RECORD = b"record 1\nno schedule\nsplit 0 1 2\ndead\ndead\n"
+LAGS_RECORD = b"record 1\noptimal 5\nstarts 0 0 2 1 5\nsplit 0 1 2\nsolved\ncut\n"
+FORCED_SOLVED = b"optimal 9\n0 0\n1 6\n2 2\n3 0\n4 9\n"
+FORCED_RECORD = (b"record 1\noptimal 9\nstarts 0 6 2 0 9\nsplit 0 2 3\nforce 3 1\ncut\nforce 3 1\n"
+                 b"split 0 1 2\ncut\nsolved\n")
+EMPTY_TIDY = b"0\t0\t0\t0\n0\t1\t0\n1\t1\t0\n0\t1\t0\n1\t1\t0\n"
+SOLVE = ["solve"]
+RECORD = ["solve", "--record", "record"]
+START = ["solve", "--start", "second"]
+CHECK = ["check", "--project", "second"]
+VERIFY = ["verify", "--project", "second"]
+
+
+def shortest_of_three(out, record):
+    """Whether an answer is a shortest schedule of three jobs on two machines, and a record, if there is one, proves it."""
+    first, *lines = out.decode().splitlines()
+    starts = [int(line.split()[1]) for line in lines]
+    judge = verify.Project(THREE)
+    if first != "optimal 4" or not judge.is_feasible(starts) or starts[-1] != 4:
+        return False
+    return not record or verify.verify(judge, *verify.read_record(record)) == "proved optimal 4"
+
+
+class Call:
+    """One call: its words and texts, and the usual status, output and fault, and record."""
+
+    def __init__(self, words, text, second=b"", exit=0, out=b"", fault=b"", record=b"", answer=None):
+        self.words, self.text, self.second = words, text, second
+        self.usual, self.record, self.answer = (exit, out, fault), record, answer
+
+    def is_usual(self, ended, record):
+        if self.answer:
+            return (ended[0], ended[2]) == (0, b"") and self.answer(ended[1], record)
+        return ended == self.usual and record == self.record
+
+    def is_want(self, ended, record):
+        """Whether a call ended for want of memory, or of a thread where it has workers."""
+        status, out, fault = ended
+        wants = [b"psmax: out of memory\n"]
+        if {"--workers", "--start", "--record"} & set(self.words):
+            wants.append(b"psmax: cannot start a thread\n")
+        return status == 1 and out == b"" and fault in wants and record == b""
+
+
+CALLS = [
+    Call(["earliest"], TWO, out=b"earliest 4\n0 0\n1 0\n2 0\n3 4\n"),
+    Call(["earliest"], CYCLE, out=b"positive cycle 2\n"),
+    Call(["earliest"], TWO[:64], exit=2, fault=b"psmax: ends before word 32\n"),
+    Call(SOLVE, TWO, out=TWO_SOLVED),
+    Call(SOLVE, LAGS, out=b"optimal 5\n0 0\n1 0\n2 2\n3 1\n4 5\n"),
+    Call(SOLVE, FORCED, out=FORCED_SOLVED),
+    Call(SOLVE, DEAD, out=b"no schedule\n"),
+    Call(SOLVE, CYCLE, out=b"no schedule\n"),
+    Call([*SOLVE, "--nodes", "2"], LAGS, exit=3, out=b"feasible 6 bound 5\n0 0\n1 3\n2 0\n3 4\n4 6\n"),
+    Call([*SOLVE, "--json"], TWO, out=b'{"bound":7,"makespan":7,"starts":[0,4,0,7],"status":"optimal"}\n'),
+    Call([*SOLVE, "--json", "--nodes", "1"], TWO, exit=3,
+         out=b'{"bound":7,"makespan":null,"starts":null,"status":"unknown"}\n'),
+    Call([*SOLVE, "--workers", "1"], TWO, out=TWO_SOLVED),
+    Call([*SOLVE, "--workers", "1"], FORCED, out=FORCED_SOLVED),
+    Call([*SOLVE, "--workers", "2"], THREE, answer=shortest_of_three),
+    Call([*SOLVE, "--workers", "2", "--record", "record"], THREE, answer=shortest_of_three),
+    Call([*SOLVE, "--workers", "2"], DEAD, out=b"no schedule\n"),
+    Call(START, TWO, STARTS, out=b"optimal 7\n" + STARTS),
+    Call(START, TWO, OVERLOADED, exit=4, out=b"overload 2 0 2\n"),
+    Call(START, TWO, b"0 0\n0 0\n", exit=2, fault=b"psmax: line 2: repeated\n"),
+    Call(RECORD, TWO, out=TWO_SOLVED, record=TWO_RECORD),
+    Call(RECORD, FORCED, out=FORCED_SOLVED, record=FORCED_RECORD),
+    Call(RECORD, DEAD, out=b"no schedule\n", record=DEAD_RECORD),
+    Call(RECORD, CYCLE, out=b"no schedule\n", record=b"record 1\nno schedule\ndead\n"),
+    Call([*RECORD, "--nodes", "1"], TWO, exit=3, out=b"unknown bound 7\n"),
+    Call([*RECORD, "--start", "second", "--json"], TWO, STARTS,
+         out=b'{"bound":7,"makespan":7,"starts":[0,0,3,7],"status":"optimal"}\n',
+         record=b"record 1\noptimal 7\nstarts 0 0 3 7\ncut\n"),
+    Call(CHECK, STARTS, TWO, out=b"feasible 7\n"),
+    Call(CHECK, b"0 1\n1 0\n2 2\n3 6\n", TWO, exit=4, out=b"start 1\nlag 0 1 0\noverload 2 0 2\n"),
+    Call(CHECK, b"0 0\n1 0\n2 3\n", TWO, exit=2, fault=b"psmax: activity 3: no start\n"),
+    Call(["tidy"], project("empty-project"), out=EMPTY_TIDY),
+    Call(["tidy"], TWO, out=TWO.replace(b" ", b"\t")),
+    Call(VERIFY, LAGS_RECORD, LAGS, out=b"proved optimal 5\n"),
+    Call(VERIFY, FORCED_RECORD, FORCED, out=b"proved optimal 9\n"),
+    Call(VERIFY, DEAD_RECORD, DEAD, out=b"proved no schedule\n"),
+    Call(VERIFY, LAGS_RECORD.replace(b"0 1 2\n", b"0 1 3\n"), LAGS, exit=4, fault=b"psmax: line 4: set\n"),
+    Call(VERIFY, LAGS_RECORD.replace(b"cut\n", b""), LAGS, exit=2, fault=b"psmax: line 6: short\n"),
+]

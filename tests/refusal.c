@@ -1,0 +1,59 @@
+/* A library that is loaded before the C library's own, and refuses growths of memory of a program that takes its memory
+   there.
+
+   REFUSE=N refuses the Nth growth, counted from 1; REFUSE=N-M all from the Nth to the Mth; REFUSE=N- all from the Nth on.
+   At the first that is refused one byte is written to the descriptor REFUSE_TO. */
+#include <errno.h>
+#include <limits.h>
+#include <stdatomic.h>
+#include <stdlib.h>
+#include <unistd.h>
+
+extern void *__libc_malloc(size_t);
+extern void *__libc_calloc(size_t, size_t);
+extern void *__libc_realloc(void *, size_t);
+
+static atomic_long growths;
+static long first, last;
+static int teller;
+
+__attribute__((constructor)) static void begin(void)
+{
+    const char *range = getenv("REFUSE"), *to = getenv("REFUSE_TO");
+    char *end;
+    if (range == NULL || to == NULL)
+        return;
+    teller = atoi(to);
+    first = last = strtol(range, &end, 10);
+    if (*end == '-')
+        last = end[1] != '\0' ? atol(end + 1) : LONG_MAX;
+    atomic_store(&growths, 0);
+}
+
+static int is_refused(void)
+{
+    if (first == 0)
+        return 0;
+    long growth = atomic_fetch_add(&growths, 1) + 1;
+    if (growth < first || growth > last)
+        return 0;
+    if (growth == first && write(teller, "!", 1) != 1)
+        _exit(99);
+    errno = ENOMEM;
+    return 1;
+}
+
+void *malloc(size_t size)
+{
+    return is_refused() ? NULL : __libc_malloc(size);
+}
+
+void *calloc(size_t count, size_t size)
+{
+    return is_refused() ? NULL : __libc_calloc(count, size);
+}
+
+void *realloc(void *kept, size_t size)
+{
+    return is_refused() ? NULL : __libc_realloc(kept, size);
+}

@@ -1,0 +1,82 @@
+#!/usr/bin/env python3
+"""tests/test_growths.py [--only WORD] [--most N] [--counted LOG]
+
+Refuses each growth of memory of each test of each crate in turn, alone and with the next. The tests are those of the
+programs crates/NAME/out/NAME_tests, which `rt ci` and `rt test` leave. A test has to pass, or to end with want of memory (or
+of a thread) as its error, or with an assertion that found that in place of what it wanted: any other end is an answer that
+changed. Of a test with more than N growths (300 by default) so many are refused, spread evenly.
+
+Prints which tests are covered in part. The last line counts the runs, and with --counted, what the last such line of a log
+counts is added."""
+import argparse
+import concurrent.futures
+import os
+import pathlib
+import re
+import subprocess
+import sys
+import tempfile
+
+from counting import counted
+from refusing import Refusing, library, one, two
+
+ROOT = pathlib.Path(__file__).resolve().parent.parent
+WANT = rb"(?:AllocError|AllocFailed \{ \.\. \}|Memory|Thread)"
+ENDS = re.compile(
+    rb"error: " + WANT + rb"\nthe test failed: its result gives status 1\n"
+    rb"|assertion `left == right` failed(?:.*\n)*  left: (?:Some\(|Err\()?" + WANT + rb"\)?\n right: (?:.*\n)*"
+)
+# These assert that memory is there.
+WITH_AMPLE_MEMORY = set()
+
+
+def tests_of(program):
+    told = subprocess.run([program, "--list"], capture_output=True, check=True).stdout.decode()
+    return [line.removesuffix(": test") for line in told.splitlines() if line.endswith(": test")]
+
+
+def spread(count, most):
+    """The numbers from 1 to the count, or so many of them at most."""
+    return sorted({1 + place * count // min(count, most) for place in range(min(count, most))})
+
+
+def judged(made, program, test, most):
+    """How many growths a test has, how many were refused, and what was wrong with some runs."""
+    refusing = Refusing(made, [program, test])
+    count = refusing.count()
+    numbers, wrong = spread(count, most), []
+    for growth in numbers:
+        for refuse in (one, two):
+            status, out, fault, _ = refusing.run(refuse(growth))
+            if status != 0 and not ENDS.fullmatch(fault):
+                wrong.append(f"growth {refuse(growth)}: {status} {fault.decode()}")
+    return count, numbers, wrong
+
+
+def main():
+    parser = argparse.ArgumentParser()
+    parser.add_argument("--only", default="")
+    parser.add_argument("--most", type=int, default=300)
+    parser.add_argument("--counted")
+    options = parser.parse_args()
+    passed, failed = counted(options.counted)
+    growths = covered = 0
+    programs = sorted(ROOT.glob("crates/*/out/*_tests"))
+    cases = [(program, test) for program in programs for test in tests_of(program)
+             if options.only in f"{program.name} {test}" and test not in WITH_AMPLE_MEMORY]
+    with tempfile.TemporaryDirectory() as folder, concurrent.futures.ThreadPoolExecutor(os.cpu_count()) as pool:
+        made = library(folder)
+        told = pool.map(lambda case: judged(made, *case, options.most), cases)
+        for (program, test), (count, numbers, wrong) in zip(cases, told):
+            passed, failed = passed + 2 * len(numbers) - len(wrong), failed + len(wrong)
+            growths, covered = growths + count, covered + len(numbers)
+            if len(numbers) < count:
+                print(f"{program.name} {test}: {len(numbers)} of {count} growths")
+            for run in wrong[:3]:
+                print(f"FAILED {program.name} {test}: {run}")
+    print(f"{len(cases)} tests: {covered} of {growths} growths")
+    print(f"{passed} passed, {failed} failed")
+    return failed > 0
+
+
+sys.exit(main())
