@@ -11,6 +11,7 @@ import argparse
 import collections
 import pathlib
 import random
+import re
 import subprocess
 import sys
 
@@ -214,16 +215,16 @@ class Board:
 
 
 def judged(board, lists):
-    """Which lists have other replies or counts than the model's, and the first of these."""
+    """For each list the first reply or counts that aren't the model's, or None."""
     words = [word for list_words, _ in lists for word in list_words]
     told = iter(board.play([*board.words, *words])[board.found_lines :])
     for list_words, wanted in lists:
-        for word, want in zip(list_words, wanted):
-            got = next(told, "nothing")
-            if got != want:
-                yield f"{' '.join(list_words)}: at {word} {got!r}, not {want!r}"
-                return
-        yield None
+        got = [next(told, "nothing") for _ in wanted]
+        place = next((place for place, pair in enumerate(zip(got, wanted)) if pair[0] != pair[1]), None)
+        if place is None:
+            yield None
+        else:
+            yield f"{' '.join(list_words)}: at {list_words[place]} {got[place]!r}, not {wanted[place]!r}"
 
 
 def main():
@@ -240,12 +241,12 @@ def main():
     for start in range(0, options.lists, LISTS_AT_ONCE):
         board = boards[start // LISTS_AT_ONCE % len(boards)]
         lists = [board.list_of_events(rng) for _ in range(min(LISTS_AT_ONCE, options.lists - start))]
-        replies.update(want.split(";")[0].split()[0] for _, wanted in lists for want in wanted)
+        replies.update(re.sub(r" [-\d].*", "", want.split(";")[0]) for _, wanted in lists for want in wanted)
         for wrong in judged(board, lists):
             passed, failed = passed + (wrong is None), failed + (wrong is not None)
             if wrong:
                 print(f"FAILED {wrong}")
-    print(" ".join(f"{reply} {count}" for reply, count in sorted(replies.items())))
+    print(", ".join(f"{reply} {count}" for reply, count in sorted(replies.items())))
     print(f"{passed} passed, {failed} failed")
     return failed > 0
 

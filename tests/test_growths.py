@@ -4,7 +4,8 @@
 Refuses each growth of memory of each test of each crate in turn, alone and with the next. The tests are those of the
 programs crates/NAME/out/NAME_tests, which `rt ci` and `rt test` leave. A test has to pass, or to end with want of memory (or
 of a thread) as its error, or with an assertion that found that in place of what it wanted: any other end is an answer that
-changed. Of a test with more than N growths (300 by default) so many are refused, spread evenly.
+changed. Of a test with more than N growths (300 by default) so many are refused, spread evenly, and fewer of one that takes
+long.
 
 Prints which tests are covered in part. The last line counts the runs, and with --counted, what the last such line of a log
 counts is added."""
@@ -16,6 +17,7 @@ import re
 import subprocess
 import sys
 import tempfile
+import time
 
 from counting import counted
 from refusing import Refusing, library, one, two
@@ -26,8 +28,8 @@ ENDS = re.compile(
     rb"error: " + WANT + rb"\nthe test failed: its result gives status 1\n"
     rb"|assertion `left == right` failed(?:.*\n)*  left: (?:Some\(|Err\()?" + WANT + rb"\)?\n right: (?:.*\n)*"
 )
-# These assert that memory is there.
-WITH_AMPLE_MEMORY = set()
+WITH_AMPLE_MEMORY = set()  # tests that assert that memory is there
+SECONDS = 20  # so long may the runs of one test take together
 
 
 def tests_of(program):
@@ -41,10 +43,13 @@ def spread(count, most):
 
 
 def judged(made, program, test, most):
-    """How many growths a test has, how many were refused, and what was wrong with some runs."""
+    """How many growths a test has, which were refused, and what was wrong with some runs."""
     refusing = Refusing(made, [program, test])
+    start = time.monotonic()
+    refusing.run(None)
+    affordable = int(SECONDS / (time.monotonic() - start) / 2)
     count = refusing.count()
-    numbers, wrong = spread(count, most), []
+    numbers, wrong = spread(count, max(10, min(most, affordable))), []
     for growth in numbers:
         for refuse in (one, two):
             status, out, fault, _ = refusing.run(refuse(growth))

@@ -138,6 +138,22 @@ fn start<R: Runtime + Threads + Wait + Sync>(rt: &R, alloc: Global, call: &Call)
     }
 }
 
+/// What stands in for a standard device that is closed: a folder gives no bytes, and takes none.
+const FOLDER: &str = "/";
+
+/// Runs the job once no standard device is closed: a file that is opened in the place of one would be taken for it, and
+/// the answer be written into the record.
+fn start_apart<R: Runtime + Threads + Wait + Sync>(rt: &R, alloc: Global, call: &Call) -> ExitCode
+    requires { IsCall call.now }
+{
+    let _held = [
+        fs::open(rt, FOLDER),
+        fs::open(rt, FOLDER),
+        fs::open(rt, FOLDER),
+    ];
+    start(rt, alloc, call)
+}
+
 /// The words of the command line.
 fn words(rt: &HostRuntime) -> io::Result<Vec<String>> {
     Ok(env::args(rt)?.collect(rt.alloc())?)
@@ -155,7 +171,7 @@ fn main(rt: HostRuntime) -> ExitCode {
         }
     };
     match call_of(rt.alloc(), &words) {
-        Ok(call) => start(&rt, rt.alloc(), &call),
+        Ok(call) => start_apart(&rt, rt.alloc(), &call),
         Err(fault) => refuse(&rt, &fault),
     }
 }
