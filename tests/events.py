@@ -1,21 +1,29 @@
 #!/usr/bin/env python3
-"""tests/events.py PROGRAM [--lists N] [--counted LOG]
+"""tests/events.py PROGRAM [--lists N] [--refused N] [--counted LOG]
 
 Puts N seeded lists of events (10,000 by default) to search books of small projects, by the program of crates/book_events,
 and compares each reply, and the counts after it, with those of a plain model of a book that is written here. Workers
 take nodes, reports are checked in, often under names that they aren't of, twice, with ceilings that are too low or for
 another project, nodes are given back that nobody has, and schedules are offered.
 
-The last line counts the lists, and with --counted, what the last such line of a log counts is added."""
+Then puts N such lists (24 by default) to books once for each growth of memory in them, which is refused: a check-in or a
+node that is given back may then be told so, and the book has to be as before; all that comes after is again as in the model.
+
+The last line counts the lists and the runs, and with --counted, what the last such line of a log counts is added."""
 import argparse
 import collections
+import concurrent.futures
+import itertools
+import os
 import pathlib
 import random
 import re
 import subprocess
 import sys
+import tempfile
 
 from counting import counted
+from refusing import Refusing, library, one
 
 INPUTS = pathlib.Path(__file__).resolve().parent / "inputs"
 DEPTH = 3  # so far below the roots are nodes expanded
@@ -122,6 +130,10 @@ class Model:
         self.open[name] = self.hands.pop(worker)[1]
         return "back"
 
+    def halt(self):
+        self.halted = True
+        return "halt"
+
     def offer(self, makespan, foreign):
         if foreign:
             return "other project"
@@ -172,33 +184,35 @@ class Board:
         return nodes
 
     def list_of_events(self, rng):
-        """The words of a list of events for a new book, and what a model says to each."""
+        """A new book, as a word and a model, and a list of events: each a word, and what it does to the model."""
         workers, takes = rng.randint(1, 3), rng.choice([1, 2, 3, 1000, 1000, 1000])
-        model = Model(self.nodes[0], workers, takes)
-        words = [f"{rng.choice(['open', 'record'])}:{workers}:{takes}"]
-        wanted = ["open;" + model.told()]
+        first = f"{rng.choice(['open', 'record'])}:{workers}:{takes}"
+        model, events = self.model(first), []
         for _ in range(rng.randint(1, 30)):
-            word, reply = self.event(rng, model)
-            words.append(word)
-            wanted.append(f"{reply};{model.told()}")
-        return words, wanted
+            events.append(self.event(rng, model))
+            events[-1][1](model)
+        return first, events
+
+    def model(self, first):
+        _, workers, takes = first.split(":")
+        return Model(self.nodes[0], int(workers), int(takes))
 
     def event(self, rng, model):
         kind = rng.choices(["take", "check", "back", "offer", "other", "halt"], [36, 40, 10, 8, 3, 1])[0]
         if kind == "take":
             worker = rng.randint(0, model.workers) if rng.random() < 0.1 else rng.randrange(model.workers)
-            return f"take:{worker}", model.take(worker)
+            return f"take:{worker}", lambda model: model.take(worker)
         if kind == "check":
             return self.check(rng, model)
         if kind == "back":
             name = rng.randint(0, model.opened)
-            return f"back:{name}", model.back(name)
+            return f"back:{name}", lambda model: model.back(name)
         offers = self.offers if kind == "offer" else self.others
         if offers and kind != "halt":
             starts = rng.choice(offers)
-            return f"{kind}:{starts}", model.offer(int(starts.split(",")[-1]), kind == "other")
-        model.halted = True
-        return "halt", "halt"
+            makespan = int(starts.split(",")[-1])
+            return f"{kind}:{starts}", lambda model: model.offer(makespan, kind == "other")
+        return "halt", lambda model: model.halt()
 
     def check(self, rng, model):
         """A report on a node in hand, or on any node under any name."""
@@ -211,42 +225,82 @@ class Board:
         ceiling = rng.choice(ceilings)
         place = next(place for place, other in enumerate(self.nodes) if other is node)
         word = f"check:{name}:{place}:{'' if ceiling is None else ceiling}"
-        return word, model.check(name, node, ceiling)
+        return word, lambda model: model.check(name, node, ceiling)
 
 
-def judged(board, lists):
-    """For each list the first reply or counts that aren't the model's, or None."""
-    words = [word for list_words, _ in lists for word in list_words]
-    told = iter(board.play([*board.words, *words])[board.found_lines :])
-    for list_words, wanted in lists:
-        got = [next(told, "nothing") for _ in wanted]
-        place = next((place for place, pair in enumerate(zip(got, wanted)) if pair[0] != pair[1]), None)
-        if place is None:
-            yield None
+def disagreement(board, first, events, lines, replies, refused=False):
+    """The first reply or counts that aren't the model's, or None. A refused growth may end the program, or be told once."""
+    model = board.model(first)
+    for word, event in [(first, lambda _: "open"), *events]:
+        got = next(lines, "nothing")
+        if refused and got == "nothing":
+            return None
+        if refused and word.split(":")[0] in ("check", "back") and got == "memory;" + model.told():
+            refused, want = False, got
         else:
-            yield f"{' '.join(list_words)}: at {list_words[place]} {got[place]!r}, not {wanted[place]!r}"
+            want = f"{event(model)};{model.told()}"
+        replies[re.sub(r" [-\d].*", "", got.split(";")[0])] += 1
+        if got != want:
+            return f"{' '.join([first, *(word for word, _ in events)])}: at {word} {got!r}, not {want!r}"
+    return None
+
+
+def words_of(first, events):
+    return [first, *(word for word, _ in events)]
+
+
+def judged(board, lists, replies):
+    """For each list the first reply or counts that aren't the model's, or None."""
+    words = [word for one_list in lists for word in words_of(*one_list)]
+    lines = iter(board.play([*board.words, *words])[board.found_lines :])
+    for first, events in lists:
+        told = iter([next(lines, "nothing") for _ in range(len(events) + 1)])
+        yield disagreement(board, first, events, told, replies)
+
+
+def refused(made, board, first, events, replies):
+    """The same for each growth of memory in a list, which is refused."""
+    known = Refusing(made, [board.program, *board.words], board.text).count()
+    refusing = Refusing(made, [board.program, *board.words, *words_of(first, events)], board.text)
+    for growth in range(known + 1, refusing.count() + 1):
+        status, out, fault, _ = refusing.run(one(growth))
+        lines = out.decode().splitlines()[board.found_lines :]
+        wrong = disagreement(board, first, events, iter(lines), replies, True)
+        well = status == 0 and len(lines) == len(events) + 1 or status == 1 and fault.startswith(b"Error: ")
+        yield wrong or (None if well else f"{' '.join(words_of(first, events))}: exit {status}, {fault}")
+
+
+def verdicts(program, options, rng):
+    """What is wrong with each list and each run, or None; and how often each reply came by then."""
+    replies = collections.Counter()
+    boards = [Board(program, (own, other), offers, others) for own, other, offers, others in PROJECTS]
+    for start in range(0, options.lists, LISTS_AT_ONCE):
+        board = boards[start // LISTS_AT_ONCE % len(boards)]
+        lists = [board.list_of_events(rng) for _ in range(min(LISTS_AT_ONCE, options.lists - start))]
+        for wrong in judged(board, lists, replies):
+            yield wrong, replies
+    given = [(board, *board.list_of_events(rng)) for board, _ in zip(itertools.cycle(boards), range(options.refused))]
+    with tempfile.TemporaryDirectory() as folder, concurrent.futures.ThreadPoolExecutor(os.cpu_count()) as pool:
+        made = library(folder)
+        for runs in pool.map(lambda one_list: list(refused(made, *one_list, replies)), given):
+            for wrong in runs:
+                yield wrong, replies
 
 
 def main():
     parser = argparse.ArgumentParser()
     parser.add_argument("program")
     parser.add_argument("--lists", type=int, default=10_000)
+    parser.add_argument("--refused", type=int, default=24)
     parser.add_argument("--counted")
     options = parser.parse_args()
     program = str(pathlib.Path(options.program).resolve())
     passed, failed = counted(options.counted)
-    rng = random.Random(1)
-    boards = [Board(program, (own, other), offers, others) for own, other, offers, others in PROJECTS]
-    replies = collections.Counter()
-    for start in range(0, options.lists, LISTS_AT_ONCE):
-        board = boards[start // LISTS_AT_ONCE % len(boards)]
-        lists = [board.list_of_events(rng) for _ in range(min(LISTS_AT_ONCE, options.lists - start))]
-        replies.update(re.sub(r" [-\d].*", "", want.split(";")[0]) for _, wanted in lists for want in wanted)
-        for wrong in judged(board, lists):
-            passed, failed = passed + (wrong is None), failed + (wrong is not None)
-            if wrong:
-                print(f"FAILED {wrong}")
-    print(", ".join(f"{reply} {count}" for reply, count in sorted(replies.items())))
+    for wrong, told in verdicts(program, options, random.Random(1)):
+        passed, failed = passed + (wrong is None), failed + (wrong is not None)
+        if wrong:
+            print(f"FAILED {wrong}")
+    print(", ".join(f"{reply} {count}" for reply, count in sorted(told.items())))
     print(f"{passed} passed, {failed} failed")
     return failed > 0
 
