@@ -7,6 +7,7 @@ memory` (with workers also `psmax: cannot start a thread`), status 1 and empty o
 
 The last line counts the runs, and with --counted, what the last such line of a log counts is added."""
 import argparse
+import collections
 import concurrent.futures
 import os
 import pathlib
@@ -20,8 +21,8 @@ from refusing import Refusing, all_from, library, one, two
 AFTER = 3  # so many runs without a refusal end a call: by several threads, growths are not the same in each run
 
 
-def runs_of(made, program, call):
-    """What is wrong with each run of a call in which growths are refused, or None."""
+def runs_of(made, program, call, ends):
+    """What is wrong with each run of a call in which growths are refused, or None. Counts how the runs end."""
     with tempfile.TemporaryDirectory() as folder:
         folder = pathlib.Path(folder)
         refusing = Refusing(made, [program, *call.words], call.text, folder)
@@ -34,13 +35,15 @@ def runs_of(made, program, call):
                 *ended, refused = refusing.run(refuse(growth))
                 record = (folder / "record").read_bytes()
                 without = 0 if refused else without + 1
-                well = call.is_usual(tuple(ended), record) or refused and call.is_want(tuple(ended), record)
+                usual = call.is_usual(tuple(ended), record)
+                well = usual or refused and call.is_want(tuple(ended), record)
+                ends["as usual" if usual else ended[2].decode().strip()] += 1
                 yield None if well else f"growth {refuse(growth)}: {ended} {record}"
 
 
-def judged(made, program, call):
+def judged(made, program, call, ends):
     """How many runs of a call were as they have to be, and what was wrong with the others."""
-    runs = list(runs_of(made, program, call))
+    runs = list(runs_of(made, program, call, ends))
     wrong = [run for run in runs if run is not None]
     return len(runs) - len(wrong), wrong
 
@@ -54,12 +57,14 @@ def main():
     program = str(pathlib.Path(options.program).resolve())
     passed, failed = counted(options.counted)
     calls = [call for call in CALLS if options.only in " ".join(call.words)]
+    ends = collections.Counter()
     with tempfile.TemporaryDirectory() as folder, concurrent.futures.ThreadPoolExecutor(os.cpu_count()) as pool:
         made = library(folder)
-        for call, (well, wrong) in zip(calls, pool.map(lambda call: judged(made, program, call), calls)):
+        for call, (well, wrong) in zip(calls, pool.map(lambda call: judged(made, program, call, ends), calls)):
             passed, failed = passed + well, failed + len(wrong)
             for run in wrong[:10]:
                 print(f"FAILED {' '.join(call.words)}: {run}")
+    print(f"{len(calls)} calls: " + ", ".join(f"{end} {count}" for end, count in sorted(ends.items())))
     print(f"{passed} passed, {failed} failed")
     return failed > 0
 
