@@ -3,7 +3,7 @@ use Rattle.std.proofs.Common.{◌≡◌, refl, sym, ap, subst, ℕ, ◌-◌, ◌
 use Rattle.std.specs.Option.{unwrap_or}
 use Rattle.std.specs.Prelude.{IfSome, FitsSigned, neg_ℤ, int_lt, if◌then◌else◌}
 use Rattle.std.specs.Int.{w64}
-use Rattle.std.specs.Int.Signed.{le_z, lt_z}
+use Rattle.std.specs.Int.Signed.{lt_z}
 use Rattle.std.proofs.lemmas.Int.{ints}
 use Rattle.std.proofs.lemmas.List.Elements.{All-nil, All-head}
 use Rattle.network.specs.declared.lag.Lag.{Lag}

@@ -1,8 +1,7 @@
 -- What becomes of one ordered pair, as the types of this crate tell it.
 use Rattle.std.specs.Prelude.{ℤ, Option}
-use Rattle.std.specs.Arc.{arc_value}
 use Rattle.network.specs.declared.lag.Pair.{Pair}
-use Rattle.branching.specs.Subproblem.{Subproblem}
+use Rattle.branching.specs.Subproblem.{Subproblem, kid_of}
 use Rattle.branching.specs.Ceiling.{IsUnder}
 use Rattle.branching.specs.Fates.{FateOf, is_kid, is_dead, is_cut, IsKidBy, IsDeadBy, IsCutBy}
 use Rattle.branching.specs.declared.fate.Fate.{Fate}
@@ -18,6 +17,6 @@ fate_value (Cut forced) = is_cut forced.items
 
 -- what one pair gives
 abbrev pub IsBranchOf : Subproblem → Option ℤ → Pair → Branch → Type 0
-IsBranchOf node ceiling pair (branch.Kid kid) = IsKidBy node pair (arc_value kid) × IsUnder ceiling (arc_value kid).bound
+IsBranchOf node ceiling pair (branch.Kid forced bound) = IsKidBy node pair (kid_of node pair forced.items bound) × IsUnder ceiling bound
 IsBranchOf node ceiling pair (branch.Dead forced) = IsDeadBy node pair forced.items
 IsBranchOf node ceiling pair (branch.Cut forced) = IsCutBy node ceiling pair forced.items

@@ -1,3 +1,4 @@
+pub mod Last
 pub mod Incompatible
 pub mod Subproblem
 pub mod Pairs

@@ -1,5 +1,5 @@
 -- What a node of the search is: a project, the pairs that were added, and a lower bound.
-use Rattle.std.specs.Prelude.{ℤ, List}
+use Rattle.std.specs.Prelude.{ℤ, List, ◌∷◌, ◌++◌}
 use Rattle.network.specs.declared.lag.Pair.{Pair}
 use Rattle.network.specs.Problem.{Problem, arcs_of, NameActivities}
 use Rattle.network.specs.ProjectMatrix.{IsProjectMatrix}
@@ -12,6 +12,10 @@ pub record Subproblem : Type 0 where
   pub project : Problem
   pub pairs : List Pair
   pub bound : ℤ
+
+-- the node with a pair, pairs that this forced, and a bound
+abbrev pub kid_of : Subproblem → Pair → List Pair → ℤ → Subproblem
+kid_of node first forced bound = record { project = node.project; pairs = node.pairs ++ first ∷ forced; bound = bound }
 
 -- the node stands for the feasible schedules that keep its pairs
 abbrev pub NodeStandsFor : Subproblem → List ℤ → Type 0

@@ -1,5 +1,4 @@
 ghost use Rattle.std.specs.Prelude.{◌≡◌, [], ◌∷◌, ◌++◌, ◌≤ℤ◌, ℤ, List, IfOk};
-ghost use Rattle.std.specs.Arc.{arc_value};
 ghost use Rattle.std.specs.Bool.{MatchBool, OnTrue, OnFalse};
 ghost use Rattle.network.specs.Problem.{NameActivities, pair_arc};
 ghost use Rattle.network.specs.ProjectMatrix.{IsProjectMatrix};
@@ -20,13 +19,13 @@ use bounds::Workspace;
 use longest_path::{MarkedMatrix, Matrix, PathFault};
 use network::Pair;
 use std::alloc::{AllocError, Global};
-use std::sync::Arc;
 
 /// What an ordered pair of a forbidden set gives: a kid, or nothing, with the pairs that were forced
 /// by then.
 #[derive(Drop)]
 pub(crate) enum Branch {
-    Kid(Arc<Lean>),
+    /// With the kid's bound.
+    Kid { forced: Vec<Pair>, bound: i64 },
     Dead(Vec<Pair>),
     Cut(Vec<Pair>),
 }
@@ -73,29 +72,25 @@ fn least_with(node: &Lean, matrix: &Matrix, pair: Pair) -> i64
 /// What a pair gives whose forced pairs were added: a kid, or nothing where its bound is at least the
 /// ceiling.
 fn bounded(
-    alloc: Global,
     node: &Lean,
     matrix: &Matrix,
     bounds: &mut Workspace,
-    before: &Arc<Vec<Pair>>,
     ceiling: Option<i64>,
     first: Pair,
     forced: Vec<Pair>,
-) -> Result<Branch, AllocError>
+) -> Branch
     requires bounds { IsWorkspaceFor node.now.project bounds.old }
-    requires before { (arc_value before.now).items ≡ node.now.pairs }
     requires named { NameActivities node.now.project (first ∷ []) }
     requires matrix { IsForcedMatrix node.now.project (node.now.pairs ++ first ∷ []) forced.items matrix.now }
     ensures bounds { bounds.new ≡ bounds.old }
-    ensures branch { IfOk result (IsBranchOf node.now ceiling first) }
+    ensures branch { IsBranchOf node.now ceiling first result }
 {
     // The pair's arc is in the matrix, so that the bound with it is that of the matrix.
     let bound = bounds.bound_with(node.project(), matrix, first);
     if is_over(bound, ceiling) {
-        return Ok(Branch::Cut(forced));
+        return Branch::Cut(forced);
     }
-    let kid = node.with_pairs(alloc, before, first, forced, bound)?;
-    Ok(Branch::Kid(kid))
+    Branch::Kid { forced, bound }
 }
 
 /// What a pair gives by the matrix with its arc. The matrix is left as the last forced pair makes it.
@@ -104,12 +99,10 @@ fn branch_at(
     node: &Lean,
     matrix: &mut MarkedMatrix,
     bounds: &mut Workspace,
-    before: &Arc<Vec<Pair>>,
     ceiling: Option<i64>,
     first: Pair,
 ) -> Result<Branch, AllocError>
     requires bounds { IsWorkspaceFor node.now.project bounds.old }
-    requires before { (arc_value before.now).items ≡ node.now.pairs }
     requires named { NameActivities node.now.project (first ∷ []) }
     requires matrix { IsProjectMatrix node.now.project (node.now.pairs ++ first ∷ []) matrix.old.rows }
     ensures marks { matrix.new.marks ≡ matrix.old.marks }
@@ -120,7 +113,7 @@ fn branch_at(
         Forcing::Dead(forced) => Ok(Branch::Dead(forced)),
         Forcing::Live(forced) => {
             let matrix = matrix.matrix();
-            bounded(alloc, node, matrix, bounds, before, ceiling, first, forced)
+            Ok(bounded(node, matrix, bounds, ceiling, first, forced))
         }
     }
 }
@@ -131,13 +124,11 @@ fn branch_with_forced(
     node: &Lean,
     matrix: &mut MarkedMatrix,
     bounds: &mut Workspace,
-    before: &Arc<Vec<Pair>>,
     ceiling: Option<i64>,
     first: Pair,
 ) -> Result<Branch, AllocError>
     requires tied { IsTiedTo node.now matrix.old.rows }
     requires bounds { IsWorkspaceFor node.now.project bounds.old }
-    requires before { (arc_value before.now).items ≡ node.now.pairs }
     requires named { NameActivities node.now.project (first ∷ []) }
     ensures unchanged { matrix.new ≡ matrix.old }
     ensures bounds { bounds.new ≡ bounds.old }
@@ -148,7 +139,7 @@ fn branch_with_forced(
         Err(PathFault::PositiveCycle { .. }) => return Ok(Branch::Dead(Vec::new(alloc))),
         Err(PathFault::Memory) => return Err(AllocError),
     }
-    let branch = branch_at(alloc, node, matrix, bounds, before, ceiling, first);
+    let branch = branch_at(alloc, node, matrix, bounds, ceiling, first);
     matrix.go_back();
     branch
 }
@@ -161,13 +152,11 @@ pub(crate) fn branch_of(
     node: &Lean,
     matrix: &mut MarkedMatrix,
     bounds: &mut Workspace,
-    before: &Arc<Vec<Pair>>,
     ceiling: Option<i64>,
     pair: Pair,
 ) -> Result<Branch, AllocError>
     requires tied { IsTiedTo node.now matrix.old.rows }
     requires bounds { IsWorkspaceFor node.now.project bounds.old }
-    requires before { (arc_value before.now).items ≡ node.now.pairs }
     requires named { NameActivities node.now.project (pair ∷ []) }
     ensures unchanged { matrix.new ≡ matrix.old }
     ensures bounds { bounds.new ≡ bounds.old }
@@ -183,12 +172,12 @@ pub(crate) fn branch_of(
     if node.pairs().get(0).is_none()
         || forces_some(node.project(), rows, node.base().incompatible(), pair)
     {
-        return branch_with_forced(alloc, node, matrix, bounds, before, ceiling, pair);
+        return branch_with_forced(alloc, node, matrix, bounds, ceiling, pair);
     }
     let bound = bounds.bound_with(node.project(), rows, pair);
     if is_over(bound, ceiling) {
         return Ok(Branch::Cut(Vec::new(alloc)));
     }
-    let kid = node.with_pairs(alloc, before, pair, Vec::new(alloc), bound)?;
-    Ok(Branch::Kid(kid))
+    let forced = Vec::new(alloc);
+    Ok(Branch::Kid { forced, bound })
 }

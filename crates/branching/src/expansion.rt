@@ -1,70 +1,27 @@
-ghost use Rattle.std.specs.Prelude.{◌≡◌, map, IfOk};
+ghost use Rattle.std.specs.Prelude.{◌≡◌, IfOk};
 ghost use Rattle.std.specs.Arc.{arc_value};
-ghost use Rattle.network.specs.Problem.{NameActivities};
 ghost use Rattle.network.specs.Schedule.{IsWithinCapacities, running};
 ghost use Rattle.earliest.specs.Starts.{AreEarliest};
 ghost use Rattle.profile.specs.Overloads.{IsFirstOverload};
 ghost use Rattle.branching.specs.Subproblem.{IsNode, IsTiedTo};
-ghost use Rattle.bounds.specs.Workspace.{IsWorkspaceFor};
 ghost use Rattle.branching.specs.Workspace.{HasRoomFor};
-ghost use Rattle.branching.specs.Fate.{fate_value};
-ghost use Rattle.branching.specs.Fates.{AreFates};
 ghost use Rattle.branching.specs.Fair.{IsReportOn, FindsNothingOver};
 
-use crate::branch::{Branch, branch_of, is_over};
-use crate::fate::Fate;
+use crate::branch::is_over;
+use crate::branches::{Branches, branches_of};
 use crate::lean::Lean;
 use crate::node::Node;
-use crate::pairs::ordered_pairs;
+use crate::pairs::put_ordered_pairs;
 use crate::report::Report;
 use crate::workspace::Workspace;
-use earliest::least_starts;
+use earliest::least_starts_in;
 use forbidden_sets::shrink_activities;
 use longest_path::MarkedMatrix;
-use network::{Pair, Schedule};
+use network::Schedule;
 use profile::Excess;
 use std::alloc::{AllocError, Global};
+use std::mem;
 use std::sync::Arc;
-
-/// What the ordered pairs of a set give: the kids, and what became of each pair.
-#[derive(Drop)]
-struct Branches {
-    kids: Vec<Arc<Lean>>,
-    fates: Vec<Fate>,
-}
-
-/// What the pairs give under a ceiling, in their order.
-fn branches_of(
-    alloc: Global,
-    node: &Lean,
-    matrix: &mut MarkedMatrix,
-    bounds: &mut bounds::Workspace,
-    ceiling: Option<i64>,
-    pairs: &[Pair],
-) -> Result<Branches, AllocError>
-    requires tied { IsTiedTo node.now matrix.old.rows }
-    requires bounds { IsWorkspaceFor node.now.project bounds.old }
-    requires named { NameActivities node.now.project pairs.now }
-    ensures unchanged { matrix.new ≡ matrix.old }
-    ensures bounds { bounds.new ≡ bounds.old }
-    ensures fates { IfOk result (λ made. AreFates node.now ceiling pairs.now (map fate_value made.fates.items) (map arc_value made.kids.items)) }
-{
-    let before = Arc::new(alloc, node.pairs().to_vec(alloc)?)?;
-    let mut kids = Vec::new(alloc);
-    let mut fates = Vec::with_capacity(alloc, pairs.len())?;
-    for pair in pairs {
-        let fate = match branch_of(alloc, node, matrix, bounds, &before, ceiling, *pair)? {
-            Branch::Kid(kid) => {
-                kids.push(kid)?;
-                Fate::Kid
-            }
-            Branch::Dead(forced) => Fate::Dead { forced },
-            Branch::Cut(forced) => Fate::Cut { forced },
-        };
-        fates.push(fate)?;
-    }
-    Ok(Branches { kids, fates })
-}
 
 /// The report on a node whose least schedule overloads no resource.
 fn report_found(
@@ -107,9 +64,11 @@ fn report_split(
 {
     let running = workspace.overloads.running();
     let set = shrink_activities(alloc, node.project(), overload.resource, running)?;
-    let pairs = ordered_pairs(alloc, set.members())?;
+    put_ordered_pairs(&mut workspace.pairs, set.members())?;
+    let lists = mem::replace(&mut workspace.made, Branches::new(alloc));
     let bounds = &mut workspace.bounds;
-    let made = branches_of(alloc, node, matrix, bounds, ceiling, pairs.as_slice())?;
+    let pairs = workspace.pairs.as_slice();
+    let made = branches_of(alloc, node, matrix, bounds, ceiling, pairs, lists)?;
     let node = Arc::try_clone(node)?;
     Ok(Report::new(node, ceiling, None, Some(set), made.fates, made.kids))
 }
@@ -135,11 +94,14 @@ pub(crate) fn expand_by(
         let kids = Vec::new(alloc);
         return Ok(Report::new(node, ceiling, None, None, fates, kids));
     }
-    let starts = least_starts(alloc, matrix.matrix())?;
+    let list = mem::replace(&mut workspace.starts, Vec::new(alloc));
+    let starts = least_starts_in(list, matrix.matrix())?;
     match workspace.overloads.first(node.project(), starts.as_slice()) {
         Some(overload) => {
-            let starts = starts.as_slice();
-            report_split(alloc, node, matrix, workspace, ceiling, starts, overload)
+            let least = starts.as_slice();
+            let report = report_split(alloc, node, matrix, workspace, ceiling, least, overload);
+            workspace.starts = starts;
+            report
         }
         None => report_found(alloc, node, ceiling, starts),
     }

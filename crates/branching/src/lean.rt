@@ -1,14 +1,28 @@
-ghost use Rattle.std.specs.Prelude.{◌≡◌, ◌∷◌, ◌++◌, [], IfOk};
+ghost use Rattle.std.specs.Prelude.{◌≡◌, ◌∷◌, IfOk};
 ghost use Rattle.std.specs.Arc.{arc_value};
 ghost use Rattle.network.specs.Limits.{IsProject};
-ghost use Rattle.branching.specs.Subproblem.{Subproblem, IsNode};
+ghost use Rattle.branching.specs.Subproblem.{Subproblem, IsNode, kid_of};
+ghost use Rattle.branching.specs.Last.{last_pairs};
 
 use crate::base::Base;
-use crate::pair_list::PairList;
+use crate::pair_list::{Last, PairList};
 use network::{Pair, Project};
 use std::alloc::{AllocError, Global};
 use std::marker::Model;
 use std::sync::Arc;
+
+/// A pair and then those that it forced.
+fn last_of(alloc: Global, first: Pair, forced: Vec<Pair>) -> Result<Last, AllocError>
+    ensures { IfOk result (λ last. last_pairs last ≡ first ∷ forced.items) }
+{
+    if forced.is_empty() {
+        return Ok(Last::One([first]));
+    }
+    let mut last = Vec::with_capacity(alloc, 1 + forced.len())?;
+    last.push(first)?;
+    last.extend_from_slice(forced.as_slice())?;
+    Ok(Last::Several(last))
+}
 
 /// A node as it is kept while it waits: a project, the pairs that were added to its rules, and a lower
 /// bound. It stands for the feasible schedules that keep its pairs.
@@ -83,16 +97,14 @@ impl Lean {
         alloc: Global,
         before: &Arc<Vec<Pair>>,
         first: Pair,
-        mut forced: Vec<Pair>,
+        forced: Vec<Pair>,
         bound: i64,
     ) -> Result<Arc<Lean>, AllocError>
         requires before { (arc_value before.now).items ≡ self.now.pairs }
-        requires node { IsNode (record { project = self.now.project; pairs = self.now.pairs ++ first ∷ forced.items; bound = bound }) }
-        ensures { IfOk result (λ kid. arc_value kid ≡ record { project = self.now.project; pairs = self.now.pairs ++ first ∷ forced.items; bound = bound }) }
+        requires node { IsNode (kid_of self.now first forced.items bound) }
+        ensures { IfOk result (λ kid. arc_value kid ≡ kid_of self.now first forced.items bound) }
     {
-        let mut last = Vec::with_capacity(alloc, 1 + forced.len())?;
-        last.push(first)?;
-        last.append(&mut forced)?;
+        let last = last_of(alloc, first, forced)?;
         let pairs = PairList::of(Arc::try_clone(before)?, last);
         Lean::shared(alloc, Arc::try_clone(&self.base)?, pairs, bound)
     }

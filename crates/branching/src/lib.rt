@@ -10,6 +10,7 @@
 
 mod base;
 mod branch;
+mod branches;
 mod expansion;
 mod fate;
 mod forcing;

@@ -1,16 +1,36 @@
 ghost use Rattle.std.specs.Prelude.{◌≡◌, ◌↔◌, [], IfOk, IsTrue, length, slice_get, ◌++◌};
 ghost use Rattle.std.specs.Arc.{arc_value};
+ghost use Rattle.branching.specs.Last.{last_pairs};
 
 use network::Pair;
 use std::alloc::{AllocError, Global};
 use std::marker::Model;
 use std::sync::Arc;
 
+/// The pairs at the end of a list: mostly one, which takes no memory of its own.
+#[derive(Drop, Debug)]
+pub(crate) enum Last {
+    One([Pair; 1]),
+    Several(Vec<Pair>),
+}
+
+impl Last {
+    /// The pairs as a slice.
+    fn as_slice(&self) -> &[Pair]
+        ensures { result.now ≡ last_pairs self.now }
+    {
+        match self {
+            Last::One(pair) => pair.as_slice(),
+            Last::Several(pairs) => pairs.as_slice(),
+        }
+    }
+}
+
 /// Pairs in the order in which they were added. The kids of a node share the list of that node.
 #[derive(Drop, Debug)]
 pub struct PairList {
     before: Arc<Vec<Pair>>,
-    last: Vec<Pair>,
+    last: Last,
 }
 
 impl Model for PairList {
@@ -20,7 +40,9 @@ impl Model for PairList {
 
     ghost Value = { List Pair };
 
-    ghost view = { λ s. (arc_value s.before).items ++ s.last.items };
+    ghost use Rattle.branching.specs.Last.{last_pairs};
+
+    ghost view = { λ s. (arc_value s.before).items ++ last_pairs s.last };
 }
 
 impl PairList {
@@ -31,13 +53,13 @@ impl PairList {
         let before = Arc::new(alloc, Vec::new(alloc))?;
         Ok(PairList {
             before,
-            last: Vec::new(alloc),
+            last: Last::Several(Vec::new(alloc)),
         })
     }
 
     /// The shared pairs, and the last ones after them.
-    pub fn of(before: Arc<Vec<Pair>>, last: Vec<Pair>) -> PairList
-        ensures { result ≡ (arc_value before).items ++ last.items }
+    pub(crate) fn of(before: Arc<Vec<Pair>>, last: Last) -> PairList
+        ensures { result ≡ (arc_value before).items ++ last_pairs last }
     {
         PairList { before, last }
     }
@@ -47,7 +69,7 @@ impl PairList {
         ensures { result ≡ slice_get self.now place }
     {
         match place.checked_sub(self.before.len()) {
-            Some(later) => self.last.get(later).copied(),
+            Some(later) => self.last.as_slice().get(later).copied(),
             None => self.before.get(place).copied(),
         }
     }
@@ -56,7 +78,7 @@ impl PairList {
     pub fn len(&self) -> usize
         ensures { result ≡ length self.now }
     {
-        self.before.len() + self.last.len()
+        self.before.len() + self.last.as_slice().len()
     }
 
     /// Whether both are the same pairs in the same order, whatever they share.
@@ -78,7 +100,7 @@ impl PairList {
     pub fn to_vec(&self, alloc: Global) -> Result<Vec<Pair>, AllocError>
         ensures { IfOk result (λ pairs. pairs.items ≡ self.now) }
     {
-        let mut pairs = Vec::with_capacity(alloc, self.before.len() + self.last.len())?;
+        let mut pairs = Vec::with_capacity(alloc, self.before.len() + self.last.as_slice().len())?;
         pairs.extend_from_slice(self.before.as_slice())?;
         pairs.extend_from_slice(self.last.as_slice())?;
         Ok(pairs)

@@ -2,6 +2,7 @@ ghost use Rattle.std.specs.Prelude.{◌≡◌, ◌≤◌, List, map, length, opt
 ghost use Rattle.std.specs.Arc.{arc_value};
 ghost use Rattle.branching.specs.Fate.{fate_value};
 
+use crate::branches::Branches;
 use crate::fate::Fate;
 use crate::lean::Lean;
 use forbidden_sets::ForbiddenSet;
@@ -114,6 +115,23 @@ impl Report {
         ensures report { IsReport self.now }
     {
         self.kids.as_slice()
+    }
+
+    /// What was found, and the lists of the kids and the fates.
+    pub(crate) fn into_lists(self) -> (Option<Schedule>, Branches)
+        ensures found { result.0 ≡ self.found }
+        ensures kids { map arc_value result.1.kids.items ≡ self.kids }
+        ensures report { IsReport self }
+    {
+        let Report {
+            node: _,
+            ceiling: _,
+            found,
+            split: _,
+            fates,
+            kids,
+        } = self;
+        (found, Branches { kids, fates })
     }
 
     /// What was found, and the kids in their order.

@@ -7,6 +7,7 @@ ghost use Rattle.network.specs.ProjectMatrix.{IsProjectMatrix};
 ghost use Rattle.branching.specs.Fair.{IsReportOn, FindsNothingOver};
 ghost use Rattle.branching.specs.Path.{front, IsPairFault, IsShared};
 
+use crate::branches::Branches;
 use crate::expansion::expand_by;
 use crate::lean::Lean;
 use crate::marking::insert_under_mark;
@@ -168,6 +169,13 @@ impl Searcher {
         let shared = shared_count(self.pairs.as_slice(), pairs);
         self.keep(shared);
         self.go_on(pairs)
+    }
+
+    /// Takes the lists of a report, whose memory the next expansion uses again.
+    pub(crate) fn take_lists(&mut self, lists: Branches)
+        ensures { self.new ≡ self.old }
+    {
+        self.workspace.made = lists;
     }
 
     /// Moves to a node and expands it under a ceiling, as [`expand`](crate::expand) does.

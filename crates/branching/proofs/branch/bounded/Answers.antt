@@ -1,5 +1,4 @@
-use Rattle.std.proofs.Common.{◌≡◌, ◌∙◌, rules, w64, List, ◌∷◌, [], ◌++◌}
-use Rattle.std.specs.Arc.{arc_value}
+use Rattle.std.proofs.Common.{refl, ◌∙◌, rules, w64, List, ◌∷◌, [], ◌++◌}
 use Rattle.std.specs.List.{Contains}
 use Rattle.std.proofs.lemmas.Int.{to_z-of_z}
 use Rattle.std.proofs.lemmas.List.Elements.{Contains-append_left, Contains-push}
@@ -7,8 +6,9 @@ use mir.Val.{SFits}
 use Rattle.network.specs.declared.lag.Pair.{Pair}
 use Rattle.bounds.specs.Bound.{IsBoundOf}
 use Rattle.bounds.specs.With.{IsBoundWith}
+use Rattle.branching.specs.Subproblem.{Subproblem, kid_of}
 use Rattle.branching.specs.Ceiling.{IsUnder, Reaches}
-use Rattle.branching.proofs.ForcedMatrices.{cut_at, kid_at, node_at}
+use Rattle.branching.proofs.ForcedMatrices.{cut_at, kid_at}
 use Rattle.branching.proofs.Rebuilding.{again, closes_none_again}
 use Rattle.branching.proofs.branch.bounded.Goals as goal
 
@@ -37,15 +37,6 @@ returns-then-is_over-clause-branch c =
     let reaches : Reaches c.args.ceiling c.bound_with-bound.result = simp to_z-of_z at c.if-is_over.ensures.reaches in
     cut_at c.args.node.now c.args.ceiling c.args.first c.args.forced.items c.args.matrix.now c.bound_with-bound.result c.requires.matrix of reaches
 
-pub with_pairs-requires-clause-node : goal.with_pairs-requires-clause-node
-with_pairs-requires-clause-node c =
-    let pairs : List Pair = (c.args.node.now.pairs ++ c.args.first ∷ []) ++ c.args.forced.items in
-    let at : Contains pairs c.args.first = Contains-append_left (c.args.node.now.pairs ++ c.args.first ∷ []) c.args.forced.items c.args.first (Contains-push c.args.node.now.pairs c.args.first) in
-    let fits : SFits w64 c.bound_with-bound.result = search rules in
-    let with_first : IsBoundWith c.args.node.now.project c.args.matrix.now c.args.first c.bound_with-bound.result = rw (c.deref.ensures ∙ c.project.ensures.project) at c.bound_with-bound.ensures.value in
-    let of : IsBoundOf c.args.node.now.project c.args.matrix.now c.bound_with-bound.result = with_first pairs c.args.matrix.now c.requires.matrix.matrix (again c.args.node.now.project pairs c.args.first c.args.matrix.now at c.requires.matrix.matrix) in
-    simp to_z-of_z (node_at c.args.node.now c.args.first c.args.forced.items c.args.matrix.now c.bound_with-bound.result c.requires.matrix of)
-
 pub returns-clause-branch : goal.returns-clause-branch
 returns-clause-branch c =
     let pairs : List Pair = (c.args.node.now.pairs ++ c.args.first ∷ []) ++ c.args.forced.items in
@@ -54,5 +45,5 @@ returns-clause-branch c =
     let with_first : IsBoundWith c.args.node.now.project c.args.matrix.now c.args.first c.bound_with-bound.result = rw (c.deref.ensures ∙ c.project.ensures.project) at c.bound_with-bound.ensures.value in
     let of : IsBoundOf c.args.node.now.project c.args.matrix.now c.bound_with-bound.result = with_first pairs c.args.matrix.now c.requires.matrix.matrix (again c.args.node.now.project pairs c.args.first c.args.matrix.now at c.requires.matrix.matrix) in
     let under : IsUnder c.args.ceiling c.bound_with-bound.result = simp to_z-of_z at c.if-is_over.ensures.under in
-    let made : arc_value c.in_ok-kid.kid ≡ record { project = c.args.node.now.project; pairs = c.args.node.now.pairs ++ c.args.first ∷ c.args.forced.items; bound = c.bound_with-bound.result } = simp to_z-of_z at c.in_ok-kid.ensures in
-    kid_at c.args.node.now (arc_value c.in_ok-kid.kid) c.args.ceiling c.args.first c.args.forced.items c.args.matrix.now c.bound_with-bound.result c.requires.matrix of under made
+    let kid : Subproblem = kid_of c.args.node.now c.args.first c.args.forced.items c.bound_with-bound.result in
+    simp to_z-of_z (kid_at c.args.node.now kid c.args.ceiling c.args.first c.args.forced.items c.args.matrix.now c.bound_with-bound.result c.requires.matrix of under refl)

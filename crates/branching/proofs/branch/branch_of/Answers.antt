@@ -1,5 +1,4 @@
-use Rattle.std.proofs.Common.{◌≡◌, ap, ◌∙◌, rules, ◌≤ℤ◌, ◌∷◌, ◌++◌, [], w64}
-use Rattle.std.specs.Arc.{arc_value}
+use Rattle.std.proofs.Common.{refl, ap, ◌∙◌, rules, ◌≤ℤ◌, ◌∷◌, ◌++◌, [], w64}
 use Rattle.std.proofs.lemmas.Int.{to_z-of_z}
 use mir.Val.{SFits}
 use Rattle.network.specs.declared.lag.Pair.{Pair}
@@ -10,11 +9,11 @@ use Rattle.longest_path.specs.Insert.{rows_over, ClosesNone}
 use Rattle.bounds.specs.Bound.{critical_weight, IsBoundOf}
 use Rattle.bounds.specs.With.{IsBoundWith}
 use Rattle.branching.specs.Base.{BaseOf}
-use Rattle.branching.specs.Subproblem.{Subproblem}
+use Rattle.branching.specs.Subproblem.{Subproblem, kid_of}
 use Rattle.branching.specs.Ceiling.{IsUnder, Reaches}
 use Rattle.branching.specs.Forcing.{IsForcedMatrix}
 use Rattle.branching.proofs.Nodes.{matrix_with}
-use Rattle.branching.proofs.ForcedMatrices.{none_forced, cut_at, cut_by_least, node_at, kid_at}
+use Rattle.branching.proofs.ForcedMatrices.{none_forced, cut_at, cut_by_least, kid_at}
 use Rattle.branching.proofs.branch.branch_of.Goals as goal
 
 pub returns-then-is_over-clause-branch : goal.returns-then-is_over-clause-branch
@@ -58,20 +57,6 @@ forces_some-requires-clause-rows c = rw (c.deref.ensures ∙ c.project.ensures.p
 pub forces_some-requires-clause-named : goal.forces_some-requires-clause-named
 forces_some-requires-clause-named c = rw (c.deref.ensures ∙ c.project.ensures.project) c.requires.named
 
-pub with_pairs-requires-clause-node : goal.with_pairs-requires-clause-node
-with_pairs-requires-clause-node c =
-    let node : Subproblem = c.args.node.now in
-    let rows : Rows = c.args.matrix.now.rows in
-    let pair : Pair = c.args.pair in
-    let over : Rows = rows_over (pair_arc node.project pair) rows in
-    let none : ClosesNone (pair_arc node.project pair) rows = rw c.matrix-rows.ensures at c.if-is_dead_with.ensures.live in
-    let m : IsProjectMatrix node.project (node.pairs ++ pair ∷ []) over = matrix_with node pair rows c.requires.tied c.requires.named none in
-    let forced : IsForcedMatrix node.project (node.pairs ++ pair ∷ []) [] over = none_forced node.project (node.pairs ++ pair ∷ []) over m in
-    let fits : SFits w64 c.bound_with-bound.result = search rules in
-    let with_pair : IsBoundWith node.project rows pair c.bound_with-bound.result = rw (c.deref-2.ensures ∙ c.project-2.ensures.project, c.matrix-rows.ensures) at c.bound_with-bound.ensures.value in
-    let of : IsBoundOf node.project over c.bound_with-bound.result = with_pair node.pairs over c.requires.tied.matrix m in
-    simp to_z-of_z (rw c.new-2.ensures.items (node_at node pair [] over c.bound_with-bound.result forced of))
-
 pub returns-clause-branch : goal.returns-clause-branch
 returns-clause-branch c =
     let node : Subproblem = c.args.node.now in
@@ -85,5 +70,5 @@ returns-clause-branch c =
     let with_pair : IsBoundWith node.project rows pair c.bound_with-bound.result = rw (c.deref-2.ensures ∙ c.project-2.ensures.project, c.matrix-rows.ensures) at c.bound_with-bound.ensures.value in
     let of : IsBoundOf node.project over c.bound_with-bound.result = with_pair node.pairs over c.requires.tied.matrix m in
     let under : IsUnder c.args.ceiling c.bound_with-bound.result = simp to_z-of_z at c.if-is_over-2.ensures.under in
-    let made : arc_value c.in_ok-kid.kid ≡ record { project = node.project; pairs = node.pairs ++ pair ∷ []; bound = c.bound_with-bound.result } = simp (to_z-of_z, c.new-2.ensures.items) at c.in_ok-kid.ensures in
-    kid_at node (arc_value c.in_ok-kid.kid) c.args.ceiling pair [] over c.bound_with-bound.result forced of under made
+    let kid : Subproblem = kid_of node pair [] c.bound_with-bound.result in
+    simp to_z-of_z (rw c.new-forced.ensures.items (kid_at node kid c.args.ceiling pair [] over c.bound_with-bound.result forced of under refl))

@@ -5,7 +5,7 @@ use mir.Val.{SFits}
 use Rattle.network.specs.Walk.{entry, weights_from}
 use Rattle.network.proofs.Lists.{appended_more}
 use Rattle.earliest.proofs.StartLaws.{AreEarliest-weights}
-use Rattle.earliest.proofs.least_starts.Goals as goal
+use Rattle.earliest.proofs.least_starts_in.Goals as goal
 
 pub loop-i-preserved : goal.loop-i-preserved
 loop-i-preserved c =

@@ -1,12 +1,14 @@
-use Rattle.std.proofs.Common.{length, ◌<◌, ◌∙◌}
+use Rattle.std.proofs.Common.{rules, w64, length, ◌<◌, ◌∙◌}
+use mir.Val.{SFits}
+use Rattle.std.proofs.lemmas.Int.{to_z-of_z}
 use Rattle.std.specs.Arc.{arc_value}
 use Rattle.std.proofs.lemmas.List.{map-append, take_more}
 use Rattle.network.specs.declared.lag.Pair.{Pair}
 use Rattle.branching.specs.Fate.{fate_value}
 use Rattle.branching.proofs.Rebuilding.{named_one}
 use Rattle.branching.proofs.Fates.{fate_kid, fate_dead, fate_cut}
-use Rattle.branching.proofs.expansion.branches_of.Goals as goal
-use Rattle.branching.proofs.expansion.branches_of.Goals.{in-Kid+in_ok-push-in-Kid, in-Dead, in-Cut}
+use Rattle.branching.proofs.branches.branches_of.Goals as goal
+use Rattle.branching.proofs.branches.branches_of.Goals.{in-Kid+in_ok-before-in-Kid+in_ok-with_pairs-in-Kid+in_ok-push-in-Kid, in-Dead, in-Cut}
 
 pub branch_of-requires-clause-named : goal.branch_of-requires-clause-named
 branch_of-requires-clause-named c =
@@ -22,15 +24,22 @@ loop-pair-preserved c =
     record {
       unchanged = c.branch_of.ensures.unchanged ∙ c.loop-pair.invariant.unchanged;
       bounds = c.branch_of.ensures.bounds ∙ c.loop-pair.invariant.bounds;
-      fates = elim c.match-branch-5.branch [
-        | in-Kid+in_ok-push-in-Kid w ↦
-            let made = rw w.in-Kid.is at c.in_ok-kid.ensures.branch in
-            rw (more, pushed, w.fate-is, w.kids-is, w.in_ok-push-in-Kid.ensures.items, map-append fate_value c.loop-pair.fates.items, map-append arc_value c.loop-pair.kids.items) (fate_kid _ _ _ _ _ _ _ c.loop-pair.invariant.fates made.0 made.1)
+      before = elim c.match-branch-2.branch [
+        | in-Kid+in_ok-before-in-Kid+in_ok-with_pairs-in-Kid+in_ok-push-in-Kid w ↦ rw w.before-is w.shared_pairs.ensures.list
+        | in-Dead w ↦ rw w.before-is c.loop-pair.invariant.before
+        | in-Cut w ↦ rw w.before-is c.loop-pair.invariant.before
+      ];
+      fates = elim c.match-branch-2.branch [
+        | in-Kid+in_ok-before-in-Kid+in_ok-with_pairs-in-Kid+in_ok-push-in-Kid w ↦
+            let made = rw w.in-Kid.is at c.in_ok-forced.ensures.branch in
+            let fits : SFits w64 w.in-Kid.bound = search rules in
+            let is = simp to_z-of_z at w.in_ok-with_pairs-in-Kid.ensures in
+            rw (more, pushed, w.fate-is, w.kids-is, w.in_ok-push-in-Kid.ensures.items, map-append fate_value c.loop-pair.fates.items, map-append arc_value c.loop-pair.kids.items, is) (fate_kid _ _ _ _ _ _ _ c.loop-pair.invariant.fates made.0 made.1)
         | in-Dead w ↦
-            let made = rw w.in-Dead.is at c.in_ok-kid.ensures.branch in
+            let made = rw w.in-Dead.is at c.in_ok-forced.ensures.branch in
             rw (more, pushed, w.fate-is, w.kids-is, map-append fate_value c.loop-pair.fates.items) (fate_dead _ _ _ _ _ _ _ c.loop-pair.invariant.fates made)
         | in-Cut w ↦
-            let made = rw w.in-Cut.is at c.in_ok-kid.ensures.branch in
+            let made = rw w.in-Cut.is at c.in_ok-forced.ensures.branch in
             rw (more, pushed, w.fate-is, w.kids-is, map-append fate_value c.loop-pair.fates.items) (fate_cut _ _ _ _ _ _ _ c.loop-pair.invariant.fates made)
       ];
     }

@@ -1,0 +1,105 @@
+ghost use Rattle.std.specs.Prelude.{◌≡◌, [], map, IfOk, IfSome, OnOk};
+ghost use Rattle.std.specs.Arc.{arc_value};
+ghost use Rattle.network.specs.Problem.{NameActivities};
+ghost use Rattle.bounds.specs.Workspace.{IsWorkspaceFor};
+ghost use Rattle.branching.specs.Subproblem.{IsTiedTo};
+ghost use Rattle.branching.specs.Fate.{fate_value};
+ghost use Rattle.branching.specs.Fates.{AreFates};
+
+use crate::branch::{Branch, branch_of};
+use crate::fate::Fate;
+use crate::lean::Lean;
+use bounds::Workspace;
+use longest_path::MarkedMatrix;
+use network::Pair;
+use std::alloc::{AllocError, Global};
+use std::sync::Arc;
+
+/// What the ordered pairs of a set give: the kids, and what became of each pair.
+#[derive(Drop, Debug)]
+pub(crate) struct Branches {
+    pub(crate) kids: Vec<Arc<Lean>>,
+    pub(crate) fates: Vec<Fate>,
+}
+
+impl Branches {
+    /// Nothing, and no memory yet.
+    pub(crate) fn new(alloc: Global) -> Branches
+        ensures kids { result.kids.items ≡ [] }
+        ensures fates { result.fates.items ≡ [] }
+    {
+        Branches {
+            kids: Vec::new(alloc),
+            fates: Vec::new(alloc),
+        }
+    }
+
+    /// The same lists with nothing in them.
+    pub(crate) fn emptied(self) -> Branches
+        ensures kids { result.kids.items ≡ [] }
+        ensures fates { result.fates.items ≡ [] }
+    {
+        let Branches {
+            mut kids,
+            mut fates,
+        } = self;
+        kids.clear();
+        fates.clear();
+        Branches { kids, fates }
+    }
+}
+
+/// The list of a node's pairs, which is made where it isn't yet.
+fn shared_pairs(
+    alloc: Global,
+    node: &Lean,
+    list: &mut Option<Arc<Vec<Pair>>>,
+) -> Result<Arc<Vec<Pair>>, AllocError>
+    requires { IfSome list.old (λ pairs. (arc_value pairs).items ≡ node.now.pairs) }
+    ensures list { IfSome list.new (λ pairs. (arc_value pairs).items ≡ node.now.pairs) }
+    ensures pairs { IfOk result (λ pairs. (arc_value pairs).items ≡ node.now.pairs) }
+{
+    if let Some(pairs) = list {
+        return Arc::try_clone(pairs);
+    }
+    let pairs = Arc::new(alloc, node.pairs().to_vec(alloc)?)?;
+    *list = Some(Arc::try_clone(&pairs)?);
+    Ok(pairs)
+}
+
+/// What the pairs give under a ceiling, in their order, in the memory of lists whatever those held.
+pub(crate) fn branches_of(
+    alloc: Global,
+    node: &Lean,
+    matrix: &mut MarkedMatrix,
+    bounds: &mut Workspace,
+    ceiling: Option<i64>,
+    pairs: &[Pair],
+    lists: Branches,
+) -> Result<Branches, AllocError>
+    requires tied { IsTiedTo node.now matrix.old.rows }
+    requires bounds { IsWorkspaceFor node.now.project bounds.old }
+    requires named { NameActivities node.now.project pairs.now }
+    ensures unchanged { matrix.new ≡ matrix.old }
+    ensures bounds { bounds.new ≡ bounds.old }
+    ensures fates { IfOk result (λ made. AreFates node.now ceiling pairs.now (map fate_value made.fates.items) (map arc_value made.kids.items)) }
+{
+    let Branches {
+        mut kids,
+        mut fates,
+    } = lists.emptied();
+    let mut before = None;
+    for pair in pairs {
+        let fate = match branch_of(alloc, node, matrix, bounds, ceiling, *pair)? {
+            Branch::Kid { forced, bound } => {
+                let before = shared_pairs(alloc, node, &mut before)?;
+                kids.push(node.with_pairs(alloc, &before, *pair, forced, bound)?)?;
+                Fate::Kid
+            }
+            Branch::Dead(forced) => Fate::Dead { forced },
+            Branch::Cut(forced) => Fate::Cut { forced },
+        };
+        fates.push(fate)?;
+    }
+    Ok(Branches { kids, fates })
+}
