@@ -1,4 +1,5 @@
-# make: prove and build the program. make test: everything that must hold. make bench: measure it.
+# make: prove and build the program. make test: everything that must hold. make bench: measure it, and with OTHER=PROGRAM
+# that program in turn with it.
 # make install PREFIX=..
 PREFIX ?= /usr/local
 MODULES := $(filter-out planner/measure.py,$(wildcard planner/*.py))
@@ -23,7 +24,8 @@ build/book_bench: $(SOURCES)
 	mv build/book_bench.new build/book_bench
 
 bench: build/psmax build/book_bench
-	python3 bench/run.py build/psmax
+	python3 bench/run.py build/psmax $(OTHER)
+	python3 bench/counts.py build/psmax $(OTHER)
 	python3 bench/workers.py build/psmax
 	python3 bench/records.py build/psmax
 	python3 bench/book.py build/book_bench

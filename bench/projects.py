@@ -33,6 +33,20 @@ def project(n, seed, resources=5, tight=3, busy=0.5):
     return durations, demands, capacities, arcs
 
 
+def job_shop(jobs, machines, seed):
+    """Jobs that each take 1 to 10 periods on every machine, one machine after the other in an order of their own."""
+    rng = random.Random(1_000_003 * jobs + 1_009 * machines + seed)
+    durations, demands, arcs = [0], [[0] * machines], []
+    for _ in range(jobs):
+        order = rng.sample(range(machines), machines)
+        for place, machine in enumerate(order):
+            if place:
+                arcs.append((len(durations) - 1, len(durations), durations[-1]))
+            durations.append(rng.randint(1, 10))
+            demands.append([int(k == machine) for k in range(machines)])
+    return durations + [0], demands + [[0] * machines], [1] * machines, arcs
+
+
 def text(durations, demands, capacities, arcs):
     lines = [f"{len(durations) - 2} {len(capacities)} 0 0"]
     followers = {}

@@ -1,9 +1,9 @@
 #!/usr/bin/env python3
 """bench/run.py PROGRAM [OTHER]
 
-Measures the built program on projects of bench/projects.py, and prints three tables: how long `earliest` and `check`
+Measures the built program on projects of bench/projects.py, and prints four tables: how long `earliest` and `check`
 take at the limits of the format; and how many nodes a search takes in a second where it is stopped by --nodes, with
-the peak memory, of projects where pairs are forced and of such where none is. Times are processor time, the best of
+the peak memory, of projects where pairs are forced, of such where none is, and of job shops. Times are processor time, the best of
 five runs, so that other work disturbs them little; they are also given as a ratio to the first row, since machines
 differ. With a second program, say one built before a change, each row has its rate and memory too, measured in turn
 with the first one's."""
@@ -37,6 +37,16 @@ UNFORCED = (
     (1000, 300, 4, 0.05, 2),
 )
 
+# jobs, machines, takes, projects. A job shop has an activity for each job and machine:
+JOB_SHOPS = (
+    (10, 5, 10_000, 3),
+    (10, 10, 10_000, 3),
+)
+
+# The first job shop of Fisher and Thompson, which takes so many nodes to its end:
+SMALL_JOB_SHOP = pathlib.Path(__file__).resolve().parent.parent / "tests" / "inputs" / "job-shop-6-by-6.sch"
+SMALL_TAKES = 442
+
 
 # A child counts its parent's memory as its own until it starts the program, so a small parent does it.
 STARTER = """
@@ -67,39 +77,60 @@ def run(programs, args, stdin, files=()):
         return best
 
 
-def stopped(programs, n, takes, tight, busy, count):
-    """So many projects whose search is stopped after all its takes: for each program the seconds of the takes after
-    the first, the peak memory, and the seconds up to the first."""
-    found, seed = [], 0
-    while len(found) < count and seed < 400:
-        text = projects.text(*projects.project(n, seed, 5, tight, busy)).encode()
-        seed += 1
-        if subprocess.run([programs[0], "solve", "--nodes", str(takes)], input=text, capture_output=True).returncode != 3:
-            continue
-        whole = run(programs, ["solve", "--nodes", str(takes)], text)
-        first = run(programs, ["solve", "--nodes", "1"], text)
-        found.append([(max(a[1] - b[1], 1e-6), a[2], b[1]) for a, b in zip(whole, first)])
+def measured(programs, text, takes):
+    """For each program the seconds of the takes after the first, the peak memory, and the seconds up to the first."""
+    whole = run(programs, ["solve", "--nodes", str(takes)], text)
+    first = run(programs, ["solve", "--nodes", "1"], text)
+    return [(max(a[1] - b[1], 1e-6), a[2], b[1]) for a, b in zip(whole, first)]
+
+
+def stopped(programs, texts, takes, count):
+    """What is measured of so many of the projects whose search is stopped after all its takes."""
+    found = []
+    for text in texts:
+        if len(found) == count:
+            break
+        if subprocess.run([programs[0], "solve", "--nodes", str(takes)], input=text, capture_output=True).returncode == 3:
+            found.append(measured(programs, text, takes))
     return found
 
 
-def searches(programs, rows):
+def head(programs, name):
     others = "".join(" | Other: takes a second | peak memory, MiB" for _ in programs[1:])
-    print(f"| Activities | Projects | Takes each | Takes a second | Ratio | First take, ms | Peak memory, MiB{others} |")
+    print(f"| {name} | Projects | Takes each | Takes a second | Ratio | First take, ms | Peak memory, MiB{others} |")
     print("|---" * (7 + 2 * len(programs[1:])) + "|")
+
+
+def row(programs, name, takes, found, first):
+    """Prints one row, and gives the rate that the ratios of a table are to."""
+    if not found:
+        print(f"| {name} | 0 | {takes} | none was stopped" + " |" * (3 + 2 * len(programs[1:])) + " |")
+        return first
+    rates = [len(found) * (takes - 1) / sum(one[place][0] for one in found) for place in range(len(programs))]
+    memory = [max(one[place][1] for one in found) for place in range(len(programs))]
+    first = first or rates[0]
+    opening = 1000 * max(one[0][2] for one in found)
+    cells = [name, len(found), takes, f"{rates[0]:,.0f}", f"{rates[0] / first:.4f}", f"{opening:.1f}", f"{memory[0]:.0f}"]
+    for rate, most in zip(rates[1:], memory[1:]):
+        cells += [f"{rate:,.0f}", f"{most:.0f}"]
+    print("| " + " | ".join(map(str, cells)) + " |", flush=True)
+    return first
+
+
+def searches(programs, rows):
+    head(programs, "Activities")
     first = None
     for n, takes, tight, busy, count in rows:
-        found = stopped(programs, n, takes, tight, busy, count)
-        if not found:
-            print(f"| {n} | 0 | {takes} | none of 400 was stopped" + " |" * (3 + 2 * len(programs[1:])) + " |")
-            continue
-        rates = [len(found) * (takes - 1) / sum(one[place][0] for one in found) for place in range(len(programs))]
-        memory = [max(one[place][1] for one in found) for place in range(len(programs))]
-        first = first or rates[0]
-        opening = 1000 * max(one[0][2] for one in found)
-        cells = [n, len(found), takes, f"{rates[0]:,.0f}", f"{rates[0] / first:.4f}", f"{opening:.1f}", f"{memory[0]:.0f}"]
-        for rate, most in zip(rates[1:], memory[1:]):
-            cells += [f"{rate:,.0f}", f"{most:.0f}"]
-        print("| " + " | ".join(map(str, cells)) + " |", flush=True)
+        texts = (projects.text(*projects.project(n, seed, 5, tight, busy)).encode() for seed in range(400))
+        first = row(programs, n, takes, stopped(programs, texts, takes, count), first)
+
+
+def job_shops(programs):
+    head(programs, "Job shop")
+    first = row(programs, "6 by 6", SMALL_TAKES, [measured(programs, SMALL_JOB_SHOP.read_bytes(), SMALL_TAKES)], None)
+    for jobs, machines, takes, count in JOB_SHOPS:
+        texts = (projects.text(*projects.job_shop(jobs, machines, seed)).encode() for seed in range(400))
+        row(programs, f"{jobs} by {machines}", takes, stopped(programs, texts, takes, count), first)
 
 
 def limits(programs):
@@ -137,6 +168,8 @@ def main():
     searches(programs, SEARCHES)
     print()
     searches(programs, UNFORCED)
+    print()
+    job_shops(programs)
 
 
 if __name__ == "__main__":
