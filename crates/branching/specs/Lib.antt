@@ -5,6 +5,7 @@ pub mod Pairs
 pub mod IncompatibleRows
 pub mod Base
 pub mod BaseView
+pub mod Parent
 pub mod NodeView
 pub mod Path
 pub mod Workspace

@@ -1,4 +1,4 @@
-ghost use Rattle.std.specs.Prelude.{◌≡◌, [], map, IfOk, IfSome, OnOk};
+ghost use Rattle.std.specs.Prelude.{◌≡◌, [], map, IfOk};
 ghost use Rattle.std.specs.Arc.{arc_value};
 ghost use Rattle.network.specs.Problem.{NameActivities};
 ghost use Rattle.bounds.specs.Workspace.{IsWorkspaceFor};
@@ -9,6 +9,7 @@ ghost use Rattle.branching.specs.Fates.{AreFates};
 use crate::branch::{Branch, branch_of};
 use crate::fate::Fate;
 use crate::lean::Lean;
+use crate::parent::parent_of;
 use bounds::Workspace;
 use longest_path::MarkedMatrix;
 use network::Pair;
@@ -49,24 +50,6 @@ impl Branches {
     }
 }
 
-/// The list of a node's pairs, which is made where it isn't yet.
-fn shared_pairs(
-    alloc: Global,
-    node: &Lean,
-    list: &mut Option<Arc<Vec<Pair>>>,
-) -> Result<Arc<Vec<Pair>>, AllocError>
-    requires { IfSome list.old (λ pairs. (arc_value pairs).items ≡ node.now.pairs) }
-    ensures list { IfSome list.new (λ pairs. (arc_value pairs).items ≡ node.now.pairs) }
-    ensures pairs { IfOk result (λ pairs. (arc_value pairs).items ≡ node.now.pairs) }
-{
-    if let Some(pairs) = list {
-        return Arc::try_clone(pairs);
-    }
-    let pairs = Arc::new(alloc, node.pairs().to_vec(alloc)?)?;
-    *list = Some(Arc::try_clone(&pairs)?);
-    Ok(pairs)
-}
-
 /// What the pairs give under a ceiling, in their order, in the memory of lists whatever those held.
 pub(crate) fn branches_of(
     alloc: Global,
@@ -88,12 +71,12 @@ pub(crate) fn branches_of(
         mut kids,
         mut fates,
     } = lists.emptied();
-    let mut before = None;
+    let mut made = None;
     for pair in pairs {
         let fate = match branch_of(alloc, node, matrix, bounds, ceiling, *pair)? {
             Branch::Kid { forced, bound } => {
-                let before = shared_pairs(alloc, node, &mut before)?;
-                kids.push(node.with_pairs(alloc, &before, *pair, forced, bound)?)?;
+                let parent = parent_of(alloc, node, &mut made)?;
+                kids.push(node.with_pairs(alloc, parent, *pair, forced, bound)?)?;
                 Fate::Kid
             }
             Branch::Dead(forced) => Fate::Dead { forced },

@@ -1,11 +1,13 @@
-ghost use Rattle.std.specs.Prelude.{◌≡◌, ◌∷◌, IfOk};
+ghost use Rattle.std.specs.Prelude.{◌≡◌, ◌∷◌, ◌++◌, [], IfOk};
 ghost use Rattle.std.specs.Arc.{arc_value};
 ghost use Rattle.network.specs.Limits.{IsProject};
 ghost use Rattle.branching.specs.Subproblem.{Subproblem, IsNode, kid_of};
+ghost use Rattle.branching.specs.Parent.{IsParent};
 ghost use Rattle.branching.specs.Last.{last_pairs};
 
 use crate::base::Base;
 use crate::pair_list::{Last, PairList};
+use crate::parent::Parent;
 use network::{Pair, Project};
 use std::alloc::{AllocError, Global};
 use std::marker::Model;
@@ -28,7 +30,7 @@ fn last_of(alloc: Global, first: Pair, forced: Vec<Pair>) -> Result<Last, AllocE
 /// bound. It stands for the feasible schedules that keep its pairs.
 #[derive(Drop, Debug)]
 pub struct Lean {
-    base: Arc<Base>,
+    parent: Arc<Parent>,
     pairs: PairList,
     bound: i64,
 }
@@ -46,17 +48,33 @@ impl Model for Lean {
 }
 
 impl Lean {
-    /// The node of these parts, to be shared.
+    /// The node with these pairs after its parent's, to be shared.
     pub(crate) fn shared(
         alloc: Global,
-        base: Arc<Base>,
-        pairs: PairList,
+        parent: Arc<Parent>,
+        last: Last,
         bound: i64,
     ) -> Result<Arc<Lean>, AllocError>
-        requires { IsNode (record { project = (arc_value base).project; pairs = pairs; bound = bound }) }
-        ensures { IfOk result (λ node. arc_value node ≡ record { project = (arc_value base).project; pairs = pairs; bound = bound }) }
+        requires { IsNode (record { project = (arc_value (arc_value parent).base).project; pairs = (arc_value parent).pairs.items ++ last_pairs last; bound = bound }) }
+        ensures { IfOk result (λ node. arc_value node ≡ record { project = (arc_value (arc_value parent).base).project; pairs = (arc_value parent).pairs.items ++ last_pairs last; bound = bound }) }
     {
-        Ok(Arc::new(alloc, Lean { base, pairs, bound })?)
+        let pairs = PairList::of(Arc::try_clone(&parent)?, last);
+        let node = Lean {
+            parent,
+            pairs,
+            bound,
+        };
+        Ok(Arc::new(alloc, node)?)
+    }
+
+    /// The node without pairs, to be shared.
+    pub(crate) fn root(alloc: Global, base: Arc<Base>, bound: i64) -> Result<Arc<Lean>, AllocError>
+        requires { IsNode (record { project = (arc_value base).project; pairs = []; bound = bound }) }
+        ensures { IfOk result (λ node. arc_value node ≡ record { project = (arc_value base).project; pairs = []; bound = bound }) }
+    {
+        let pairs = Vec::new(alloc);
+        let parent = Arc::new(alloc, Parent { base, pairs })?;
+        Lean::shared(alloc, parent, Last::Several(Vec::new(alloc)), bound)
     }
 
     /// The project.
@@ -64,7 +82,7 @@ impl Lean {
         ensures project { arc_value result.now ≡ self.now.project }
         ensures limits { IsProject self.now.project }
     {
-        self.base.project()
+        self.parent.base.project()
     }
 
     /// The pairs, in the order in which they were added.
@@ -87,25 +105,24 @@ impl Lean {
     pub(crate) fn base(&self) -> &Arc<Base>
         ensures { (arc_value result.now).project ≡ self.now.project }
     {
-        &self.base
+        &self.parent.base
     }
 
-    /// The node with one pair more, pairs that it forced, and this bound. `before` is the list of this
-    /// node's pairs.
+    /// The node with one pair more, pairs that it forced, and this bound. `parent` is what kids have of this
+    /// node.
     pub(crate) fn with_pairs(
         &self,
         alloc: Global,
-        before: &Arc<Vec<Pair>>,
+        parent: Arc<Parent>,
         first: Pair,
         forced: Vec<Pair>,
         bound: i64,
     ) -> Result<Arc<Lean>, AllocError>
-        requires before { (arc_value before.now).items ≡ self.now.pairs }
+        requires parent { IsParent self.now (arc_value parent) }
         requires node { IsNode (kid_of self.now first forced.items bound) }
         ensures { IfOk result (λ kid. arc_value kid ≡ kid_of self.now first forced.items bound) }
     {
         let last = last_of(alloc, first, forced)?;
-        let pairs = PairList::of(Arc::try_clone(before)?, last);
-        Lean::shared(alloc, Arc::try_clone(&self.base)?, pairs, bound)
+        Lean::shared(alloc, parent, last, bound)
     }
 }

@@ -21,6 +21,7 @@ mod node;
 mod outcome;
 mod pair_list;
 mod pairs;
+mod parent;
 mod report;
 mod search;
 mod searcher;

@@ -9,7 +9,6 @@ ghost use Rattle.branching.specs.Covered.{IsRootOf};
 
 use crate::base::Base;
 use crate::lean::Lean;
-use crate::pair_list::PairList;
 use longest_path::{Matrix, PathFault, longest};
 use network::{Pair, Project};
 use std::alloc::{AllocError, Global};
@@ -72,7 +71,7 @@ pub(crate) fn root_and_matrix(
     let matrix = longest(alloc, &project, &[])?;
     let bound = bounds::bound(alloc, &project, &matrix)?;
     let base = Base::shared(alloc, project, matrix.try_copy(alloc)?)?;
-    let root = Lean::shared(alloc, base, PairList::new(alloc)?, bound)?;
+    let root = Lean::root(alloc, base, bound)?;
     Ok((root, matrix))
 }
 

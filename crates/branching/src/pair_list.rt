@@ -2,6 +2,7 @@ ghost use Rattle.std.specs.Prelude.{◌≡◌, ◌↔◌, [], IfOk, IsTrue, leng
 ghost use Rattle.std.specs.Arc.{arc_value};
 ghost use Rattle.branching.specs.Last.{last_pairs};
 
+use crate::parent::Parent;
 use network::Pair;
 use std::alloc::{AllocError, Global};
 use std::marker::Model;
@@ -29,7 +30,7 @@ impl Last {
 /// Pairs in the order in which they were added. The kids of a node share the list of that node.
 #[derive(Drop, Debug)]
 pub struct PairList {
-    before: Arc<Vec<Pair>>,
+    before: Arc<Parent>,
     last: Last,
 }
 
@@ -42,24 +43,13 @@ impl Model for PairList {
 
     ghost use Rattle.branching.specs.Last.{last_pairs};
 
-    ghost view = { λ s. (arc_value s.before).items ++ last_pairs s.last };
+    ghost view = { λ s. (arc_value s.before).pairs.items ++ last_pairs s.last };
 }
 
 impl PairList {
-    /// No pair.
-    pub fn new(alloc: Global) -> Result<PairList, AllocError>
-        ensures { IfOk result (λ pairs. pairs ≡ []) }
-    {
-        let before = Arc::new(alloc, Vec::new(alloc))?;
-        Ok(PairList {
-            before,
-            last: Last::Several(Vec::new(alloc)),
-        })
-    }
-
-    /// The shared pairs, and the last ones after them.
-    pub(crate) fn of(before: Arc<Vec<Pair>>, last: Last) -> PairList
-        ensures { result ≡ (arc_value before).items ++ last_pairs last }
+    /// The parent's pairs, and the last ones after them.
+    pub(crate) fn of(before: Arc<Parent>, last: Last) -> PairList
+        ensures { result ≡ (arc_value before).pairs.items ++ last_pairs last }
     {
         PairList { before, last }
     }
@@ -68,9 +58,9 @@ impl PairList {
     pub fn get(&self, place: usize) -> Option<Pair>
         ensures { result ≡ slice_get self.now place }
     {
-        match place.checked_sub(self.before.len()) {
+        match place.checked_sub(self.before.pairs.len()) {
             Some(later) => self.last.as_slice().get(later).copied(),
-            None => self.before.get(place).copied(),
+            None => self.before.pairs.get(place).copied(),
         }
     }
 
@@ -78,7 +68,7 @@ impl PairList {
     pub fn len(&self) -> usize
         ensures { result ≡ length self.now }
     {
-        self.before.len() + self.last.as_slice().len()
+        self.before.pairs.len() + self.last.as_slice().len()
     }
 
     /// Whether both are the same pairs in the same order, whatever they share.
@@ -100,8 +90,11 @@ impl PairList {
     pub fn to_vec(&self, alloc: Global) -> Result<Vec<Pair>, AllocError>
         ensures { IfOk result (λ pairs. pairs.items ≡ self.now) }
     {
-        let mut pairs = Vec::with_capacity(alloc, self.before.len() + self.last.as_slice().len())?;
-        pairs.extend_from_slice(self.before.as_slice())?;
+        let mut pairs = Vec::with_capacity(
+            alloc,
+            self.before.pairs.len() + self.last.as_slice().len(),
+        )?;
+        pairs.extend_from_slice(self.before.pairs.as_slice())?;
         pairs.extend_from_slice(self.last.as_slice())?;
         Ok(pairs)
     }

@@ -8,7 +8,7 @@ use Rattle.branching.specs.Fate.{fate_value}
 use Rattle.branching.proofs.Rebuilding.{named_one}
 use Rattle.branching.proofs.Fates.{fate_kid, fate_dead, fate_cut}
 use Rattle.branching.proofs.branches.branches_of.Goals as goal
-use Rattle.branching.proofs.branches.branches_of.Goals.{in-Kid+in_ok-before-in-Kid+in_ok-with_pairs-in-Kid+in_ok-push-in-Kid, in-Dead, in-Cut}
+use Rattle.branching.proofs.branches.branches_of.Goals.{in-Kid+in_ok-parent-in-Kid+in_ok-with_pairs-in-Kid+in_ok-push-in-Kid, in-Dead, in-Cut}
 
 pub branch_of-requires-clause-named : goal.branch_of-requires-clause-named
 branch_of-requires-clause-named c =
@@ -24,13 +24,13 @@ loop-pair-preserved c =
     record {
       unchanged = c.branch_of.ensures.unchanged ∙ c.loop-pair.invariant.unchanged;
       bounds = c.branch_of.ensures.bounds ∙ c.loop-pair.invariant.bounds;
-      before = elim c.match-branch-2.branch [
-        | in-Kid+in_ok-before-in-Kid+in_ok-with_pairs-in-Kid+in_ok-push-in-Kid w ↦ rw w.before-is w.shared_pairs.ensures.list
-        | in-Dead w ↦ rw w.before-is c.loop-pair.invariant.before
-        | in-Cut w ↦ rw w.before-is c.loop-pair.invariant.before
+      parent = elim c.match-branch-2.branch [
+        | in-Kid+in_ok-parent-in-Kid+in_ok-with_pairs-in-Kid+in_ok-push-in-Kid w ↦ rw w.made-is w.parent_of.ensures.made
+        | in-Dead w ↦ rw w.made-is c.loop-pair.invariant.parent
+        | in-Cut w ↦ rw w.made-is c.loop-pair.invariant.parent
       ];
       fates = elim c.match-branch-2.branch [
-        | in-Kid+in_ok-before-in-Kid+in_ok-with_pairs-in-Kid+in_ok-push-in-Kid w ↦
+        | in-Kid+in_ok-parent-in-Kid+in_ok-with_pairs-in-Kid+in_ok-push-in-Kid w ↦
             let made = rw w.in-Kid.is at c.in_ok-forced.ensures.branch in
             let fits : SFits w64 w.in-Kid.bound = search rules in
             let is = simp to_z-of_z at w.in_ok-with_pairs-in-Kid.ensures in

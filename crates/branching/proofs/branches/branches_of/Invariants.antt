@@ -3,12 +3,13 @@ use Rattle.std.specs.Prelude.{IfSome}
 use Rattle.std.specs.Arc.{arc_value}
 use Rattle.branching.specs.Fate.{fate_value}
 use Rattle.branching.specs.Fates.{AreFates}
+use Rattle.branching.specs.Parent.{IsParent}
 use Rattle.branching.proofs.branches.branches_of.Given as goal
 
 abbrev pub invariant-loop-pair : goal.invariant-loop-pair
 invariant-loop-pair l = record {
   unchanged : l.matrix ≡ l.initial.matrix;
-  before : IfSome l.before (λ pairs. (arc_value pairs).items ≡ l.node.pairs);
+  parent : IfSome l.made (λ parent. IsParent l.node (arc_value parent));
   bounds : l.bounds ≡ l.initial.bounds;
   fates : AreFates l.node l.ceiling (take l.pair-index l.pairs) (map fate_value l.fates.items) (map arc_value l.kids.items);
 }
