@@ -2,7 +2,7 @@
 problems, Principles and Practice of Constraint Programming (1998) 417-431.
 
 Most of the best schedule keeps its order, and psmax searches what the rest can gain by it: the project with a deadline
-below the best, and an arc for each two kept activities that need the same resource, from the one that ends first to the
+below or at the best, and an arc for each two kept activities that need the same resource, from the one that ends first to the
 other. A schedule of that is one of the project. Where there is none, nothing follows, since other orders are left."""
 import random
 from dataclasses import replace
@@ -12,6 +12,7 @@ from .project import MOST_ARCS, Arc, Project, within
 
 NODES = 300
 LARGEST = 300  # activities; of more there are too many pairs to look at here
+ASIDE = 0.5  # of the proposals ask for a schedule as short as the best, and not for a shorter one
 LEAST_SHARE, MOST_SHARE = 0.2, 0.6  # of the time of the schedule, or of the activities, that are free
 
 
@@ -20,19 +21,26 @@ class Neighbours:
         self.project = project
         self.known = known
         self.random = random.Random(seed)
+        self.beside: tuple[int, ...] | None = None  # what psmax found last
 
     def ask(self) -> bool:
-        """Frees what runs in some stretch of the best schedule; says whether psmax found a shorter one."""
-        starts, best = self.known.starts, self.known.makespan
+        """Frees what runs in some stretch of a schedule as short as the best; says whether psmax found a shorter one.
+        Half of the time another one as short will do, and is the next to begin with."""
+        best = self.known.makespan
+        starts = self.beside if self.beside is not None and self.beside[-1] == best else self.known.starts
         if starts is None or best is None or self.project.end > LARGEST:
             return False
         kept = self.choose(starts, best)
-        limited = within(self.keeping(starts, kept), best - 1)
+        deadline = best if self.random.random() < ASIDE else best - 1
+        limited = within(self.keeping(starts, kept), deadline)
         if limited is None:
             return False
         answer = self.known.psmax.solve(limited.text(), NODES)
-        call = f"solve --nodes {NODES} within {best - 1}, the order of {len(kept)} activities kept"
-        return answer.starts is not None and self.known.offer(answer.starts, call)
+        if answer.starts is None:
+            return False
+        self.beside = answer.starts
+        call = f"solve --nodes {NODES} within {deadline}, the order of {len(kept)} activities kept"
+        return self.known.offer(answer.starts, call)
 
     def choose(self, starts: tuple[int, ...], best: int) -> list[int]:
         """The activities that keep their order: those outside of some stretch of time, or any of them by lot."""

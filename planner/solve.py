@@ -19,7 +19,8 @@ from .rule import LARGEST, Rule
 
 FIRST_NODES = 1_000
 PLAIN = 2  # the project as it stands may take so many times the nodes of one deadline
-GROWTH = 4  # each round allows so many times the nodes of the round before
+FROM_BEST = 4  # a worker from the best schedule gets one node for so many of one deadline, since they take longer
+GROWTH = 2  # each round allows so many times the nodes of the round before
 RULE_SHARE = 0.1  # of the time so far, that the priority rule may take in a round
 NEIGHBOURS_SHARE = 0.3  # and the neighbourhoods of the best schedule
 LEAST = 0.2  # seconds, that they may take even when little time has gone
@@ -77,7 +78,7 @@ class Search:
             self.for_a_share(NEIGHBOURS_SHARE, neighbours.ask)
             nodes = min(nodes * GROWTH, MOST_NODES)
             self.plain(PLAIN * nodes)
-            self.from_best(nodes)
+            self.from_best(self.workers * nodes // FROM_BEST)
             deadlines.from_below(nodes)
             deadlines.from_above(nodes)
 

@@ -7,7 +7,7 @@ from planner.deadlines import with_fewer_resources
 from planner.known import Known
 from planner.neighbours import Neighbours
 from planner.project import Arc, parse, with_resources
-from planner.psmax import Psmax
+from planner.psmax import Psmax, starts_text
 
 from .helpers import EXAMPLES, INPUTS, PROJECTS, PSMAX
 
@@ -52,6 +52,8 @@ class Kept(Quiet):
         neighbours = Neighbours(parse(text), known)
         self.assertFalse(any(neighbours.ask() for _ in range(20)))
         self.assertEqual((known.makespan, known.bound), (36, 0))
+        beside = known.psmax.check(text, starts_text(neighbours.beside or ()))
+        self.assertEqual(beside.makespan, 36)
 
 
 class FewerResources(Quiet):
