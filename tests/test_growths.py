@@ -1,7 +1,7 @@
 #!/usr/bin/env python3
 """tests/test_growths.py [--only WORD] [--most N] [--counted LOG]
 
-Refuses each growth of memory of each test of each crate in turn, alone and with the next. The tests are those of the
+Refuses each growth of memory of each test of some crates in turn, alone and with the next. The tests are those of the
 programs crates/NAME/out/NAME_tests, which `rt ci` and `rt test` leave. A test has to pass, or to end with want of memory (or
 of a thread) as its error, or with an assertion that found that in place of what it wanted: any other end is an answer that
 changed. Of a test with more than N growths (300 by default) so many are refused, spread evenly, and fewer of one that takes
@@ -28,6 +28,7 @@ ENDS = re.compile(
     rb"error: " + WANT + rb"\nthe test failed: its result gives status 1\n"
     rb"|assertion `left == right` failed(?:.*\n)*  left: (?:Some\(|Err\()?" + WANT + rb"\)?\n right: (?:.*\n)*"
 )
+CRATES = ("words", "sch_reader", "forbidden_sets")  # the crates whose tests hold so
 WITH_AMPLE_MEMORY = set()  # tests that assert that memory is there
 SECONDS = 20  # so long may the runs of one test take together
 
@@ -66,7 +67,7 @@ def main():
     options = parser.parse_args()
     passed, failed = counted(options.counted)
     growths = covered = 0
-    programs = sorted(ROOT.glob("crates/*/out/*_tests"))
+    programs = [ROOT / "crates" / crate / "out" / f"{crate}_tests" for crate in CRATES]
     cases = [(program, test) for program in programs for test in tests_of(program)
              if options.only in f"{program.name} {test}" and test not in WITH_AMPLE_MEMORY]
     with tempfile.TemporaryDirectory() as folder, concurrent.futures.ThreadPoolExecutor(os.cpu_count()) as pool:

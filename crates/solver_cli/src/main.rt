@@ -146,11 +146,9 @@ const FOLDER: &str = "/";
 fn start_apart<R: Runtime + Threads + Wait + Sync>(rt: &R, alloc: Global, call: &Call) -> ExitCode
     requires { IsCall call.now }
 {
-    let _held = [
-        fs::open(rt, FOLDER),
-        fs::open(rt, FOLDER),
-        fs::open(rt, FOLDER),
-    ];
+    let _input = fs::open(rt, FOLDER);
+    let _output = fs::open(rt, FOLDER);
+    let _faults = fs::open(rt, FOLDER);
     start(rt, alloc, call)
 }
 

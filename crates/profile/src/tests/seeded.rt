@@ -95,7 +95,7 @@ fn plain_excess(project: &Project, running: &[usize], time: i64) -> Option<Exces
 }
 
 /// That the sweep finds the first overload of all units of time up to 20.
-fn assert_first(
+pub(super) fn assert_first(
     rt: &impl Abort,
     alloc: Global,
     sweep: &mut OverloadSweep,

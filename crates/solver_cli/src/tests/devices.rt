@@ -1,9 +1,7 @@
 //! Devices that fail, or take and give few bytes at once.
 
-ghost use Rattle.std.specs.Prelude.{◌≡◌, ◌≢◌, Some, false, IfSome};
-ghost use Rattle.solver_cli.specs.declared.fault.Fault.TheVariants as faults;
+ghost use Rattle.std.specs.Prelude.{◌≡◌, Some, false};
 ghost use Rattle.solver_cli.specs.Calls.{IsJob, has_workers};
-ghost use Rattle.solver_cli.specs.Outcome.{IsCutShort};
 
 use super::{ANSWERED, Pieces, RECORD, TWO_JOBS, solve_job};
 use crate::call::Job;
@@ -81,9 +79,6 @@ fn through(
 ) -> (Ended, Vec<u8>)
     requires job { IsJob job }
     requires alone { has_workers job ≡ false }
-    ensures cut_short { result.0.fault ≡ Some faults.WriteFailed →
-        IsCutShort job input.rest.now second.rest.now (Some out.taken.items) (Some result.1.items) }
-    ensures silent { IfSome result.0.fault (λ fault. fault ≢ faults.WriteFailed → result.1.items ≡ out.taken.items) }
 {
     let mut input = Reader::new(input);
     let mut second = Reader::new(second);
