@@ -23,13 +23,13 @@ from counting import counted
 from refusing import Refusing, library, one, two
 
 ROOT = pathlib.Path(__file__).resolve().parent.parent
-WANT = rb"(?:AllocError|AllocFailed \{ \.\. \}|Memory|Thread)"
+WANT = rb"(?:AllocError|AllocFailed \{ \.\. \}|Memory|Thread|RecordFault \{ line: 0, why: Memory \}|\"no memory\")"
 ENDS = re.compile(
     rb"error: " + WANT + rb"\nthe test failed: its result gives status 1\n"
     rb"|assertion `left == right` failed(?:.*\n)*  left: (?:Some\(|Err\()?" + WANT + rb"\)?\n right: (?:.*\n)*"
 )
 CRATES = ("words", "sch_reader", "forbidden_sets")  # the crates whose tests hold so
-WITH_AMPLE_MEMORY = set()  # tests that assert that memory is there
+WITH_AMPLE_MEMORY = {"tests::the_rows_of_the_tree_have_their_faults"}  # which takes it that its texts have room
 SECONDS = 20  # so long may the runs of one test take together
 
 

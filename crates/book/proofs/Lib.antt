@@ -12,6 +12,7 @@ pub mod Runs
 pub mod Steps
 pub mod Recorded
 pub mod RecordedSteps
+pub mod Tickets
 pub mod TrailFalls
 pub mod TrailGrowing
 pub mod TrailPaths

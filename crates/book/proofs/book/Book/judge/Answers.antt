@@ -39,7 +39,7 @@ returns-then-not-is_in_time-clause-judged c =
     let holds : slice_get c.self.inside.hands c.in-Some.worker ≡ Some (Some (record { name = c.args.name; node = node })) = search rules in
     let pairs : node.pairs ≡ c.args.report.now.node.pairs = search rules in
     let project : c.args.report.now.node.project ≡ arc_value c.self.inside.project = search rules in
-    let found_late : ¬ IsInTime c.ceiling.result c.makespan_of-best.result = search rules in
+    let found_late : ¬ IsInTime c.ceiling.result c.makespan_of-best.result = c.if-not-is_in_time.ensures.no in
     let ceiling : c.ceiling.result ≡ c.args.report.now.ceiling = search rules in
     let late : ¬ IsInTime c.args.report.now.ceiling c.makespan_of-best.result = subst (λ (o : Option ℤ). ¬ IsInTime o c.makespan_of-best.result) ceiling found_late in
     let best : c.makespan_of-best.result ≡ best_makespan (state_of c.self.inside) = c.makespan_of-best.ensures in (
