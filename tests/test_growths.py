@@ -28,9 +28,10 @@ ENDS = re.compile(
     rb"error: " + WANT + rb"\nthe test failed: its result gives status 1\n"
     rb"|assertion `left == right` failed(?:.*\n)*  left: (?:Some\(|Err\()?" + WANT + rb"\)?\n right: (?:.*\n)*"
 )
-CRATES = ("words", "sch_reader", "forbidden_sets")  # the crates whose tests hold so
+# The crates whose tests hold so.
+CRATES = ("words", "network", "sch_reader", "record_text", "longest_path", "profile", "forbidden_sets", "bounds", "book", "best_word")
 WITH_AMPLE_MEMORY = {"tests::the_rows_of_the_tree_have_their_faults"}  # which takes it that its texts have room
-SECONDS = 20  # so long may the runs of one test take together
+SECONDS = 10  # so long may the runs of one test take together
 
 
 def tests_of(program):
