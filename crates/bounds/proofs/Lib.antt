@@ -5,6 +5,7 @@ pub mod Between
 pub mod Tasks
 pub mod EnergyHolds
 pub mod TrueBounds
+pub mod UnderCeiling
 pub mod LateWork
 pub mod ShareLimits
 pub mod Rooms

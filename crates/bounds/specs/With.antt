@@ -1,5 +1,5 @@
 -- The bound of a matrix with one pair more.
-use Rattle.std.specs.Prelude.{◌≡◌, ℤ, List, [], ◌∷◌, ◌++◌}
+use Rattle.std.specs.Prelude.{◌≡◌, ℤ, ◌<ℤ◌, ◌≤ℤ◌, Option, IfSome, List, [], ◌∷◌, ◌++◌}
 use Rattle.std.specs.Int.{int_max}
 use Rattle.network.specs.declared.lag.Pair.{Pair}
 use Rattle.network.specs.Problem.{Problem, end_of}
@@ -23,3 +23,8 @@ IsBoundWith p rows pair c = (pairs : List Pair) (new : Rows) → IsProjectMatrix
 -- c is a true bound of each node of the project whose matrix this is, with one pair more
 abbrev pub IsTrueBoundWith : Problem → Rows → Pair → ℤ → Type 0
 IsTrueBoundWith p rows pair c = (pairs : List Pair) → IsProjectMatrix p pairs rows → IsTrueBound p (pairs ++ pair ∷ []) c
+
+-- c is not above the bound of the matrix with one pair more, and is that bound where it is below the ceiling, if there is one
+pub record IsBoundUnder (p : Problem) (rows : Rows) (pair : Pair) (ceiling : Option ℤ) (c : ℤ) : Type 0 where
+  pub low : (bound : ℤ) → IsBoundWith p rows pair bound → c ≤ℤ bound
+  pub exact : IfSome ceiling (λ limit. c <ℤ limit) → IsBoundWith p rows pair c

@@ -3,8 +3,8 @@
 //! [`critical`] is the greatest weight from the start to the end, [`energy`] looks at how much work
 //! of one resource has to be done between a head and a tail, by the activities that lie there whole
 //! (in the manner of Carlier's bound by heads, work and tails of subsets: The one-machine sequencing
-//! problem, 1982), and [`bound`] is the greater of both. [`Workspace::bound_with`]
-//! is the bound with one pair more.
+//! problem, 1982), and [`bound`] is the greater of both. [`bound_with`] is the bound with
+//! one pair more, and [`Workspace::bound_under`] stops at a ceiling.
 #![tactic(auto)]
 
 ghost use Rattle.std.specs.Prelude.{◌≡◌, IfOk};
@@ -17,6 +17,7 @@ mod load;
 mod slots;
 mod task;
 mod task_room;
+mod task_rooms;
 mod with_pair;
 mod workspace;
 

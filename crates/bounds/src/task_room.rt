@@ -1,7 +1,7 @@
-ghost use Rattle.std.specs.Prelude.{◌≡◌, ◌+◌, ◌<◌, ◌≤◌, length, map, take, IfOk};
+ghost use Rattle.std.specs.Prelude.{◌≡◌, ◌+◌, ◌<◌, ◌≤◌, length, take, IfOk};
 ghost use Rattle.network.specs.Problem.{resource_count};
 ghost use Rattle.bounds.specs.Ends.{AreEnds};
-ghost use Rattle.bounds.specs.Tasks.{tasks_of, all_tasks, AreTasks};
+ghost use Rattle.bounds.specs.Tasks.{tasks_of, AreTasks};
 ghost use Rattle.std.specs.List.{All};
 ghost use Rattle.std.specs.List.Sorted.{IsNonDecreasing};
 ghost use Rattle.bounds.specs.Loads.{AreLoads, IsGreatestShare, IsGreatestShareOf};
@@ -48,7 +48,11 @@ impl Model for TaskRoom {
 
 impl TaskRoom {
     /// Room for the tasks of a resource.
-    fn new(alloc: Global, project: &Project, resource: usize) -> Result<TaskRoom, AllocError>
+    pub(crate) fn new(
+        alloc: Global,
+        project: &Project,
+        resource: usize,
+    ) -> Result<TaskRoom, AllocError>
         requires { resource < resource_count project.now }
         ensures { IfOk result (λ room. room ≡ tasks_of project.now resource) }
     {
@@ -150,15 +154,4 @@ fn share_under(
         &mut rooms[..count],
         &mut skips[..count],
     )
-}
-
-/// Room for the tasks of each resource.
-pub(crate) fn task_rooms(alloc: Global, project: &Project) -> Result<Vec<TaskRoom>, AllocError>
-    ensures { IfOk result (λ rooms. rooms.items ≡ all_tasks project.now) }
-{
-    let mut rooms = Vec::with_capacity(alloc, project.resource_count())?;
-    for resource in 0..project.resource_count() {
-        rooms.push(TaskRoom::new(alloc, project, resource)?)?;
-    }
-    Ok(rooms)
 }

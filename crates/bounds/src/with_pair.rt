@@ -8,12 +8,10 @@ ghost use Rattle.longest_path.specs.Relax.{greater, joined};
 ghost use Rattle.earliest.specs.Tails.{tail_weights};
 ghost use Rattle.longest_path.specs.Insert.{rows_over, ClosesNone};
 ghost use Rattle.bounds.specs.Bound.{IsMatrixFor};
-ghost use Rattle.bounds.specs.Ends.{AreEnds};
 ghost use Rattle.bounds.specs.Tasks.{all_tasks};
-ghost use Rattle.bounds.specs.With.{IsBoundBetween, IsBoundWith, IsTrueBoundWith};
+ghost use Rattle.bounds.specs.With.{IsBoundWith, IsTrueBoundWith, IsBoundUnder};
 
-use crate::energy_value::energy_between;
-use crate::task_room::TaskRoom;
+use crate::task_rooms::TaskRooms;
 use crate::workspace::Workspace;
 use longest_path::Matrix;
 use network::{Lag, Pair, Project};
@@ -81,28 +79,16 @@ fn take_tails_with(project: &Project, matrix: &Matrix, arc: Lag, tails: &mut [i6
     }
 }
 
-/// The greater of the last head and the energy value of heads and tails.
-fn bound_between(project: &Project, heads: &[i64], tails: &[i64], rooms: &mut [TaskRoom]) -> i64
-    requires rooms { rooms.old ≡ all_tasks project.now }
-    requires heads { AreEnds (activity_count project.now) heads.now }
-    requires tails { AreEnds (activity_count project.now) tails.now }
-    ensures rooms { rooms.new ≡ rooms.old }
-    ensures bound { IsBoundBetween project.now heads.now tails.now result }
-{
-    let critical = heads[project.activity_count() - 1];
-    let energy = energy_between(project, heads, tails, rooms);
-    critical.max(energy as i64)
-}
-
 /// The bound of the matrix with the pair's arc in periods, by entries of the matrix without it, over
-/// memory that is used again.
+/// memory that is used again; or a lower number that is at least the ceiling.
 pub(crate) fn bound_over(
     project: &Project,
     matrix: &Matrix,
     pair: Pair,
+    ceiling: Option<i64>,
     heads: &mut [i64],
     tails: &mut [i64],
-    rooms: &mut [TaskRoom],
+    rooms: &mut TaskRooms,
 ) -> i64
     requires heads { length heads.old ≡ activity_count project.now }
     requires tails { length tails.old ≡ activity_count project.now }
@@ -111,18 +97,23 @@ pub(crate) fn bound_over(
     requires named { NameActivities project.now (pair ∷ []) }
     requires lives { ClosesNone (pair_arc project.now pair) matrix.now }
     ensures rooms { rooms.new ≡ rooms.old }
-    ensures value { IsBoundWith project.now matrix.now pair result }
-    ensures holds { IsTrueBoundWith project.now matrix.now pair result }
+    ensures value { IsBoundUnder project.now matrix.now pair ceiling result }
 {
     prove!(matrix.activity_count() == project.activity_count());
+    let ceiling = ceiling.unwrap_or(i64::MAX);
     let arc = project.pair_arc(pair);
     take_heads_with(matrix, arc, heads);
+    let critical = heads[project.activity_count() - 1];
+    if critical >= ceiling {
+        return critical;
+    }
     take_tails_with(project, matrix, arc, tails);
-    bound_between(project, heads, tails, rooms)
+    let energy = rooms.energy_under(project, heads, tails, ceiling.unsigned_abs());
+    critical.max(energy as i64)
 }
 
 /// The bound of the matrix with the pair's arc in periods, by entries of the matrix without it. Where
-/// more than one is asked for, [`Workspace::bound_with`] takes its memory only once.
+/// more than one is asked for, [`Workspace::bound_under`] takes its memory only once.
 pub fn bound_with(
     alloc: Global,
     project: &Project,
@@ -136,5 +127,5 @@ pub fn bound_with(
     ensures holds { IfOk result (λ bound. IsTrueBoundWith project.now matrix.now pair bound) }
 {
     let mut workspace = Workspace::new(alloc, project)?;
-    Ok(workspace.bound_with(project, matrix, pair))
+    Ok(workspace.bound_under(project, matrix, pair, None))
 }

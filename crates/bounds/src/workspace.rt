@@ -2,10 +2,10 @@ ghost use Rattle.std.specs.Prelude.{◌≡◌, [], ◌∷◌, IfOk};
 ghost use Rattle.network.specs.Problem.{NameActivities, pair_arc};
 ghost use Rattle.longest_path.specs.Insert.{ClosesNone};
 ghost use Rattle.bounds.specs.Bound.{IsMatrixFor};
-ghost use Rattle.bounds.specs.With.{IsBoundWith, IsTrueBoundWith};
+ghost use Rattle.bounds.specs.With.{IsTrueBoundWith, IsBoundUnder};
 ghost use Rattle.bounds.specs.Workspace.{IsWorkspaceFor};
 
-use crate::task_room::{TaskRoom, task_rooms};
+use crate::task_rooms::TaskRooms;
 use crate::with_pair::bound_over;
 use longest_path::Matrix;
 use network::{Pair, Project};
@@ -18,7 +18,7 @@ use std::marker::Model;
 pub struct Workspace {
     heads: Vec<i64>,
     tails: Vec<i64>,
-    rooms: Vec<TaskRoom>,
+    rooms: TaskRooms,
 }
 
 impl Model for Workspace {
@@ -27,7 +27,7 @@ impl Model for Workspace {
 
     ghost Value = { WorkspaceOf };
 
-    ghost view = { λ s. record { activities = length s.heads.items; tasks = s.rooms.items } };
+    ghost view = { λ s. record { activities = length s.heads.items; tasks = s.rooms } };
 
     ghost invariant = { λ s. length s.tails.items ≡ length s.heads.items };
 }
@@ -39,7 +39,7 @@ impl Workspace {
     {
         let heads = vec![in alloc; 0; project.activity_count()]?;
         let tails = vec![in alloc; 0; project.activity_count()]?;
-        let rooms = task_rooms(alloc, project)?;
+        let rooms = TaskRooms::new(alloc, project)?;
         Ok(Workspace {
             heads,
             tails,
@@ -47,24 +47,31 @@ impl Workspace {
         })
     }
 
-    /// The bound of the matrix with the pair's arc in periods, by entries of the matrix without it.
-    /// Takes no memory.
-    pub fn bound_with(&mut self, project: &Project, matrix: &Matrix, pair: Pair) -> i64
+    /// [`bound_with`](crate::bound_with) in periods, or where that is at least the ceiling, any true bound
+    /// that is at least the ceiling and no greater: who cuts by it needs no more. Takes no memory.
+    pub fn bound_under(
+        &mut self,
+        project: &Project,
+        matrix: &Matrix,
+        pair: Pair,
+        ceiling: Option<i64>,
+    ) -> i64
         requires workspace { IsWorkspaceFor project.now self.old }
         requires matrix { IsMatrixFor project.now matrix.now }
         requires named { NameActivities project.now (pair ∷ []) }
         requires lives { ClosesNone (pair_arc project.now pair) matrix.now }
         ensures workspace { self.new ≡ self.old }
-        ensures value { IsBoundWith project.now matrix.now pair result }
+        ensures value { IsBoundUnder project.now matrix.now pair ceiling result }
         ensures holds { IsTrueBoundWith project.now matrix.now pair result }
     {
         bound_over(
             project,
             matrix,
             pair,
+            ceiling,
             self.heads.as_mut_slice(),
             self.tails.as_mut_slice(),
-            self.rooms.as_mut_slice(),
+            &mut self.rooms,
         )
     }
 }

@@ -60,26 +60,25 @@ dead_forced node first forced pair old so_far apart by closes =
 pub dead_at_once : (node : Subproblem) (first : Pair) → IsDead node.project (node.pairs ++ first ∷ []) → IsDeadBy node first []
 dead_at_once node first dead = record { all_forced = tt; dead = rw (append-nil (node.pairs ++ first ∷ [])) dead }
 
--- its bound is at the ceiling
-pub cut_at : (node : Subproblem) (ceiling : Option ℤ) (first : Pair) (forced : List Pair) (rows : Rows) (bound : ℤ) → IsForcedMatrix node.project (node.pairs ++ first ∷ []) forced rows → IsBoundOf node.project rows bound → Reaches ceiling bound → IsCutBy node ceiling first forced
-cut_at node None first forced rows bound forced_by of reaches = absurd reaches
-cut_at node (Some limit) first forced rows bound forced_by of reaches = record {
+-- its bound is at least a number that is at least the ceiling
+pub cut_from : (node : Subproblem) (ceiling : Option ℤ) (first : Pair) (forced : List Pair) (rows : Rows) (bound least : ℤ) → IsForcedMatrix node.project (node.pairs ++ first ∷ []) forced rows → IsBoundOf node.project rows bound → least ≤ℤ bound → Reaches ceiling least → IsCutBy node ceiling first forced
+cut_from node None first forced rows bound least forced_by of low reaches = absurd reaches
+cut_from node (Some limit) first forced rows bound least forced_by of low reaches = record {
   all_forced = forced_by.all_forced;
   cut = record {
     is_live = forced_by.matrix.matrix.no_cycle;
     bound = bound;
     bound_of = record { rows = rows; matrix = forced_by.matrix; bound_of = of };
-    reaches = reaches;
+    reaches = let under : limit ≤ℤ least = reaches in omega (arith, ints);
   };
 }
 
 -- so is a weight at most the critical one
 pub cut_by_least : (node : Subproblem) (ceiling : Option ℤ) (first : Pair) (rows : Rows) (least : ℤ) → IsForcedMatrix node.project (node.pairs ++ first ∷ []) [] rows → least ≤ℤ critical_weight rows → Reaches ceiling least → IsCutBy node ceiling first []
-cut_by_least node None first rows least forced_by low reaches = absurd reaches
-cut_by_least node (Some limit) first rows least forced_by low reaches =
+cut_by_least node ceiling first rows least forced_by low reaches =
     let has = IsBoundOf-exists node.project rows in
     let above : critical_weight rows ≤ℤ has.0 = has.1.critical in
-    cut_at node (Some limit) first [] rows has.0 forced_by has.1 (omega (arith, ints, reaches))
+    cut_from node ceiling first [] rows has.0 least forced_by has.1 (omega (arith, ints)) reaches
 
 -- the node with the pair and the forced pairs
 pub node_at : (node : Subproblem) (first : Pair) (forced : List Pair) (rows : Rows) (bound : ℤ) → IsForcedMatrix node.project (node.pairs ++ first ∷ []) forced rows → IsBoundOf node.project rows bound →

@@ -86,7 +86,7 @@ fn bounded(
     ensures branch { IsBranchOf node.now ceiling first result }
 {
     // The pair's arc is in the matrix, so that the bound with it is that of the matrix.
-    let bound = bounds.bound_with(node.project(), matrix, first);
+    let bound = bounds.bound_under(node.project(), matrix, first, ceiling);
     if is_over(bound, ceiling) {
         return Branch::Cut(forced);
     }
@@ -174,7 +174,7 @@ pub(crate) fn branch_of(
     {
         return branch_with_forced(alloc, node, matrix, bounds, ceiling, pair);
     }
-    let bound = bounds.bound_with(node.project(), rows, pair);
+    let bound = bounds.bound_under(node.project(), rows, pair, ceiling);
     if is_over(bound, ceiling) {
         return Ok(Branch::Cut(Vec::new(alloc)));
     }

@@ -3,8 +3,7 @@ ghost use Rattle.bounds.specs.Ends.{AreEnds};
 ghost use Rattle.bounds.specs.Tasks.{all_tasks};
 
 use super::plain_energy;
-use crate::energy_value::energy_between;
-use crate::task_room::{TaskRoom, task_rooms};
+use crate::task_rooms::TaskRooms;
 use network::{MAX_WALK_WEIGHT, Project};
 use std::alloc::{AllocError, Global};
 use std::process::Abort;
@@ -65,7 +64,7 @@ fn assert_same_between(
     project: &Project,
     heads: &[i64],
     tails: &[i64],
-    rooms: &mut [TaskRoom],
+    rooms: &mut TaskRooms,
 )
     requires { rooms.old ≡ all_tasks project.now }
     ensures { rooms.new ≡ rooms.old }
@@ -73,7 +72,7 @@ fn assert_same_between(
     assert!(rt; are_ends(project.activity_count(), heads));
     assert!(rt; are_ends(project.activity_count(), tails));
     let plain = plain_energy(project, heads, tails);
-    assert_eq!(rt; energy_between(project, heads, tails, rooms), plain);
+    assert_eq!(rt; rooms.energy_under(project, heads, tails, u64::MAX), plain);
 }
 
 /// The same for so many lists of heads and of tails, few or many of which are equal.
@@ -84,13 +83,12 @@ fn assert_same_by_dice(
     dice: &mut Dice,
     lists: usize,
 ) -> Result<(), Fail> {
-    let mut kept = task_rooms(alloc, project)?;
-    let rooms = kept.as_mut_slice();
+    let mut rooms = TaskRooms::new(alloc, project)?;
     for _ in 0..lists {
         let sides = 1 + dice.roll(30);
         let heads = rolls(alloc, dice, project.activity_count(), sides)?;
         let tails = rolls(alloc, dice, project.activity_count(), sides)?;
-        assert_same_between(rt, project, &heads, &tails, rooms);
+        assert_same_between(rt, project, &heads, &tails, &mut rooms);
     }
     Ok(())
 }

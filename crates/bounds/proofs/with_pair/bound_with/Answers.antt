@@ -4,10 +4,10 @@ use Rattle.bounds.proofs.with_pair.bound_with.Goals as goal
 
 pub returns-clause-value : goal.returns-clause-value
 returns-clause-value c =
-    let fits : FitsSigned w64 c.bound_with.result = search rules in
-    rw (to_z-of_z w64 c.bound_with.result fits) c.bound_with.ensures.value
+    let fits : FitsSigned w64 c.bound_under.result = search rules in
+    rw (to_z-of_z w64 c.bound_under.result fits) (c.bound_under.ensures.value.exact tt)
 
 pub returns-clause-holds : goal.returns-clause-holds
 returns-clause-holds c =
-    let fits : FitsSigned w64 c.bound_with.result = search rules in
-    rw (to_z-of_z w64 c.bound_with.result fits) c.bound_with.ensures.holds
+    let fits : FitsSigned w64 c.bound_under.result = search rules in
+    rw (to_z-of_z w64 c.bound_under.result fits) c.bound_under.ensures.holds
