@@ -20,6 +20,7 @@ use crate::counts::Counts;
 use crate::hands::Hands;
 use crate::least::lesser;
 use crate::limits::{is_below, is_in_time, makespan_of, shorter_found};
+use crate::nodes_left::NodesLeft;
 use crate::open_nodes::OpenNodes;
 use crate::recording::{clear_open, open_kids};
 use crate::trail::Trail;
@@ -372,16 +373,22 @@ impl Book {
         trail
     }
 
-    /// The best schedule and the trail of a book that is given up.
-    pub fn into_best_and_trail(self) -> (Option<Schedule>, Option<Trail>)
+    /// The best schedule and the trail of a book that is given up, and the nodes that were left.
+    pub fn into_parts(self) -> (Option<Schedule>, Option<Trail>, NodesLeft)
         ensures best { result.0 ≡ self.best }
         ensures trail { result.1 ≡ option_map (trail_for self.project) self.trail }
         ensures sound { IsSound self }
         ensures recorded { IfSome self.trail (IsRecorded self) }
         ensures whole { live self ≡ [] → IfSome self.trail (IsWholeTree self.project (best_makespan self)) }
     {
-        let Book { best, trail, .. } = self;
-        (best, trail)
+        let Book {
+            best,
+            trail,
+            waiting,
+            hands,
+            ..
+        } = self;
+        (best, trail, NodesLeft { waiting, hands })
     }
 
     /// The least of the best makespan and the bounds of the nodes open or in hand, in periods: no feasible schedule is

@@ -14,6 +14,7 @@ mod events;
 mod hands;
 mod least;
 mod limits;
+mod nodes_left;
 mod open_nodes;
 mod recording;
 #[cfg(test)]
@@ -26,4 +27,5 @@ pub use answers::{
 pub use book::{Book, are_allowed, is_same_project};
 pub use counts::Counts;
 pub use events::{Event, Reply, run_events};
+pub use nodes_left::NodesLeft;
 pub use trail::{KidFate, NodeEnding, Origin, Trail, TrailEntry};

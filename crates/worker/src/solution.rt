@@ -13,13 +13,14 @@ use crate::fault::SolveFault;
 use crate::gate::Gate;
 use crate::shared::Shared;
 use crate::threads::run_workers;
-use book::{Book, Counts, Trail, Verdict, are_allowed, is_same_project};
+use book::{Book, Counts, NodesLeft, Trail, Verdict, are_allowed, is_same_project};
 use branching::Outcome;
 use network::{Project, Schedule};
 use std::alloc::{AllocError, Global};
 use std::marker::Brand;
 use std::sync::ledger::{Blank, Ledger};
 use std::sync::{Arc, Wait};
+use std::thread;
 use std::thread::Threads;
 
 /// The outcome of a search by workers, the counts of its book, and how many reports of each worker were accepted.
@@ -58,14 +59,20 @@ fn offer_start<L: Ledger, R: Wait>(
     Ok(())
 }
 
+/// Drops the nodes in a thread of its own, so that nobody waits for it; here, where none can be started.
+fn drop_beside<R: Threads>(rt: &R, nodes: NodesLeft) {
+    let _ = thread::spawn(rt, move || drop(nodes));
+}
+
 /// What a book says in the end, and its trail, if it kept one.
-fn outcome_of(book: Book) -> (Outcome, Option<Trail>)
+fn outcome_of<R: Threads>(rt: &R, book: Book) -> (Outcome, Option<Trail>)
     ensures true_of { IsTrueOf book.project result.0 }
     ensures left { IsStopped result.0 ↔ (0 < length (live book)) }
     ensures trail { IfSome result.1 (IsTrailOf book.project result.0) }
 {
     let verdict = book.verdict();
-    let (best, trail) = book.into_best_and_trail();
+    let (best, trail, nodes) = book.into_parts();
+    drop_beside(rt, nodes);
     if let Verdict::Open { best: _, bound } = verdict {
         return (Outcome::Stopped { best, bound }, trail);
     }
@@ -83,7 +90,8 @@ fn is_over(counts: &Counts, takes: u64) -> bool
 }
 
 /// The outcome of a book whose workers have all ended, and its trail. Its project has to be the one that was handed in.
-fn conclude(
+fn conclude<R: Threads>(
+    rt: &R,
     alloc: Global,
     project: &Project,
     takes: u64,
@@ -103,7 +111,7 @@ fn conclude(
         return Err(SolveFault::Thread);
     }
     let per_worker = accepted(alloc, tallies)?;
-    let (outcome, trail) = outcome_of(book);
+    let (outcome, trail) = outcome_of(rt, book);
     let solved = Solved {
         outcome,
         counts,
@@ -138,7 +146,7 @@ fn search_with<L: Ledger + Send + Sync, G: Gate, R: Threads + Wait + Sync>(
     }
     let desks = run_workers(rt, alloc, &shared, desks, gate)?;
     let (book, tallies) = shared.close(alloc, desks)?;
-    conclude(alloc, project, takes, book, tallies.as_slice())
+    conclude(rt, alloc, project, takes, book, tallies.as_slice())
 }
 
 /// Searches a project with workers in threads of their own: 1 to [`MAX_WORKERS`](book::MAX_WORKERS) of them, which

@@ -4,7 +4,7 @@ use Rattle.book.specs.State.{BookState, live, best_makespan}
 use Rattle.book.specs.RightTrail.{IsWholeTree}
 use Rattle.book.specs.Views.{state_of}
 use Rattle.book.proofs.RecordedSteps.{trail_whole}
-use Rattle.book.proofs.book.Book.into_best_and_trail.Goals as goal
+use Rattle.book.proofs.book.Book.into_parts.Goals as goal
 
 pub returns-clause-whole : goal.returns-clause-whole
 returns-clause-whole c =
