@@ -29,7 +29,8 @@ ENDS = re.compile(
     rb"|assertion `left == right` failed(?:.*\n)*  left: (?:Some\(|Err\()?" + WANT + rb"\)?\n right: (?:.*\n)*"
 )
 # The crates whose tests hold so.
-CRATES = ("words", "network", "sch_reader", "record_text", "longest_path", "profile", "forbidden_sets", "bounds", "book", "best_word")
+CRATES = ("words", "network", "sch_reader", "record_text", "longest_path", "profile", "forbidden_sets", "bounds", "branching", "book", "best_word", "worker",
+          "solver_cli")
 WITH_AMPLE_MEMORY = {"tests::the_rows_of_the_tree_have_their_faults"}  # which takes it that its texts have room
 SECONDS = 10  # so long may the runs of one test take together
 

@@ -16,7 +16,7 @@ returns-then-energy-ceiling-clause-value c =
     let in_range : c.loop-resource.resource < resource_count c.args.project.now = omega arith in
     energy_stopped c.args.project.now c.args.heads.now c.args.tails.now (c.loop-resource.resource + 1) c.max-energy.result c.args.ceiling
     (more c.args.project.now c.args.heads.now c.args.tails.now c.loop-resource.resource c.loop-resource.energy c.energy_at.result c.max-energy.result in_range c.loop-resource.invariant.energy c.energy_at.ensures.value c.energy_at.ensures.limit c.max-energy.ensures)
-    c.if-energy-ceiling.true
+    (omega (arith, c.if-energy-ceiling.true))
 
 pub loop-resource-preserved : goal.loop-resource-preserved
 loop-resource-preserved c =
