@@ -36,20 +36,13 @@ found c =
 max_is : (c : goal.After-max) → c.max.result ≡ max c.args.ends (div_ceil c.greatest_share-share.result (capacity c.args.project.now c.args.resource))
 max_is c = c.max.ensures ∙ ap (λ (d : ℕ). max c.args.ends d) (c.div_ceil.ensures ∙ ap (div_ceil c.greatest_share-share.result) c.capacity-capacity.ensures.value)
 
+some : (c : goal.After-max) → 0 < capacity c.args.project.now c.args.resource
+some c = omega (arith, c.if-capacity-eq0.false, c.capacity-capacity.ensures.value)
+
 pub returns-clause-value : goal.returns-clause-value
 returns-clause-value c =
-    let p : Problem = c.args.project.now in
-    let k : ℕ = c.args.resource in
-    let g : ℕ = c.greatest_share-share.result in
-    let n : ℕ = c.args.ends in
-    let some : 0 < capacity p k = omega (arith, c.if-capacity-eq0.false, c.capacity-capacity.ensures.value) in
-    rw (max_is c) (resource_share p c.args.heads.now c.args.tails.now k g n c.requires.heads c.requires.tails c.requires.resource some c.requires.ends (found c))
+    rw (max_is c) (resource_share c.args.project.now c.args.heads.now c.args.tails.now c.args.resource c.greatest_share-share.result c.args.ends c.requires.heads c.requires.tails c.requires.resource (some c) c.requires.ends (found c))
 
 pub returns-clause-limit : goal.returns-clause-limit
 returns-clause-limit c =
-    let p : Problem = c.args.project.now in
-    let k : ℕ = c.args.resource in
-    let g : ℕ = c.greatest_share-share.result in
-    let n : ℕ = c.args.ends in
-    let some : 0 < capacity p k = omega (arith, c.if-capacity-eq0.false, c.capacity-capacity.ensures.value) in
-    rw (max_is c) (resource_limit p c.args.heads.now c.args.tails.now k g n c.requires.heads c.requires.tails some c.requires.ends c.greatest_share-share.ensures.limit)
+    rw (max_is c) (resource_limit c.args.project.now c.args.heads.now c.args.tails.now c.args.resource c.greatest_share-share.result c.args.ends c.requires.heads c.requires.tails (some c) c.requires.ends c.greatest_share-share.ensures.limit)
