@@ -29,9 +29,12 @@ ENDS = re.compile(
     rb"|assertion `left == right` failed(?:.*\n)*  left: (?:Some\(|Err\()?" + WANT + rb"\)?\n right: (?:.*\n)*"
 )
 # The crates whose tests hold so.
-CRATES = ("words", "network", "sch_reader", "record_text", "longest_path", "profile", "forbidden_sets", "bounds", "branching", "book", "best_word", "worker",
-          "solver_cli")
-WITH_AMPLE_MEMORY = {"tests::the_rows_of_the_tree_have_their_faults"}  # which takes it that its texts have room
+CRATES = ("words", "network", "sch_reader", "record_text", "longest_path", "profile", "forbidden_sets", "bounds", "branching",
+          "book", "best_word", "worker")
+WITH_AMPLE_MEMORY = {
+    "tests::the_rows_of_the_tree_have_their_faults",  # takes it that its texts have room
+    "tests::desks::kids_that_an_offered_schedule_beats_are_not_opened",  # a gate without memory offers none
+}
 SECONDS = 10  # so long may the runs of one test take together
 
 
