@@ -1,5 +1,5 @@
 -- The arcs of a project and pairs join activity_count, and are within the limits.
-use Rattle.std.proofs.Common.{◌≡◌, sym, ◌∙◌, ℕ, ◌+◌, ◌<◌, ◌≤◌, inl, inr, arith, pos, neg_ℤ, ◌≤ℤ◌, List, length, map, get_or}
+use Rattle.std.proofs.Common.{◌≡◌, sym, ◌∙◌, ℕ, ◌+◌, ◌<◌, ◌≤◌, inl, inr, arith, pos, ◌≤ℤ◌, List, length, map, get_or}
 use Rattle.std.proofs.lemmas.Int.{ints}
 use Rattle.std.specs.List.{Contains, range_with_len}
 use Rattle.std.proofs.lemmas.List.Elements.{Contains-append_cases, All-contains, All-get_or, Contains-get_or}
@@ -7,7 +7,7 @@ use Rattle.std.proofs.lemmas.List.{get_or-map, length-map}
 use Rattle.std.proofs.lemmas.List.FromFn.{get_or-map-range_with_len, length-map-range_with_len}
 use Rattle.network.specs.declared.lag.Lag.{Lag}
 use Rattle.network.specs.declared.lag.Pair.{Pair}
-use Rattle.network.specs.declared.limits.TheConstants.{MAX_AMOUNT, MAX_LAG_WEIGHT}
+use Rattle.network.specs.declared.limits.TheConstants.{MAX_LAG_WEIGHT}
 use Rattle.network.specs.Limits.{IsProject, IsLag, IsAmount, IsWithin}
 use Rattle.network.specs.Problem.{Problem, activity_count, end_of, duration, start_arc, end_arc, pair_arc, implied_arcs, rules, arcs_of, NameActivities}
 use Rattle.network.specs.Walk.{AreLight, AreInside}

@@ -5,5 +5,6 @@ pub mod Schedules
 pub mod FaultLaws
 pub mod Rows
 pub mod Equal
+pub mod SameNumbers
 pub mod Running
 pub mod Worked

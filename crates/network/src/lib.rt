@@ -9,9 +9,11 @@ mod equality;
 mod faults;
 mod lag;
 mod limits;
+mod numbers;
 mod parts;
 mod project;
 mod schedule;
+mod shared_project;
 #[cfg(test)]
 mod tests;
 
@@ -22,3 +24,4 @@ pub use limits::{
 pub use parts::{Parts, ProjectFault, Quantity};
 pub use project::Project;
 pub use schedule::Schedule;
+pub use shared_project::SharedProject;

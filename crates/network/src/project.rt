@@ -2,11 +2,13 @@ ghost use Rattle.std.specs.Prelude.{◌≡◌, ◌<◌, ◌≤ℤ◌, pos, lengt
 ghost use Rattle.network.specs.Problem.{activity_count, resource_count, duration, demand, capacity, pair_arc, arcs_of, NameActivities};
 ghost use Rattle.network.specs.declared.limits.TheConstants.{MAX_AMOUNT};
 ghost use Rattle.network.specs.Limits.{IsAmount, IsLag, IsProject};
+ghost use Rattle.network.specs.Numbers.{numbers_of};
 
 use crate::arcs::{push_end_arcs, push_pair_arcs, push_start_arcs};
 use crate::equality::parts_equal;
 use crate::faults::check;
 use crate::lag::{Lag, Pair};
+use crate::numbers::numbers;
 use crate::parts::{Parts, ProjectFault};
 use std::alloc::{AllocError, Global};
 use std::marker::Model;
@@ -157,6 +159,14 @@ impl Project {
         push_end_arcs(&mut arcs, durations, end)?;
         push_pair_arcs(&mut arcs, durations, pairs)?;
         Ok(arcs)
+    }
+
+    /// All numbers of the project in one list.
+    pub(crate) fn numbers(&self, alloc: Global) -> Result<Vec<i64>, AllocError>
+        ensures value { IfOk result (λ numbers. numbers.items ≡ numbers_of self.now) }
+        ensures limits { IsProject self.now }
+    {
+        numbers(alloc, &self.parts)
     }
 }
 

@@ -1,5 +1,6 @@
-use crate::{Lag, Pair, Parts, Project, ProjectFault, Quantity};
+use crate::{Lag, Pair, Parts, Project, ProjectFault, Quantity, SharedProject};
 use std::alloc::{AllocError, Global};
+use std::sync::Arc;
 use std::test::Fail;
 
 /// Two activities of 3 and 4 periods that need the same machine, with these given arcs.
@@ -128,5 +129,27 @@ fn projects_are_compared_by_value(rt: HostRuntime) -> Result<(), Fail> {
     assert!(rt; first == second);
     assert!(rt; first != lagged);
     assert!(rt; first != longer);
+    Ok(())
+}
+
+/// The two jobs with these given arcs, shared.
+fn shared_jobs(alloc: Global, lags: &[Lag]) -> Result<SharedProject, Fail> {
+    let Ok(project) = Project::new(two_jobs(alloc, lags)?) else {
+        return Err("refused".into());
+    };
+    Ok(SharedProject::new(alloc, Arc::new(alloc, project)?)?)
+}
+
+#[test]
+fn shared_projects_are_compared_by_value(rt: HostRuntime) -> Result<(), Fail> {
+    let first = shared_jobs(rt.alloc(), &[arc(1, 2, 5)])?;
+    let second = shared_jobs(rt.alloc(), &[arc(1, 2, 5)])?;
+    let later = shared_jobs(rt.alloc(), &[arc(1, 2, 6)])?;
+    let free = shared_jobs(rt.alloc(), &[])?;
+    assert!(rt; first.is_same(&second));
+    assert!(rt; first.try_clone()?.is_same(&second));
+    assert!(rt; !first.is_same(&later));
+    assert!(rt; !free.is_same(&first));
+    assert_eq!(rt; second.project().activity_count(), 4);
     Ok(())
 }
