@@ -1,4 +1,4 @@
-ghost use Rattle.std.specs.Prelude.{◌≡◌, ◌↔◌, ◌<◌, IsTrue, true, false, [], length, IfOk, IfErr, IfSome, option_map};
+ghost use Rattle.std.specs.Prelude.{◌≡◌, ◌↔◌, ◌<◌, IsTrue, true, false, [], length, Ok, Err, IfOk, IfErr, IfSome, option_map};
 ghost use Rattle.std.specs.Arc.{arc_value};
 ghost use Rattle.book.specs.State.{live, best_makespan};
 ghost use Rattle.book.specs.Sound.{IsSound, IsWithinLimits};
@@ -24,9 +24,9 @@ use crate::nodes_left::NodesLeft;
 use crate::open_nodes::OpenNodes;
 use crate::recording::{clear_open, open_kids};
 use crate::trail::Trail;
-use branching::{MAX_TAKES, Report, root};
+use branching::{Branches, MAX_TAKES, Report, root};
 use longest_path::PathFault;
-use network::{Project, Schedule};
+use network::{Project, Schedule, SharedProject};
 use std::alloc::{AllocError, Global};
 use std::marker::Model;
 use std::sync::Arc;
@@ -35,7 +35,7 @@ use std::sync::Arc;
 /// 2 and so on, in the order in which they were opened.
 #[derive(Drop, Debug)]
 pub struct Book {
-    project: Arc<Project>,
+    project: SharedProject,
     best: Option<Schedule>,
     waiting: OpenNodes,
     hands: Hands,
@@ -105,6 +105,7 @@ impl Book {
         }
         let hands = Hands::new(alloc, workers)?;
         let waiting = first_nodes(alloc, &project)?;
+        let project = SharedProject::new(alloc, project)?;
         let opened = waiting.len() as u64;
         Ok(Book {
             project,
@@ -148,7 +149,7 @@ impl Book {
         ensures step { Offers self.old schedule result self.new }
         ensures sound { IsSound self.new }
     {
-        if !is_same_project(schedule.project(), &self.project) {
+        if !is_same_project(schedule.project(), self.project.project()) {
             return Err((schedule, OtherProject));
         }
         if !is_below(schedule.makespan(), makespan_of(&self.best)) {
@@ -242,7 +243,7 @@ impl Book {
         if !node.pairs().is_same(report.node().pairs()) {
             return Err(CheckFault::OtherNode);
         }
-        if !is_same_project(report.node().project(), &self.project) {
+        if !report.node().is_of(&self.project) {
             return Err(CheckFault::OtherProject);
         }
         let best = makespan_of(&self.best);
@@ -253,9 +254,14 @@ impl Book {
     }
 
     /// Takes the node out of the worker's hand and opens its kids. Where memory runs out, the report comes back.
-    fn accept(&mut self, worker: usize, name: u64, report: Report) -> Result<CheckedIn, Report>
+    fn accept(
+        &mut self,
+        worker: usize,
+        name: u64,
+        report: Report,
+    ) -> Result<(CheckedIn, Branches), Report>
         requires { MayCheckIn self.old worker name report }
-        ensures ok { IfOk result (λ done. Accepts self.old worker name report done self.new) }
+        ensures ok { IfOk result (λ done. Accepts self.old worker name report done.0 self.new) }
         ensures err { IfErr result (λ back. (back ≡ report) × (self.new ≡ self.old)) }
         ensures sound { IsSound self.new }
     {
@@ -273,17 +279,17 @@ impl Book {
         ) else {
             return Err(report);
         };
+        let (found, made) = report.into_parts();
         self.hands.empty(worker);
         self.checked += 1;
         self.opened += opened;
         if shorter.is_none() {
             let improved = false;
-            return Ok(CheckedIn { opened, improved });
+            return Ok((CheckedIn { opened, improved }, made));
         }
-        let (found, _) = report.into_parts();
         self.best = found;
         let improved = true;
-        Ok(CheckedIn { opened, improved })
+        Ok((CheckedIn { opened, improved }, made))
     }
 
     /// Checks in the report on the node in hand under a name, whichever worker holds it: what was found becomes the best
@@ -292,6 +298,23 @@ impl Book {
     /// A refused report is handed back, and the book is as it was. Faults are tested in the order of [`CheckFault`].
     pub fn check_in(&mut self, name: u64, report: Report) -> Result<CheckedIn, (Report, CheckFault)>
         ensures step { ChecksIn self.old name report result self.new }
+        ensures sound { IsSound self.new }
+    {
+        match self.check_in_for_reuse(name, report) {
+            Ok((done, _)) => Ok(done),
+            Err(refused) => Err(refused),
+        }
+    }
+
+    /// The same, and the report's lists come back: who holds a lock doesn't drop them under it, and the next expansion can
+    /// use their memory again.
+    pub fn check_in_for_reuse(
+        &mut self,
+        name: u64,
+        report: Report,
+    ) -> Result<(CheckedIn, Branches), (Report, CheckFault)>
+        ensures ok { IfOk result (λ done. ChecksIn self.old name report (Ok done.0) self.new) }
+        ensures err { IfErr result (λ refused. ChecksIn self.old name report (Err refused) self.new) }
         ensures sound { IsSound self.new }
     {
         let worker = match self.judge(name, &report) {
@@ -326,7 +349,7 @@ impl Book {
         ensures project { arc_value result.now ≡ self.now.project }
         ensures sound { IsSound self.now }
     {
-        &self.project
+        self.project.project()
     }
 
     /// How many nodes there are and were.

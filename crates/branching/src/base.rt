@@ -6,7 +6,7 @@ ghost use Rattle.branching.specs.IncompatibleRows.{AreRowsOf};
 
 use crate::incompatible::{Incompatible, incompatible_activities};
 use longest_path::Matrix;
-use network::Project;
+use network::{Project, SharedProject};
 use std::alloc::{AllocError, Global};
 use std::marker::Model;
 use std::sync::Arc;
@@ -15,7 +15,7 @@ use std::sync::Arc;
 /// activities can't run at the same time.
 #[derive(Drop, Debug)]
 pub(crate) struct Base {
-    project: Arc<Project>,
+    project: SharedProject,
     matrix: Matrix,
     incompatible: Vec<Incompatible>,
 }
@@ -44,7 +44,7 @@ impl Base {
     {
         let incompatible = incompatible_activities(alloc, &project)?;
         let base = Base {
-            project,
+            project: SharedProject::new(alloc, project)?,
             matrix,
             incompatible,
         };
@@ -55,6 +55,13 @@ impl Base {
     pub(crate) fn project(&self) -> &Arc<Project>
         ensures project { arc_value result.now ≡ self.now.project }
         ensures limits { IsProject self.now.project }
+    {
+        self.project.project()
+    }
+
+    /// The project, to be compared with others.
+    pub(crate) fn shared_project(&self) -> &SharedProject
+        ensures { result.now ≡ self.now.project }
     {
         &self.project
     }

@@ -16,11 +16,13 @@ use network::Pair;
 use std::alloc::{AllocError, Global};
 use std::sync::Arc;
 
-/// What the ordered pairs of a set give: the kids, and what became of each pair.
+/// What the ordered pairs of a set give. [`Searcher::reuse`](crate::Searcher::reuse) uses the memory of both lists again.
 #[derive(Drop, Debug)]
-pub(crate) struct Branches {
-    pub(crate) kids: Vec<Arc<Lean>>,
-    pub(crate) fates: Vec<Fate>,
+pub struct Branches {
+    /// The kids, by rising pairs.
+    pub kids: Vec<Arc<Lean>>,
+    /// What became of each pair.
+    pub fates: Vec<Fate>,
 }
 
 impl Branches {

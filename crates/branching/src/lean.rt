@@ -1,4 +1,4 @@
-ghost use Rattle.std.specs.Prelude.{◌≡◌, ◌∷◌, ◌++◌, [], IfOk};
+ghost use Rattle.std.specs.Prelude.{◌≡◌, ◌↔◌, IsTrue, ◌∷◌, ◌++◌, [], IfOk};
 ghost use Rattle.std.specs.Arc.{arc_value};
 ghost use Rattle.network.specs.Limits.{IsProject};
 ghost use Rattle.branching.specs.Subproblem.{Subproblem, IsNode, kid_of};
@@ -8,7 +8,7 @@ ghost use Rattle.branching.specs.Last.{last_pairs};
 use crate::base::Base;
 use crate::pair_list::{Last, PairList};
 use crate::parent::Parent;
-use network::{Pair, Project};
+use network::{Pair, Project, SharedProject};
 use std::alloc::{AllocError, Global};
 use std::marker::Model;
 use std::sync::Arc;
@@ -83,6 +83,13 @@ impl Lean {
         ensures limits { IsProject self.now.project }
     {
         self.parent.base.project()
+    }
+
+    /// Whether the node is one of this project.
+    pub fn is_of(&self, project: &SharedProject) -> bool
+        ensures { IsTrue result ↔ (self.now.project ≡ project.now) }
+    {
+        self.parent.base.shared_project().is_same(project)
     }
 
     /// The pairs, in the order in which they were added.

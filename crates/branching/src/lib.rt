@@ -28,6 +28,7 @@ mod searcher;
 mod with_arc;
 mod workspace;
 
+pub use branches::Branches;
 pub use expansion::expand;
 pub use fate::Fate;
 pub use incompatible::are_incompatible;

@@ -117,10 +117,11 @@ impl Report {
         self.kids.as_slice()
     }
 
-    /// What was found, and the lists of the kids and the fates.
-    pub(crate) fn into_lists(self) -> (Option<Schedule>, Branches)
+    /// What was found, and the lists of the kids and of the fates.
+    pub fn into_parts(self) -> (Option<Schedule>, Branches)
         ensures found { result.0 ≡ self.found }
         ensures kids { map arc_value result.1.kids.items ≡ self.kids }
+        ensures fates { map fate_value result.1.fates.items ≡ self.fates }
         ensures report { IsReport self }
     {
         let Report {
@@ -132,22 +133,5 @@ impl Report {
             kids,
         } = self;
         (found, Branches { kids, fates })
-    }
-
-    /// What was found, and the kids in their order.
-    pub fn into_parts(self) -> (Option<Schedule>, Vec<Arc<Lean>>)
-        ensures found { result.0 ≡ self.found }
-        ensures kids { map arc_value result.1.items ≡ self.kids }
-        ensures report { IsReport self }
-    {
-        let Report {
-            node: _,
-            ceiling: _,
-            found,
-            split: _,
-            fates: _,
-            kids,
-        } = self;
-        (found, kids)
     }
 }

@@ -1,4 +1,4 @@
-ghost use Rattle.std.specs.Prelude.{◌≡◌, ◌<◌, ◌≤◌, [], ◌∷◌, ◌++◌, length, take, slice_get, Some, IfOk, IfErr, OnOk, OnErr};
+ghost use Rattle.std.specs.Prelude.{◌≡◌, ◌↔◌, IsTrue, ◌<◌, ◌≤◌, [], ◌∷◌, ◌++◌, length, take, slice_get, Some, IfOk, IfErr, OnOk, OnErr};
 ghost use Rattle.std.specs.Arc.{arc_value};
 ghost use Rattle.std.specs.Bool.{OnTrue};
 ghost use Rattle.network.specs.Problem.{arcs_of, NameActivities};
@@ -15,7 +15,7 @@ use crate::pair_list::PairList;
 use crate::report::Report;
 use crate::workspace::Workspace;
 use longest_path::{MarkedMatrix, Matrix, PathFault};
-use network::{Pair, Project};
+use network::{Pair, Project, SharedProject};
 use std::alloc::{AllocError, Global};
 use std::marker::Model;
 use std::sync::Arc;
@@ -46,7 +46,7 @@ fn shared_count(left: &[Pair], right: &PairList) -> usize
 /// to where the pairs of both part, and then on by one insert a pair.
 #[derive(Drop, Debug)]
 pub struct Searcher {
-    project: Arc<Project>,
+    project: SharedProject,
     pairs: Vec<Pair>,
     /// With a mark for each pair.
     matrix: MarkedMatrix,
@@ -54,15 +54,14 @@ pub struct Searcher {
 }
 
 impl Model for Searcher {
-    ghost use Rattle.std.specs.Arc.{arc_value};
     ghost use Rattle.branching.specs.Path.{Path};
     ghost use Rattle.branching.specs.Workspace.{IsSearcher};
 
     ghost Value = { Path };
 
-    ghost view = { λ s. record { project = arc_value s.project; pairs = s.pairs.items } };
+    ghost view = { λ s. record { project = s.project; pairs = s.pairs.items } };
 
-    ghost invariant = { λ s. IsSearcher (arc_value s.project) s.pairs.items s.matrix s.workspace };
+    ghost invariant = { λ s. IsSearcher s.project s.pairs.items s.matrix s.workspace };
 }
 
 impl Searcher {
@@ -71,7 +70,15 @@ impl Searcher {
         requires { IsProjectMatrix (arc_value project) [] matrix }
         ensures { IfOk result (λ searcher. searcher ≡ record { project = arc_value project; pairs = [] }) }
     {
-        let workspace = Workspace::new(alloc, &project)?;
+        Searcher::shared(alloc, SharedProject::new(alloc, project)?, matrix)
+    }
+
+    /// The same of a project that is shared already.
+    fn shared(alloc: Global, project: SharedProject, matrix: Matrix) -> Result<Searcher, AllocError>
+        requires { IsProjectMatrix project [] matrix }
+        ensures { IfOk result (λ searcher. searcher ≡ record { project = project; pairs = [] }) }
+    {
+        let workspace = Workspace::new(alloc, project.project())?;
         Ok(Searcher {
             project,
             pairs: Vec::new(alloc),
@@ -86,14 +93,21 @@ impl Searcher {
     {
         let base = node.base();
         let matrix = base.matrix().try_copy(alloc)?;
-        Searcher::new(alloc, Arc::try_clone(base.project())?, matrix)
+        Searcher::shared(alloc, base.shared_project().try_clone()?, matrix)
     }
 
     /// The project of the nodes that it can move to.
     pub fn project(&self) -> &Arc<Project>
         ensures { arc_value result.now ≡ self.now.project }
     {
-        &self.project
+        self.project.project()
+    }
+
+    /// Whether it can move to this node, which is so where both are of the same project.
+    pub fn is_for(&self, node: &Lean) -> bool
+        ensures { IsTrue result ↔ (node.now.project ≡ self.now.project) }
+    {
+        node.is_of(&self.project)
     }
 
     /// The matrix of the project and the pairs of the node that the searcher is at.
@@ -112,7 +126,7 @@ impl Searcher {
         ensures unchanged { OnErr result (self.new ≡ self.old) }
     {
         self.pairs.reserve(1)?;
-        let arc = self.project.pair_arc(pair);
+        let arc = self.project.project().pair_arc(pair);
         if let Err(fault) = insert_under_mark(&mut self.matrix, arc) {
             return Err(fault);
         }
@@ -171,11 +185,11 @@ impl Searcher {
         self.go_on(pairs)
     }
 
-    /// Takes the lists of a report, whose memory the next expansion uses again.
-    pub(crate) fn take_lists(&mut self, lists: Branches)
+    /// Drops what a report's lists hold, and keeps their memory for the next expansion.
+    pub fn reuse(&mut self, made: Branches)
         ensures { self.new ≡ self.old }
     {
-        self.workspace.made = lists;
+        self.workspace.made = made.emptied();
     }
 
     /// Moves to a node and expands it under a ceiling, as [`expand`](crate::expand) does.

@@ -1,11 +1,11 @@
 ghost use Rattle.std.specs.Prelude.{◌<◌, ◌≤◌};
 
 use crate::{
-    Fate, Lean, Outcome, Report, are_incompatible, expand, insert_under_mark, ordered_pairs, root,
-    search_alone,
+    Fate, Lean, Outcome, Report, Searcher, are_incompatible, expand, insert_under_mark,
+    ordered_pairs, root, search_alone,
 };
 use longest_path::{MarkedMatrix, PathFault, longest};
-use network::{Pair, Project};
+use network::{Pair, Project, SharedProject};
 use std::alloc::Global;
 use std::process::Abort;
 use std::sync::Arc;
@@ -177,12 +177,30 @@ fn a_least_schedule_without_overload_is_found(rt: HostRuntime) -> Result<(), Fai
     let apart = Arc::new(rt.alloc(), one_machine(rt.alloc(), &[lag(1, 2, 5)])?)?;
     let root = root(rt.alloc(), Arc::try_clone(&apart)?)?;
     assert!(rt; root.lean().project() == &apart);
-    let (found, kids) = expand(rt.alloc(), &root, None)?.into_parts();
-    assert!(rt; kids.is_empty());
+    let (found, made) = expand(rt.alloc(), &root, None)?.into_parts();
+    assert!(rt; made.kids.is_empty());
     match found {
         Some(found) => assert_eq!(rt; found.starts(), [0, 0, 5, 9].as_slice()),
         None => return Err("nothing was found".into()),
     }
+    Ok(())
+}
+
+#[test]
+fn nodes_are_told_apart_by_their_projects(rt: HostRuntime) -> Result<(), Fail> {
+    let one = Arc::new(rt.alloc(), one_machine(rt.alloc(), &[])?)?;
+    let equal = SharedProject::new(
+        rt.alloc(),
+        Arc::new(rt.alloc(), one_machine(rt.alloc(), &[])?)?,
+    )?;
+    let other = Arc::new(rt.alloc(), one_machine(rt.alloc(), &[lag(1, 2, 5)])?)?;
+    let node = root(rt.alloc(), one)?;
+    let far = root(rt.alloc(), Arc::try_clone(&other)?)?;
+    assert!(rt; node.lean().is_of(&equal));
+    assert!(rt; !node.lean().is_of(&SharedProject::new(rt.alloc(), other)?));
+    let searcher = Searcher::for_node(rt.alloc(), node.lean())?;
+    assert!(rt; searcher.is_for(node.lean()));
+    assert!(rt; !searcher.is_for(far.lean()));
     Ok(())
 }
 

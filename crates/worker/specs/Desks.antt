@@ -1,5 +1,5 @@
 -- The desks of one shared book, and what they count.
-use Rattle.std.specs.Prelude.{◌≡◌, ◌+◌, ℕ, List, [], ◌∷◌}
+use Rattle.std.specs.Prelude.{◌≡◌, ◌+◌, ℕ, List, [], ◌∷◌, Result, Ok, Err}
 use Rattle.best_word.specs.Word.{Word}
 use Rattle.worker.specs.declared.desk.Desk.{Desk}
 use Rattle.worker.specs.declared.desk.Tally.{Tally}
@@ -8,6 +8,15 @@ use Rattle.worker.specs.declared.shared.Shared.{Shared}
 -- the desk's seat is one of the best word of this shared book
 abbrev pub SeatedAt : {L : Type 0} → Shared L → Desk L → Type 0
 SeatedAt shared desk = desk.seat.word ≡ shared.best
+
+-- the desk is that of the same worker, with a seat at this shared book
+abbrev pub StaysAt : {L : Type 0} → Shared L → Desk L → Desk L → Type 0
+StaysAt shared old new = SeatedAt shared new × (new.number ≡ old.number)
+
+-- the desk counts a report more where it was accepted
+abbrev pub CountsAccepted : {L T E : Type 0} → Desk L → Result T E → Desk L → Type 0
+CountsAccepted old (Ok _) new = new.accepted ≡ old.accepted + 1
+CountsAccepted old (Err _) new = new.accepted ≡ old.accepted
 
 -- the desks have seats of this word, and the numbers from first on, in their order
 abbrev pub IsRowAt : {L : Type 0} → Word → ℕ → List (Desk L) → Type 0

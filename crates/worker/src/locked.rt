@@ -1,7 +1,7 @@
 ghost use Rattle.std.specs.Prelude.{◌≡◌, ◌+◌, ◌<◌, ◌≤◌, OnOk, OnErr};
 
 use book::{Book, CheckFault, CheckedIn};
-use branching::Report;
+use branching::{Branches, Report};
 use std::sync::ledger;
 use std::sync::ledger::{Ledger, Share};
 
@@ -19,13 +19,13 @@ pub(crate) struct Locked<L: Ledger> {
 }
 
 impl<L: Ledger> Locked<L> {
-    /// Checks a report in; one that is accepted counts in the share.
+    /// Checks a report in; one that is accepted counts in the share, and its lists come back.
     pub(crate) fn check_in(
         &mut self,
         share: &mut Share<L>,
         name: u64,
         report: Report,
-    ) -> Result<CheckedIn, (Report, CheckFault)>
+    ) -> Result<(CheckedIn, Branches), (Report, CheckFault)>
         requires { 0 < share.old.parts }
         ensures parts { share.new.parts ≡ share.old.parts }
         ensures accepted { OnOk result (share.new.amount ≡ share.old.amount + 1) }
@@ -38,7 +38,7 @@ impl<L: Ledger> Locked<L> {
             rest: _,
             awaited: _,
         } = self;
-        let checked = book.check_in(name, report);
+        let checked = book.check_in_for_reuse(name, report);
         if checked.is_ok() {
             shares.add(share, 1);
         }

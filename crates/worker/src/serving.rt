@@ -1,13 +1,13 @@
-ghost use Rattle.std.specs.Prelude.{◌≡◌, ◌+◌, ◌≤◌, IfOk, IfErr, OnOk, OnErr};
+ghost use Rattle.std.specs.Prelude.{◌≡◌, ◌≤◌, IfOk, IfErr};
 ghost use Rattle.std.specs.Arc.{arc_value};
-ghost use Rattle.worker.specs.Desks.{SeatedAt};
+ghost use Rattle.worker.specs.Desks.{SeatedAt, StaysAt, CountsAccepted};
 ghost use Rattle.worker.specs.Faults.{IsOfWork};
 
 use crate::desk::Desk;
 use crate::fault::{SolveFault, WorkFault};
 use crate::gate::{Gate, Moment};
 use crate::shared::Shared;
-use book::{CheckFault, Ticket, is_same_project};
+use book::{CheckFault, Ticket};
 use branching::{Lean, Searcher};
 use std::alloc::{AllocError, Global};
 use std::sync::ledger::Ledger;
@@ -29,7 +29,7 @@ fn searcher_for(alloc: Global, kept: Option<Searcher>, node: &Lean) -> Result<Se
     ensures { IfOk result (λ searcher. searcher.project ≡ node.now.project) }
 {
     if let Some(searcher) = kept {
-        if is_same_project(searcher.project(), node.project()) {
+        if searcher.is_for(node) {
             return Ok(searcher);
         }
     }
@@ -59,15 +59,17 @@ impl<L: Ledger> Shared<L> {
         requires { searcher.old.project ≡ (arc_value ticket.now.node).project }
         ensures searcher { searcher.new.project ≡ searcher.old.project }
         ensures same { (desk.new.number ≡ desk.old.number) × (desk.new.seat ≡ desk.old.seat) }
-        ensures accepted { OnOk result (desk.new.accepted ≡ desk.old.accepted + 1) }
-        ensures refused { OnErr result (desk.new.accepted ≡ desk.old.accepted) }
+        ensures counts { CountsAccepted desk.old result desk.new }
     {
         let Ok(report) = gate.expand(rt, alloc, searcher, &ticket.node, ticket.ceiling) else {
             return Err(CheckFault::Memory);
         };
         let found = report.found().map(|schedule| schedule.makespan());
         match self.check_in(rt, desk, ticket.name, report) {
-            Ok(()) => Ok(found),
+            Ok(made) => {
+                searcher.reuse(made);
+                Ok(found)
+            }
             Err(fault) => Err(fault),
         }
     }
@@ -83,10 +85,8 @@ impl<L: Ledger> Shared<L> {
         mut ticket: Ticket,
     ) -> Result<Option<i64>, CheckFault>
         requires { SeatedAt self.now desk.old }
-        ensures seated { SeatedAt self.now desk.new }
-        ensures number { desk.new.number ≡ desk.old.number }
-        ensures accepted { OnOk result (desk.new.accepted ≡ desk.old.accepted + 1) }
-        ensures refused { OnErr result (desk.new.accepted ≡ desk.old.accepted) }
+        ensures stays { StaysAt self.now desk.old desk.new }
+        ensures counts { CountsAccepted desk.old result desk.new }
     {
         let Ok(mut searcher) = searcher_at(alloc, desk.searcher.take(), &ticket.node) else {
             return Err(CheckFault::Memory);
@@ -112,10 +112,8 @@ impl<L: Ledger> Shared<L> {
         ticket: Ticket,
     ) -> Result<(), WorkFault>
         requires { SeatedAt self.now desk.old }
-        ensures seated { SeatedAt self.now desk.new }
-        ensures number { desk.new.number ≡ desk.old.number }
-        ensures accepted { OnOk result (desk.new.accepted ≡ desk.old.accepted + 1) }
-        ensures refused { OnErr result (desk.new.accepted ≡ desk.old.accepted) }
+        ensures stays { StaysAt self.now desk.old desk.new }
+        ensures counts { CountsAccepted desk.old result desk.new }
     {
         let name = ticket.name;
         gate.pass(rt, desk.number, Moment::Taken { name });
@@ -139,9 +137,8 @@ impl<L: Ledger> Shared<L> {
         gate: &G,
     ) -> Result<(), WorkFault>
         requires { SeatedAt self.now desk.old }
-        ensures seated { SeatedAt self.now desk.new }
-        ensures number { desk.new.number ≡ desk.old.number }
-        ensures accepted { desk.old.accepted ≤ desk.new.accepted }
+        ensures stays { StaysAt self.now desk.old desk.new }
+        ensures counts { desk.old.accepted ≤ desk.new.accepted }
     {
         for _ in rt.forever() {
             let Some(ticket) = self.next_ticket(rt, desk.number) else {
@@ -161,9 +158,8 @@ impl<L: Ledger> Shared<L> {
         gate: &G,
     ) -> Result<(), WorkFault>
         requires { SeatedAt self.now desk.old }
-        ensures seated { SeatedAt self.now desk.new }
-        ensures number { desk.new.number ≡ desk.old.number }
-        ensures accepted { desk.old.accepted ≤ desk.new.accepted }
+        ensures stays { StaysAt self.now desk.old desk.new }
+        ensures counts { desk.old.accepted ≤ desk.new.accepted }
     {
         let ended = self.serve_all(rt, alloc, desk, gate);
         gate.pass(rt, desk.number, Moment::Ended);
@@ -182,9 +178,8 @@ pub fn work<L: Ledger, G: Gate, R: Wait>(
     gate: &G,
 ) -> Result<(), SolveFault>
     requires { SeatedAt shared.now desk.old }
-    ensures seated { SeatedAt shared.now desk.new }
-    ensures number { desk.new.number ≡ desk.old.number }
-    ensures accepted { desk.old.accepted ≤ desk.new.accepted }
+    ensures stays { StaysAt shared.now desk.old desk.new }
+    ensures counts { desk.old.accepted ≤ desk.new.accepted }
     ensures fault { IfErr result IsOfWork }
 {
     match shared.serve_to_end(rt, alloc, desk, gate) {

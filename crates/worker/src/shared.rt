@@ -1,6 +1,6 @@
-ghost use Rattle.std.specs.Prelude.{◌≡◌, ◌+◌, ℕ, IfOk, OnOk, OnErr, map, sum_by, vec_len};
+ghost use Rattle.std.specs.Prelude.{◌≡◌, ◌+◌, ℕ, IfOk, map, sum_by, vec_len};
 ghost use Rattle.best_word.specs.View.{Lowers};
-ghost use Rattle.worker.specs.Desks.{IsRow, IsRowAt, SeatedAt, tally_of};
+ghost use Rattle.worker.specs.Desks.{IsRow, IsRowAt, SeatedAt, CountsAccepted, tally_of};
 ghost use Rattle.worker.specs.Faults.{RefusesLimits};
 
 use crate::desk::{Desk, Tally};
@@ -8,7 +8,7 @@ use crate::fault::{SolveFault, WorkFault};
 use crate::locked::Locked;
 use best_word::{BestSeat, BestWord};
 use book::{Book, CheckFault, OtherProject, Take, Ticket};
-use branching::Report;
+use branching::{Branches, Report};
 use network::{Project, Schedule};
 use std::alloc::{AllocError, Global};
 use std::mem;
@@ -165,17 +165,16 @@ impl<L: Ledger> Shared<L> {
         None
     }
 
-    /// Checks a report in, and counts at the desk what came of it.
+    /// Checks a report in, and counts at the desk what came of it: the lists of one that was accepted.
     pub(crate) fn check_in<R: Wait>(
         &self,
         rt: &R,
         desk: &mut Desk<L>,
         name: u64,
         report: Report,
-    ) -> Result<(), CheckFault>
+    ) -> Result<Branches, CheckFault>
         ensures same { (desk.new.number ≡ desk.old.number) × (desk.new.seat ≡ desk.old.seat) }
-        ensures accepted { OnOk result (desk.new.accepted ≡ desk.old.accepted + 1) }
-        ensures refused { OnErr result (desk.new.accepted ≡ desk.old.accepted) }
+        ensures counts { CountsAccepted desk.old result desk.new }
     {
         let Desk {
             number: _,
@@ -189,9 +188,9 @@ impl<L: Ledger> Shared<L> {
         let checked = locked.check_in(share, name, report);
         self.wake_up(locked);
         match checked {
-            Ok(_) => {
+            Ok((_, made)) => {
                 *accepted += 1;
-                Ok(())
+                Ok(made)
             }
             Err((_, fault)) => {
                 if let CheckFault::AheadOfBook { .. } = fault {

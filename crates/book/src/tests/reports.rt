@@ -42,6 +42,27 @@ fn a_report_is_checked_in_once(rt: HostRuntime) -> Result<(), Fail> {
 }
 
 #[test]
+fn the_lists_of_a_report_come_back(rt: HostRuntime) -> Result<(), Fail> {
+    let mut book = open(rt.alloc(), one_machine(rt.alloc(), &[])?, 1)?;
+    let report = next_report(rt.alloc(), &mut book, 0)?;
+    match book.check_in_for_reuse(0, report) {
+        Ok((done, made)) => {
+            assert_eq!(rt;
+                done,
+                CheckedIn {
+                    opened: 2,
+                    improved: false
+                }
+            );
+            assert_eq!(rt; made.kids.len(), 2);
+            assert_eq!(rt; made.fates.len(), 2);
+        }
+        Err((_, fault)) => return Err(fault.into()),
+    }
+    Ok(())
+}
+
+#[test]
 fn a_name_that_no_node_has_is_unknown(rt: HostRuntime) -> Result<(), Fail> {
     let mut book = split_book(rt.alloc(), 2)?;
     let report = root_report(rt.alloc(), one_machine(rt.alloc(), &[])?)?;

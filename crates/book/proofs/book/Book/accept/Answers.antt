@@ -1,7 +1,6 @@
 use Rattle.std.proofs.Common.{◌≡◌, ◌+◌, ℕ, ℤ, true, false, List, Option, None, Some, subst, sym, ap, ◌∙◌, arith, rules}
 use Rattle.std.specs.Option.{is_some, option_or}
 use Rattle.std.specs.Prelude.{IfSome, IfNone, option_map}
-use Rattle.std.specs.Arc.{arc_value}
 use Rattle.network.specs.Schedule.{ScheduleOf, makespan}
 use Rattle.branching.specs.Ceiling.{IsUnder, Reaches}
 use Rattle.branching.specs.Covered.{ceiling_of}
@@ -39,7 +38,7 @@ empty-requires c =
 
 pub overflow_add-self-2 : goal.overflow_add-self-2
 overflow_add-self-2 c =
-    let told : IsReport c.args.report = subst IsReport c.report.view_is c.report.invariant in
+    let told : IsReport c.args.report = c.into_parts-found.ensures.report in
     let fair : IsFair c.args.report = told.fair in
     let inserts : InsertsKids c.self.inside.opened c.or-limit.result c.args.report.kids c.in-Ok.opened c.self.inside.waiting c.open_kids.new.nodes = c.in-Ok.ensures.opened in
     omega (arith, names_last_opened (state_of c.self.inside) c.args.report c.or-limit.result c.in-Ok.opened c.self.invariant.kept fair inserts.count_is)
@@ -66,7 +65,7 @@ accepted_as_better b worker name report found shorter limit count waiting hands 
 pub invariant_of-self-then-is_none : goal.invariant_of-self-then-is_none
 invariant_of-self-then-is_none c =
     let may = may_check_in c.self.inside c.args.self.now c.args.worker c.args.name c.args.report c.self.view_is c.requires in
-    let told : IsReport c.args.report = subst IsReport c.report.view_is c.report.invariant in
+    let told : IsReport c.args.report = c.into_parts-found.ensures.report in
     let fair : IsFair c.args.report = told.fair in
     let none : is_some c.shorter_found-shorter.result ≡ false = search rules in
     let not_shorter : IfNone c.shorter_found-shorter.result (IfSome c.args.report.found (λ s. Reaches c.makespan_of-best.result (makespan s.starts))) = c.shorter_found-shorter.ensures.none in
@@ -75,7 +74,7 @@ invariant_of-self-then-is_none c =
     let limit : InsertsKids c.self.inside.opened (option_or c.shorter_found-shorter.result c.makespan_of-best.result) c.args.report.kids c.in-Ok.opened c.self.inside.waiting c.open_kids.new.nodes = subst (λ (l : Option ℤ). InsertsKids c.self.inside.opened l c.args.report.kids c.in-Ok.opened c.self.inside.waiting c.open_kids.new.nodes) c.or-limit.ensures inserts in
     let done = accepted_as_before c.self.inside c.args.worker c.args.name c.args.report c.shorter_found-shorter.result c.makespan_of-best.result c.in-Ok.opened c.open_kids.new.nodes c.empty.new.self c.open_kids.new.trail c.makespan_of-best.ensures not_shorter none limit c.empty.ensures noted in
     let kept = kept_accepted (state_of c.self.inside) c.args.worker c.args.name c.args.report _ _ told may done c.self.invariant.kept in
-    let project = subst (λ (t : Option TrailOf). IfSome t (λ (t : TrailOf). t.project ≡ arc_value c.self.inside.project)) (sym noted) (project_kept (arc_value c.self.inside.project) c.self.inside.trail (checked_in (option_or c.shorter_found-shorter.result c.makespan_of-best.result) c.args.name c.args.report) c.self.invariant.of_trail) in
+    let project = subst (λ (t : Option TrailOf). IfSome t (λ (t : TrailOf). t.project ≡ c.self.inside.project)) (sym noted) (project_kept c.self.inside.project c.self.inside.trail (checked_in (option_or c.shorter_found-shorter.result c.makespan_of-best.result) c.args.name c.args.report) c.self.invariant.of_trail) in
     record { kept = kept; of_trail = project }
 
 pub returns-then-is_none-clause-ok : goal.returns-then-is_none-clause-ok
@@ -90,7 +89,7 @@ returns-then-is_none-clause-ok c =
 pub invariant_of-self-2 : goal.invariant_of-self-2
 invariant_of-self-2 c =
     let may = may_check_in c.self.inside c.args.self.now c.args.worker c.args.name c.args.report c.self.view_is c.requires in
-    let told : IsReport c.args.report = subst IsReport c.report.view_is c.report.invariant in
+    let told : IsReport c.args.report = c.into_parts-found.ensures.report in
     let fair : IsFair c.args.report = told.fair in
     let some : is_some c.shorter_found-shorter.result ≡ true = search rules in
     let shorter : IfSome c.shorter_found-shorter.result (λ length. (s : ScheduleOf) × (c.args.report.found ≡ Some s) × (length ≡ makespan s.starts) × IsUnder c.makespan_of-best.result length) = c.shorter_found-shorter.ensures.found in
@@ -99,7 +98,7 @@ invariant_of-self-2 c =
     let limit : InsertsKids c.self.inside.opened (option_or c.shorter_found-shorter.result c.makespan_of-best.result) c.args.report.kids c.in-Ok.opened c.self.inside.waiting c.open_kids.new.nodes = subst (λ (l : Option ℤ). InsertsKids c.self.inside.opened l c.args.report.kids c.in-Ok.opened c.self.inside.waiting c.open_kids.new.nodes) c.or-limit.ensures inserts in
     let done = accepted_as_better c.self.inside c.args.worker c.args.name c.args.report c.into_parts-found.result.0 c.shorter_found-shorter.result c.makespan_of-best.result c.in-Ok.opened c.open_kids.new.nodes c.empty.new.self c.open_kids.new.trail c.makespan_of-best.ensures shorter some c.into_parts-found.ensures.found limit c.empty.ensures noted in
     let kept = kept_accepted (state_of c.self.inside) c.args.worker c.args.name c.args.report _ _ told may done c.self.invariant.kept in
-    let project = subst (λ (t : Option TrailOf). IfSome t (λ (t : TrailOf). t.project ≡ arc_value c.self.inside.project)) (sym noted) (project_kept (arc_value c.self.inside.project) c.self.inside.trail (checked_in (option_or c.shorter_found-shorter.result c.makespan_of-best.result) c.args.name c.args.report) c.self.invariant.of_trail) in
+    let project = subst (λ (t : Option TrailOf). IfSome t (λ (t : TrailOf). t.project ≡ c.self.inside.project)) (sym noted) (project_kept c.self.inside.project c.self.inside.trail (checked_in (option_or c.shorter_found-shorter.result c.makespan_of-best.result) c.args.name c.args.report) c.self.invariant.of_trail) in
     record { kept = kept; of_trail = project }
 
 pub returns-clause-ok : goal.returns-clause-ok
