@@ -1,15 +1,17 @@
 #!/usr/bin/env python3
-"""tests/events.py PROGRAM [--lists N] [--refused N] [--counted LOG]
+"""tests/events.py PROGRAM [--lists N] [--refused N]
 
 Puts N seeded lists of events (10,000 by default) to search books of small projects, by the program of crates/book_events,
 and compares each reply, and the counts after it, with those of a plain model of a book that is written here. Workers
 take nodes, reports are checked in, often under names that they aren't of, twice, with ceilings that are too low or for
-another project, nodes are given back that nobody has, and schedules are offered.
+another project, nodes are given back that nobody has, and schedules are offered. So are twelve hostile events, and these with
+each of them left out and with each of them doubled.
 
-Then puts N such lists (24 by default) to books once for each growth of memory in them, which is refused: a check-in or a
-node that is given back may then be told so, and the book has to be as before; all that comes after is again as in the model.
+Then puts N such lists (24 by default), and a report that is checked in again, to books once for each growth of memory in
+them, which is refused: a check-in or a node that is given back may then be told so, and the book has to be as before; all that
+comes after is again as in the model.
 
-The last line counts the lists and the runs, and with --counted, what the last such line of a log counts is added."""
+The last line counts the lists and the runs."""
 import argparse
 import collections
 import concurrent.futures
@@ -22,7 +24,6 @@ import subprocess
 import sys
 import tempfile
 
-from counting import counted
 from refusing import Refusing, library, one
 
 INPUTS = pathlib.Path(__file__).resolve().parent / "inputs"
@@ -37,6 +38,11 @@ PROJECTS = [
     ("two-jobs-close-lags", "two-jobs", [], ["0,0,3,7"]),
     ("energy-above-critical", "nine-jobs", ["0,0,5,9,13,16", "0,0,9,5,13,16"], []),
 ]
+# Twelve events for a book of two jobs and two workers. Node 3 is the second kid of the root.
+HOSTILE = ("take:0 back:0 take:1 check:0:0: check:0:0: check:3:0: take:0 offer:0,0,3,7 check:2:3: take:1 halt take:0").split()
+# A report that is checked in again, and the trail that tells of it once.
+AGAIN = "record:1:1000 take:0 check:0:0: check:0:0: trail".split()
+SPLIT_ONCE = "4 activities, root split 0 [1, 2] opened 1 opened 2, 0 1-2 open, 0 2-1 open"
 
 
 class Node:
@@ -134,9 +140,10 @@ class Model:
         self.halted = True
         return "halt"
 
-    def offer(self, makespan, foreign):
+    def offer(self, starts, foreign):
         if foreign:
-            return "other project"
+            return f"other project {starts.replace(',', ' ')}"
+        makespan = int(starts.split(",")[-1])
         if self.best is not None and makespan >= self.best:
             return "kept"
         self.best = makespan
@@ -184,35 +191,43 @@ class Board:
         return nodes
 
     def list_of_events(self, rng):
-        """A new book, as a word and a model, and a list of events: each a word, and what it does to the model."""
+        """A new book and a list of events, as words."""
         workers, takes = rng.randint(1, 3), rng.choice([1, 2, 3, 1000, 1000, 1000])
-        first = f"{rng.choice(['open', 'record'])}:{workers}:{takes}"
-        model, events = self.model(first), []
+        words = [f"{rng.choice(['open', 'record'])}:{workers}:{takes}"]
+        model = self.model(words[0])
         for _ in range(rng.randint(1, 30)):
-            events.append(self.event(rng, model))
-            events[-1][1](model)
-        return first, events
+            words.append(self.event(rng, model))
+            self.reply(model, words[-1])
+        return words
 
     def model(self, first):
         _, workers, takes = first.split(":")
         return Model(self.nodes[0], int(workers), int(takes))
 
+    def reply(self, model, word):
+        """What an event does to a model."""
+        kind, *rest = word.split(":")
+        if kind == "take":
+            return model.take(int(rest[0]))
+        if kind == "check":
+            name, place, ceiling = rest
+            return model.check(int(name), self.nodes[int(place)], int(ceiling) if ceiling else None)
+        if kind == "back":
+            return model.back(int(rest[0]))
+        if kind in ("offer", "other"):
+            return model.offer(rest[0], kind == "other")
+        return SPLIT_ONCE if kind == "trail" else model.halt()
+
     def event(self, rng, model):
         kind = rng.choices(["take", "check", "back", "offer", "other", "halt"], [36, 40, 10, 8, 3, 1])[0]
         if kind == "take":
-            worker = rng.randint(0, model.workers) if rng.random() < 0.1 else rng.randrange(model.workers)
-            return f"take:{worker}", lambda model: model.take(worker)
+            return f"take:{rng.randint(0, model.workers) if rng.random() < 0.1 else rng.randrange(model.workers)}"
         if kind == "check":
             return self.check(rng, model)
         if kind == "back":
-            name = rng.randint(0, model.opened)
-            return f"back:{name}", lambda model: model.back(name)
+            return f"back:{rng.randint(0, model.opened)}"
         offers = self.offers if kind == "offer" else self.others
-        if offers and kind != "halt":
-            starts = rng.choice(offers)
-            makespan = int(starts.split(",")[-1])
-            return f"{kind}:{starts}", lambda model: model.offer(makespan, kind == "other")
-        return "halt", lambda model: model.halt()
+        return f"{kind}:{rng.choice(offers)}" if offers and kind != "halt" else "halt"
 
     def check(self, rng, model):
         """A report on a node in hand, or on any node under any name."""
@@ -224,62 +239,71 @@ class Board:
         ceilings = [None, None, model.best, model.best, node.bound, node.bound + 1, rng.randint(0, 20)]
         ceiling = rng.choice(ceilings)
         place = next(place for place, other in enumerate(self.nodes) if other is node)
-        word = f"check:{name}:{place}:{'' if ceiling is None else ceiling}"
-        return word, lambda model: model.check(name, node, ceiling)
+        return f"check:{name}:{place}:{'' if ceiling is None else ceiling}"
 
 
-def disagreement(board, first, events, lines, replies, refused=False):
+def hostile_lists():
+    """The hostile events, for a book without and with a trail: whole, with each left out, and with each doubled."""
+    for first in ("open:2:1000", "record:2:1000"):
+        yield [first, *HOSTILE]
+        for place in range(len(HOSTILE)):
+            yield [first, *HOSTILE[:place], *HOSTILE[place + 1 :]]
+            yield [first, *HOSTILE[:place], *HOSTILE[place:place + 1] * 2, *HOSTILE[place + 1 :]]
+
+
+def disagreement(board, words, lines, replies, refused=False):
     """The first reply or counts that aren't the model's, or None. A refused growth may end the program, or be told once."""
-    model = board.model(first)
-    for word, event in [(first, lambda _: "open"), *events]:
+    model = board.model(words[0])
+    for word in words:
         got = next(lines, "nothing")
         if refused and got == "nothing":
             return None
         if refused and word.split(":")[0] in ("check", "back") and got == "memory;" + model.told():
             refused, want = False, got
         else:
-            want = f"{event(model)};{model.told()}"
+            reply = "open" if word == words[0] else board.reply(model, word)
+            want = f"{reply};{model.told()}"
         replies[re.sub(r" [-\d].*", "", got.split(";")[0])] += 1
         if got != want:
-            return f"{' '.join([first, *(word for word, _ in events)])}: at {word} {got!r}, not {want!r}"
+            return f"{' '.join(words)}: at {word} {got!r}, not {want!r}"
     return None
-
-
-def words_of(first, events):
-    return [first, *(word for word, _ in events)]
 
 
 def judged(board, lists, replies):
     """For each list the first reply or counts that aren't the model's, or None."""
-    words = [word for one_list in lists for word in words_of(*one_list)]
-    lines = iter(board.play([*board.words, *words])[board.found_lines :])
-    for first, events in lists:
-        told = iter([next(lines, "nothing") for _ in range(len(events) + 1)])
-        yield disagreement(board, first, events, told, replies)
+    lines = iter(board.play([*board.words, *(word for words in lists for word in words)])[board.found_lines :])
+    for words in lists:
+        told = iter([next(lines, "nothing") for _ in words])
+        yield disagreement(board, words, told, replies)
 
 
-def refused(made, board, first, events, replies):
+def refused(made, board, words, replies):
     """The same for each growth of memory in a list, which is refused."""
     known = Refusing(made, [board.program, *board.words], board.text).count()
-    refusing = Refusing(made, [board.program, *board.words, *words_of(first, events)], board.text)
+    refusing = Refusing(made, [board.program, *board.words, *words], board.text)
     for growth in range(known + 1, refusing.count() + 1):
         status, out, fault, _ = refusing.run(one(growth))
         lines = out.decode().splitlines()[board.found_lines :]
-        wrong = disagreement(board, first, events, iter(lines), replies, True)
-        well = status == 0 and len(lines) == len(events) + 1 or status == 1 and fault.startswith(b"Error: ")
-        yield wrong or (None if well else f"{' '.join(words_of(first, events))}: exit {status}, {fault}")
+        wrong = disagreement(board, words, iter(lines), replies, True)
+        well = status == 0 and len(lines) == len(words) or status == 1 and fault.startswith(b"Error: ")
+        yield wrong or (None if well else f"{' '.join(words)}: exit {status}, {fault}")
 
 
 def verdicts(program, options, rng):
     """What is wrong with each list and each run, or None; and how often each reply came by then."""
     replies = collections.Counter()
     boards = [Board(program, (own, other), offers, others) for own, other, offers, others in PROJECTS]
+    for wrong in judged(boards[0], list(hostile_lists()), replies):
+        yield wrong, replies
     for start in range(0, options.lists, LISTS_AT_ONCE):
         board = boards[start // LISTS_AT_ONCE % len(boards)]
         lists = [board.list_of_events(rng) for _ in range(min(LISTS_AT_ONCE, options.lists - start))]
         for wrong in judged(board, lists, replies):
             yield wrong, replies
-    given = [(board, *board.list_of_events(rng)) for board, _ in zip(itertools.cycle(boards), range(options.refused))]
+    given = [(board, board.list_of_events(rng)) for board, _ in zip(itertools.cycle(boards), range(options.refused))]
+    if not given:
+        return
+    given.append((boards[0], AGAIN))
     with tempfile.TemporaryDirectory() as folder, concurrent.futures.ThreadPoolExecutor(os.cpu_count()) as pool:
         made = library(folder)
         for runs in pool.map(lambda one_list: list(refused(made, *one_list, replies)), given):
@@ -292,10 +316,9 @@ def main():
     parser.add_argument("program")
     parser.add_argument("--lists", type=int, default=10_000)
     parser.add_argument("--refused", type=int, default=24)
-    parser.add_argument("--counted")
     options = parser.parse_args()
     program = str(pathlib.Path(options.program).resolve())
-    passed, failed = counted(options.counted)
+    passed = failed = 0
     for wrong, told in verdicts(program, options, random.Random(1)):
         passed, failed = passed + (wrong is None), failed + (wrong is not None)
         if wrong:

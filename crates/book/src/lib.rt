@@ -17,8 +17,6 @@ mod limits;
 mod nodes_left;
 mod open_nodes;
 mod recording;
-#[cfg(test)]
-mod tests;
 mod trail;
 
 pub use answers::{

@@ -6,8 +6,13 @@
 //! | Step | Does | Prints |
 //! |---|---|---|
 //! | `expand:NODE` | expands a node without a ceiling | its bound and pairs; the starts that it finds, if any; and the bound and pairs of each kid |
-//! | `open:WORKERS:TAKES`, `record:WORKERS:TAKES` | opens a new book, without and with a trail | its counts |
+//! | `starts:NODE` | rebuilds a node | its least starts |
+//! | `open:WORKERS:TAKES`, `record:WORKERS:TAKES` | opens a new book, without and with a trail | `open` or `limit`, and the book's counts |
 //! | `take:WORKER`, `check:NAME:NODE:CEILING`, `back:NAME`, `offer:STARTS`, `other:STARTS`, `halt` | one event | the reply, and the book's counts |
+//! | `reuse:NAME:NODE:CEILING` | the same as `check` | the reply with the sizes of the lists that come back, and the book's counts |
+//! | `search` | takes, expands and checks in until no node is handed out | what the worker 0 is told then, and the book's counts |
+//! | `best`, `verdict`, `trail` | asks the book | the starts of its best schedule; its verdict; its trail |
+//! | `close` | gives the book up for a new one | its trail |
 //!
 //! `check` checks in a report on a node, under a ceiling unless that is empty; `offer` offers a schedule of the first project,
 //! `other` one of the second. The counts are: opened, checked in, cut, taken, open, in hand, best makespan, lower bound.
@@ -17,18 +22,22 @@ ghost use Rattle.std.specs.Prelude.{IsTrue};
 ghost use Rattle.network.specs.Limits.{AreStarts};
 
 mod replies;
+mod trails;
 
 use anyhow::{Context, anyhow, bail};
-use book::{Book, Event, run_events};
+use book::{Book, BookFault, Event, Take, run_events};
 use branching::{Lean, Report, expand, rebuild, root};
+use earliest::least_starts;
+use longest_path::PathFault;
 use network::{MAX_START, Project, Schedule};
-use replies::{pairs_text, reply_text, told};
+use replies::{accepted_text, pairs_text, reply_text, starts_text, take_text, told, verdict_text};
 use sch_reader::read_sch;
 use schedule_check::accept;
 use std::alloc::Global;
-use std::env;
 use std::io::Read;
 use std::sync::Arc;
+use std::{env, mem};
+use trails::trail_text;
 use words::split_once;
 
 /// Two projects, the nodes that were found of both, and the book of the first.
@@ -39,26 +48,30 @@ struct Table {
     book: Book,
 }
 
-/// The project that a text spells, and its root.
-fn project_and_root(alloc: Global, text: &[u8]) -> anyhow::Result<(Arc<Project>, Arc<Lean>)> {
-    let Ok(project) = read_sch(alloc, text) else {
-        bail!("there is no project");
-    };
-    let project = Arc::new(alloc, project)?;
-    let Ok(root) = root(alloc, Arc::try_clone(&project)?) else {
-        bail!("there is no root");
-    };
-    let report = expand(alloc, &root, None)?;
-    Ok((project, Arc::try_clone(report.node())?))
+/// The project that a text spells.
+fn project(alloc: Global, text: &[u8]) -> anyhow::Result<Arc<Project>> {
+    match read_sch(alloc, text) {
+        Ok(project) => Ok(Arc::new(alloc, project)?),
+        Err(_) => bail!("there is no project"),
+    }
 }
 
-/// A new book of a project.
+/// The root of a project; none where a closed walk of its rules has positive weight.
+fn root_of(alloc: Global, project: &Arc<Project>) -> anyhow::Result<Option<Arc<Lean>>> {
+    match root(alloc, Arc::try_clone(project)?) {
+        Ok(root) => Ok(Some(Arc::try_clone(root.lean())?)),
+        Err(PathFault::PositiveCycle { .. }) => Ok(None),
+        Err(PathFault::Memory) => bail!("there is no memory for a root"),
+    }
+}
+
+/// A new book of a project; none outside the limits.
 fn opened(
     alloc: Global,
     project: &Arc<Project>,
     recorded: bool,
     rest: &str,
-) -> anyhow::Result<Book> {
+) -> anyhow::Result<Option<Book>> {
     let (workers, takes) = rest.split_once(':').context("how many takes?")?;
     let (workers, takes) = (workers.parse::<usize>()?, takes.parse::<u64>()?);
     let project = Arc::try_clone(project)?;
@@ -68,9 +81,15 @@ fn opened(
         Book::open(alloc, project, workers, takes)
     };
     match book {
-        Ok(book) => Ok(book),
-        Err(_) => bail!("the book can't be opened"),
+        Ok(book) => Ok(Some(book)),
+        Err(BookFault::Limit) => Ok(None),
+        Err(BookFault::Memory) => bail!("there is no memory for a book"),
     }
+}
+
+/// A book for one worker that allows one take.
+fn smallest(alloc: Global, project: &Arc<Project>) -> anyhow::Result<Book> {
+    opened(alloc, project, false, "1:1")?.context("the smallest book is outside the limits")
 }
 
 /// The report on a node.
@@ -110,7 +129,7 @@ fn schedule(alloc: Global, project: &Arc<Project>, text: &str) -> anyhow::Result
 }
 
 /// The check-in that a step asks for: a name, a node and a ceiling.
-fn check_in(alloc: Global, nodes: &[Arc<Lean>], rest: &str) -> anyhow::Result<Event> {
+fn check_in(alloc: Global, nodes: &[Arc<Lean>], rest: &str) -> anyhow::Result<(u64, Report)> {
     let (name, rest) = rest.split_once(':').context("which node?")?;
     let (node, ceiling) = rest.split_once(':').context("which ceiling?")?;
     let ceiling = if ceiling.is_empty() {
@@ -119,7 +138,7 @@ fn check_in(alloc: Global, nodes: &[Arc<Lean>], rest: &str) -> anyhow::Result<Ev
         Some(ceiling.parse::<i64>()?)
     };
     let report = report_on(alloc, nodes, node, ceiling)?;
-    Ok(Event::CheckIn(name.parse::<u64>()?, report))
+    Ok((name.parse::<u64>()?, report))
 }
 
 /// The event that a step asks for.
@@ -127,22 +146,16 @@ fn event_of(alloc: Global, table: &Table, kind: &str, rest: &str) -> anyhow::Res
     let [own, other] = &table.projects;
     match kind {
         "take" => Ok(Event::Take(rest.parse::<usize>()?)),
-        "check" => check_in(alloc, &table.nodes, rest),
+        "check" => {
+            let (name, report) = check_in(alloc, &table.nodes, rest)?;
+            Ok(Event::CheckIn(name, report))
+        }
         "back" => Ok(Event::GiveBack(rest.parse::<u64>()?)),
         "offer" => Ok(Event::Offer(schedule(alloc, own, rest)?)),
         "other" => Ok(Event::Offer(schedule(alloc, other, rest)?)),
         "halt" => Ok(Event::Halt),
         _ => Err(anyhow!("an unknown step")),
     }
-}
-
-/// The starts of a schedule, with a blank before each.
-fn starts_text(alloc: Global, schedule: &Schedule) -> anyhow::Result<String> {
-    let mut text = String::new(alloc);
-    for start in schedule.starts() {
-        text.push_str(&format!(in alloc; " {start}")?)?;
-    }
-    Ok(text)
 }
 
 /// Expands a node, prints what comes of it, and keeps its kids.
@@ -152,8 +165,8 @@ fn explore(rt: &HostRuntime, table: &mut Table, place: &str) -> anyhow::Result<(
     let (pairs, bound) = (pairs_text(alloc, report.node())?, report.node().bound());
     println!(rt; "node {bound}{pairs}")?;
     if let Some(found) = report.found() {
-        let starts = starts_text(alloc, found)?;
-        println!(rt; "found{starts}")?;
+        let starts = starts_text(alloc, found.starts())?;
+        println!(rt; "found {starts}")?;
     }
     for kid in report.kids() {
         let (pairs, bound) = (pairs_text(alloc, kid)?, kid.bound());
@@ -163,35 +176,108 @@ fn explore(rt: &HostRuntime, table: &mut Table, place: &str) -> anyhow::Result<(
     Ok(())
 }
 
-/// Puts one event to the book, and prints its reply and the counts.
-fn put(rt: &HostRuntime, book: &mut Book, event: Event) -> anyhow::Result<()> {
-    let mut events = Vec::new(rt.alloc());
+/// The least starts of a node.
+fn least(alloc: Global, nodes: &[Arc<Lean>], place: &str) -> anyhow::Result<String> {
+    let node = nodes.get(place.parse::<usize>()?).context("no such node")?;
+    let node = rebuild(alloc, node)?;
+    Ok(starts_text(alloc, &least_starts(alloc, node.matrix())?)?)
+}
+
+/// What a book replies to one event.
+fn replied(alloc: Global, book: &mut Book, event: Event) -> anyhow::Result<String> {
+    let mut events = Vec::new(alloc);
     events.push(event)?;
-    for reply in &run_events(rt.alloc(), book, events)? {
-        let reply = reply_text(rt.alloc(), reply)?;
-        let told = told(rt.alloc(), book)?;
-        println!(rt; "{reply};{told}")?;
+    let replies = run_events(alloc, book, events)?;
+    let reply = replies.first().context("there is no reply")?;
+    Ok(reply_text(alloc, reply)?)
+}
+
+/// What a book says to a report whose lists are to come back.
+fn reused(alloc: Global, book: &mut Book, name: u64, report: Report) -> anyhow::Result<String> {
+    match book.check_in_for_reuse(name, report) {
+        Ok((done, made)) => {
+            let (kids, fates) = (made.kids.len(), made.fates.len());
+            let done = accepted_text(alloc, &done)?;
+            Ok(format!(in alloc; "{done}, {kids} kids and {fates} fates come back")?)
+        }
+        Err(_) => bail!("the report is refused"),
     }
-    Ok(())
+}
+
+/// Lets the worker 0 take nodes, and checks the reports on them in, until it is told something else.
+fn searched(alloc: Global, book: &mut Book) -> anyhow::Result<Take> {
+    for _ in 0..100 {
+        let ticket = match book.take(0) {
+            Take::Ticket(ticket) => ticket,
+            told => return Ok(told),
+        };
+        let report = expand(alloc, &rebuild(alloc, &ticket.node)?, ticket.ceiling)?;
+        if book.check_in(ticket.name, report).is_err() {
+            bail!("a report is refused");
+        }
+    }
+    bail!("the search goes on and on")
+}
+
+/// Opens the book that a step asks for, in the place of the table's: whether it is within the limits.
+fn open(alloc: Global, table: &mut Table, kind: &str, rest: &str) -> anyhow::Result<&'static str> {
+    let [own, _] = &table.projects;
+    match opened(alloc, own, kind == "record", rest)? {
+        Some(book) => {
+            table.book = book;
+            Ok("open")
+        }
+        None => Ok("limit"),
+    }
+}
+
+/// Gives the table's book up for a new one: its trail.
+fn closed(alloc: Global, table: &mut Table) -> anyhow::Result<String> {
+    let [own, _] = &table.projects;
+    let new = smallest(alloc, own)?;
+    let old = mem::replace(&mut table.book, new);
+    Ok(trail_text(alloc, old.into_trail().as_ref())?)
+}
+
+/// What the table's book says when it is asked.
+fn asked(alloc: Global, book: &Book, kind: &str) -> anyhow::Result<String> {
+    match (kind, book.best()) {
+        ("best", None) => Ok(String::from_str(alloc, "-")?),
+        ("best", Some(best)) => Ok(starts_text(alloc, best.starts())?),
+        ("verdict", _) => Ok(verdict_text(alloc, book.verdict())?),
+        _ => Ok(trail_text(alloc, book.trail())?),
+    }
+}
+
+/// What is said of a step that changes the book or asks it.
+fn answered(alloc: Global, table: &mut Table, kind: &str, rest: &str) -> anyhow::Result<String> {
+    match kind {
+        "starts" => least(alloc, &table.nodes, rest),
+        "open" | "record" => Ok(String::from_str(alloc, open(alloc, table, kind, rest)?)?),
+        "search" => Ok(take_text(alloc, &searched(alloc, &mut table.book)?)?),
+        "best" | "verdict" | "trail" => asked(alloc, &table.book, kind),
+        "close" => closed(alloc, table),
+        "reuse" => {
+            let (name, report) = check_in(alloc, &table.nodes, rest)?;
+            reused(alloc, &mut table.book, name, report)
+        }
+        _ => {
+            let event = event_of(alloc, table, kind, rest)?;
+            replied(alloc, &mut table.book, event)
+        }
+    }
 }
 
 /// One step.
 fn step(rt: &HostRuntime, table: &mut Table, word: &str) -> anyhow::Result<()> {
     let (kind, rest) = word.split_once(':').unwrap_or((word, ""));
-    match kind {
-        "expand" => explore(rt, table, rest),
-        "open" | "record" => {
-            let [own, _] = &table.projects;
-            table.book = opened(rt.alloc(), own, kind == "record", rest)?;
-            let told = told(rt.alloc(), &table.book)?;
-            println!(rt; "open;{told}")?;
-            Ok(())
-        }
-        _ => {
-            let event = event_of(rt.alloc(), table, kind, rest)?;
-            put(rt, &mut table.book, event)
-        }
+    if kind == "expand" {
+        return explore(rt, table, rest);
     }
+    let reply = answered(rt.alloc(), table, kind, rest)?;
+    let told = told(rt.alloc(), &table.book)?;
+    println!(rt; "{reply};{told}")?;
+    Ok(())
 }
 
 fn main(rt: HostRuntime) -> anyhow::Result<()> {
@@ -200,12 +286,14 @@ fn main(rt: HostRuntime) -> anyhow::Result<()> {
     let mut text = Vec::new(alloc);
     rt.reader().read_to_end(&mut text)?;
     let (own, other) = split_once(&text, b';').context("there is one project")?;
-    let (own, first) = project_and_root(alloc, own)?;
-    let (other, second) = project_and_root(alloc, other)?;
+    let (own, other) = (project(alloc, own)?, project(alloc, other)?);
     let mut nodes = Vec::new(alloc);
-    nodes.push(first)?;
-    nodes.push(second)?;
-    let book = opened(alloc, &own, false, "1:1")?;
+    for project in [&own, &other] {
+        if let Some(root) = root_of(alloc, project)? {
+            nodes.push(root)?;
+        }
+    }
+    let book = smallest(alloc, &own)?;
     let mut table = Table {
         projects: [own, other],
         nodes,

@@ -1,7 +1,8 @@
 //! What a book answers, as words.
 
-use book::{Book, CheckFault, CheckedIn, Reply, Take, Ticket};
+use book::{Book, CheckFault, CheckedIn, Reply, Take, Ticket, Verdict};
 use branching::Lean;
+use network::Pair;
 use std::alloc::{AllocError, Global};
 
 /// A number, or a dash.
@@ -12,13 +13,30 @@ fn or_dash(alloc: Global, number: Option<i64>) -> Result<String, AllocError> {
     }
 }
 
-/// The pairs of a node, with a blank before each.
-pub fn pairs_text(alloc: Global, node: &Lean) -> Result<String, AllocError> {
+/// Pairs, with a blank before each.
+pub fn list_text(alloc: Global, pairs: &[Pair]) -> Result<String, AllocError> {
     let mut text = String::new(alloc);
-    for pair in &node.pairs().to_vec(alloc)? {
+    for pair in pairs {
         text.push_str(&format!(in alloc; " {}-{}", pair.before, pair.after)?)?;
     }
     Ok(text)
+}
+
+/// Starts, with a blank between.
+pub fn starts_text(alloc: Global, starts: &[i64]) -> Result<String, AllocError> {
+    let mut text = String::new(alloc);
+    for start in starts {
+        if !text.is_empty() {
+            text.push_str(" ")?;
+        }
+        text.push_str(&format!(in alloc; "{start}")?)?;
+    }
+    Ok(text)
+}
+
+/// The pairs of a node, with a blank before each.
+pub fn pairs_text(alloc: Global, node: &Lean) -> Result<String, AllocError> {
+    list_text(alloc, &node.pairs().to_vec(alloc)?)
 }
 
 /// The name of a node that is handed out, the ceiling, its bound and its pairs.
@@ -29,7 +47,8 @@ fn ticket_text(alloc: Global, ticket: &Ticket) -> Result<String, AllocError> {
     format!(in alloc; "ticket {} {ceiling} {bound}{pairs}", ticket.name)
 }
 
-fn take_text(alloc: Global, answer: &Take) -> Result<String, AllocError> {
+/// What a worker that asks for a node is told.
+pub fn take_text(alloc: Global, answer: &Take) -> Result<String, AllocError> {
     let word = match answer {
         Take::Ticket(ticket) => return ticket_text(alloc, ticket),
         Take::NoSuchWorker => "nobody",
@@ -57,7 +76,8 @@ fn fault_text(alloc: Global, fault: &CheckFault) -> Result<String, AllocError> {
     String::from_str(alloc, word)
 }
 
-fn accepted_text(alloc: Global, done: &CheckedIn) -> Result<String, AllocError> {
+/// What an accepted report did.
+pub fn accepted_text(alloc: Global, done: &CheckedIn) -> Result<String, AllocError> {
     let opened = done.opened;
     let improved = if done.improved {
         "improved"
@@ -77,7 +97,10 @@ pub fn reply_text(alloc: Global, reply: &Reply) -> Result<String, AllocError> {
         Reply::GivenBack(Ok(())) => "back",
         Reply::Offered(Ok(true)) => "shorter",
         Reply::Offered(Ok(false)) => "kept",
-        Reply::Offered(Err(_)) => "other project",
+        Reply::Offered(Err((back, _))) => {
+            let starts = starts_text(alloc, back.starts())?;
+            return format!(in alloc; "other project {starts}");
+        }
         Reply::Halted => "halt",
     };
     String::from_str(alloc, word)
@@ -91,4 +114,16 @@ pub fn told(alloc: Global, book: &Book) -> Result<String, AllocError> {
     let best = or_dash(alloc, book.best().map(|best| best.makespan()))?;
     let bound = or_dash(alloc, book.lower_bound())?;
     format!(in alloc; "{opened} {checked} {cut} {taken} {waiting} {hand} {best} {bound}")
+}
+
+/// What a book says of its project: of an open search the best makespan and the bound.
+pub fn verdict_text(alloc: Global, verdict: Verdict) -> Result<String, AllocError> {
+    match verdict {
+        Verdict::Optimal { makespan } => format!(in alloc; "optimal {makespan}"),
+        Verdict::NoSchedule => String::from_str(alloc, "no schedule"),
+        Verdict::Open { best, bound } => {
+            let best = or_dash(alloc, best)?;
+            format!(in alloc; "open {best} {bound}")
+        }
+    }
 }
