@@ -7,9 +7,12 @@ use Rattle.std.proofs.lemmas.Int.{ints}
 use Rattle.std.proofs.lemmas.List.Elements.{All-weaker}
 use Rattle.std.proofs.lemmas.List.Sums.{AllPass-from_list_all}
 use Rattle.std.specs.List.{All, list_all}
-use Rattle.std.specs.Prelude.{int_le, Bool}
+use Rattle.std.specs.Prelude.{int_le, Bool, Some, None}
 use Rattle.network.specs.declared.lag.Lag.{Lag}
 use Rattle.network.specs.declared.lag.Pair.{Pair}
+use Rattle.network.specs.declared.parts.ProjectFault.TheVariants.{Limit, Activity, Dummy, Shape}
+use Rattle.network.specs.declared.parts.Quantity.TheVariants as quantity
+use Rattle.network.specs.Faults.{first_fault}
 use Rattle.network.specs.Forbidden.{IsForbidden}
 use Rattle.network.specs.Limits.{IsProject}
 use Rattle.network.specs.Problem.{Problem, end_of, duration, demand, capacity, rules, arcs_of}
@@ -116,3 +119,23 @@ b_cycle = record {
   closed = ((0, lit< tt, refl), refl, ((1, lit< tt, refl), refl, refl));
   positive = omega (arith, ints);
 }
+
+-- B with other lists has these first faults
+abbrev with_lags : List Lag → Problem
+with_lags es = record b { lags = es }
+
+b_shape : (first_fault (record b { demands = one 0 ∷ one 1 ∷ one 1 ∷ [] }) ≡ Some Shape) × (first_fault (with_lags (arc 2 1 (pos 0) ∷ arc 1 2 (pos 0) ∷ [])) ≡ Some Shape)
+b_shape = (refl, refl)
+
+b_dummy : first_fault (record b { durations = numbers 0 3 4 2 }) ≡ Some (Dummy 3)
+b_dummy = refl
+
+b_limits : (first_fault (record b { durations = numbers 0 3 1000001 0; lags = arc 1 9 (pos 0) ∷ [] }) ≡ Some (Limit quantity.Duration)) × (first_fault (record b { capacities = negsuc 0 ∷ [] }) ≡ Some (Limit quantity.Capacity)) × (first_fault (with_lags (arc 2 1 (pos 0) ∷ arc 1 2 (negsuc 1000000) ∷ [])) ≡ Some (Limit quantity.Lag))
+b_limits = (refl, refl, refl)
+
+b_activity : (first_fault (with_lags (arc 1 2 (pos 0) ∷ arc 4 2 (pos 0) ∷ [])) ≡ Some (Activity 1 4)) × (first_fault (with_lags (arc 1 7 (pos 2000000) ∷ [])) ≡ Some (Activity 0 7))
+b_activity = (refl, refl)
+
+-- the arc of a pair comes last
+b_arcs : arcs_of (with_lags (arc 1 2 (pos 5) ∷ [])) (pair 2 1 ∷ []) ≡ arc 1 2 (pos 5) ∷ arc 0 1 (pos 0) ∷ arc 0 2 (pos 0) ∷ arc 0 3 (pos 0) ∷ arc 0 3 (pos 0) ∷ arc 1 3 (pos 3) ∷ arc 2 3 (pos 4) ∷ arc 2 1 (pos 4) ∷ []
+b_arcs = refl

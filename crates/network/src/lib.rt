@@ -14,8 +14,6 @@ mod parts;
 mod project;
 mod schedule;
 mod shared_project;
-#[cfg(test)]
-mod tests;
 
 pub use lag::{Lag, Pair};
 pub use limits::{

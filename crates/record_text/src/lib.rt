@@ -13,8 +13,6 @@ mod read;
 mod record;
 mod row;
 mod starts;
-#[cfg(test)]
-mod tests;
 mod write;
 
 pub use fault::{RecordFault, Why};

@@ -25,8 +25,3 @@ mod text;
 pub use canonical::{read_written, write_sch};
 pub use fault::SchFault;
 pub use text::read_sch;
-
-#[cfg(test)]
-mod canonical_tests;
-#[cfg(test)]
-mod tests;

@@ -7,8 +7,6 @@ mod fault;
 mod line;
 mod starts_text;
 mod table;
-#[cfg(test)]
-mod tests;
 mod violation;
 
 pub use acceptance::{AcceptFault, accept};
