@@ -1,77 +1,97 @@
-use crate::{Gate, OpenGate, SolveFault, Solved, solve};
-use book::Counts;
-use branching::Outcome;
-use network::{Project, Schedule};
-use schedule_check::accept;
 use std::alloc::Global;
 use std::process::Abort;
-use std::sync::{Arc, Wait};
+use std::sync::Wait;
 use std::test::Fail;
 use std::thread::Threads;
-use test_projects::are_starts;
 
+mod asked;
 mod desks;
 mod gates;
-mod growths;
-mod rows;
+mod solving;
 
-/// What workers say of a project that they search through, with at most a hundred takes.
-fn searched<G: Gate, R: Threads + Wait + Sync>(
+/// Plays each row, and looks for each thing that stands behind its arrow among those that are told.
+fn plays<R: Threads + Wait + Sync + Abort>(
     rt: &R,
     alloc: Global,
-    project: Project,
-    workers: usize,
-    gate: &G,
-) -> Result<Solved, Fail> {
-    let project = Arc::new(alloc, project)?;
-    Ok(solve(rt, alloc, project, workers, 100, None, gate)?)
-}
-
-/// What one worker says of a project.
-fn alone<R: Threads + Wait + Sync>(
-    rt: &R,
-    alloc: Global,
-    project: Project,
-) -> Result<Solved, Fail> {
-    searched(rt, alloc, project, 1, &OpenGate)
-}
-
-/// Why workers give no outcome.
-fn fault_of(solved: Result<Solved, SolveFault>) -> Result<SolveFault, Fail> {
-    match solved {
-        Ok(_) => Err("there is an outcome".into()),
-        Err(fault) => Ok(fault),
+    rows: &[&str],
+) -> Result<(), Fail> {
+    for row in rows {
+        let (asked, wanted) = row.split_once(" -> ").unwrap_or((row, ""));
+        let told = if asked.starts_with("desk") {
+            desks::told(rt, alloc, asked)?
+        } else {
+            solving::told(rt, alloc, asked)?
+        };
+        for thing in wanted.split(';') {
+            let thing = format!(in alloc; "; {};", thing.trim())?;
+            assert!(rt; told.contains(thing.as_str()), "{row}: {told}");
+        }
     }
+    Ok(())
 }
 
-/// How many nodes were opened, checked in, cut and taken, and are open and in hand.
-fn numbers(counts: &Counts) -> [u64; 6] {
-    [
-        counts.opened(),
-        counts.checked(),
-        counts.cut(),
-        counts.taken(),
-        counts.waiting(),
-        counts.hand(),
-    ]
+#[test]
+fn searches_have_outcomes_and_counts(rt: HostRuntime) -> Result<(), Fail> {
+    let rows = [
+        "one machine -> optimal 7; starts [0, 4, 0, 7]; counts [3, 2, 1, 2, 0, 0]; accepted [2]",
+        "three on two -> optimal 4; starts [0, 0, 2, 0, 4]; counts [7, 2, 5, 2, 0, 0]",
+        "backward lag -> optimal 5; starts [0, 0, 2, 1, 5]; counts [3, 2, 1, 2, 0, 0]",
+        "both orders dead -> no schedule",
+        "positive cycle -> no schedule; counts [0, 0, 0, 0, 0, 0]",
+        "three on two; workers 64 -> optimal 4; workers 64",
+        "one machine; takes 1 -> unknown bound 7; counts [3, 1, 0, 1, 2, 0]",
+        "one machine; takes 1; recorded -> counts [3, 1, 0, 1, 2, 0]; trail 3",
+        // A start that is shortest needs no take.
+        "one machine; start 0 0 3 7 -> optimal 7; starts [0, 0, 3, 7]; counts [1, 0, 1, 0, 0, 0]",
+        "three on two; start 0 0 3 7 -> OtherProject",
+        "one machine; workers 65 -> Limit",
+        "three on two; workers 2; gate without memory -> Memory",
+    ];
+    plays(&rt, rt.alloc(), &rows)
 }
 
-/// The starts of a shortest schedule.
-fn optimal_starts(outcome: &Outcome) -> Result<&[i64], Fail> {
-    match outcome {
-        Outcome::Optimal(schedule) => Ok(schedule.starts()),
-        _ => Err("no shortest schedule was found".into()),
-    }
+#[test]
+fn nodes_are_expanded_by_several_threads_without_the_lock(rt: HostRuntime) -> Result<(), Fail> {
+    let rows = [
+        "three on two; workers 2; gate holds second \
+            -> optimal 4; gave up 0; calls 3; counts [7, 3, 4, 3, 0, 0]; workers 2; as seen; least 1",
+        "three on two; workers 2; gate holds second; recorded \
+            -> optimal 4; gave up 0; calls 3; trail 7",
+        // What one worker finds is the ceiling of the other.
+        "three on two; workers 2; gate holds fifth \
+            -> gave up 0; third ceiling 4; counts [7, 3, 4, 3, 0, 0]",
+    ];
+    plays(&rt, rt.alloc(), &rows)
 }
 
-/// The schedule of these starts.
-fn schedule(
-    rt: &impl Abort,
-    alloc: Global,
-    project: Project,
-    starts: &[i64],
-) -> Result<Schedule, Fail> {
-    assert!(rt; are_starts(&project, starts));
-    let starts = Vec::from_slice(alloc, starts)?;
-    Ok(accept(alloc, Arc::new(alloc, project)?, starts)?)
+#[test]
+fn desks_share_a_book(rt: HostRuntime) -> Result<(), Fail> {
+    let rows = [
+        // A word that is too low costs work and no truth.
+        "desk; tells 6 -> over; accepted 2; ahead 2; counts [3, 2, 1, 2, 0, 0]",
+        // A worker whose node is given back ends.
+        "desk; gives back -> Refused(NotInHand); counts [1, 0, 0, 1, 1, 0]",
+        // Kids that an offered schedule beats are not opened.
+        "desk; start 0 0 3 7 -> over; counts [1, 1, 0, 1, 0, 0]",
+        // A report ahead of the book is made again.
+        "desk; start 0 5 0 8; ceiling 6 \
+            -> over; accepted 2; ahead 1; counts [3, 2, 1, 2, 0, 0]",
+    ];
+    plays(&rt, rt.alloc(), &rows)
+}
+
+/// However memory runs out, two workers find a shortest schedule, or say that it did, or that a thread couldn't start.
+#[test]
+fn growths_of_two_workers(rt: HostRuntime) -> Result<(), Fail> {
+    plays(&rt, rt.alloc(), &["three on two; workers 2 -> optimal 4"])
+}
+
+/// However memory runs out at a desk, the book is sound: it is at its end, or it is halted.
+#[test]
+fn growths_of_a_desk(rt: HostRuntime) -> Result<(), Fail> {
+    plays(
+        &rt,
+        rt.alloc(),
+        &["desk -> over; counts [3, 2, 1, 2, 0, 0]; then Done"],
+    )
 }
