@@ -115,6 +115,3 @@ pub fn rebuild(alloc: Global, lean: &Arc<Lean>) -> Result<Arc<Node>, AllocError>
     insert_pairs(&mut matrix, lean.project(), &pairs);
     Node::shared(alloc, Arc::try_clone(lean)?, matrix)
 }
-
-#[cfg(test)]
-mod tests;

@@ -1,12 +1,12 @@
-ghost use Rattle.std.specs.Prelude.{◌<◌, ◌≤◌};
-
 use crate::{
     Fate, Lean, Outcome, Report, Searcher, are_incompatible, expand, insert_under_mark,
-    ordered_pairs, root, search_alone,
+    ordered_pairs, rebuild, root, search_alone,
 };
-use longest_path::{MarkedMatrix, PathFault, longest};
+use bounds::bound;
+use earliest::least_starts;
+use longest_path::{MarkedMatrix, Matrix, PathFault, longest};
 use network::{Pair, Project, SharedProject};
-use std::alloc::Global;
+use std::alloc::{AllocError, Global};
 use std::process::Abort;
 use std::sync::Arc;
 use std::test::Fail;
@@ -15,328 +15,315 @@ use test_projects::{
     two_between, with_one_resource,
 };
 
-/// What the expansion of a project's root gives.
-fn expand_root(alloc: Global, project: Project, ceiling: Option<i64>) -> Result<Report, Fail> {
-    let root = root(alloc, Arc::new(alloc, project)?)?;
-    Ok(expand(alloc, &root, ceiling)?)
+const ONES: [i64; 11] = [0, 1, 1, 1, 1, 1, 1, 1, 1, 1, 0];
+
+/// The project of a name.
+fn project_of(alloc: Global, name: &str) -> Result<Arc<Project>, Fail> {
+    let project = match name {
+        "one machine" => one_machine(alloc, &[]),
+        "apart" => one_machine(alloc, &[lag(1, 2, 5)]),
+        "zero cycle" => one_machine(alloc, &[lag(1, 2, 3), lag(2, 1, -3)]),
+        "positive cycle" => one_machine(alloc, &[lag(1, 2, 5), lag(2, 1, -4)]),
+        "due at 6" => one_machine(alloc, &[lag(3, 0, -6)]),
+        "due at 7" => one_machine(alloc, &[lag(3, 0, -7)]),
+        "both orders dead" => both_orders_dead(alloc),
+        "three on two" => three_on_two(alloc),
+        "backward lag" => backward_lag(alloc),
+        "two between" => two_between(alloc),
+        "third first" => three_in_turn(alloc, &[lag(3, 1, 0)]),
+        "third first or 3 later" => three_in_turn(alloc, &[lag(3, 1, -3)]),
+        "no room" => three_in_turn(alloc, &[lag(1, 3, -1), lag(3, 1, 0)]),
+        "too much" => with_one_resource(alloc, &[0, 1, 0], &[0, 2, 0], 1, &[]),
+        "instant" => with_one_resource(alloc, &[0, 0, 0], &[0, 2, 0], 1, &[]),
+        "nine on one" => with_one_resource(alloc, &ONES, &ONES, 1, &[]),
+        "nine on eight" => with_one_resource(alloc, &ONES, &ONES, 8, &[]),
+        _ => Err("there is no such project".into()),
+    };
+    Ok(Arc::new(alloc, project?)?)
 }
 
-/// The pairs of a node.
-fn pairs_of(alloc: Global, node: &Lean) -> Result<Vec<Pair>, Fail> {
-    Ok(node.pairs().to_vec(alloc)?)
+/// Pairs with a blank before each.
+fn pairs_text(alloc: Global, pairs: &[Pair]) -> Result<String, AllocError> {
+    let mut text = String::new(alloc);
+    for pair in pairs {
+        write!(text, " {}-{}", pair.before, pair.after)?;
+    }
+    Ok(text)
+}
+
+/// The pairs of a node, its bound, and the least starts by its matrix.
+fn node_text(alloc: Global, lean: &Arc<Lean>) -> Result<String, AllocError> {
+    let pairs = pairs_text(alloc, lean.pairs().to_vec(alloc)?.as_slice())?;
+    let node = rebuild(alloc, lean)?;
+    let (starts, bound) = (least_starts(alloc, node.matrix())?, lean.bound());
+    format!(in alloc; "{pairs} bound {bound} starts {starts:?}")
+}
+
+/// The bound of the node that was expanded, how many kids it has, the starts that were found, the set that
+/// was split, and what became of each pair of that.
+fn report_text(alloc: Global, report: &Report) -> Result<String, AllocError> {
+    let (bound, mut kids) = (report.node().bound(), report.kids().iter());
+    let mut text = format!(in alloc; "bound {bound}, kids {}", report.kids().len())?;
+    if let Some(found) = report.found() {
+        let starts = found.starts();
+        write!(text, "; found {starts:?}")?;
+    }
+    if let Some(set) = report.split() {
+        let members = set.members();
+        write!(text, "; split {members:?}")?;
+    }
+    for fate in report.fates() {
+        let told = match fate {
+            Fate::Dead { forced } => format!(in alloc; "dead{}", pairs_text(alloc, forced)?)?,
+            Fate::Cut { forced } => format!(in alloc; "cut{}", pairs_text(alloc, forced)?)?,
+            Fate::Kid => match kids.next() {
+                Some(kid) => format!(in alloc; "kid{}", node_text(alloc, kid)?)?,
+                None => String::from_str(alloc, "kid that is not there")?,
+            },
+        };
+        write!(text, "; {told}")?;
+    }
+    Ok(text)
+}
+
+/// What the expansion of a project's root under a ceiling gives, or the fault of the root.
+fn expansion(
+    rt: &impl Abort,
+    alloc: Global,
+    name: &str,
+    ceiling: Option<i64>,
+) -> Result<String, Fail> {
+    let project = project_of(alloc, name)?;
+    let root = match root(alloc, Arc::try_clone(&project)?) {
+        Ok(root) => root,
+        Err(PathFault::Memory) => return Err(Fail::from(AllocError)),
+        Err(fault) => return Ok(format!(in alloc; "{fault:?}")?),
+    };
+    assert!(rt; root.lean().project() == &project);
+    let report = expand(alloc, &root, ceiling)?;
+    assert_eq!(rt; report.ceiling(), ceiling);
+    Ok(report_text(alloc, &report)?)
 }
 
 #[test]
-fn both_orders_of_two_activities_are_kids(rt: HostRuntime) -> Result<(), Fail> {
-    for ceiling in [None, Some(8)] {
-        let report = expand_root(rt.alloc(), one_machine(rt.alloc(), &[])?, ceiling)?;
-        assert_eq!(rt; report.node().bound(), 7);
-        assert_eq!(rt; report.ceiling(), ceiling);
-        assert!(rt; report.found().is_none());
-        let kids = report.kids();
-        assert_eq!(rt; kids.len(), 2);
-        assert_eq!(rt;
-            pairs_of(rt.alloc(), &kids[0])?.as_slice(),
-            [pair(1, 2)].as_slice()
-        );
-        assert_eq!(rt;
-            pairs_of(rt.alloc(), &kids[1])?.as_slice(),
-            [pair(2, 1)].as_slice()
-        );
-        assert_eq!(rt; [kids[0].bound(), kids[1].bound()], [7, 7]);
+fn expansions_of_roots(rt: HostRuntime) -> Result<(), Fail> {
+    for (name, ceiling, wanted) in [
+        (
+            "one machine",
+            None,
+            "bound 7, kids 2; split [1, 2]; kid 1-2 bound 7 starts [0, 0, 3, 7]; \
+                kid 2-1 bound 7 starts [0, 4, 0, 7]",
+        ),
+        (
+            "one machine",
+            Some(8),
+            "bound 7, kids 2; split [1, 2]; kid 1-2 bound 7 starts [0, 0, 3, 7]; \
+                kid 2-1 bound 7 starts [0, 4, 0, 7]",
+        ),
+        ("one machine", Some(7), "bound 7, kids 0"),
+        (
+            "both orders dead",
+            None,
+            "bound 7, kids 0; split [1, 2]; dead; dead",
+        ),
+        ("too much", None, "bound 2, kids 0; split [1]"),
+        (
+            "three on two",
+            None,
+            "bound 3, kids 6; split [1, 2, 3]; kid 1-2 bound 4 starts [0, 0, 2, 0, 4]; \
+                kid 1-3 bound 4 starts [0, 0, 0, 2, 4]; kid 2-1 bound 4 starts [0, 2, 0, 0, 4]; \
+                kid 2-3 bound 4 starts [0, 0, 0, 2, 4]; kid 3-1 bound 4 starts [0, 2, 0, 0, 4]; \
+                kid 3-2 bound 4 starts [0, 0, 2, 0, 4]",
+        ),
+        (
+            "third first",
+            None,
+            "bound 9, kids 2; split [2, 3]; kid 2-3 3-1 bound 9 starts [0, 6, 0, 4, 9]; \
+                kid 3-2 3-1 bound 9 starts [0, 2, 2, 0, 6]",
+        ),
+        // A weight of minus the duration forces nothing.
+        (
+            "third first or 3 later",
+            None,
+            "bound 9, kids 2; split [2, 3]; kid 2-3 2-1 bound 9 starts [0, 4, 0, 4, 7]; \
+                kid 3-2 bound 9 starts [0, 0, 2, 0, 6]",
+        ),
+        (
+            "no room",
+            None,
+            "bound 9, kids 0; split [2, 3]; dead 1-3; dead 1-2 1-3",
+        ),
+        (
+            "backward lag",
+            Some(6),
+            "bound 4, kids 1; split [1, 2]; kid 1-2 bound 5 starts [0, 0, 2, 1, 5]; cut",
+        ),
+        ("apart", None, "bound 9, kids 0; found [0, 0, 5, 9]"),
+        ("positive cycle", None, "PositiveCycle { at: 2 }"),
+    ] {
+        let found = expansion(&rt, rt.alloc(), name, ceiling)?;
+        assert_eq!(rt; found.as_str(), wanted, "{name}");
+    }
+    let found = expansion(&rt, rt.alloc(), "nine on eight", None)?;
+    assert!(rt; found.starts_with("bound 2, kids 72; split [1, 2, 3, 4, 5, 6, 7, 8, 9]; kid 1-2 "));
+    Ok(())
+}
+
+/// How a search that may take so many nodes ends.
+fn outcome(alloc: Global, name: &str, takes: u64) -> Result<String, Fail> {
+    if takes < 1 || takes > 1_000 {
+        return Err("so many takes are not allowed".into());
+    }
+    let text = match search_alone(alloc, &project_of(alloc, name)?, takes)? {
+        Outcome::Optimal(best) => {
+            let (makespan, starts) = (best.makespan(), best.starts());
+            format!(in alloc; "optimal {makespan} {starts:?}")?
+        }
+        Outcome::NoSchedule => String::from_str(alloc, "no schedule")?,
+        Outcome::Stopped { best, bound } => {
+            let mut text = String::from_str(alloc, "stopped")?;
+            if let Some(best) = best {
+                let starts = best.starts();
+                write!(text, " {starts:?}")?;
+            }
+            write!(text, " bound {bound}")?;
+            text
+        }
+    };
+    Ok(text)
+}
+
+#[test]
+fn searches_alone(rt: HostRuntime) -> Result<(), Fail> {
+    for (name, takes, wanted) in [
+        ("one machine", 1_000, "optimal 7 [0, 4, 0, 7]"),
+        ("zero cycle", 1_000, "optimal 7 [0, 0, 3, 7]"),
+        ("three on two", 1_000, "optimal 4 [0, 0, 2, 0, 4]"),
+        ("backward lag", 1_000, "optimal 5 [0, 0, 2, 1, 5]"),
+        ("due at 7", 1_000, "optimal 7 [0, 4, 0, 7]"),
+        ("two between", 1_000, "optimal 16 [0, 0, 9, 5, 13, 16]"),
+        ("third first", 1_000, "optimal 9 [0, 6, 2, 0, 9]"),
+        ("instant", 1_000, "optimal 0 [0, 0, 0]"),
+        (
+            "nine on one",
+            1_000,
+            "optimal 9 [0, 8, 7, 6, 5, 4, 3, 2, 1, 0, 9]",
+        ),
+        ("both orders dead", 1_000, "no schedule"),
+        ("due at 6", 1_000, "no schedule"),
+        ("no room", 1_000, "no schedule"),
+        ("too much", 1_000, "no schedule"),
+        ("positive cycle", 1, "no schedule"),
+        ("one machine", 1, "stopped bound 7"),
+        ("one machine", 2, "optimal 7 [0, 4, 0, 7]"),
+        ("backward lag", 2, "stopped [0, 3, 0, 4, 6] bound 5"),
+        ("two between", 1, "stopped bound 16"),
+    ] {
+        let found = outcome(rt.alloc(), name, takes)?;
+        assert_eq!(rt; found.as_str(), wanted, "{name}");
     }
     Ok(())
 }
 
-#[test]
-fn nothing_comes_of_a_node_at_the_ceiling(rt: HostRuntime) -> Result<(), Fail> {
-    let report = expand_root(rt.alloc(), one_machine(rt.alloc(), &[])?, Some(7))?;
-    assert!(rt; report.found().is_none());
-    assert!(rt; report.kids().is_empty());
-    Ok(())
-}
-
-#[test]
-fn dead_kids_are_left_out(rt: HostRuntime) -> Result<(), Fail> {
-    let report = expand_root(rt.alloc(), both_orders_dead(rt.alloc())?, None)?;
-    assert!(rt; report.found().is_none());
-    assert!(rt; report.kids().is_empty());
-    Ok(())
-}
-
-#[test]
-fn a_set_of_one_has_no_kids(rt: HostRuntime) -> Result<(), Fail> {
-    let alone = with_one_resource(rt.alloc(), &[0, 1, 0], &[0, 2, 0], 1, &[])?;
-    let report = expand_root(rt.alloc(), alone, None)?;
-    assert!(rt; report.found().is_none());
-    assert!(rt; report.kids().is_empty());
-    Ok(())
-}
-
-#[test]
-fn three_members_have_six_kids(rt: HostRuntime) -> Result<(), Fail> {
-    let report = expand_root(rt.alloc(), three_on_two(rt.alloc())?, None)?;
-    assert_eq!(rt; report.node().bound(), 3);
-    assert!(rt; report.found().is_none());
-    let pairs = [
-        pair(1, 2),
-        pair(1, 3),
-        pair(2, 1),
-        pair(2, 3),
-        pair(3, 1),
-        pair(3, 2),
-    ];
-    assert_eq!(rt; report.kids().len(), 6);
-    for (kid, pair) in report.kids().iter().zip(&pairs) {
-        assert_eq!(rt; pairs_of(rt.alloc(), kid)?.as_slice(), [*pair].as_slice());
-        assert_eq!(rt; kid.bound(), 4);
-    }
-    Ok(())
-}
-
-/// That a kid has these pairs.
-fn assert_pairs(rt: &impl Abort, alloc: Global, kid: &Lean, pairs: &[Pair]) -> Result<(), Fail> {
-    assert_eq!(rt; pairs_of(alloc, kid)?.as_slice(), pairs);
-    Ok(())
-}
-
-#[test]
-fn kids_get_the_pairs_that_are_forced(rt: HostRuntime) -> Result<(), Fail> {
-    let alloc = rt.alloc();
-    let report = expand_root(alloc, three_in_turn(alloc, &[lag(3, 1, 0)])?, None)?;
-    let kids = report.kids();
-    assert_eq!(rt; kids.len(), 2);
-    assert_pairs(&rt, alloc, &kids[0], &[pair(2, 3), pair(3, 1)])?;
-    assert_pairs(&rt, alloc, &kids[1], &[pair(3, 2), pair(3, 1)])?;
-    assert_eq!(rt; [kids[0].bound(), kids[1].bound()], [9, 9]);
-    Ok(())
-}
-
-#[test]
-fn a_weight_of_minus_the_duration_forces_nothing(rt: HostRuntime) -> Result<(), Fail> {
-    let alloc = rt.alloc();
-    let report = expand_root(alloc, three_in_turn(alloc, &[lag(3, 1, -3)])?, None)?;
-    let kids = report.kids();
-    assert_eq!(rt; kids.len(), 2);
-    assert_pairs(&rt, alloc, &kids[0], &[pair(2, 3), pair(2, 1)])?;
-    assert_pairs(&rt, alloc, &kids[1], &[pair(3, 2)])?;
-    Ok(())
-}
-
-/// That the fate is dead, with these forced pairs.
-fn assert_dead(rt: &impl Abort, fate: &Fate, pairs: &[Pair]) -> Result<(), Fail> {
-    match fate {
-        Fate::Dead { forced } => assert_eq!(rt; forced.as_slice(), pairs),
-        _ => return Err("the pair isn't dead".into()),
-    }
-    Ok(())
-}
-
-#[test]
-fn forced_pairs_leave_no_kid(rt: HostRuntime) -> Result<(), Fail> {
-    let alloc = rt.alloc();
-    let lags = [lag(1, 3, -1), lag(3, 1, 0)];
-    let report = expand_root(alloc, three_in_turn(alloc, &lags)?, None)?;
-    assert!(rt; report.kids().is_empty());
-    match report.split() {
-        Some(set) => assert_eq!(rt; set.members(), [2, 3].as_slice()),
-        None => return Err("no set was split".into()),
-    }
-    let fates = report.fates();
-    assert_eq!(rt; fates.len(), 2);
-    assert_dead(&rt, &fates[0], &[pair(1, 3)])?;
-    assert_dead(&rt, &fates[1], &[pair(1, 2), pair(1, 3)])?;
-    Ok(())
-}
-
-#[test]
-fn a_pair_at_the_ceiling_is_cut(rt: HostRuntime) -> Result<(), Fail> {
-    let alloc = rt.alloc();
-    let report = expand_root(alloc, backward_lag(alloc)?, Some(6))?;
-    assert_eq!(rt; report.kids().len(), 1);
-    let fates = report.fates();
-    assert_eq!(rt; fates.len(), 2);
-    assert!(rt; matches!(fates[0], Fate::Kid));
-    match &fates[1] {
-        Fate::Cut { forced } => assert!(rt; forced.is_empty()),
-        _ => return Err("the pair isn't cut".into()),
-    }
-    Ok(())
-}
-
-#[test]
-fn a_report_without_a_split_has_no_fates(rt: HostRuntime) -> Result<(), Fail> {
-    let report = expand_root(rt.alloc(), one_machine(rt.alloc(), &[])?, Some(7))?;
-    assert!(rt; report.split().is_none());
-    assert!(rt; report.fates().is_empty());
-    Ok(())
-}
-
-#[test]
-fn a_least_schedule_without_overload_is_found(rt: HostRuntime) -> Result<(), Fail> {
-    let apart = Arc::new(rt.alloc(), one_machine(rt.alloc(), &[lag(1, 2, 5)])?)?;
-    let root = root(rt.alloc(), Arc::try_clone(&apart)?)?;
-    assert!(rt; root.lean().project() == &apart);
-    let (found, made) = expand(rt.alloc(), &root, None)?.into_parts();
-    assert!(rt; made.kids.is_empty());
-    match found {
-        Some(found) => assert_eq!(rt; found.starts(), [0, 0, 5, 9].as_slice()),
-        None => return Err("nothing was found".into()),
-    }
-    Ok(())
-}
-
-#[test]
-fn nodes_are_told_apart_by_their_projects(rt: HostRuntime) -> Result<(), Fail> {
-    let one = Arc::new(rt.alloc(), one_machine(rt.alloc(), &[])?)?;
-    let equal = SharedProject::new(
-        rt.alloc(),
-        Arc::new(rt.alloc(), one_machine(rt.alloc(), &[])?)?,
-    )?;
-    let other = Arc::new(rt.alloc(), one_machine(rt.alloc(), &[lag(1, 2, 5)])?)?;
-    let node = root(rt.alloc(), one)?;
-    let far = root(rt.alloc(), Arc::try_clone(&other)?)?;
-    assert!(rt; node.lean().is_of(&equal));
-    assert!(rt; !node.lean().is_of(&SharedProject::new(rt.alloc(), other)?));
-    let searcher = Searcher::for_node(rt.alloc(), node.lean())?;
-    assert!(rt; searcher.is_for(node.lean()));
-    assert!(rt; !searcher.is_for(far.lean()));
-    Ok(())
-}
-
-#[test]
-fn a_positive_cycle_has_no_root(rt: HostRuntime) -> Result<(), Fail> {
-    let lags = [lag(1, 2, 5), lag(2, 1, -4)];
-    let cycle = Arc::new(rt.alloc(), one_machine(rt.alloc(), &lags)?)?;
-    match root(rt.alloc(), Arc::try_clone(&cycle)?) {
-        Err(fault) => assert_eq!(rt; fault, PathFault::PositiveCycle { at: 2 }),
-        Ok(_) => return Err("there is a root".into()),
-    }
-    match search_alone(rt.alloc(), &cycle, 1)? {
-        Outcome::NoSchedule => Ok(()),
-        _ => Err("there is a schedule".into()),
-    }
-}
-
-/// The starts of the shortest schedule, empty where there is no schedule.
-fn shortest(alloc: Global, project: Project) -> Result<Vec<i64>, Fail> {
-    match search_alone(alloc, &Arc::new(alloc, project)?, 1000)? {
-        Outcome::Optimal(best) => Ok(Vec::from_slice(alloc, best.starts())?),
-        Outcome::NoSchedule => Ok(Vec::new(alloc)),
-        Outcome::Stopped { .. } => Err("the search was stopped".into()),
-    }
-}
-
-/// The best starts, empty where none were found, and the bound of a search that is stopped.
-fn stopped(alloc: Global, project: Project, takes: u64) -> Result<(Vec<i64>, i64), Fail>
-    requires some { 0 < takes }
-    requires few { takes ≤ 1000 }
-{
-    match search_alone(alloc, &Arc::new(alloc, project)?, takes)? {
-        Outcome::Stopped { best, bound } => match best {
-            Some(best) => Ok((Vec::from_slice(alloc, best.starts())?, bound)),
-            None => Ok((Vec::new(alloc), bound)),
-        },
-        _ => Err("the search was not stopped".into()),
-    }
-}
-
-#[test]
-fn shortest_schedules(rt: HostRuntime) -> Result<(), Fail> {
-    let alloc = rt.alloc();
-    let machine = shortest(alloc, one_machine(alloc, &[])?)?;
-    assert_eq!(rt; machine.as_slice(), [0, 4, 0, 7].as_slice());
-    let zero_cycle = one_machine(alloc, &[lag(1, 2, 3), lag(2, 1, -3)])?;
-    assert_eq!(rt;
-        shortest(alloc, zero_cycle)?.as_slice(),
-        [0, 0, 3, 7].as_slice()
+/// Whether the root of one project is of the other, and whether a searcher for it is for the other's.
+fn is_same(alloc: Global, one: &str, other: &str) -> Result<[bool; 2], Fail> {
+    let other = project_of(alloc, other)?;
+    let (node, far) = (
+        root(alloc, project_of(alloc, one)?)?,
+        root(alloc, Arc::try_clone(&other)?)?,
     );
-    let three = shortest(alloc, three_on_two(alloc)?)?;
-    assert_eq!(rt; three.as_slice(), [0, 0, 2, 0, 4].as_slice());
-    let backward = shortest(alloc, backward_lag(alloc)?)?;
-    assert_eq!(rt; backward.as_slice(), [0, 0, 2, 1, 5].as_slice());
-    let in_time = one_machine(alloc, &[lag(3, 0, -7)])?;
-    assert_eq!(rt;
-        shortest(alloc, in_time)?.as_slice(),
-        [0, 4, 0, 7].as_slice()
-    );
-    let between = shortest(alloc, two_between(alloc)?)?;
-    assert_eq!(rt; between.as_slice(), [0, 0, 9, 5, 13, 16].as_slice());
-    let in_turn = shortest(alloc, three_in_turn(alloc, &[lag(3, 1, 0)])?)?;
-    assert_eq!(rt; in_turn.as_slice(), [0, 6, 2, 0, 9].as_slice());
-    let instant = with_one_resource(alloc, &[0, 0, 0], &[0, 2, 0], 1, &[])?;
-    assert_eq!(rt; shortest(alloc, instant)?.as_slice(), [0, 0, 0].as_slice());
-    Ok(())
+    let searcher = Searcher::for_node(alloc, node.lean())?;
+    Ok([
+        node.lean().is_of(&SharedProject::new(alloc, other)?),
+        searcher.is_for(far.lean()),
+    ])
+}
+
+/// That two matrices have the same entries.
+fn assert_same(rt: &impl Abort, left: &Matrix, right: &Matrix) {
+    let count = left.activity_count();
+    assert_eq!(rt; right.activity_count(), count);
+    for a in 0..count {
+        for b in 0..count {
+            assert_eq!(rt; left.get(a, b), right.get(a, b), "at {a} {b}");
+        }
+    }
+}
+
+/// The matrix of a node by the recurrence.
+fn longest_of(alloc: Global, node: &Lean) -> Result<Matrix, Fail> {
+    let pairs = node.pairs().to_vec(alloc)?;
+    Ok(longest(alloc, node.project(), pairs.as_slice())?)
+}
+
+/// The kids of a node. The matrix that is rebuilt and that of a searcher have to be the one that the
+/// recurrence makes, and the node's bound that of the matrix.
+fn kids_of(
+    rt: &impl Abort,
+    alloc: Global,
+    searcher: &mut Searcher,
+    lean: &Arc<Lean>,
+) -> Result<Vec<Arc<Lean>>, Fail> {
+    let whole = longest_of(alloc, lean)?;
+    let node = rebuild(alloc, lean)?;
+    assert_same(rt, node.matrix(), &whole);
+    assert_eq!(rt; bound(alloc, lean.project(), node.matrix())?, lean.bound());
+    let (found, fresh) = expand(alloc, &node, None)?.into_parts();
+    assert!(rt; searcher.is_for(lean));
+    let (again, moved) = searcher.expand(alloc, lean, None)?.into_parts();
+    assert_same(rt, searcher.matrix(), &whole);
+    assert_eq!(rt; again.is_some(), found.is_some());
+    assert_eq!(rt; moved.kids.len(), fresh.kids.len());
+    searcher.reuse(moved);
+    Ok(fresh.kids)
+}
+
+/// How many nodes the search tree of a project has.
+fn tree_size(rt: &impl Abort, alloc: Global, name: &str) -> Result<usize, Fail> {
+    let root = root(alloc, project_of(alloc, name)?)?;
+    let mut searcher = Searcher::for_node(alloc, root.lean())?;
+    let mut nodes = Vec::new(alloc);
+    nodes.push(Arc::try_clone(root.lean())?)?;
+    for count in 0..100 {
+        let Some(lean) = nodes.pop() else {
+            return Ok(count);
+        };
+        nodes.append(&mut kids_of(rt, alloc, &mut searcher, &lean)?)?;
+    }
+    Err("there are too many nodes".into())
 }
 
 #[test]
-fn projects_without_a_schedule(rt: HostRuntime) -> Result<(), Fail> {
-    let alloc = rt.alloc();
-    assert!(rt; shortest(alloc, both_orders_dead(alloc)?)?.is_empty());
-    let too_late = one_machine(alloc, &[lag(3, 0, -6)])?;
-    assert!(rt; shortest(alloc, too_late)?.is_empty());
-    let no_room = three_in_turn(alloc, &[lag(1, 3, -1), lag(3, 1, 0)])?;
-    assert!(rt; shortest(alloc, no_room)?.is_empty());
-    let too_much = with_one_resource(alloc, &[0, 1, 0], &[0, 2, 0], 1, &[])?;
-    assert!(rt; shortest(alloc, too_much)?.is_empty());
-    Ok(())
-}
-
-#[test]
-fn stopped_searches(rt: HostRuntime) -> Result<(), Fail> {
-    let alloc = rt.alloc();
-    let (best, bound) = stopped(alloc, one_machine(alloc, &[])?, 1)?;
-    assert!(rt; best.is_empty());
-    assert_eq!(rt; bound, 7);
-    let (best, bound) = stopped(alloc, backward_lag(alloc)?, 2)?;
-    assert_eq!(rt; best.as_slice(), [0, 3, 0, 4, 6].as_slice());
-    assert_eq!(rt; bound, 5);
-    let (best, bound) = stopped(alloc, two_between(alloc)?, 1)?;
-    assert!(rt; best.is_empty());
-    assert_eq!(rt; bound, 16);
-    Ok(())
-}
-
-#[test]
-fn two_takes_are_enough_for_two_activities(rt: HostRuntime) -> Result<(), Fail> {
-    let machine = Arc::new(rt.alloc(), one_machine(rt.alloc(), &[])?)?;
-    match search_alone(rt.alloc(), &machine, 2)? {
-        Outcome::Optimal(best) => assert_eq!(rt; best.makespan(), 7),
-        _ => return Err("the search was stopped".into()),
+fn matrices_are_those_of_the_recurrence(rt: HostRuntime) -> Result<(), Fail> {
+    for (name, wanted) in [
+        ("one machine", 3),
+        ("both orders dead", 1),
+        ("three on two", 7),
+        ("backward lag", 3),
+    ] {
+        assert_eq!(rt; tree_size(&rt, rt.alloc(), name)?, wanted, "{name}");
     }
     Ok(())
 }
 
 #[test]
-fn nine_activities_are_no_want_of_memory(rt: HostRuntime) -> Result<(), Fail> {
+fn pairs_and_projects(rt: HostRuntime) -> Result<(), Fail> {
     let alloc = rt.alloc();
-    let ones = [0, 1, 1, 1, 1, 1, 1, 1, 1, 1, 0];
-    let machine = with_one_resource(alloc, &ones, &ones, 1, &[])?;
-    let starts = shortest(alloc, machine)?;
-    assert_eq!(rt; starts.last(), Some(&9));
-    let eight_at_once = with_one_resource(alloc, &ones, &ones, 8, &[])?;
-    assert_eq!(rt; expand_root(alloc, eight_at_once, None)?.kids().len(), 72);
-    Ok(())
-}
-
-#[test]
-fn two_that_ask_for_too_much(rt: HostRuntime) -> Result<(), Fail> {
-    let project = backward_lag(rt.alloc())?;
-    assert!(rt; are_incompatible(&project, pair(1, 2)));
-    for (before, after) in [(1, 3), (1, 1), (0, 1), (1, 9), (9, 1)] {
-        assert!(rt; !are_incompatible(&project, pair(before, after)));
+    let project = backward_lag(alloc)?;
+    for (before, after, wanted) in [
+        (1, 2, true),
+        (1, 3, false),
+        (1, 1, false),
+        (0, 1, false),
+        (1, 9, false),
+        (9, 1, false),
+    ] {
+        assert_eq!(rt; are_incompatible(&project, pair(before, after)), wanted);
     }
-    Ok(())
-}
-
-#[test]
-fn pairs_go_by_place(rt: HostRuntime) -> Result<(), Fail> {
-    let pairs = ordered_pairs(rt.alloc(), &[4, 2, 7])?;
-    let expected = [(4, 2), (4, 7), (2, 4), (2, 7), (7, 4), (7, 2)];
-    assert_eq!(rt; pairs.len(), expected.len());
-    for (found, (before, after)) in pairs.iter().zip(expected) {
-        assert_eq!(rt; *found, pair(before, after));
-    }
+    let pairs = pairs_text(alloc, ordered_pairs(alloc, &[4, 2, 7])?.as_slice())?;
+    assert_eq!(rt; pairs.as_str(), " 4-2 4-7 2-4 2-7 7-4 7-2");
+    assert_eq!(rt; is_same(alloc, "one machine", "one machine")?, [true, true]);
+    assert_eq!(rt; is_same(alloc, "one machine", "apart")?, [false, false]);
     Ok(())
 }
 

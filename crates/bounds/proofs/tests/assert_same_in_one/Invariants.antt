@@ -6,3 +6,6 @@ invariant-loop-first g l = IsWorkspaceFor l.project l.workspace
 
 abbrev pub invariant-loop-second : goal.invariant-loop-second
 invariant-loop-second g l = IsWorkspaceFor l.project l.workspace
+
+abbrev pub invariant-loop-above : goal.invariant-loop-above
+invariant-loop-above g l = IsWorkspaceFor l.project l.workspace
