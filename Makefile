@@ -1,39 +1,44 @@
-# make: prove and build the program. make test: everything that must hold. make bench: measure it, and with OTHER=PROGRAM
-# that program in turn with it.
+# make          prove and build the programs, side by side on all processors
+# make test     run everything that is run, on the programs at hand; needs no toolchain
+# make gate     everything that must hold: the proofs from nothing, the released programs, and make test on what was proved
+# make release  release what was built
 # make install PREFIX=..
+# make bench    measure the program, and with OTHER=PROGRAM that program in turn with it
 PREFIX ?= /usr/local
+JOBS ?= $(shell nproc)
 MODULES := $(filter-out planner/measure.py,$(wildcard planner/*.py))
-SOURCES := crates.txt $(shell find crates -path '*/out' -prune -o \( -name '*.rt' -o -name '*.antt' \) -print)
+SOURCES := crates.txt HANDLES $(shell find crates -path '*/out' -prune -o \( -name '*.rt' -o -name '*.antt' \) -print)
+AT_HAND := $(shell if [ build/psmax -nt release/psmax ]; then echo build/psmax; else echo release/psmax; fi)
 
 all: build/psmax
 
-# `rt run` proves the program and what it stands on, and leaves it in the crate's folder.
+# The crates are proved side by side first; `rt run` then builds the programs over that, and leaves each in its crate's folder.
 build/psmax: $(SOURCES)
-	cd crates/solver_cli && rt run -- --help < /dev/null > /dev/null
+	rt all check --jobs $(JOBS)
+	cd crates/solver_cli && rt run --jobs $(JOBS) -- --help < /dev/null > /dev/null
+	cd crates/book_events && rt run --jobs $(JOBS) < stdin > /dev/null
+	cd crates/book_bench && rt run --jobs $(JOBS) -- 1 < stdin > /dev/null
 	mkdir -p build
+	cp crates/book_events/out/book_events crates/book_bench/out/book_bench build
 	cp crates/solver_cli/out/solver_cli build/psmax.new
 	mv build/psmax.new build/psmax
 
-test:
-	sh tests/all
+test prove gate:
+	python3 tests/gate.py $@
 
-build/book_bench: $(SOURCES)
-	cd crates/book_bench && rt run -- 1 < stdin > /dev/null
-	mkdir -p build
-	cp crates/book_bench/out/book_bench build/book_bench.new
-	mv build/book_bench.new build/book_bench
+release: build/psmax
+	python3 tests/gate.py release
 
-bench: build/psmax build/book_bench
+bench: build/psmax
 	python3 bench/run.py build/psmax $(OTHER)
 	python3 bench/counts.py build/psmax $(OTHER)
 	python3 bench/workers.py build/psmax
 	python3 bench/records.py build/psmax
 	python3 bench/book.py build/book_bench
 
-# A program that stands already is installed as it is: that needs no toolchain.
+# The program at hand is installed as it is: that needs no toolchain.
 install:
-	test -x build/psmax || $(MAKE) build/psmax
-	install -D -m 755 build/psmax $(DESTDIR)$(PREFIX)/bin/psmax
+	install -D -m 755 $(AT_HAND) $(DESTDIR)$(PREFIX)/bin/psmax
 	install -D -m 755 planner/plan $(DESTDIR)$(PREFIX)/bin/plan
 	install -d $(DESTDIR)$(PREFIX)/share/psmax/planner
 	install -m 644 $(MODULES) $(DESTDIR)$(PREFIX)/share/psmax/planner
@@ -42,4 +47,4 @@ install:
 clean:
 	rm -rf build crates/*/out
 
-.PHONY: all test bench install clean
+.PHONY: all test prove gate release bench install clean

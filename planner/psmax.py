@@ -49,19 +49,19 @@ class Checked:
 
 
 def find_program() -> str:
-    """$PSMAX, else build/psmax of the repository, else the psmax beside an installed `plan`, else that of PATH."""
+    """$PSMAX, else the psmax of the repository, else the one beside an installed `plan`, else that of PATH."""
     named = os.environ.get("PSMAX")
     if named:
         if shutil.which(named) is None:
             raise Failed(f"PSMAX is {named}, which is no program")
         return named
     here = pathlib.Path(__file__).resolve().parent
-    for path in (here.parent / "build" / "psmax", here.parents[2] / "bin" / "psmax"):
+    for path in (here.parent / "psmax", here.parents[2] / "bin" / "psmax"):
         if path.is_file() and os.access(path, os.X_OK):
             return str(path)
     found = shutil.which("psmax")
     if found is None:
-        raise Failed("no psmax found: set PSMAX, or build it with make, or put it on the PATH")
+        raise Failed("no psmax found: set PSMAX, or put it on the PATH")
     return found
 
 

@@ -1,5 +1,5 @@
 #!/usr/bin/env python3
-"""tests/devices.py PROGRAM [--only WORD] [--counted LOG]
+"""tests/devices.py PROGRAM [--only WORD]
 
 Runs the program on devices of the system that go in pieces or fail: pipes that give few bytes at once; standard input that
 fails after each number of bytes, that is a folder, or that is closed; a second input that is a folder; files that may
@@ -7,7 +7,7 @@ have no more than each number of bytes, for the answer and for the record; a ful
 that have gone. Where a device fails the program has to say so, with status 1, and what it wrote has to be a beginning
 of what it was to write.
 
-The last line counts the runs, and with --counted, what the last such line of a log counts is added."""
+The last line counts the runs."""
 import argparse
 import os
 import pathlib
@@ -20,7 +20,6 @@ import tty
 
 from calls import CALLS
 from channels import give, limit_files
-from counting import counted
 
 TIMEOUT = 60
 READ, WRITE = b"psmax: cannot read\n", b"psmax: cannot write\n"
@@ -177,10 +176,9 @@ def main():
     parser = argparse.ArgumentParser()
     parser.add_argument("program")
     parser.add_argument("--only", default="")
-    parser.add_argument("--counted")
     options = parser.parse_args()
     program = str(pathlib.Path(options.program).resolve())
-    passed, failed = counted(options.counted)
+    passed = failed = 0
     for part in PARTS:
         if options.only not in part.__name__:
             continue

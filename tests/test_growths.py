@@ -1,5 +1,5 @@
 #!/usr/bin/env python3
-"""tests/test_growths.py [--only WORD] [--most N] [--counted LOG]
+"""tests/test_growths.py [--only WORD] [--most N]
 
 Refuses each growth of memory of each test of some crates in turn, alone and with the next. The tests are those of the
 programs crates/NAME/out/NAME_tests, which `rt ci` and `rt test` leave. A test has to pass, or to end with want of memory (or
@@ -7,8 +7,7 @@ of a thread) as its error, or with an assertion that found that in place of what
 changed. Of a test with more than N growths (300 by default) so many are refused, spread evenly, and fewer of one that takes
 long.
 
-Prints which tests are covered in part. The last line counts the runs, and with --counted, what the last such line of a log
-counts is added."""
+Prints which tests are covered in part. The last line counts the runs."""
 import argparse
 import concurrent.futures
 import os
@@ -19,7 +18,6 @@ import sys
 import tempfile
 import time
 
-from counting import counted
 from refusing import Refusing, library, one, two
 
 ROOT = pathlib.Path(__file__).resolve().parent.parent
@@ -29,12 +27,7 @@ ENDS = re.compile(
     rb"|assertion `left == right` failed(?:.*\n)*  left: (?:Some\(|Err\()?" + WANT + rb"\)?\n right: (?:.*\n)*"
 )
 # The crates whose tests hold so.
-CRATES = ("words", "network", "sch_reader", "record_text", "longest_path", "profile", "forbidden_sets", "bounds", "branching",
-          "book", "best_word", "worker")
-WITH_AMPLE_MEMORY = {
-    "tests::the_rows_of_the_tree_have_their_faults",  # takes it that its texts have room
-    "tests::desks::kids_that_an_offered_schedule_beats_are_not_opened",  # a gate without memory offers none
-}
+CRATES = ("words", "longest_path", "profile", "forbidden_sets", "bounds", "branching", "best_word", "worker")
 SECONDS = 10  # so long may the runs of one test take together
 
 
@@ -68,13 +61,12 @@ def main():
     parser = argparse.ArgumentParser()
     parser.add_argument("--only", default="")
     parser.add_argument("--most", type=int, default=300)
-    parser.add_argument("--counted")
     options = parser.parse_args()
-    passed, failed = counted(options.counted)
+    passed = failed = 0
     growths = covered = 0
     programs = [ROOT / "crates" / crate / "out" / f"{crate}_tests" for crate in CRATES]
     cases = [(program, test) for program in programs for test in tests_of(program)
-             if options.only in f"{program.name} {test}" and test not in WITH_AMPLE_MEMORY]
+             if options.only in f"{program.name} {test}"]
     with tempfile.TemporaryDirectory() as folder, concurrent.futures.ThreadPoolExecutor(os.cpu_count()) as pool:
         made = library(folder)
         told = pool.map(lambda case: judged(made, *case, options.most), cases)

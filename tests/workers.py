@@ -1,11 +1,10 @@
 #!/usr/bin/env python3
-"""tests/workers.py PROGRAM [--runs N] [--counted LOG]
+"""tests/workers.py PROGRAM [--runs N]
 
 Runs the program N times (1,000 by default) with two to eight workers, each time on the next of the example projects and of
 small seeded ones, and compares what it says with what one thread says without workers: both have to give the same
 verdict, and each schedule has to pass `check`. Where one of them stops at its limit, its bound has to be at most what the
-other found, and a schedule that it found has to be at least as long as a shortest one. The last line counts the runs, and with
---counted, what the last such line of a log counts is added."""
+other found, and a schedule that it found has to be at least as long as a shortest one. The last line counts the runs."""
 import argparse
 import itertools
 import pathlib
@@ -13,7 +12,6 @@ import subprocess
 import sys
 import tempfile
 
-from counting import counted
 
 ROOT = pathlib.Path(__file__).resolve().parent.parent
 sys.path.insert(0, str(ROOT / "bench"))
@@ -83,12 +81,11 @@ def main():
     parser = argparse.ArgumentParser()
     parser.add_argument("program")
     parser.add_argument("--runs", type=int, default=1000)
-    parser.add_argument("--counted")
     options = parser.parse_args()
     program = str(pathlib.Path(options.program).resolve())
     given = [(name, text, Answer(run(program, ["solve", "--nodes", TAKES], text))) for name, text in project_texts()]
     turns = zip(itertools.cycle(given), itertools.cycle(range(2, 9)), range(options.runs))
-    passed, failed = counted(options.counted)
+    passed = failed = 0
     for (name, text, alone), workers, _ in turns:
         many = Answer(run(program, ["solve", "--workers", str(workers), "--nodes", TAKES], text))
         why = disagreement(alone, many)

@@ -17,7 +17,7 @@ PLAN = TOP / "planner" / "plan"
 INPUTS = TOP / "tests" / "inputs"
 EXAMPLES = TOP / "examples"
 PROJECTS = TOP / "planner" / "projects"
-PSMAX = os.environ.get("PSMAX") or str(TOP / "build" / "psmax")
+PSMAX = os.environ.get("PSMAX") or str(TOP / "psmax")
 
 # Two jobs of 3 and 4 on one machine: the README's first project without its lag. Every schedule takes 7 at least.
 TWO_JOBS = "2 1 0 0\n0 1 0\n1 1 0\n2 1 0\n3 1 0\n0 1 0 0\n1 1 3 1\n2 1 4 1\n3 1 0 0\n1\n"
