@@ -14,6 +14,7 @@ all: build/psmax
 
 # The crates are proved side by side first; `rt run` then builds the programs over that, and leaves each in its crate's folder.
 build/psmax: $(SOURCES)
+	@command -v rt > /dev/null || { echo "make needs the Rattle toolchain: its command rt is not on the PATH"; exit 1; }
 	rt all check --jobs $(JOBS)
 	cd crates/solver_cli && rt run --jobs $(JOBS) -- --help < /dev/null > /dev/null
 	cd crates/book_events && rt run --jobs $(JOBS) < stdin > /dev/null

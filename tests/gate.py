@@ -24,7 +24,7 @@ import time
 TOP = pathlib.Path(__file__).resolve().parent.parent
 BUILD, RELEASE = TOP / "build", TOP / "release"
 PROGRAMS = {"psmax": "solver_cli", "book_events": "book_events"}
-STEP = re.compile(r"proved$|NOT PROVED$|trying its must-fail edits|NOT REFUSED|BAD EDIT")  # what a proof tells as it goes
+STEP = re.compile(r"^rt: .*( proved$|NOT PROVED|trying its must-fail edits|NOT REFUSED|BAD EDIT)")  # what a proof tells as it goes
 KIT = re.compile(r"^    (rattle-kit-.+)$", re.M)
 
 
