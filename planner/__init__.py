@@ -1,1 +1,3 @@
 """The command `plan`: a planner's companion of psmax. docs/PLANNER.md says how to use it."""
+
+__version__ = "0.9.0"

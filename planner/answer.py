@@ -1,29 +1,15 @@
-"""Answers of psmax and files of starts, as they are handed in, with what `check` says of them."""
-import re
+"""An answer that is handed in, tied to the activities of a project by their names, with what `check` says of it."""
+import os
+import sys
 from dataclasses import dataclass
 
 from .errors import BadInput
-from .files import read_input
-from .json_answer import as_lines
-from .letters import short
-from .names import Names
+from .given import Given
+from .letters import at_most, printable
+from .opened import ProjectFile
 from .project import Project, parse
-from .psmax import Psmax
-
-VIOLATIONS = "these are violations that `check` found, and no starts"
-SAYS_WHAT = {  # the beginning of an answer without starts, and what it means
-    b"no schedule": "there is none to show; `plan why` says why",
-    b"unknown bound ": "no schedule was found before the search stopped, so there is none to show",
-    b"positive cycle ": "the lags contradict each other, so there is no schedule to show; `plan why` says which",
-    b"start ": VIOLATIONS,
-    b"lag ": VIOLATIONS,
-    b"overload ": VIOLATIONS,
-    b"proved ": "this is what a record proves, and there are no starts in it",
-    b"record ": "this is the record of a search, which `psmax verify` checks, and no starts",
-    b"psmax: ": "this is a fault that psmax told, and no answer",
-}
-WITH_STARTS = (b"optimal ", b"feasible ", b"earliest ")  # the beginnings of those that have starts below
-TIDY = re.compile(rb"\d+\s+\d+\s+0\s+0\s")  # the beginning of a project
+from .psmax import Psmax, starts_text
+from .wording import Words
 
 
 @dataclass(frozen=True)
@@ -34,86 +20,100 @@ class Answer:
     starts: tuple[int, ...]
     said: str  # the first line of the answer that was handed in, if it had one
     makespan: int | None  # by `check`, where the starts are a feasible schedule
-    violations: tuple[str, ...]
+    violations: tuple[str, ...]  # in words
 
     def title(self) -> str:
         verdict = "not feasible" if self.makespan is None else f"feasible {self.makespan}"
         return f"check: {verdict}" + (f"   (the answer says: {self.said})" if self.said else "")
 
 
-def read_answer(path: str | None) -> bytes:
-    """The answer or the starts in a file, or on standard input where none is named; JSON becomes lines."""
-    return as_lines(read_input(path))
+@dataclass(frozen=True)
+class Tied:
+    """Starts by the numbers of the project's activities, and what has none or is no activity of the project."""
+
+    starts: dict[int, int]
+    new: list[int]
+    gone: list[str]
 
 
-def sentence(given: bytes) -> str | None:
-    """A sentence for an answer without starts; none where there are starts to read."""
-    first, _, rest = given.strip().partition(b"\n")
-    said = short(first.decode("utf-8", "replace").strip())
-    if not first:
-        return "The answer is empty."
-    if TIDY.match(given):
-        return "This is a project, and no answer."
-    if first.startswith(WITH_STARTS) and not rest:
-        return f"The answer is `{said}`: there are no starts below it, so there is no schedule to show."
-    for begin, meaning in SAYS_WHAT.items():
-        if first.startswith(begin):
-            return f"The answer is `{said}`: {meaning}."
-    return None
+def judged(opened: ProjectFile, given: Given, psmax: Psmax) -> Answer:
+    """The starts of this answer, judged by psmax. What is no project, or has no start for an activity, is told."""
+    psmax.earliest(opened.text)
+    project = parse(opened.text)
+    if given.instead:
+        raise BadInput(f"{given.called}: {given.instead}")
+    tied = tie(opened, project, given)
+    words = Words(project, opened.names)
+    faults = [f"no start for activity {words.names.activity(number)}" for number in tied.new]
+    faults += [f"{name} is no activity of {opened.path}" for name in tied.gone]
+    if faults:
+        raise BadInput(*(f"{given.called}: {fault}" for fault in at_most(faults)))
+    starts = tuple(tied.starts[activity] for activity in range(project.end + 1))
+    found = psmax.check(opened.text, starts_text(starts))
+    violations = tuple(words.violation(violation, starts) for violation in found.violations)
+    return Answer(project, starts, given.said, found.makespan, violations)
 
 
-def judged(text: bytes, given: bytes, psmax: Psmax, called: str) -> Answer:
-    """The starts of this answer, judged by psmax. A text that is no project or no starts is told by its fault."""
-    psmax.earliest(text)
-    result = psmax.check(text, given, called)
-    project = parse(text)
-    said, starts = read_starts(given)
-    if set(starts) != set(range(len(project.durations))):
-        raise BadInput(f"{called}: not a start for each activity")
-    ordered = tuple(starts[activity] for activity in range(len(starts)))
-    return Answer(project, ordered, said, result.makespan, result.violations)
-
-
-def feasible(text: bytes, given: bytes, psmax: Psmax, called: str, names: Names) -> Answer:
-    """The same where psmax finds it feasible; whatever else is told as a fault of what is `called` so."""
-    instead = sentence(given)
-    if instead is not None:
-        raise BadInput(f"{called}: {instead}")
-    known = judged(text, given, psmax, called)
+def feasible(opened: ProjectFile, given: Given, psmax: Psmax) -> Answer:
+    """The same where psmax finds it feasible; whatever else is told as a fault."""
+    known = judged(opened, given, psmax)
     if known.makespan is None:
-        more = f", and {len(known.violations) - 1} more" if len(known.violations) > 1 else ""
-        first = in_words(known.violations[0], names.with_dummies(known.project.end))
-        raise BadInput(f"{called}: not a schedule: {first}{more}")
+        raise BadInput(*(f"{given.called}: not a schedule: {told}" for told in at_most([*known.violations])))
     return known
 
 
-def read_starts(given: bytes) -> tuple[str, dict[int, int]]:
-    """The first line of an answer, and the starts of a text that psmax has read."""
-    said = ""
-    lines = given.split(b"\n")
-    if given.startswith(WITH_STARTS):
-        said = short(lines.pop(0).decode("utf-8", "replace").strip())
-    fields = [line.split() for line in lines if line.strip()]
-    return said, {int(activity): int(start) for activity, start in fields}
+def tie(opened: ProjectFile, project: Project, given: Given) -> Tied:
+    """Finds the activities of an answer by their names; by their numbers where the answer or the project has none."""
+    if given.names and opened.names.activities:
+        return by_name(project, given, opened.names.activities)
+    starts = dict(given.starts)
+    if given.is_table:
+        starts |= {0: 0, project.end: least_end(project, starts)}
+    if len(starts) != project.end + 1 and set(starts) == set(range(len(starts))):
+        raise BadInput(f"{given.called}: starts of {len(starts) - 2} activities, and {opened.path} has {project.end - 1}; "
+                       "without names nobody can say which they are")
+    may_be_older(opened, given)
+    gone = [f"activity {number}" for number in starts if number > project.end]
+    return Tied(starts, [number for number in range(project.end + 1) if number not in starts], gone)
 
 
-def in_words(violation: str, names: Names) -> str:
-    """A violation with names: what it means to a planner, after what psmax printed."""
-    found = re.fullmatch(r"(start|lag|overload)((?: -?\d+)+)", violation)
-    numbers = [int(word) for word in found[2].split()] if found else []
-    if found and found[1] == "lag" and len(numbers) == 3:
-        tail, head, lag = numbers
-        return f"{violation} is not kept: {lag_in_words(tail, head, lag, names)}"
-    if found and found[1] == "overload" and len(numbers) == 3:
-        time, resource, used = numbers
-        return f"{violation}: at {time}, {used} units of {names.resource(resource)} are in use"
-    if found and found[1] == "start" and len(numbers) == 1:
-        return f"{violation}: the project does not start at 0"
-    return violation
+def by_name(project: Project, given: Given, names: dict[int, str]) -> Tied:
+    """The start of the project is 0, and its end the least that the others leave."""
+    inner = range(1, project.end)
+    now = {number: names.get(number, "") for number in inner}
+    pairs = same_names(given.names, now)
+    starts = {0: 0} | {pairs[was]: given.starts[was] for was in pairs if was in given.starts}
+    gone = [f"{number} ({name})" if name else f"{number}" for number, name in given.names.items() if number not in pairs]
+    starts[project.end] = least_end(project, starts)
+    return Tied(starts, [number for number in inner if number not in starts], gone)
 
 
-def lag_in_words(tail: int, head: int, lag: int, names: Names) -> str:
-    """An arc as a sentence: a negative lag is a greatest one the other way round."""
-    if lag < 0:
-        return f"{names.activity(tail)} starts at most {-lag} after {names.activity(head)} starts"
-    return f"{names.activity(head)} starts at least {lag} after {names.activity(tail)} starts"
+def same_names(was: dict[int, str], now: dict[int, str]) -> dict[int, int]:
+    """Which activity each one is now. One whose name several have is known only where all of them stand as they stood."""
+    pairs: dict[int, int] = {}
+    there = places(now)
+    for name, numbers in places(was).items():
+        found = there.get(name, [])
+        if found == numbers or len(found) == len(numbers) == 1:
+            pairs.update(zip(numbers, found))
+    return pairs
+
+
+def places(names: dict[int, str]) -> dict[str, list[int]]:
+    found: dict[str, list[int]] = {}
+    for number, name in sorted(names.items()):
+        found.setdefault(name, []).append(number)
+    return found
+
+
+def least_end(project: Project, starts: dict[int, int]) -> int:
+    """The least start of the end that the starts of the others leave."""
+    return max([starts[arc.tail] + arc.lag for arc in project.rules() if arc.head == project.end and arc.tail in starts])
+
+
+def may_be_older(opened: ProjectFile, given: Given) -> None:
+    """Says where an answer without names may be one of a table that has changed since."""
+    if opened.names.source and os.path.isfile(given.called):
+        if os.stat(given.called).st_mtime < os.stat(opened.path).st_mtime:
+            text = f"{given.called} has no names and is older than {opened.path}: its activities are taken by their numbers"
+            print("plan: " + printable(text), file=sys.stderr)

@@ -1,11 +1,14 @@
-"""How much time is left, and lines of progress that say when."""
+"""How much time is left, what ends a run before that, and lines of progress that say when."""
 import signal
 import sys
 import time
+from typing import NoReturn
+
+ENDS = (signal.SIGINT, signal.SIGTERM, signal.SIGHUP)  # Ctrl-C, a request to end, a terminal that closes
 
 
 class Clock:
-    """Counts from when it is made; Ctrl-C stops it where `listen` was called."""
+    """Counts from when it is made; what ends a run stops it where `listen` was called."""
 
     def __init__(self, seconds: float) -> None:
         self.begun = time.monotonic()
@@ -25,9 +28,33 @@ class Clock:
         self.stopped = True
 
     def listen(self) -> None:
-        """From now on Ctrl-C and a request to end stop this clock, and interrupt nothing."""
-        signal.signal(signal.SIGINT, self.stop)
-        signal.signal(signal.SIGTERM, self.stop)
+        """From now on what would end the run stops this clock, and interrupts nothing."""
+        for number in heard():
+            signal.signal(number, self.stop)
+
+    def why_over(self) -> str:
+        return "stopped" if self.stopped else f"the {self.seconds:g} seconds are over"
+
+
+def heard() -> list[signal.Signals]:
+    """What ends a run; a closed terminal doesn't where it is ignored, as `nohup` has it."""
+    return [number for number in ENDS if number != signal.SIGHUP or signal.getsignal(number) != signal.SIG_IGN]
+
+
+def interrupt_once() -> None:
+    """From now on what ends a run raises KeyboardInterrupt; what comes after that ends the process without a word."""
+    for number in heard():
+        signal.signal(number, interrupt)
+
+
+def interrupt(*_: object) -> NoReturn:
+    end_at_once()
+    raise KeyboardInterrupt
+
+
+def end_at_once() -> None:
+    for number in heard():
+        signal.signal(number, signal.SIG_DFL)
 
 
 def tell(clock: Clock, text: str) -> None:

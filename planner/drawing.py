@@ -1,8 +1,11 @@
 """What a chart shows, whether as text or as SVG: a bar for each activity, the use of each resource over time."""
+from collections.abc import Mapping
 from dataclasses import dataclass
 
+from .dates import Calendar
 from .names import Names
 from .project import Project
+from .window import Stretch, Window, stretches
 
 
 @dataclass(frozen=True)
@@ -11,15 +14,7 @@ class Bar:
     name: str
     begins: int
     ends: int
-
-
-@dataclass(frozen=True)
-class Stretch:
-    """A time in which the use of a resource does not change."""
-
-    begins: int
-    ends: int
-    units: int
+    window: Window | None = None  # in which it may start
 
 
 @dataclass(frozen=True)
@@ -37,31 +32,28 @@ class Drawing:
     ends: int
     bars: tuple[Bar, ...]
     loads: tuple[Load, ...]
+    calendar: Calendar | None = None
+
+    def begin(self, bar: Bar) -> str:
+        """When an activity starts: a date where there is a calendar."""
+        return self.calendar.times(bar.begins, bar.ends)[0] if self.calendar else f"{bar.begins}"
+
+    def mark(self, time: int, is_first: bool) -> str:
+        """A time on the ruler: a short date, but for the first one."""
+        if self.calendar is None:
+            return f"{time}"
+        return self.calendar.times(time, time + 1)[0] if is_first else self.calendar.mark(time)
 
 
-def make(project: Project, starts: tuple[int, ...], names: Names, title: str, notes: tuple[str, ...]) -> Drawing:
-    inner = range(1, project.end)
-    bars = tuple(Bar(i, names.activities.get(i, ""), starts[i], starts[i] + project.durations[i]) for i in inner)
+def make(project: Project, starts: tuple[int, ...], names: Names, title: str, notes: tuple[str, ...] = (),
+         calendar: Calendar | None = None, windows: Mapping[int, Window] | None = None) -> Drawing:
+    found = windows or {}
+    bars = tuple(Bar(i, names.activities.get(i, ""), starts[i], starts[i] + project.durations[i], found.get(i))
+                 for i in range(1, project.end))
     capacities = enumerate(project.capacities)
     loads = tuple(Load(names.resource(k), units, stretches(project, starts, k)) for k, units in capacities)
     ends = max([starts[project.end], *(bar.ends for bar in bars)])
-    return Drawing(title, notes, min(0, *starts), max(ends, min(0, *starts) + 1), bars, loads)
-
-
-def stretches(project: Project, starts: tuple[int, ...], resource: int) -> tuple[Stretch, ...]:
-    """The use of one resource, from one change to the next, where it is above 0."""
-    changes: dict[int, int] = {}
-    for start, duration, demands in zip(starts, project.durations, project.demands):
-        if duration and demands[resource]:
-            changes[start] = changes.get(start, 0) + demands[resource]
-            changes[start + duration] = changes.get(start + duration, 0) - demands[resource]
-    found, units = [], 0
-    times = sorted(changes)
-    for time, until in zip(times, times[1:]):
-        units += changes[time]
-        if units:
-            found.append(Stretch(time, until, units))
-    return tuple(found)
+    return Drawing(title, notes, min(0, *starts), max(ends, min(0, *starts) + 1), bars, loads, calendar)
 
 
 def round_step(least: float) -> int:

@@ -2,7 +2,7 @@
 
 
 class BadInput(Exception):
-    """A file or a word of the command that isn't what it should be: exit status 2."""
+    """A file or a word of the command that isn't what it should be: exit status 2. Each argument is one fault."""
 
 
 class Failed(Exception):
@@ -14,4 +14,4 @@ class NoMemory(Failed):
 
 
 class TimeUp(Exception):
-    """The time is over, or somebody pressed Ctrl-C."""
+    """The time is over, or somebody asked for the end."""

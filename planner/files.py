@@ -3,9 +3,11 @@ import os
 import pathlib
 import sys
 import tempfile
+from collections.abc import Mapping, Sequence
 
 from .errors import BadInput, Failed
 
+STANDARD_INPUT = "/dev/stdin"  # where an answer comes from that is in no file
 LARGEST = 16_777_216  # bytes; psmax reads no longer text, so one byte more is enough to know
 
 
@@ -53,26 +55,43 @@ def must_be_writable(path: str) -> None:
         raise Failed(f"cannot write {path}: the folder {folder} may not be changed")
 
 
+def guard(outputs: Sequence[str | None], inputs: Mapping[str, str]) -> None:
+    """Tells before anything is done that an output could not be written, or would take the place of an input or of
+    another output. Inputs stand by what they are."""
+    named = [output for output in outputs if output is not None]
+    for place, output in enumerate(named):
+        must_be_writable(output)
+        for what, path in inputs.items():
+            if os.path.exists(path) and same_file(output, path):
+                raise BadInput(f"{output} is {what}, which would be lost")
+        if any(same_file(output, other) for other in named[:place]):
+            raise BadInput(f"{output} can't hold two outputs at once")
+
+
 def same_file(one: str, other: str) -> bool:
-    """Whether both names lead to one file, which need not be there."""
-    return pathlib.Path(one).resolve() == pathlib.Path(other).resolve()
+    """Whether both names lead to one file, by links too; it need not be there."""
+    try:
+        return os.path.samefile(one, other)
+    except OSError:
+        return os.path.realpath(one) == os.path.realpath(other)
 
 
 def write_whole(path: str, data: bytes) -> None:
     """Writes a file beside it and renames that, so the file is never half written."""
     must_be_writable(path)
     target = pathlib.Path(path).resolve()
-    beside = ""
+    beside = None
     try:
         with tempfile.NamedTemporaryFile(dir=target.parent, prefix=".plan-", delete=False) as file:
-            beside = file.name
+            beside = pathlib.Path(file.name)
             file.write(data)
-        os.chmod(beside, 0o666 & ~mask())
-        os.replace(beside, target)
+        beside.chmod(0o666 & ~mask())
+        beside.replace(target)
     except OSError as fault:
-        if beside and os.path.exists(beside):
-            os.unlink(beside)
         raise Failed(f"cannot write {path}: {reason(fault)}") from None
+    finally:
+        if beside is not None:
+            beside.unlink(missing_ok=True)
 
 
 def mask() -> int:

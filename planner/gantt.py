@@ -1,15 +1,17 @@
 """`plan gantt`: a schedule as a chart, in plain text or as SVG."""
-from . import drawing, names, svg
-from .answer import in_words, judged, read_answer, sentence
+from . import dates, drawing, svg
+from .answer import judged
 from .clock import Clock
+from .dates import Wanted
 from .drawing import Bar, Drawing, Load
-from .files import must_be_writable, read_bytes, write_whole
-from .psmax import Psmax
+from .files import STANDARD_INPUT, guard, write_whole
+from .given import read_answer
+from .opened import open_project
+from .psmax import SECONDS, Psmax
 
 MARK = 10  # columns from one number of the ruler to the next
 LONGEST_NAME = 40
-SECONDS = 600.0  # the most that psmax may take for a check
-STANDARD_INPUT = "standard input"  # where an answer comes from that is in no file
+NUMBER = 6  # columns of a start that is a number
 
 
 def text(shown: Drawing, width: int) -> str:
@@ -18,17 +20,20 @@ def text(shown: Drawing, width: int) -> str:
     first = shown.begins // (MARK * scale) * MARK * scale
     columns = -(-(shown.ends - first) // scale)
     wide = max([len(short(label)) for label in labels(shown)] + [0])
+    starts = [shown.begin(bar) for bar in shown.bars]
+    when = max([NUMBER, *map(len, starts)])
     lines = [shown.title + (f"   (a column is {scale} periods)" if scale > 1 else "")]
-    margin = " " * (wide + 13)
-    lines += [margin + line for line in ruler(first, scale, columns)]
-    for bar in shown.bars:
-        cells = bar_cells(bar, first, scale, columns)
-        lines.append(f"{bar.activity:4} {short(bar.name):{wide}} {bar.begins:6} {cells}")
+    margin = " " * (wide + when + 7)
+    lines += [margin + line for line in ruler(shown, first, scale, columns)]
+    for bar, start in zip(shown.bars, starts):
+        lines.append(f"{bar.activity:4} {short(bar.name):{wide}} {start:>{when}} {bar_cells(bar, first, scale, columns)}")
     for load in shown.loads:
         label = short(load.name)
-        lines.append(f"     {label:{wide}} {'of ' + str(load.capacity):>6} {load_cells(load, first, scale, columns)}")
+        lines.append(f"     {label:{wide}} {'of ' + str(load.capacity):>{when}} {load_cells(load, first, scale, columns)}")
     if any(load.capacity > 9 for load in shown.loads):
         lines.append(margin + "9 stands for the whole of a resource of more than 9 units")
+    if any(bar.window for bar in shown.bars):
+        lines.append(margin + "- where it may run too, while the others stay as they are; * none of that: critical")
     return "".join(line.rstrip() + "\n" for line in [*lines, *shown.notes])
 
 
@@ -40,24 +45,31 @@ def short(name: str) -> str:
     return name if len(name) <= LONGEST_NAME else name[: LONGEST_NAME - 2] + ".."
 
 
-def ruler(first: int, scale: int, columns: int) -> list[str]:
-    """A line of numbers and one of marks."""
+def ruler(shown: Drawing, first: int, scale: int, columns: int) -> list[str]:
+    """A line of numbers or dates, and one of marks."""
     numbers, marks = "", ""
     for column in range(0, columns, MARK):
-        number = str(first + column * scale)
+        number = shown.mark(first + column * scale, column == 0)
         numbers = f"{numbers:{column}}" + number if len(numbers) < column or not column else numbers
         marks = f"{marks:{column}}|"
     return [numbers, marks]
 
 
 def bar_cells(bar: Bar, first: int, scale: int, columns: int) -> str:
-    """A # for each column in which the activity runs; a | where it takes no time."""
-    from_column = (bar.begins - first) // scale
-    to_column = -(-(bar.ends - first) // scale)
+    """A # for each column in which the activity runs, * where it is critical; a | where it takes no time."""
+    cells = ["."] * columns
+    if bar.window is not None and bar.window.float:
+        fill(cells, "-", bar.window.earliest, bar.window.latest + bar.ends - bar.begins, first, scale)
+    is_critical = bar.window is not None and not bar.window.float
     if bar.begins == bar.ends:
-        from_column = min(from_column, columns - 1)
-        return "." * from_column + "|" + "." * (columns - from_column - 1)
-    return "." * from_column + "#" * (to_column - from_column) + "." * (columns - to_column)
+        cells[min((bar.begins - first) // scale, columns - 1)] = "*" if is_critical else "|"
+    fill(cells, "*" if is_critical else "#", bar.begins, bar.ends, first, scale)
+    return "".join(cells)
+
+
+def fill(cells: list[str], sign: str, begins: int, ends: int, first: int, scale: int) -> None:
+    for column in range((begins - first) // scale, -(-(ends - first) // scale)):
+        cells[column] = sign
 
 
 def load_cells(load: Load, first: int, scale: int, columns: int) -> str:
@@ -77,23 +89,23 @@ def use_sign(units: int, capacity: int) -> str:
     return str(units if capacity <= 9 else -(-9 * units // capacity))
 
 
-def gantt(path: str, given: str | None, chart: str | None, page: str | None, width: int) -> int:
-    if chart is not None:
-        must_be_writable(chart)
-    project = read_bytes(path)
-    called = names.chosen(path, page)
-    answer = read_answer(given)
-    psmax = Psmax(Clock(SECONDS), path)
-    instead = sentence(answer)
-    if instead is not None:
-        print(instead)
+def gantt(path: str, given: str | None, chart: str | None, wanted: Wanted, page: str | None, width: int) -> int:
+    """Draws starts that are no feasible schedule too, with their violations."""
+    opened = open_project(path, page)
+    guard([chart], opened.inputs() | {"the answer": given or STANDARD_INPUT} | wanted.inputs())
+    calendar = dates.chosen(wanted, opened)
+    answer, psmax = read_answer(given), Psmax(Clock(SECONDS), path)
+    if answer.instead:
+        print(answer.instead)
         return 0
-    known = judged(project, answer, psmax, given or STANDARD_INPUT)
-    with_dummies = called.with_dummies(known.project.end)
-    notes = tuple(in_words(violation, with_dummies) for violation in known.violations)
-    shown = drawing.make(known.project, known.starts, called, known.title(), notes)
+    known = judged(opened, answer, psmax)
+    shown = drawing.make(known.project, known.starts, opened.names, known.title(), known.violations, calendar)
+    show(shown, chart, width)
+    return 0
+
+
+def show(shown: Drawing, chart: str | None, width: int) -> None:
     if chart is not None:
         write_whole(chart, svg.draw(shown).encode())
     else:
         print(text(shown, width), end="")
-    return 0

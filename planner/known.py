@@ -1,15 +1,19 @@
 """What is known of a project: every number here was confirmed by psmax. Each is told when it becomes known."""
+from collections.abc import Callable
+
 from .clock import tell
 from .errors import Failed
 from .psmax import Psmax, starts_text
 
 
 class Known:
-    """The shortest schedule that `check` found feasible, and the greatest bound that psmax proved."""
+    """The shortest schedule that `check` found feasible, and the greatest bound that psmax proved. Where the project that is
+    searched is made of another, schedules are ones of that as well."""
 
-    def __init__(self, psmax: Psmax, project: bytes) -> None:
+    def __init__(self, psmax: Psmax, project: bytes, whole: bytes | None = None) -> None:
         self.psmax = psmax
-        self.project = project
+        self.texts = [project] if whole is None or whole == project else [project, whole]
+        self.better: Callable[[], None] = lambda: None  # what is done each time the schedule gets shorter
         self.bound = 0  # no feasible schedule is shorter
         self.makespan: int | None = None
         self.starts: tuple[int, ...] | None = None
@@ -39,24 +43,32 @@ class Known:
         """Has `check` judge starts that are shorter than the best; says whether they are the best now."""
         if self.makespan is not None and starts[-1] >= self.makespan:
             return False
-        judged = self.psmax.check(self.project, starts_text(starts))
-        if judged.makespan is None:
-            tell(self.psmax.clock, f"passed over, since check found {judged.violations[0]}: {by}")
-            return False
-        if judged.makespan < self.bound:
-            raise Failed(f"psmax contradicts itself: at least {self.bound}, and a schedule of {judged.makespan} by {by}")
-        self.makespan, self.starts = judged.makespan, starts
-        tell(self.psmax.clock, f"{judged.makespan} by check: {by}")
+        for text in self.texts:
+            judged = self.psmax.check(text, starts_text(starts))
+            if judged.makespan is None:
+                tell(self.psmax.clock, f"passed over, since check found {judged.violations[0]}: {by}")
+                return False
+        if starts[-1] < self.bound:
+            raise Failed(f"psmax contradicts itself: at least {self.bound}, and a schedule of {starts[-1]} by {by}")
+        self.makespan, self.starts = starts[-1], starts
+        tell(self.psmax.clock, f"{self.makespan} by check: {by}")
+        self.better()
         return True
 
-    def first_line(self) -> str:
+    def status(self) -> str:
         if self.none:
             return "no schedule"
         if self.makespan is None:
-            return f"unknown bound {self.bound}"
-        if self.settled:
-            return f"optimal {self.makespan}"
-        return f"feasible {self.makespan} bound {self.bound}"
+            return "unknown"
+        return "optimal" if self.settled else "feasible"
+
+    def first_line(self) -> str:
+        return {
+            "no schedule": "no schedule",
+            "unknown": f"unknown bound {self.bound}",
+            "optimal": f"optimal {self.makespan}",
+            "feasible": f"feasible {self.makespan} bound {self.bound}",
+        }[self.status()]
 
     def answer(self) -> bytes:
         """What is known, in the words of psmax; `psmax check` and `plan gantt` read it."""

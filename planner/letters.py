@@ -1,6 +1,7 @@
 """Texts that others wrote, as they are shown."""
 
 LONGEST = 60  # letters of a text that are shown
+MOST_TOLD = 20  # faults of one file
 
 
 def printable(text: str) -> str:
@@ -11,3 +12,9 @@ def printable(text: str) -> str:
 def short(text: str) -> str:
     """The same, cut where it is long."""
     return printable(text[:LONGEST]) + (".." if len(text) > LONGEST else "")
+
+
+def at_most(told: list[str]) -> list[str]:
+    """So many faults that one still reads them."""
+    more = len(told) - MOST_TOLD
+    return told if more <= 0 else [*told[:MOST_TOLD], f"and {more} more"]

@@ -1,19 +1,21 @@
-"""The page beside a project that names its activities and resources: a table like those of examples/*.md."""
-import pathlib
+"""The page beside a project: a table like those of examples/*.md, which names its activities and resources, and perhaps a
+second one, which says from when on and on which days there is work."""
 import re
 from dataclasses import dataclass, field
 
-from .errors import Failed
-from .files import read_bytes
 from .project import Project
 
 CELL = re.compile(r"(?<!\\)\|")
+MADE = "Made by `plan read` from `{}`; change that, and not this page."
+SETTINGS = ("period", "from", "workdays", "holidays")  # rows of the second table
 
 
 @dataclass
 class Names:
     activities: dict[int, str] = field(default_factory=dict)
     resources: list[str] = field(default_factory=list)
+    settings: dict[str, str] = field(default_factory=dict)  # of the calendar
+    source: str = ""  # the table that the project was made from
 
     def activity(self, number: int) -> str:
         """The number of an activity, with its name where it has one."""
@@ -25,20 +27,7 @@ class Names:
 
     def with_dummies(self, end: int) -> "Names":
         """The same with names for the start and the end."""
-        return Names(self.activities | {0: "the start", end: "the end"}, self.resources)
-
-
-def chosen(project_path: str, page_path: str | None) -> Names:
-    """The names of the page that is named, which must be there, or else of the one beside the project."""
-    return read_page(read_bytes(page_path)) if page_path is not None else beside(project_path)
-
-
-def beside(project_path: str) -> Names:
-    """The names of the page beside the project (.md for .sch), or none."""
-    try:
-        return read_page(read_bytes(str(pathlib.Path(project_path).with_suffix(".md"))))
-    except Failed:
-        return Names()
+        return Names(self.activities | {0: "the start", end: "the end"}, self.resources, self.settings, self.source)
 
 
 def read_page(data: bytes) -> Names:
@@ -48,8 +37,13 @@ def read_page(data: bytes) -> Names:
     for place, row in enumerate(rows):
         if place > 0 and len(row) >= 3 and all(re.fullmatch(":?-+:?", cell) for cell in row) and not found.resources:
             found.resources = rows[place - 1][3:]
+            found.settings.setdefault("period", rows[place - 1][2].lower())
         elif len(row) >= 2 and re.fullmatch(r"\d{1,9}(, *\d{1,9})*", row[0]):
             found.activities |= {int(number): row[1] for number in row[0].split(",")}
+        elif len(row) == 2 and row[0] in SETTINGS:
+            found.settings[row[0]] = row[1]
+    made = re.search(re.escape(MADE).replace(r"\{\}", "(.+)"), text)
+    found.source = made[1] if made else ""
     return found
 
 
@@ -58,9 +52,9 @@ def cell_text(cell: str) -> str:
     return "".join(sign if sign.isprintable() else " " for sign in cell.replace("\\|", "|")).strip()
 
 
-def page(title: str, source: str, project: Project, names: Names, unit: str) -> str:
+def page(title: str, project: Project, names: Names, unit: str) -> str:
     """The page of a project that was read from a table."""
-    lines = [f"# {title}", "", f"The numbers, names and demands of `{title}.sch`. {made_from(source)}", ""]
+    lines = [f"# {title}", "", f"The numbers, names and demands of `{title}.sch`. {MADE.format(names.source)}", ""]
     lines.append(table_row(["", "Activity", unit.capitalize(), *names.resources]))
     lines.append("|" + "---|" * (3 + len(names.resources)))
     for activity in range(1, project.end):
@@ -70,11 +64,9 @@ def page(title: str, source: str, project: Project, names: Names, unit: str) -> 
     if names.resources:
         units = (f"{units} {name}" for units, name in zip(project.capacities, names.resources))
         lines += ["", f"Resources: {', '.join(units)}."]
+    if names.settings:
+        lines += ["", "| Calendar | |", "|---|---|", *(table_row([*pair]) for pair in names.settings.items())]
     return "\n".join(lines) + "\n"
-
-
-def made_from(source: str) -> str:
-    return f"Made by `plan read` from `{source}`; change that, and not this page."
 
 
 def table_row(cells: list[str]) -> str:

@@ -12,6 +12,7 @@ from dataclasses import dataclass
 from .clock import Clock, tell
 from .errors import BadInput, Failed, NoMemory, TimeUp
 
+SECONDS = 600.0  # the most that psmax may take for an answer that no search is needed for
 ALONE = 0  # workers: one thread searches by itself, deep first
 GLANCE = 0.05  # seconds between two looks at the clock while psmax runs
 MOST_NODES = 1_000_000_000
@@ -73,7 +74,13 @@ class Psmax:
         self.name = name
         self.program = program or find_program()
         self.paces: dict[int, float] = {}  # by workers: nodes a second of the last search that its limit stopped
+        self.nodes = 0  # that all searches together were allowed, and so the most that they took
         self.most: dict[int, int] = {}  # by workers: half of the nodes of the last search that memory stopped
+
+    def version(self) -> str:
+        """Which psmax this is, as the heading of its help says."""
+        found = re.match(rb"psmax (\S+)", self._call(["--help"], b"")[1])
+        return found[1].decode("utf-8", "replace") if found else "unknown"
 
     def earliest(self, project: bytes) -> Earliest:
         status, out = self._call(["earliest"], project)
@@ -96,6 +103,7 @@ class Psmax:
 
     def _search(self, project: bytes, nodes: int, workers: int, words: list[str]) -> Solved:
         begun = self.clock.elapsed()
+        self.nodes += nodes
         try:
             status, out = self._call(["solve", "--nodes", str(nodes), *words], project)
         except NoMemory:
@@ -117,13 +125,13 @@ class Psmax:
             return nodes
         return min(nodes, max(FEWEST_NODES, int(TIME_TO_USE * self.paces[workers] * self.clock.left())))
 
-    def check(self, project: bytes, starts: bytes, called: str = "the starts") -> Checked:
-        """What psmax says of the starts, which are `called` so in faults; the project is one that it has read."""
+    def check(self, project: bytes, starts: bytes) -> Checked:
+        """What psmax says of the starts; the project is one that it has read."""
         with tempfile.TemporaryDirectory(prefix="plan-") as folder:
             path = os.path.join(folder, "project.sch")
             with open(path, "wb") as file:
                 file.write(project)
-            status, out = self._call(["check", "--project", path], starts, called)
+            status, out = self._call(["check", "--project", path], starts)
         found = re.fullmatch(rb"feasible (-?\d+)\n", out)
         if status == 0 and found is not None:
             return Checked(int(found[1]), ())
@@ -134,13 +142,13 @@ class Psmax:
     def _odd(self, job: str) -> Failed:
         return Failed(f"{self.program} {job} gave an answer that plan does not know; is it psmax?")
 
-    def _call(self, words: list[str], given: bytes, called: str | None = None) -> tuple[int, bytes]:
+    def _call(self, words: list[str], given: bytes) -> tuple[int, bytes]:
         """The exit status and the output of a call that answered."""
         status, out, told = self._run(words, given)
         fault = told.decode("utf-8", "replace").strip().removeprefix("psmax: ").splitlines()
         text = fault[0] if fault else ""
         if status == 2 and told.startswith(b"psmax: "):
-            raise BadInput(f"{called or self.name}: {text}")
+            raise BadInput(f"{self.name}: {text}")
         if status < 0:
             raise Failed(f"psmax {words[0]} was ended by signal {-status}")
         if status == 1 and text == "out of memory":

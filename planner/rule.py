@@ -8,6 +8,7 @@ that start after them are placed again.
 
 What comes out is a proposal: psmax judges it."""
 import random
+from collections.abc import Mapping
 
 from .clock import Clock
 from .errors import TimeUp
@@ -39,6 +40,16 @@ class Rule:
         luck = [self.random.random() * max(chance, 1e-6) for _ in self.project.durations]
         return Pass(self, last, luck).schedule(clock)
 
+    def in_order(self, old: Mapping[int, int], floors: Mapping[int, int], clock: Clock) -> list[int] | None:
+        """A schedule by one pass in the order of old starts, and by the lags alone where an activity has none. None
+        starts before its floor."""
+        order = [float(old.get(activity, self.lags[0][activity])) for activity in range(len(self.lags))]
+        one = Pass(self, self.horizon + max(old.values(), default=0), order, by_latest=False)
+        for activity, floor in floors.items():
+            one.raise_floor(activity, floor)
+        one.renew()
+        return one.schedule(clock) if one.is_open() else None
+
 
 def horizon(project: Project) -> int:
     """Where a project has a schedule, it has one that ends by then: each activity waits for the one before."""
@@ -56,9 +67,10 @@ def precedes(lags: Matrix, i: int, j: int) -> bool:
 class Pass:
     """One schedule in the making."""
 
-    def __init__(self, rule: Rule, last: int, luck: list[float]) -> None:
+    def __init__(self, rule: Rule, last: int, luck: list[float], by_latest: bool = True) -> None:
         self.project, self.lags, self.before = rule.project, rule.lags, rule.before
         self.luck = luck
+        self.by_latest = by_latest
         end = self.project.end
         self.floor = list(self.lags[0])  # the least start, by the lags and by what was learned
         self.roof = [min(-row[0], last - row[end]) for row in self.lags]
@@ -80,9 +92,10 @@ class Pass:
         return [self.starts[activity] for activity in range(len(self.luck))]
 
     def choose(self) -> int:
-        """Of the activities whose predecessors are placed, the one of least latest start and luck."""
+        """Of the activities whose predecessors are placed, the one of least luck, with the latest start where that counts."""
         waiting = [j for j in range(len(self.luck)) if j not in self.starts and self.before[j] <= self.starts.keys()]
-        return min(waiting, key=lambda j: self.latest[j] + self.luck[j])
+        ranks = [(self.luck[j] + (self.latest[j] if self.by_latest else 0.0), j) for j in waiting]
+        return min(ranks)[1]
 
     def renew(self) -> None:
         """The use, the earliest and the latest starts that follow from the activities placed so far."""
@@ -117,6 +130,10 @@ class Pass:
         first = min(self.starts[i] for i in moved)
         self.starts = {i: start for i, start in self.starts.items() if start <= first and i not in moved}
         self.renew()
+        return self.is_open()
+
+    def is_open(self) -> bool:
+        """Whether each activity has a start between its floor and its roof."""
         return all(low <= high for low, high in zip(self.floor, self.roof))
 
     def raise_floor(self, activity: int, least: float) -> None:

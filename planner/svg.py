@@ -2,7 +2,8 @@
 from html import escape
 
 from . import drawing
-from .drawing import Bar, Drawing, Load, Stretch
+from .drawing import Bar, Drawing, Load
+from .window import Stretch
 
 ROW = 20  # pixels of an activity's row
 LOAD = 44  # pixels of a resource's row
@@ -12,7 +13,7 @@ LETTER = 7  # pixels of a letter, about
 MARKS = 12  # about so many numbers on the ruler
 
 STYLE = """text { font: 12px sans-serif; fill: #222 } .title { font-weight: bold } .time { fill: #666 }
-.bar { fill: #3a7ca5 } .point { fill: #c0392b } .use { fill: #9bb8a0 } .over { fill: #c0392b }
+.bar { fill: #3a7ca5 } .critical { fill: #d9822b } .float { fill: #b8cfdd } .point { fill: #c0392b } .use { fill: #9bb8a0 } .over { fill: #c0392b }
 .grid { stroke: #ddd } .most { stroke: #555; stroke-dasharray: 4 3 }"""
 
 
@@ -35,6 +36,12 @@ class Sheet:
 
     def words(self, x: float, y: float, text: str, kind: str = "") -> None:
         self.add(f'<text x="{x}" y="{y}"' + (f' class="{kind}"' if kind else "") + f">{escape(text)}</text>")
+
+    def tip(self, bar: Bar, name: str) -> str:
+        """When it runs, as it is told where the pointer rests."""
+        if self.shown.calendar is None:
+            return f"{name}: {bar.begins} to {bar.ends}"
+        return f"{name}: {' to '.join(self.shown.calendar.times(bar.begins, bar.ends))}"
 
     def box(self, begins: int, ends: int, y: float, height: float, kind: str, tip: str) -> None:
         width = round(max(self.x(ends) - self.x(begins), 1.5), 2)
@@ -59,16 +66,23 @@ def draw(shown: Drawing) -> str:
 
 def ruler(sheet: Sheet) -> None:
     step = drawing.round_step((sheet.shown.ends - sheet.shown.begins) / MARKS)
-    for time in range(-(-sheet.shown.begins // step) * step, sheet.shown.ends + 1, step):
+    first = -(-sheet.shown.begins // step) * step
+    for time in range(first, sheet.shown.ends + 1, step):
         x = sheet.x(time)
         sheet.add(f'<line x1="{x}" y1="{TOP - 8}" x2="{x}" y2="{sheet.bottom}" class="grid"/>')
-        sheet.words(x, TOP - 12, f"{time}", "time")
+        sheet.words(x, TOP - 12, sheet.shown.mark(time, time == first), "time")
 
 
 def bar_row(sheet: Sheet, bar: Bar, y: float) -> None:
+    """A bar, thin where it may run too, and of another colour where it is critical."""
     sheet.words(16, y + 14, f"{bar.activity} {bar.name}".rstrip())
-    tip = f"{bar.activity} {bar.name}: {bar.begins} to {bar.ends}"
-    sheet.box(bar.begins, bar.ends, y + 3, ROW - 6, "bar" if bar.ends > bar.begins else "point", tip)
+    name = f"{bar.activity} {bar.name}".rstrip()
+    if bar.window is not None and bar.window.float:
+        earliest, latest = bar.window.earliest, bar.window.latest
+        tip = f"{name}: may start from {earliest} to {latest}"
+        sheet.box(earliest, latest + bar.ends - bar.begins, y + 8, ROW - 16, "float", tip)
+    kind = "critical" if bar.window is not None and not bar.window.float else "bar"
+    sheet.box(bar.begins, bar.ends, y + 3, ROW - 6, kind if bar.ends > bar.begins else "point", sheet.tip(bar, name))
 
 
 def load_row(sheet: Sheet, load: Load, y: float) -> None:

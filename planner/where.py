@@ -1,15 +1,14 @@
 """`plan where`: the line, the column and the activity of a fault that psmax finds in a project text."""
 import re
 
-from . import names
 from .clock import Clock
 from .errors import BadInput
-from .files import LARGEST, read_bytes
-from .gantt import SECONDS
+from .files import LARGEST
 from .layout import Place, Word, layout, words
 from .letters import short
 from .names import Names
-from .psmax import Psmax
+from .opened import open_project
+from .psmax import SECONDS, Psmax
 
 NUMBER = re.compile(rb"-?[0-9]{1,9}")
 ROW_FAULTS = {  # the end of psmax's text, and the kinds of place that it is about
@@ -21,12 +20,12 @@ ROW_FAULTS = {  # the end of psmax's text, and the kinds of place that it is abo
 
 
 def where(path: str) -> int:
-    data = read_bytes(path)
+    opened = open_project(path)
     try:
-        Psmax(Clock(SECONDS), path).earliest(data)
+        Psmax(Clock(SECONDS), path).earliest(opened.text)
     except BadInput as fault:
         text = str(fault).removeprefix(f"{path}: ")
-        print(f"{path}: {text}", *details(data, text, names.beside(path)), sep="\n")
+        print(f"{path}: {text}", *details(opened.text, text, opened.names), sep="\n")
         return 2
     print(f"{path}: psmax reads it whole")
     return 0

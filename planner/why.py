@@ -1,44 +1,43 @@
 """`plan why`: why a project has no schedule. Every cause is confirmed by psmax on a smaller project."""
-from . import names
-from .answer import lag_in_words
+from dataclasses import replace
+
 from .clock import Clock, tell
 from .errors import TimeUp
-from .files import read_bytes
 from .lags import positive_cycle
-from .names import Names
+from .opened import ProjectFile, open_project
 from .project import Arc, Project, alone, lags_only, parse, too_needy, without
 from .psmax import Psmax, Solved, starts_text
+from .wording import Words
 
 FIRST_NODES = 200_000  # for the project as it stands
-NODES = 50_000  # for the project without one of its lags
+NODES = 50_000  # for the project with one of its lags taken out or longer
+MOST_CIRCLES = 10
 
 
 class Causes:
-    def __init__(self, text: bytes, psmax: Psmax, called: Names) -> None:
-        self.text = text
+    def __init__(self, opened: ProjectFile, psmax: Psmax) -> None:
+        self.cycle = psmax.earliest(opened.text).cycle
+        self.text = opened.text
+        self.project = parse(opened.text)
+        self.words = Words(self.project, opened.names)
         self.psmax = psmax
-        self.called = called
-        self.project: Project | None = None
 
     def tell_all(self) -> int:
         """Prints why there is no schedule; the exit status is 3 where psmax can't say whether there is one."""
-        cycle = self.psmax.earliest(self.text).cycle
-        project = parse(self.text)
-        self.called = self.called.with_dummies(project.end)
-        needy = [i for i in too_needy(project) if self.psmax.solve(alone(project, i).text(), 1).none]
-        if cycle is None and not needy:
+        needy = [i for i in too_needy(self.project) if self.psmax.solve(alone(self.project, i).text(), 1).none]
+        if self.cycle is None and not needy:
             answer = self.psmax.solve(self.text, FIRST_NODES)
             if not answer.none:
                 return self.not_proved(answer)
         print("There is no schedule.")
         for activity in needy:
-            print(f"Activity {self.called.activity(activity)} needs {self.needs(project, activity)}.")
-        if cycle is not None:
-            self.contradiction(project, cycle)
+            print(f"Activity {self.words.needs(activity)}.")
+        if self.cycle is not None:
+            self.contradictions()
         elif not needy:
             print("The lags alone can be kept, and each activity alone has what it needs; both together can't be.")
         if not needy:
-            self.lags_that_open(project)
+            self.lags_that_open()
         return 0
 
     def not_proved(self, answer: Solved) -> int:
@@ -49,31 +48,28 @@ class Causes:
         print(f"Not known: psmax found neither a schedule nor that there is none, with solve --nodes {FIRST_NODES}.")
         return 3
 
-    def contradiction(self, project: Project, most: int) -> None:
-        """The lags around a positive cycle among the activities 0 to `most`, once psmax finds it positive by itself."""
-        inside = [arc for arc in project.rules() if arc.tail <= most and arc.head <= most]
-        cycle = [Arc(*arc) for arc in positive_cycle([tuple(arc) for arc in inside], len(project.durations))]
-        if not cycle or self.psmax.earliest(lags_only(project, cycle).text()).cycle is None:
-            print(f"Some lags among the activities 0 to {most} contradict each other.")
-            return
-        print("These lags contradict each other:")
-        for arc in cycle:
-            print(f"  {lag_in_words(*arc, self.called)}")
-        print(f"  Around that circle they add up to {sum(arc.lag for arc in cycle)}, and at most 0 can be kept.")
+    def contradictions(self) -> None:
+        """The lags around each positive cycle, once psmax finds it positive by itself."""
+        arcs = self.project.rules()
+        for _ in range(MOST_CIRCLES):
+            circle = [Arc(*arc) for arc in positive_cycle([(*arc,) for arc in arcs], len(self.project.durations))]
+            if not circle or self.psmax.earliest(lags_only(self.project, circle).text()).cycle is None:
+                return
+            print("These lags contradict each other:")
+            for arc in circle:
+                print(f"  {self.words.lag(arc)}")
+            over = sum(arc.lag for arc in circle)
+            print(f"  Around that circle they add up to {over}, and at most 0 can be kept: of what is at most, something "
+                  f"must be {over} more, or of what is at least {over} less.")
+            arcs.remove(min((arc for arc in circle if arc in self.project.arcs), key=lambda arc: arc.lag))
 
-    def needs(self, project: Project, activity: int) -> str:
-        """What this activity needs more of than there is."""
-        pairs = enumerate(zip(project.demands[activity], project.capacities))
-        return ", ".join(f"{need} of {self.called.resource(k)}, of which there are {units}"
-                         for k, (need, units) in pairs if need > units)
-
-    def lags_that_open(self, project: Project) -> None:
+    def lags_that_open(self) -> None:
         """Takes out each greatest lag alone, and tells with which of them gone there is a schedule."""
-        places = [place for place, arc in enumerate(project.arcs) if arc.lag <= 0 and arc.tail != arc.head]
+        places = [place for place, arc in enumerate(self.project.arcs) if arc.lag <= 0 and arc.tail != arc.head]
         opening, open_ones = 0, 0
         for done, place in enumerate(places):
             try:
-                answer = self.without_lag(without(project, place), project.arcs[place])
+                answer = self.without_lag(place)
             except TimeUp:
                 print(f"The time was over before {len(places) - done} of {len(places)} greatest lags were tried.")
                 return
@@ -84,31 +80,51 @@ class Causes:
         if not opening and not open_ones:
             print("No greatest lag, taken out alone, opens a schedule." if places else "There are no greatest lags.")
 
-    def without_lag(self, opened: Project, arc: Arc) -> bool | None:
+    def without_lag(self, place: int) -> bool | None:
         """Whether the project without this lag has a schedule; none where that is not known."""
-        answer = self.psmax.solve(opened.text(), NODES)
-        if answer.starts is None:
-            return False if answer.none else None
-        judged = self.psmax.check(opened.text(), starts_text(answer.starts))
-        if judged.makespan is None:
-            return None
-        print(f"Without this lag there is a schedule of {judged.makespan}: {greatest(arc, self.called)}.")
+        arc = self.project.arcs[place]
+        found = self.schedule(without(self.project, place))
+        if not isinstance(found, tuple):
+            return found
+        print(f"Without this lag there is a schedule of {found[-1]}: {self.words.greatest(arc)}.")
+        least, is_least = self.least_enough(place, found)
+        also = "less is not" if is_least else "whether less is, is not known"
+        print(f"  At most {self.words.distance(least, arc.head)} is enough in its place; {also}.")
         return True
 
+    def schedule(self, project: Project) -> tuple[int, ...] | bool | None:
+        """A schedule of the project that `check` finds feasible; False where there is none, None where that is not known."""
+        answer = self.psmax.solve(project.text(), NODES)
+        if answer.starts is None:
+            return False if answer.none else None
+        return answer.starts if self.psmax.check(project.text(), starts_text(answer.starts)).makespan is not None else None
 
-def greatest(arc: Arc, called: Names) -> str:
-    """A lag that is at most 0, as the greatest lag that it is."""
-    return f"{called.activity(arc.tail)} starts at most {-arc.lag} after {called.activity(arc.head)} starts"
+    def least_enough(self, place: int, found: tuple[int, ...]) -> tuple[int, bool]:
+        """How long a greatest lag must be at least, and whether less is known to be too little: halves what lies between
+        the lag that is there and what a schedule without it needs."""
+        arc = self.project.arcs[place]
+        too_little, enough = -arc.lag, found[arc.tail] - found[arc.head]
+        while enough - too_little > 1:
+            middle = (too_little + enough) // 2
+            arcs = [*self.project.arcs]
+            arcs[place] = arc._replace(lag=-middle)
+            shorter = self.schedule(replace(self.project, arcs=tuple(arcs)))
+            if shorter is None:
+                return enough, False
+            if isinstance(shorter, tuple):
+                enough = shorter[arc.tail] - shorter[arc.head]
+            else:
+                too_little = middle
+        return enough, True
 
 
 def why(path: str, seconds: float) -> int:
+    opened = open_project(path)
     clock = Clock(seconds)
-    text = read_bytes(path)
-    causes = Causes(text, Psmax(clock, path), names.beside(path))
     clock.listen()
     try:
-        return causes.tell_all()
+        return Causes(opened, Psmax(clock, path)).tell_all()
     except TimeUp:
-        tell(clock, "stopped" if clock.stopped else f"the {seconds:g} seconds are over")
+        tell(clock, clock.why_over())
         print("Not known: the time was over before psmax could say whether there is a schedule.")
         return 3

@@ -8,8 +8,10 @@ import subprocess
 import sys
 import tempfile
 import unittest
+from typing import IO
 from unittest import mock
 
+from planner.clock import ENDS
 from planner.main import main
 
 TOP = pathlib.Path(__file__).resolve().parents[2]
@@ -29,7 +31,7 @@ Ran = subprocess.CompletedProcess[str]
 def plan(*words: object, given: bytes = b"", psmax: str = PSMAX) -> Ran:
     """A run of the command, in this process, since a hundred starts of Python take long."""
     source, out, told = (io.TextIOWrapper(io.BytesIO(data), "utf-8") for data in (given, b"", b""))
-    handlers = {number: signal.getsignal(number) for number in (signal.SIGINT, signal.SIGTERM)}
+    handlers = {number: signal.getsignal(number) for number in ENDS}
     with (mock.patch("sys.stdin", source), mock.patch("sys.stdout", out), mock.patch("sys.stderr", told),
           mock.patch.dict(os.environ, {"PSMAX": psmax})):
         try:
@@ -44,11 +46,16 @@ def plan(*words: object, given: bytes = b"", psmax: str = PSMAX) -> Ran:
     return Ran(words, status, out.buffer.getvalue().decode(), told.buffer.getvalue().decode())
 
 
-def started(*words: object, **more: object) -> subprocess.Popen[str]:
-    """The command as a process of its own."""
-    environment = {**os.environ, "PSMAX": PSMAX}
-    return subprocess.Popen([sys.executable, PLAN, *map(str, words)], text=True, env=environment,
-                            **{"stdout": subprocess.PIPE, "stderr": subprocess.PIPE, **more})
+def started(*words: object, out: int | IO[bytes] = subprocess.PIPE) -> subprocess.Popen[str]:
+    """The command as a process of its own, which every signal ends, however the tests were started."""
+    path = f"{pathlib.Path(sys.executable).parent}:{os.environ['PATH']}"  # on which the Python of the tests is found first
+    return subprocess.Popen([PLAN, *map(str, words)], text=True, env={**os.environ, "PSMAX": PSMAX, "PATH": path},
+                            stdout=out, stderr=subprocess.PIPE, preexec_fn=end_at_once)
+
+
+def end_at_once() -> None:
+    for number in ENDS:
+        signal.signal(number, signal.SIG_DFL)
 
 
 def told_until(child: subprocess.Popen[str], text: str) -> str:
@@ -80,11 +87,12 @@ class InFolder(unittest.TestCase):
         path.write_bytes(content.encode() if isinstance(content, str) else content)
         return path
 
-    def refused(self, ran: Ran, status: int, *texts: str) -> None:
-        """One clear line on standard error, and nothing else."""
+    def refused(self, ran: Ran, status: int, *texts: str, faults: int = 1) -> None:
+        """One clear line on standard error for each fault, and nothing else."""
         self.assertEqual(ran.returncode, status, ran.stderr)
         self.assertEqual(ran.stdout, "")
-        self.assertEqual(len(ran.stderr.splitlines()), 1, ran.stderr)
-        self.assertTrue(ran.stderr.startswith("plan: "), ran.stderr)
+        self.assertEqual(len(ran.stderr.splitlines()), faults, ran.stderr)
+        for line in ran.stderr.splitlines():
+            self.assertTrue(line.startswith("plan: "), ran.stderr)
         for text in texts:
             self.assertIn(text, ran.stderr)

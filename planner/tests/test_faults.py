@@ -83,16 +83,6 @@ class Faults(InFolder):
                 self.assertEqual((ran.returncode, ran.stderr), (status, text))
                 self.assertEqual(ran.stdout != "", status == 0)
 
-    def test_files_that_would_be_lost(self) -> None:
-        project = self.file("p.sch", SITE.read_bytes())
-        (self.folder / "link").symlink_to(project)
-        for name in ("p.sch", "link", "./p.sch"):
-            self.refused(plan("solve", project, "--out", f"{self.folder}/{name}"), 2, "is the project")
-            self.refused(plan("solve", project, "--svg", f"{self.folder}/{name}"), 2, "is the project")
-        both = self.folder / "both"
-        self.refused(plan("solve", project, "--out", both, "--svg", both), 2, "both the schedule and the chart")
-        self.assertEqual(project.read_bytes(), SITE.read_bytes())
-
     def test_a_folder_that_vanishes(self) -> None:
         """The schedule that can't be written any more goes to standard output."""
         folder = self.folder / "gone"
@@ -100,7 +90,7 @@ class Faults(InFolder):
         with started("solve", PROJECTS / "assay-lab.sch", "--out", folder / "best") as child:
             assert child.stdout is not None and child.stderr is not None
             told_until(child, "by check")
-            folder.rmdir()
+            shutil.rmtree(folder)
             child.send_signal(signal.SIGINT)
             told = child.stderr.read()
             out = child.stdout.read()
@@ -126,7 +116,7 @@ class Faults(InFolder):
     def test_output_that_nobody_reads(self) -> None:
         for target, status in ((os.devnull, 0), ("/dev/full", 1)):
             with open(target, "wb") as out:
-                with started("solve", SITE, stdout=out) as child:
+                with started("solve", SITE, out=out) as child:
                     told = child.communicate()[1]
             self.assertEqual(child.returncode, status)
             self.assertNotIn("Traceback", told)

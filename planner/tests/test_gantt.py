@@ -47,10 +47,11 @@ class Charts(InFolder):
         """By hand: from 2 to 3 both jobs are on the machine, and 3 starts less than 3 after 1 when it starts at 2."""
         text = self.drawn(INPUTS / "two-jobs.sch", "0 0\n1 0\n2 2\n3 6\n")
         self.assertIn("check: not feasible", text)
-        self.assertIn("overload 2 0 2: at 2, 2 units of resource 0 are in use", text)
+        self.assertIn("at 2, 2 units of resource 0 are in use, of which there is 1: 1, 2", text)
         self.assertIn("11!111", text)
         at_once = "".join(f"{activity} 0\n" for activity in range(15))
-        self.assertIn("2 (excavate) starts", self.drawn(EXAMPLES / "building-site.sch", at_once))
+        wanted = "2 (excavate) must start at least 2 after 1 (survey and set out) starts (0 after it ends), and starts 0 after"
+        self.assertIn(wanted, self.drawn(EXAMPLES / "building-site.sch", at_once))
 
     def test_odd_starts(self) -> None:
         for starts in ("0 0\n1 0\n2 9999999999\n3 9999999999\n", "0 -50\n1 -9999999999\n2 4\n3 0\n",
@@ -106,11 +107,13 @@ class Charts(InFolder):
     def test_faults(self) -> None:
         odd = '{"bound":7,"makespan":7,"starts":%s,"status":"optimal"}'
         for given, text in (("hello\n", "line 1: not an activity and a start"), ('{"bound":7}\n', "line 1"),
-                            ("{" * 100_000, "line 1"), (odd % "[0,4,0]", "activity 3: no start"),
-                            (odd % "[0,4,0,7,7]", "line 6: no such activity"), (odd % "[0,4,0,true]", "line 1"),
+                            ("{" * 100_000, "line 1"), (odd % "[0,4,0]", "starts of 1 activities, and"),
+                            (odd % "[0,4,0,7,7]", "starts of 3 activities"), (odd % "[0,4,0,true]", "line 1"),
                             (odd % '"0 4"', "line 1"), (odd % ("[" + "9" * 5000 + "]"), "line 1"),
                             (odd.replace("optimal", "best") % "[0,4,0,7]", "line 1"), ("[1]", "line 1"),
-                            ("0 0\n4 0\n", "line 2: no such activity"), ("0 0\n1 0\n2 3\n", "activity 3: no start")):
+                            ("0 0\n0 0\n", "line 2: repeated"), ("0 0\n2 0\n3 7\n", "no start for activity 1"),
+                            ("0 0\n1 0\n2 3\n3 7\n5 0\n", "activity 5 is no activity"),
+                            ("0 0\n1 0\n2 3\n", "starts of 1 activities, and")):
             with self.subTest(given):
                 self.refused(plan("gantt", INPUTS / "two-jobs.sch", given=given.encode()), 2, "standard input", text)
 

@@ -72,8 +72,11 @@ class Tables(InFolder):
     def test_the_table_is_not_lost(self) -> None:
         table = self.file("site.csv", TABLE)
         (self.folder / "link.sch").symlink_to(table)
-        for out in (str(table), f"{self.folder}/../{self.folder.name}/site.csv", f"{self.folder}/link.sch", "", ".",
-                    f"{self.folder}/site.md"):
+        os.link(table, self.folder / "hard.sch")
+        for out in (str(table), f"{self.folder}/../{self.folder.name}/site.csv", "link.sch", "hard.sch"):
+            with self.subTest(out):
+                self.refused(plan("read", table, "--out", self.folder / out), 2, "is the table, which would be lost")
+        for out in ("", ".", f"{self.folder}/site.md"):
             with self.subTest(out):
                 self.refused(plan("read", table, "--out", out), 2, "can't be written")
         self.assertEqual(table.read_text(), TABLE)

@@ -1,14 +1,13 @@
 import io
 import pathlib
 import re
-import signal
 import time
 from unittest import mock
 
-from planner.clock import Clock
-from planner.names import Names
+from planner.clock import ENDS, Clock
+from planner.known import Known
 from planner.psmax import Psmax
-from planner.solve import Search
+from planner.search import Search
 
 from .helpers import EXAMPLES, INPUTS, PROJECTS, PSMAX, TWO_JOBS, InFolder, plan, psmax, started, told_until
 
@@ -87,19 +86,10 @@ class Starts(InFolder):
                 self.assertEqual((ran.returncode, ran.stdout), (0, "optimal 7\n0 0\n1 0\n2 3\n3 7\n"), ran.stderr)
                 self.assertIn(f"7 by check: {starts}\n", ran.stderr)
 
-    def test_it_is_not_lost(self) -> None:
-        """What is known at the end is at least as short, however little time there was, and may go where it came from."""
-        best = self.folder / "best"
-        best.write_text(psmax("solve", "--nodes", "1000", given=HARD.read_bytes()))
-        most = int(best.read_text().split()[1])
-        ran = plan("solve", HARD, "--start", best, "--out", best, "--seconds", "0.5")
-        self.assertEqual(ran.returncode, 3, ran.stderr)
-        told = psmax("check", "--project", HARD, given=best.read_bytes())
-        self.assertLessEqual(int(told.split()[1]), most)
-
     def test_what_is_no_schedule(self) -> None:
         path = INPUTS / "two-jobs.sch"
-        for given, text in (("0 0\n1 0\n2 2\n3 6\n", "not a schedule: overload 2 0 2"), ("0 0\n", "activity 1: no start"),
+        for given, text in (("0 0\n1 0\n2 2\n3 6\n", "not a schedule: at 2, 2 units of resource 0"),
+                            ("0 0\n2 0\n3 7\n", "no start for activity 1"),
                             ("hello\n", "line 1: not an activity"), ("no schedule\n", "no schedule"), ("", "empty"),
                             ("optimal 7\n", "no starts below it")):
             with self.subTest(given):
@@ -110,7 +100,7 @@ class Starts(InFolder):
 
     def search(self, text: bytes, workers: int, program: str = PSMAX) -> Search:
         """A search that knows a schedule, found in 100 nodes."""
-        search = Search(text, Psmax(Clock(60), "a project", program), Names(), workers)
+        search = Search(text, Known(Psmax(Clock(60), "a project", program), text), workers)
         search.from_best(100)  # nothing to begin with, so nothing is asked
         search.plain(100)
         return search
@@ -199,7 +189,7 @@ class Progress(InFolder):
         self.held(out, HARD, told)
 
     def test_interrupt(self) -> None:
-        for sent in (signal.SIGINT, signal.SIGTERM):
+        for sent in ENDS:
             with self.subTest(sent), started("solve", HARD) as child:
                 assert child.stdout is not None and child.stderr is not None
                 told = told_until(child, "by check")

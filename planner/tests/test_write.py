@@ -30,8 +30,8 @@ class Write(InFolder):
     def test_what_is_no_schedule_is_refused(self) -> None:
         out = self.folder / "plan.csv"
         ran = plan("write", EXAMPLES / "building-site.sch", EXAMPLES / "building-site-infeasible.starts", "--out", out)
-        self.refused(ran, 2, "lag 13 12 -20 is not kept", "2 more",
-                     "13 (strike the scaffold) starts at most 20 after 12 (erect the scaffold) starts")
+        self.refused(ran, 2, "not a schedule: 13 (strike the scaffold) must start at most 20 after 12 (erect the scaffold) "
+                     "starts (18 after it ends), and starts 23 after", "2 units of Excavator are in use", faults=3)
         self.assertFalse(out.exists())
         self.refused(plan("write", INPUTS / "two-jobs.sch", given=b"no schedule\n"), 2, "no schedule")
 

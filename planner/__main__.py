@@ -1,0 +1,4 @@
+"""`python -m planner` is `plan`."""
+from .main import run
+
+run()

@@ -1,0 +1,66 @@
+"""`plan compare`: what has moved from one schedule to another."""
+from . import dates
+from .answer import same_names
+from .dates import Calendar, Wanted
+from .errors import BadInput
+from .files import read_bytes
+from .given import Given, read_answer
+from .names import Names, read_page
+from .opened import ProjectFile
+
+
+def compare(old: str, new: str, wanted: Wanted, page: str | None) -> int:
+    names = read_page(read_bytes(page)) if page is not None else Names()
+    calendar = dates.chosen(wanted, ProjectFile(old, b"", names, page or old))
+    was, now = read_answer(old), read_answer(new)
+    for given in (was, now):
+        if given.instead:
+            raise BadInput(f"{given.called}: {given.instead}")
+    print(*differences(Side(was, names), Side(now, names), calendar), sep="\n")
+    return 0
+
+
+class Side:
+    """The starts of one schedule by the numbers of its activities, with names from itself or else from the page."""
+
+    def __init__(self, given: Given, page: Names) -> None:
+        last = max(given.starts, default=0)
+        self.starts = {i: start for i, start in given.starts.items() if given.is_table or 0 < i < last}
+        self.makespan = max(given.ends.values(), default=0) if given.is_table else given.starts.get(last, 0)
+        self.names = {i: (given.names or page.activities).get(i, "") for i in self.starts}
+
+    def called(self, number: int) -> str:
+        return self.names[number] or f"activity {number}"
+
+
+def same_activities(was: Side, now: Side) -> dict[int, int]:
+    """Which activity of the new schedule each one of the old is: by name, or by number where one side has no names."""
+    if any(was.names.values()) and any(now.names.values()):
+        return same_names(was.names, now.names)
+    if was.starts.keys() != now.starts.keys():
+        raise BadInput(f"{len(was.starts)} activities and {len(now.starts)}; without names nobody can say which are the same")
+    return {i: i for i in was.starts}
+
+
+def differences(was: Side, now: Side, calendar: Calendar | None) -> list[str]:
+    """What moved, what is new and what is gone, each in the order of the starts."""
+    pairs = same_activities(was, now)
+    moved = [(now.called(pairs[i]), was.starts[i], now.starts[pairs[i]]) for i in pairs if was.starts[i] != now.starts[pairs[i]]]
+    new = [(now.called(i), start) for i, start in now.starts.items() if i not in pairs.values()]
+    gone = [(was.called(i), start) for i, start in was.starts.items() if i not in pairs]
+    wide = max([len(name) for name, *_ in moved] + [len(name) for name, _ in new + gone] + [0])
+    told = [f"makespan {was.makespan} -> {now.makespan}{late(now.makespan - was.makespan)}"]
+    for name, before, after in sorted(moved, key=lambda row: row[2]):
+        told.append(f"  {name:{wide}}  {when(before, calendar)} -> {when(after, calendar)}{late(after - before)}")
+    told += [f"  {name:{wide}}  new, at {when(start, calendar)}" for name, start in new]
+    told += [f"  {name:{wide}}  gone, was at {when(start, calendar)}" for name, start in gone]
+    return [*told, f"{len(pairs) - len(moved)} of {len(now.starts)} start as before"]
+
+
+def when(time: int, calendar: Calendar | None) -> str:
+    return calendar.times(time, time + 1)[0] if calendar else f"{time}"
+
+
+def late(periods: int) -> str:
+    """How much later, in words; empty where it is the same."""
+    return f", {periods} later" if periods > 0 else f", {-periods} earlier" if periods < 0 else ""

@@ -1,0 +1,73 @@
+"""The file that `plan solve --out` keeps: it gets each shorter schedule, and never a longer one of the same project."""
+import json
+import os
+
+from .answer import Answer, feasible
+from .clock import Clock, tell
+from .csv_text import write_sheet
+from .errors import BadInput, Failed
+from .files import read_bytes, write_whole
+from .given import answer_of
+from .known import Known
+from .opened import ProjectFile
+from .project import parse
+from .psmax import SECONDS, Psmax
+from .write import rows
+
+
+class Kept:
+    def __init__(self, path: str, opened: ProjectFile) -> None:
+        self.path = path
+        self.opened = opened
+        self.written: bytes | None = None  # what it holds, as far as is known
+        self.there: Answer | None = None  # the schedule of this project that another has put there
+
+    def look(self) -> Answer | None:
+        """The schedule that the file holds, where it holds one of this project; psmax finds it feasible."""
+        data = read_bytes(self.path) if os.path.isfile(self.path) else None
+        if data is not None and data != self.written:
+            try:
+                self.there = feasible(self.opened, answer_of(data, self.path), Psmax(Clock(SECONDS), self.opened.path))
+            except BadInput:
+                self.there = None
+        self.written = data
+        return self.there if data is not None else None
+
+    def put(self, known: Known) -> bool:
+        """Writes the best schedule, unless another one has put a shorter one there meanwhile. Says whether it is there."""
+        if known.starts is None:
+            return False
+        there = self.look()
+        if there is not None and there.starts[-1] < known.starts[-1]:
+            tell(known.psmax.clock, f"{self.path} holds a schedule of {there.starts[-1]} by now, which stays")
+            return False
+        data = answer_text(known, self.opened, self.path.lower().endswith(".csv"))
+        if data != self.written:
+            write_whole(self.path, data)
+        self.written, self.there = data, None
+        return True
+
+    def put_if_possible(self, known: Known) -> None:
+        """The same while the search goes on; where it fails, that is told, and is tried again at the end."""
+        try:
+            self.put(known)
+        except Failed as fault:
+            tell(known.psmax.clock, f"{fault}")
+
+
+def answer_text(known: Known, opened: ProjectFile, as_table: bool) -> bytes:
+    """What is known, with the names of the activities: as a table, or in the lines of psmax, the first of which, which
+    psmax passes over, has the names."""
+    if as_table and known.starts is not None:
+        answer = Answer(parse(opened.text), known.starts, "", known.makespan, ())
+        return write_sheet(rows(answer, opened.names, None)).encode()
+    names = names_of(opened)
+    first, _, rest = known.answer().decode().partition("\n")
+    told = f" {json.dumps({'names': names}, ensure_ascii=False)}" if names else ""
+    return f"{first}{told}\n{rest}".encode()
+
+
+def names_of(opened: ProjectFile) -> list[str]:
+    """The names of the activities in their order, empty where one has none; an empty list where all have none."""
+    names = [opened.names.activities.get(number, "") for number in range(1, parse(opened.text).end)]
+    return names if any(names) else []

@@ -1,0 +1,150 @@
+"""No output replaces what was read, and no result is lost."""
+import os
+import shutil
+import signal
+import subprocess
+import sys
+import time
+
+from planner.clock import ENDS
+
+from .helpers import EXAMPLES, INPUTS, PLAN, PROJECTS, PSMAX, TWO_JOBS, InFolder, plan, psmax, started, told_until
+
+HARD = PROJECTS / "assay-lab.sch"
+TABLE = "activity,days,crane (1)\na,3,1\nb,4,1\n"
+STARTS = "0 0\n1 0\n2 3\n3 7\n"
+
+
+class Inputs(InFolder):
+    """A project `w.sch` of two jobs with its table, its page and its answers."""
+
+    def setUp(self) -> None:
+        super().setUp()
+        self.assertEqual(plan("read", self.file("w.csv", TABLE)).returncode, 0)
+        self.file("w.st", STARTS)
+        self.file("free", "2026-12-25\n")
+        self.file("other.md", "| 1 | one | 3 |\n")
+        os.link(self.folder / "w.sch", self.folder / "hard")
+        (self.folder / "soft").symlink_to(self.folder / "w.sch")
+        (self.folder / "soft.csv").symlink_to(self.folder / "w.csv")
+        os.link(self.folder / "w.st", self.folder / "hard.st")
+        self.before = self.texts()
+
+    def texts(self) -> dict[str, bytes]:
+        return {path.name: path.read_bytes() for path in self.folder.iterdir()}
+
+    def spared(self, words: tuple[str, ...], name: str) -> None:
+        """The command refuses to write there, and everything stays as it was."""
+        at = [self.folder / word if (self.folder / word).exists() else word for word in words]
+        with self.subTest(words=words, name=name):
+            self.refused(plan(*at, f"{self.folder}/../{self.folder.name}/{name}"), 2, "which would be lost")
+            self.assertEqual(self.texts(), self.before)
+
+    def test_what_was_read_stays(self) -> None:
+        for name in ("w.sch", "w.csv", "w.md", "w.st", "hard", "soft", "soft.csv", "hard.st"):
+            self.spared(("write", "w.sch", "w.st", "--out"), name)
+            self.spared(("gantt", "w.sch", "w.st", "--svg"), name)
+            self.spared(("float", "w.sch", "w.st", "--out"), name)
+            self.spared(("solve", "w.sch", "--start", "w.st", "--out"), name)
+            self.spared(("solve", "w.sch", "--start", "w.st", "--svg"), name)
+        self.spared(("write", "w.sch", "w.st", "--names", "other.md", "--out"), "other.md")
+        self.spared(("write", "w.sch", "w.st", "--from", "2026-03-02", "--holidays", "free", "--out"), "free")
+        self.spared(("read", "w.sch", "--out"), "hard")
+        self.spared(("batch", str(self.folder), "--csv"), "w.sch")
+
+    def test_an_answer_on_standard_input(self) -> None:
+        with open(self.folder / "w.st", "rb") as answer:
+            words = [sys.executable, str(PLAN), "write", str(self.folder / "w.sch"), "--out", str(self.folder / "hard.st")]
+            ran = subprocess.run(words, stdin=answer, capture_output=True, text=True, env={**os.environ, "PSMAX": PSMAX})
+        self.assertEqual((ran.returncode, self.texts()), (2, self.before), ran.stderr)
+
+    def test_two_outputs(self) -> None:
+        both = self.folder / "both"
+        self.refused(plan("solve", self.folder / "w.sch", "--out", both, "--svg", both), 2, "can't hold two outputs")
+
+    def test_a_table_beside_the_project_may_be_an_answer(self) -> None:
+        """What `plan write` made beside a project that has no table it may make again."""
+        project, out = self.file("x.sch", TWO_JOBS), self.folder / "x.csv"
+        for _ in range(2):
+            self.assertEqual(plan("write", project, self.folder / "w.st", "--out", out).returncode, 0)
+        self.assertEqual(out.read_text().splitlines()[0], "activity,name,start,end")
+
+
+class Results(InFolder):
+    def test_written_each_time(self) -> None:
+        """The schedule is in the file once it is told, whole, also where the command is killed."""
+        best = self.folder / "best"
+        with started("solve", HARD, "--out", best) as child:
+            told_until(child, "by check")
+            time.sleep(0.2)
+            child.kill()
+        told = psmax("check", "--project", HARD, given=best.read_bytes())
+        self.assertEqual(told.split()[1], best.read_text().split()[1])
+
+    def test_never_longer(self) -> None:
+        """By hand: a schedule of 7 stays and is begun with; one of 9 gives way to one of 7."""
+        for end in (7, 9):
+            with self.subTest(end):
+                best = self.file("best", f"0 0\n1 0\n2 {end - 4}\n3 {end}\n")
+                ran = plan("solve", INPUTS / "two-jobs.sch", "--out", best)
+                self.assertEqual(ran.stdout, "optimal 7\n")
+                self.assertIn(f"{end} by check: {best}\n", ran.stderr)
+                self.assertIn("3 7", best.read_text())
+
+    def test_a_shorter_one_of_somebody_else(self) -> None:
+        """One search finds a schedule while another puts a shorter one into the same file; the file keeps that."""
+        short = psmax("solve", "--nodes", "20000", given=(PROJECTS / "twin-towers.sch").read_bytes())
+        best = self.folder / "best"
+        long = self.file("long", f"#!/bin/sh\ncase \"$1\" in solve) cat {self.file('short', short)} > {best};; esac\n"
+                         f"exec {PSMAX} \"$@\"\n")
+        long.chmod(0o755)
+        ran = plan("solve", PROJECTS / "twin-towers.sch", "--out", best, "--seconds", "0.4", psmax=str(long))
+        self.assertEqual(ran.returncode, 3, ran.stderr)
+        self.assertLessEqual(int(best.read_text().split()[1]), int(short.split()[1]))
+
+    def test_another_project(self) -> None:
+        """The answer of another project is no schedule of this one, and gives way."""
+        best = self.file("best", "optimal 2\n0 0\n1 2\n")
+        self.assertEqual(plan("solve", INPUTS / "two-jobs.sch", "--out", best).returncode, 0)
+        self.assertEqual(best.read_text().split()[:2], ["optimal", "7"])
+
+
+class Ends(InFolder):
+    """Ctrl-C, a request to end and a terminal that closes end every command alike."""
+
+    def test_at_any_moment(self) -> None:
+        for place in range(20):
+            with self.subTest(place), started("solve", HARD, "--seconds", "5") as child:
+                assert child.stdout is not None and child.stderr is not None
+                time.sleep(place / 200)
+                child.send_signal(ENDS[place % 3])
+                told = child.stderr.read()
+                self.assertNotIn("Traceback", told)
+                self.assertNotIn("Error", told)
+                self.assertIn(child.wait(timeout=10), (3, 130, *(-number for number in ENDS)))
+
+    def test_others(self) -> None:
+        """A command that waits for its answer ends without a word but one."""
+        begun = self.folder / "begun"
+        slow = self.file("slow", f"#!/bin/sh\n> {begun}\nexec sleep 30\n")
+        slow.chmod(0o755)
+        words = [sys.executable, str(PLAN), "gantt", str(INPUTS / "two-jobs.sch"), str(self.file("starts", STARTS))]
+        for sent in ENDS:
+            with self.subTest(sent):
+                child = subprocess.Popen(words, stderr=subprocess.PIPE, text=True, env={**os.environ, "PSMAX": str(slow)})
+                while not begun.exists():
+                    time.sleep(0.02)
+                begun.unlink()
+                child.send_signal(sent)
+                self.assertEqual((child.communicate(timeout=10)[1], child.returncode), ("plan: interrupted\n", 130))
+
+    def test_nohup(self) -> None:
+        """Where a closed terminal is ignored, the search goes on."""
+        words = ["nohup", sys.executable, str(PLAN), "solve", str(EXAMPLES / "building-site.sch")]
+        child = subprocess.Popen(words, stdout=subprocess.PIPE, stderr=subprocess.PIPE, text=True,
+                                 env={**os.environ, "PSMAX": PSMAX})
+        time.sleep(0.05)
+        child.send_signal(signal.SIGHUP) if shutil.which("nohup") else None
+        self.assertIn("optimal 36", child.communicate(timeout=30)[0])
+
+
