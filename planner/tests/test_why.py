@@ -18,7 +18,7 @@ class Why(InFolder):
 
     def test_needs_more_than_there_is(self) -> None:
         self.told(INPUTS / "one-job-too-big.sch", "There is no schedule.",
-                  "Activity 1 needs 2 of resource 0, of which there are 1")
+                  "Activity 1 needs 2 of resource 0, of which there is 1")
 
     def test_deadline_too_short(self) -> None:
         """By hand: two jobs of 3 and 4 on one machine take 7, which the deadline of 6 forbids."""
