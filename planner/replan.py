@@ -4,6 +4,7 @@ from dataclasses import dataclass, field, replace
 
 from . import dates
 from .answer import Answer, feasible, tie
+from .circles import circles, in_words
 from .dates import Calendar
 from .errors import BadInput
 from .given import Given
@@ -55,8 +56,10 @@ def from_frozen(opened: ProjectFile, given: Given, psmax: Psmax, day: str, calen
     schedules = []
     if not tied.new:
         schedules.append((tuple(tied.starts[i] for i in range(project.end + 1)), given.called))
-    text = replace(project, arcs=(*project.arcs, *arcs)).text()
-    return Beginning(text, schedules, Old(given.called, old), arcs, told)
+    limited = replace(project, arcs=(*project.arcs, *arcs))
+    for circle in circles(limited, psmax) if psmax.earliest(limited.text()).cycle is not None else ():
+        told += in_words(circle, words)
+    return Beginning(limited.text(), schedules, Old(given.called, old), arcs, told)
 
 
 def period_of(day: str, calendar: Calendar | None) -> int:

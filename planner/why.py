@@ -1,17 +1,16 @@
 """`plan why`: why a project has no schedule. Every cause is confirmed by psmax on a smaller project."""
 from dataclasses import replace
 
+from .circles import circles, in_words
 from .clock import Clock, tell
 from .errors import TimeUp
-from .lags import positive_cycle
 from .opened import ProjectFile, open_project
-from .project import Arc, Project, alone, lags_only, parse, too_needy, without
+from .project import Project, alone, parse, too_needy, without
 from .psmax import Psmax, Solved, starts_text
 from .wording import Words
 
 FIRST_NODES = 200_000  # for the project as it stands
 NODES = 50_000  # for the project with one of its lags taken out or longer
-MOST_CIRCLES = 10
 
 
 class Causes:
@@ -50,18 +49,8 @@ class Causes:
 
     def contradictions(self) -> None:
         """The lags around each positive cycle, once psmax finds it positive by itself."""
-        arcs = self.project.rules()
-        for _ in range(MOST_CIRCLES):
-            circle = [Arc(*arc) for arc in positive_cycle([(*arc,) for arc in arcs], len(self.project.durations))]
-            if not circle or self.psmax.earliest(lags_only(self.project, circle).text()).cycle is None:
-                return
-            print("These lags contradict each other:")
-            for arc in circle:
-                print(f"  {self.words.lag(arc)}")
-            over = sum(arc.lag for arc in circle)
-            print(f"  Around that circle they add up to {over}, and at most 0 can be kept: of what is at most, something "
-                  f"must be {over} more, or of what is at least {over} less.")
-            arcs.remove(min((arc for arc in circle if arc in self.project.arcs), key=lambda arc: arc.lag))
+        for circle in circles(self.project, self.psmax):
+            print(*in_words(circle, self.words), sep="\n")
 
     def lags_that_open(self) -> None:
         """Takes out each greatest lag alone, and tells with which of them gone there is a schedule."""

@@ -25,6 +25,8 @@ class Words:
 
     def distance(self, lag: int, before: int) -> str:
         """So long after an activity starts; and after it ends, since a table mostly counts from there."""
+        if before == 0:
+            return f"{lag} after the start"
         text = f"{lag} after {self.names.activity(before)} starts"
         beyond = lag - self.project.durations[before]
         if self.project.durations[before] == 0:

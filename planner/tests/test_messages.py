@@ -88,7 +88,7 @@ class Why(InFolder):
         """By hand: two jobs of 3 and 4 on one machine take 7; the deadline of 5 must be 7."""
         text = TWO_JOBS.replace("3 1 0\n", "3 1 1 0 [-5]\n", 1)
         ran = plan("why", self.file("p.sch", text))
-        self.assertIn("At most 7 after 0 (the start) starts is enough in its place; less is not.", ran.stdout)
+        self.assertIn("At most 7 after the start is enough in its place; less is not.", ran.stdout)
 
     def test_needs_more_than_there_is(self) -> None:
         ran = plan("why", INPUTS / "one-job-too-big.sch")

@@ -23,7 +23,7 @@ class Why(InFolder):
     def test_deadline_too_short(self) -> None:
         """By hand: two jobs of 3 and 4 on one machine take 7, which the deadline of 6 forbids."""
         self.told(INPUTS / "two-jobs-deadline-6.sch", "both together",
-                  "a schedule of 7: 3 (the end) starts at most 6 after 0 (the start) starts")
+                  "a schedule of 7: 3 (the end) starts at most 6 after the start")
 
     def test_either_lag(self) -> None:
         """2 starts from 0 to 2 after 1, so neither can go first: without either lag one of them can."""
