@@ -43,7 +43,12 @@ install:
 	install -D -m 755 planner/plan $(DESTDIR)$(PREFIX)/bin/plan
 	install -d $(DESTDIR)$(PREFIX)/share/psmax/planner
 	install -m 644 $(MODULES) $(DESTDIR)$(PREFIX)/share/psmax/planner
-	install -D -m 644 docs/psmax.1 $(DESTDIR)$(PREFIX)/share/man/man1/psmax.1
+	install -m 755 tests/verify.py $(DESTDIR)$(PREFIX)/share/psmax
+	install -d $(addprefix $(DESTDIR)$(PREFIX)/share/,man/man1 doc/psmax/docs doc/psmax/examples)
+	install -m 644 docs/psmax.1 docs/plan.1 $(DESTDIR)$(PREFIX)/share/man/man1
+	install -m 644 README.md $(DESTDIR)$(PREFIX)/share/doc/psmax
+	install -m 644 docs/*.md $(DESTDIR)$(PREFIX)/share/doc/psmax/docs
+	install -m 644 examples/*.md examples/*.sch examples/*.starts $(DESTDIR)$(PREFIX)/share/doc/psmax/examples
 
 clean:
 	rm -rf build crates/*/out

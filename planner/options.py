@@ -26,7 +26,8 @@ class Version(argparse.Action):
 
     def __call__(self, parser: argparse.ArgumentParser, *_: object) -> None:
         found = solve.versions()
-        parser.exit(message=f"plan {found['plan']}, psmax {found['psmax']}, Python {found['python']}\n")
+        print(f"plan {found['plan']}, psmax {found['psmax']}, Python {found['python']}")
+        parser.exit()
 
 
 def seconds(text: str) -> float:

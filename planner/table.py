@@ -109,11 +109,10 @@ def add_resource(row: Row, column: int) -> None:
 
 def read_row(plan: Plan, row: Row, faults: Faults) -> None:
     """An activity, or, where the name is empty, one more thing that the activity above comes after."""
-    with faults.kept():
-        if row.cell("name"):
-            add_activity(plan, row, faults)
-        else:
-            check_continuation(plan, row)
+    if row.cell("name"):
+        add_activity(plan, row, faults)
+    else:
+        check_continuation(plan, row)
     beyond = next((k for k in range(len(row.columns.heads), len(row.cells)) if row.cells[k]), None)
     if beyond is not None:
         raise row.fault(beyond, "a cell beyond the last column; names in one cell have ';' between them")
@@ -141,9 +140,9 @@ def add_activity(plan: Plan, row: Row, faults: Faults) -> None:
         with faults.kept():
             demands[place] = row.units(column, 0)
     plan.demands.append(tuple(demands))
-    reason = why_no_name(name)
-    if reason:
-        raise row.fault("name", f"'{short(name)}' can't be the name of an activity: {reason}")
+    with faults.kept():
+        if why_no_name(name):
+            raise row.fault("name", f"'{short(name)}' can't be the name of an activity: {why_no_name(name)}")
 
 
 def why_no_name(name: str) -> str:

@@ -8,6 +8,7 @@ with exit status 2 for a text that is no record and 4 for a record that is not r
 to be right.
 """
 
+import os
 import re
 import sys
 
@@ -258,15 +259,39 @@ def verify(project, makespan, starts, tree):
     return "proved no schedule" if makespan is None else f"proved optimal {makespan}"
 
 
-def main():
-    with open(sys.argv[1], "rb") as project, open(sys.argv[2], "rb") as record:
-        project, record = project.read(), record.read()
+def read(path):
     try:
-        print(verify(Project(project), *read_record(record)))
+        with open(path, "rb") as file:
+            return file.read()
+    except OSError as fault:
+        raise Fault(0, f"cannot read {path}: {fault.strerror}", 1) from None
+
+
+def read_project(path):
+    text = read(path)
+    try:
+        project = Project(text)
+        if all(0 <= end < project.count for _, end, _ in project.arcs):
+            return project
+    except (ValueError, StopIteration):
+        pass
+    raise Fault(0, f"{path}: not a project", 2)
+
+
+def main(words):
+    try:
+        if len(words) != 2:
+            raise Fault(0, "the words are verify.py PROJECT.sch RECORD", 2)
+        print(verify(read_project(words[0]), *read_record(read(words[1]))), flush=True)
     except Fault as fault:
         print(f"psmax: {fault}", file=sys.stderr)
-        sys.exit(fault.status)
+        return fault.status
+    except (MemoryError, BrokenPipeError, KeyboardInterrupt) as fault:
+        os.dup2(os.open(os.devnull, os.O_WRONLY), 1)
+        print(f"psmax: ended by {type(fault).__name__}", file=sys.stderr)
+        return 1
+    return 0
 
 
 if __name__ == "__main__":
-    main()
+    sys.exit(main(sys.argv[1:]))

@@ -30,7 +30,8 @@ Ran = subprocess.CompletedProcess[str]
 
 def plan(*words: object, given: bytes = b"", psmax: str = PSMAX) -> Ran:
     """A run of the command, in this process, since a hundred starts of Python take long."""
-    source, out, told = (io.TextIOWrapper(io.BytesIO(data), "utf-8") for data in (given, b"", b""))
+    buffers = [io.BytesIO(data) for data in (given, b"", b"")]
+    source, out, told = (io.TextIOWrapper(buffer, "utf-8") for buffer in buffers)
     handlers = {number: signal.getsignal(number) for number in ENDS}
     with (mock.patch("sys.stdin", source), mock.patch("sys.stdout", out), mock.patch("sys.stderr", told),
           mock.patch.dict(os.environ, {"PSMAX": psmax})):
@@ -43,7 +44,7 @@ def plan(*words: object, given: bytes = b"", psmax: str = PSMAX) -> Ran:
                 signal.signal(number, handler)
         out.flush()
         told.flush()
-    return Ran(words, status, out.buffer.getvalue().decode(), told.buffer.getvalue().decode())
+    return Ran([*map(str, words)], status, buffers[1].getvalue().decode(), buffers[2].getvalue().decode())
 
 
 def started(*words: object, out: int | IO[bytes] = subprocess.PIPE) -> subprocess.Popen[str]:

@@ -76,7 +76,7 @@ class Faults(InFolder):
         for closed, status, text in ((">&-", 1, "plan: standard output is closed\n"),
                                      ("<&-", 1, "plan: standard input is closed\n"), ("2>&-", 0, "")):
             with self.subTest(closed):
-                words = ["sh", "-c", f'exec "$@" {closed}', "sh", sys.executable, PLAN, "gantt", SITE]
+                words = ["sh", "-c", f'exec "$@" {closed}', "sh", sys.executable, str(PLAN), "gantt", str(SITE)]
                 with open(EXAMPLES / "building-site-feasible.starts", "rb") as starts:
                     ran = subprocess.run(words, stdin=starts, capture_output=True, text=True,
                                          env={**os.environ, "PSMAX": PSMAX})
@@ -130,6 +130,6 @@ class Faults(InFolder):
         for path in PLAN.parent.glob("*.py"):
             shutil.copy(path, self.folder / "share" / "psmax" / "planner")
         given = {name: value for name, value in os.environ.items() if name != "PSMAX"}
-        words = [sys.executable, self.folder / "bin" / "plan", "solve", SITE]
+        words = [sys.executable, str(self.folder / "bin" / "plan"), "solve", str(SITE)]
         ran = subprocess.run(words, capture_output=True, env=given)
         self.assertEqual(ran.stdout.partition(b"\n")[0], b"optimal 36")

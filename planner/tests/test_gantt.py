@@ -1,8 +1,9 @@
 import unittest
 from xml.etree import ElementTree
 
-from planner.drawing import Load, Stretch, round_step
+from planner.drawing import Load, round_step
 from planner.gantt import load_cells
+from planner.window import Stretch
 
 from .helpers import EXAMPLES, INPUTS, TWO_JOBS, InFolder, plan, psmax
 

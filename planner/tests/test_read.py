@@ -107,7 +107,7 @@ class Tables(InFolder):
 class Faults(InFolder):
     def told(self, text: str | bytes, *texts: str) -> None:
         ran = plan("read", self.file("t.csv", text))
-        self.refused(ran, 2, "t.csv", *texts)
+        self.refused(ran, 2, "t.csv", *texts, faults=len(ran.stderr.splitlines()))
         self.assertFalse((self.folder / "t.sch").exists())
 
     def test_cells(self) -> None:

@@ -15,7 +15,7 @@ MADE = ((20, 4), (30, 5), (45, 6))  # activities and seed of a project of bench/
 
 
 def made(count: int, seed: int) -> bytes:
-    words = [sys.executable, TOP / "bench" / "projects.py", str(count), str(seed)]
+    words = [sys.executable, str(TOP / "bench" / "projects.py"), str(count), str(seed)]
     return subprocess.run(words, capture_output=True, check=True).stdout
 
 

@@ -1,0 +1,200 @@
+"""For scripts: answers in JSON, batches, versions, the package and what is installed."""
+import csv
+import importlib.util
+import io
+import json
+import os
+import pathlib
+import re
+import shutil
+import subprocess
+import sys
+import time
+import tomllib
+import unittest
+from typing import Any
+
+from planner import __version__
+
+from .helpers import EXAMPLES, INPUTS, PLAN, PROJECTS, PSMAX, TOP, TWO_JOBS, InFolder, plan, psmax, started
+
+HEADS = "project,activities,status,makespan,bound,seconds,nodes,limit,plan,psmax,fault\n"
+
+
+class Json(InFolder):
+    def told(self, *words: object) -> dict[str, Any]:
+        ran = plan("solve", *words, "--json")
+        self.assertEqual(len(ran.stdout.splitlines()), 1, ran.stdout)
+        found = json.loads(ran.stdout)
+        assert isinstance(found, dict)
+        return found
+
+    def test_by_hand(self) -> None:
+        told = self.told(INPUTS / "two-jobs.sch")
+        self.assertEqual([*told], ["bound", "makespan", "starts", "status", "activities", "names", "nodes", "seconds", "versions"])
+        self.assertEqual([told[key] for key in ("bound", "makespan", "status", "activities")], [7, 7, "optimal", 2])
+        self.assertGreater(told["seconds"], 0)
+        self.assertGreater(told["nodes"], 0)
+        self.assertEqual({*told["versions"]}, {"plan", "psmax", "python"})
+
+    def test_other_answers(self) -> None:
+        told = self.told(INPUTS / "two-jobs-close-lags.sch")
+        self.assertEqual([told[key] for key in ("bound", "makespan", "starts", "status")], [None, None, None, "no schedule"])
+        told = self.told(PROJECTS / "assay-lab.sch", "--seconds", "0.0001")
+        self.assertEqual([told[key] for key in ("makespan", "starts", "status")], [None, None, "unknown"])
+        told = self.told(EXAMPLES / "building-site.sch", "--out", self.folder / "best")
+        self.assertEqual((told["makespan"], len(told["names"])), (36, 13))
+        self.assertEqual(plan("check", EXAMPLES / "building-site.sch", self.folder / "best").stdout, "feasible 36\n")
+
+    def test_version(self) -> None:
+        ran = plan("--version")
+        self.assertRegex(ran.stdout, rf"^plan {re.escape(__version__)}, psmax \d+\.\d+\.\d+, Python 3\.\d+\.\d+\n$")
+
+
+class Batch(InFolder):
+    def setUp(self) -> None:
+        super().setUp()
+        for name in ("two-jobs", "three-jobs-lags", "two-jobs-close-lags", "empty-project"):
+            shutil.copy(INPUTS / f"{name}.sch", self.folder)
+        self.file("UPPER.SCH", TWO_JOBS)
+        self.csv = self.folder / "all.csv"
+
+    def rows(self, text: str | None = None) -> dict[str, dict[str, str]]:
+        table = self.csv.read_text() if text is None else text
+        self.assertTrue(table.startswith(HEADS), table)
+        return {row["project"]: row for row in csv.DictReader(io.StringIO(table))}
+
+    def test_by_hand(self) -> None:
+        ran = plan("batch", self.folder, "--seconds", "20", "--jobs", "2", "--csv", self.csv)
+        self.assertEqual((ran.returncode, ran.stdout), (0, ""), ran.stderr)
+        found = {name: (row["status"], row["makespan"], row["activities"]) for name, row in self.rows().items()}
+        self.assertEqual(found, {"UPPER.SCH": ("optimal", "7", "2"), "two-jobs.sch": ("optimal", "7", "2"),
+                                 "three-jobs-lags.sch": ("optimal", "5", "3"), "empty-project.sch": ("optimal", "0", "0"),
+                                 "two-jobs-close-lags.sch": ("no schedule", "", "2")})
+        self.assertIn("5 of 5 projects: 1 no schedule, 4 optimal", ran.stderr)
+
+    def test_going_on(self) -> None:
+        """Rows that are there stay as they are; a fault is tried again, and told."""
+        row = "two-jobs.sch,2,feasible,9,7,1.0,5,1,0,0,\n"
+        self.file("all.csv", HEADS + row + "UPPER.SCH,,fault,,,,,1,,,psmax was ended by signal 9\n")
+        self.file("bad.sch", "x")
+        ran = plan("batch", self.folder, "--seconds", "20", "--csv", self.csv)
+        self.assertEqual(ran.returncode, 1, ran.stderr)
+        self.assertIn(row, self.csv.read_text())
+        self.assertEqual(self.rows()["UPPER.SCH"]["status"], "optimal")
+        self.assertRegex(self.rows()["bad.sch"]["fault"], "bad.sch: word 0: not a number")
+
+    def test_cut_off(self) -> None:
+        """Rows come one after another, so that what is known is in the table when the batch is ended; a second run does
+        the rest."""
+        for name in ("assay-lab", "engine-cells"):
+            shutil.copy(PROJECTS / f"{name}.sch", self.folder)
+        words = ("batch", self.folder, "--jobs", "2", "--csv", self.csv)
+        with started(*words, "--seconds", "60") as child:
+            while not self.csv.exists():
+                time.sleep(0.05)
+            child.terminate()
+            self.assertEqual(child.wait(timeout=20), 3)
+        known = self.rows()
+        self.assertNotIn("assay-lab.sch", known)
+        plan(*words, "--seconds", "0.5")
+        self.assertEqual(len(self.rows()), 7)
+        self.assertEqual({name: self.rows()[name] for name in known}, known)
+        self.assertEqual(self.rows()["assay-lab.sch"]["limit"], "0.5")
+
+    def test_parts(self) -> None:
+        """Each N-th project from the I-th on, by name; together they are all, and --join makes one table of them."""
+        parts = [self.folder / f"part-{place}.csv" for place in (1, 2)]
+        for place, part in enumerate(parts, 1):
+            self.assertEqual(plan("batch", self.folder, "--csv", part, "--part", f"{place}/2").returncode, 0)
+        self.assertEqual([*self.rows(parts[1].read_text())], ["empty-project.sch", "two-jobs-close-lags.sch"])
+        ran = plan("batch", "--join", *parts)
+        self.assertEqual(len(self.rows(ran.stdout)), 5)
+        self.assertEqual(plan("batch", "--join", *parts, parts[0], "--csv", self.csv).returncode, 0)
+        self.assertEqual(self.csv.read_text(), ran.stdout)
+        self.refused(plan("batch", "--join", *parts, "--csv", parts[0]), 2, "which would be lost")
+        other = self.file("other.csv", parts[0].read_text().replace("optimal,7", "optimal,8"))
+        self.refused(plan("batch", "--join", *parts, other), 2, "other.csv: a second row for UPPER.SCH")
+
+    @unittest.skipUnless(shutil.which("parallel"), "GNU parallel isn't here")
+    def test_gnu_parallel(self) -> None:
+        """The command line of docs/PLANNER.md, with the plan and the psmax that are tested."""
+        documented = (TOP / "docs" / "PLANNER.md").read_text()
+        line = next(line for line in documented.splitlines() if line.startswith("parallel "))
+        join = next(line for line in documented.splitlines() if line.startswith("plan batch --join"))
+        python = f"{pathlib.Path(sys.executable).parent}:{PLAN.parent}:{os.environ['PATH']}"
+        command = f"{line}\n{join}\n".replace("FOLDER", ".")
+        ran = subprocess.run(["sh", "-ec", command], cwd=self.folder, capture_output=True, text=True,
+                             env={**os.environ, "PSMAX": PSMAX, "PATH": python, "HOME": str(self.folder)})
+        self.assertEqual(ran.returncode, 0, ran.stderr)
+        self.assertEqual(len(self.rows((self.folder / "all.csv").read_text())), 5)
+
+    def test_schedules(self) -> None:
+        (self.folder / "best").mkdir()
+        self.assertEqual(plan("batch", self.folder, "--out", self.folder / "best", "--part", "5/5").returncode, 0)
+        told = psmax("check", "--project", self.folder / "two-jobs.sch", given=(self.folder / "best/two-jobs.starts").read_bytes())
+        self.assertEqual(told, "feasible 7\n")
+
+    def test_faults(self) -> None:
+        self.refused(plan("batch"), 2, "either a FOLDER, or --join")
+        self.refused(plan("batch", self.folder, "--join", "a"), 2, "either a FOLDER, or --join")
+        self.refused(plan("batch", self.folder / "gone"), 1, "it is no folder")
+        self.refused(plan("batch", self.folder, "--part", "3/2"), 2, "'3/2' is not a part such as 1/4")
+        self.refused(plan("batch", self.folder, "--csv", self.file("t.csv", "a,b\n")), 2, "not a table of `plan batch`")
+        (self.folder / "none").mkdir()
+        self.refused(plan("batch", self.folder / "none"), 2, "no project in it")
+
+
+class Installed(InFolder):
+    def run_there(self, *words: object) -> subprocess.CompletedProcess[str]:
+        given = {name: value for name, value in os.environ.items() if name not in ("PSMAX", "PYTHONPATH")}
+        given["PATH"] = f"{pathlib.Path(sys.executable).parent}:{given['PATH']}"
+        return subprocess.run([*map(str, words)], capture_output=True, text=True, env=given, cwd=self.folder)
+
+    def test_make_install(self) -> None:
+        """The program, plan, manual pages, documents and verify.py; the last shows no traceback."""
+        ran = subprocess.run(["make", "-s", "install", f"PREFIX={self.folder}", f"AT_HAND={PSMAX}"], cwd=TOP,
+                             capture_output=True, text=True)
+        self.assertEqual(ran.returncode, 0, ran.stderr)
+        share, site = self.folder / "share", EXAMPLES / "building-site.sch"
+        for name in ("man/man1/plan.1", "man/man1/psmax.1", "doc/psmax/README.md", "doc/psmax/docs/PLANNER.md"):
+            self.assertTrue((share / name).is_file(), name)
+        record = self.folder / "record"
+        answer = psmax("solve", "--record", record, given=site.read_bytes())
+        self.assertEqual(self.run_there("bin/plan", "check", site, self.file("best", answer)).stdout, "feasible 36\n")
+        verify = [sys.executable, share / "psmax" / "verify.py"]
+        self.assertEqual(self.run_there(*verify, site, record).stdout, "proved optimal 36\n")
+        for words in ((), ("gone", record), (site, "gone"), (record, record), (site, site)):
+            ran = self.run_there(*verify, *words)
+            self.assertIn(ran.returncode, (1, 2))
+            self.assertEqual((ran.stdout, len(ran.stderr.splitlines())), ("", 1), ran.stderr)
+
+    def test_package(self) -> None:
+        """Name, version, entry point, Python 3.11 and no dependency; its entry point is `plan`."""
+        with open(TOP / "pyproject.toml", "rb") as file:
+            told = tomllib.load(file)
+        project = told["project"]
+        self.assertEqual((project["scripts"], project["requires-python"], project["dependencies"]),
+                         ({"plan": "planner.main:run"}, ">=3.11", []))
+        self.assertIs(told["tool"]["mypy"]["strict"], True)
+        ran = subprocess.run([sys.executable, "-m", "planner", "--version"], cwd=TOP, capture_output=True, text=True,
+                             env={**os.environ, "PSMAX": PSMAX})
+        self.assertIn(f"plan {__version__}", ran.stdout)
+
+    @unittest.skipUnless(all(map(importlib.util.find_spec, ("pip", "setuptools", "wheel"))), "no tools to build a package here")
+    def test_pip_install(self) -> None:
+        source = self.folder / "source"
+        shutil.copytree(TOP / "planner", source / "planner", ignore=shutil.ignore_patterns("tests", "projects", "__pycache__"))
+        shutil.copy(TOP / "pyproject.toml", source)
+        ran = self.run_there(sys.executable, "-m", "pip", "install", "--quiet", "--no-index", "--no-deps",
+                             "--no-build-isolation", "--target", "there", source)
+        self.assertEqual(ran.returncode, 0, ran.stderr)
+        ran = subprocess.run([sys.executable, "there/bin/plan", "--version"], capture_output=True, text=True, cwd=self.folder,
+                             env={**os.environ, "PSMAX": PSMAX, "PYTHONPATH": str(self.folder / "there")})
+        self.assertIn(f"plan {__version__}", ran.stdout)
+
+    @unittest.skipUnless(shutil.which("mypy"), "mypy isn't here")
+    def test_types(self) -> None:
+        words = ["mypy", "--strict", "planner", "--cache-dir", str(self.folder / "cache")]
+        ran = subprocess.run(words, cwd=TOP, capture_output=True, text=True)
+        self.assertEqual(ran.returncode, 0, ran.stdout)
