@@ -98,7 +98,7 @@ def row_of(path: pathlib.Path, wanted: Batch, clock: Clock) -> Row | None:
         return row | {"status": FAULT, "fault": out_of_it[1].strip().rpartition("\n")[2].removeprefix("plan: ")}
     told = json.loads(out_of_it[0])
     known = {head: f"{told[head]}" for head in ("status", "makespan", "bound", "seconds", "nodes") if told[head] is not None}
-    return row | known | {"activities": f"{told['activities']}", "plan": told["versions"]["plan"],
+    return row | known | {"activities": f"{len(told['durations'])}", "plan": told["versions"]["plan"],
                           "psmax": told["versions"]["psmax"]}
 
 

@@ -27,7 +27,12 @@ class Side:
         last = max(given.starts, default=0)
         self.starts = {i: start for i, start in given.starts.items() if given.is_table or 0 < i < last}
         self.makespan = max(given.ends.values(), default=0) if given.is_table else given.starts.get(last, 0)
+        self.ends = {i: given.ends.get(i, start + 1) for i, start in self.starts.items()}
         self.names = {i: (given.names or page.activities).get(i, "") for i in self.starts}
+
+    def when(self, number: int, calendar: Calendar | None) -> str:
+        start = self.starts[number]
+        return calendar.times(start, self.ends[number])[0] if calendar else f"{start}"
 
     def called(self, number: int) -> str:
         return self.names[number] or f"activity {number}"
@@ -45,20 +50,25 @@ def same_activities(was: Side, now: Side) -> dict[int, int]:
 def differences(was: Side, now: Side, calendar: Calendar | None) -> list[str]:
     """What moved, what is new and what is gone, each in the order of the starts."""
     pairs = same_activities(was, now)
-    moved = [(now.called(pairs[i]), was.starts[i], now.starts[pairs[i]]) for i in pairs if was.starts[i] != now.starts[pairs[i]]]
-    new = [(now.called(i), start) for i, start in now.starts.items() if i not in pairs.values()]
-    gone = [(was.called(i), start) for i, start in was.starts.items() if i not in pairs]
-    wide = max([len(name) for name, *_ in moved] + [len(name) for name, _ in new + gone] + [0])
-    told = [f"makespan {was.makespan} -> {now.makespan}{late(now.makespan - was.makespan)}"]
-    for name, before, after in sorted(moved, key=lambda row: row[2]):
-        told.append(f"  {name:{wide}}  {when(before, calendar)} -> {when(after, calendar)}{late(after - before)}")
-    told += [f"  {name:{wide}}  new, at {when(start, calendar)}" for name, start in new]
-    told += [f"  {name:{wide}}  gone, was at {when(start, calendar)}" for name, start in gone]
+    moved = [(i, j) for i, j in pairs.items() if was.starts[i] != now.starts[j]]
+    new = [i for i in now.starts if i not in pairs.values()]
+    gone = [i for i in was.starts if i not in pairs]
+    wide = max([len(now.called(i)) for i in [*new, *(j for _, j in moved)]] + [len(was.called(i)) for i in gone] + [0])
+    told = [f"makespan {was.makespan} -> {now.makespan}{late(now.makespan - was.makespan)}{ends(was, now, calendar)}"]
+    for i, j in sorted(moved, key=lambda pair: (now.starts[pair[1]], pair[1])):
+        change = f"{was.when(i, calendar)} -> {now.when(j, calendar)}{late(now.starts[j] - was.starts[i])}"
+        told.append(f"  {now.called(j):{wide}}  {change}")
+    told += [f"  {now.called(i):{wide}}  new, at {now.when(i, calendar)}" for i in sorted(new, key=now.starts.__getitem__)]
+    told += [f"  {was.called(i):{wide}}  gone, was at {was.when(i, calendar)}" for i in sorted(gone, key=was.starts.__getitem__)]
     return [*told, f"{len(pairs) - len(moved)} of {len(now.starts)} start as before"]
 
 
-def when(time: int, calendar: Calendar | None) -> str:
-    return calendar.times(time, time + 1)[0] if calendar else f"{time}"
+def ends(was: Side, now: Side, calendar: Calendar | None) -> str:
+    """The dates of both ends."""
+    if calendar is None:
+        return ""
+    before, after = (calendar.times(side.makespan, side.makespan)[1] for side in (was, now))
+    return f" ({before} -> {after})"
 
 
 def late(periods: int) -> str:

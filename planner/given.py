@@ -1,6 +1,7 @@
 """Answers as they are handed in: the lines of psmax or of a file of starts, JSON, or a table in CSV."""
 import json
 import re
+from collections.abc import Mapping
 from dataclasses import dataclass, field
 
 from .csv_text import Sheet, cell, letters, read_sheet
@@ -34,7 +35,7 @@ class Given:
     called: str  # in faults
     starts: dict[int, int] = field(default_factory=dict)
     names: dict[int, str] = field(default_factory=dict)
-    ends: dict[int, int] = field(default_factory=dict)  # where a table has them
+    ends: dict[int, int] = field(default_factory=dict)  # the same, where they are known
     said: str = ""  # the first line of the answer, if it has one
     instead: str = ""  # a sentence for an answer without starts
     is_table: bool = False  # which has neither the start nor the end of the project
@@ -54,23 +55,26 @@ def answer_of(data: bytes, called: str) -> Given:
         return from_sheet(sheet, called)
     if text.lstrip().startswith("{"):
         return from_json(text, called)
-    return from_lines(text, called)
+    return from_lines(text, called, {})
 
 
-def from_lines(text: str, called: str, names: object = None) -> Given:
-    """The lines of psmax, or of a file of starts. Names stand in the first line, where it has any, as JSON."""
+def from_lines(text: str, called: str, activities: Mapping[str, object]) -> Given:
+    """The lines of psmax, or of a file of starts. What else is known of the activities stands in the first line, as JSON."""
     lines = text.split("\n")
     said, brace, told = lines[0].strip().partition(" {")
     instead = sentence(text.strip())
     if instead:
         return Given(called, instead=instead)
     if not text.startswith(WITH_STARTS):
-        return Given(called, starts_in(lines, 1, called), numbered(names))
+        return Given(called, starts_in(lines, 1, called))
     if brace:
-        names = json_object("{" + told).get("names")
-        if not isinstance(names, list):
-            raise BadInput(f"{called}: line 1: the names in it can't be read")
-    return Given(called, starts_in(lines[1:], 2, called), numbered(names), said=short(said))
+        activities = json_object("{" + told)
+    names, durations = activities.get("names", []), activities.get("durations", [])
+    if not isinstance(names, list) or not isinstance(durations, list) or not all(type(length) is int for length in durations):
+        raise BadInput(f"{called}: line 1: what it says of the activities can't be read")
+    starts = starts_in(lines[1:], 2, called)
+    ends = {i: starts[i] + length for i, length in enumerate(durations, 1) if i in starts}
+    return Given(called, starts, {i: f"{name}" for i, name in enumerate(names, 1)} if any(names) else {}, ends, short(said))
 
 
 def starts_in(lines: list[str], number: int, called: str) -> dict[int, int]:
@@ -85,11 +89,6 @@ def starts_in(lines: list[str], number: int, called: str) -> dict[int, int]:
         if fields is not None:
             found[int(fields[1])] = int(fields[2])
     return found
-
-
-def numbered(names: object) -> dict[int, str]:
-    """Names by the numbers of the activities, which count from 1."""
-    return {number: str(name) for number, name in enumerate(names if isinstance(names, list) else [], 1)}
 
 
 def sentence(text: str) -> str:
@@ -113,7 +112,7 @@ def from_json(text: str, called: str) -> Given:
     first = first_line(told) if told.keys() >= KEYS else None
     if first is None or not isinstance(starts, list) or not all(type(start) is int for start in starts):
         raise BadInput(f"{called}: line 1: not an activity and a start, and no answer in JSON")
-    return from_lines("\n".join([first, *(f"{i} {start}" for i, start in enumerate(starts))]), called, told.get("names"))
+    return from_lines("\n".join([first, *(f"{i} {start}" for i, start in enumerate(starts))]), called, told)
 
 
 def json_object(text: str) -> dict[str, object]:

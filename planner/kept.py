@@ -61,13 +61,13 @@ def answer_text(known: Known, opened: ProjectFile, as_table: bool) -> bytes:
     if as_table and known.starts is not None:
         answer = Answer(parse(opened.text), known.starts, "", known.makespan, ())
         return write_sheet(rows(answer, opened.names, None)).encode()
-    names = names_of(opened)
     first, _, rest = known.answer().decode().partition("\n")
-    told = f" {json.dumps({'names': names}, ensure_ascii=False)}" if names else ""
+    activities = activities_of(opened)
+    told = f" {json.dumps(activities, ensure_ascii=False)}" if any(activities["names"]) else ""
     return f"{first}{told}\n{rest}".encode()
 
 
-def names_of(opened: ProjectFile) -> list[str]:
-    """The names of the activities in their order, empty where one has none; an empty list where all have none."""
-    names = [opened.names.activities.get(number, "") for number in range(1, parse(opened.text).end)]
-    return names if any(names) else []
+def activities_of(opened: ProjectFile) -> dict[str, list[object]]:
+    """The names of the activities in their order, empty where one has none, and how long each takes."""
+    durations = parse(opened.text).durations[1:-1]
+    return {"names": [opened.names.activities.get(i, "") for i in range(1, len(durations) + 1)], "durations": [*durations]}

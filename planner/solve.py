@@ -12,7 +12,7 @@ from .dates import Wanted
 from .errors import BadInput, Failed
 from .files import guard, write_whole
 from .given import read_answer
-from .kept import Kept, names_of
+from .kept import Kept, activities_of
 from .known import Known
 from .opened import ProjectFile, open_project
 from .project import parse
@@ -92,13 +92,12 @@ def give(known: Known, opened: ProjectFile, options: Options, kept: Kept | None)
 def as_json(known: Known, opened: ProjectFile) -> str:
     """What is known as one line, with the keys of psmax first."""
     clock = known.psmax.clock
-    told = {
+    told: dict[str, object] = {
         "bound": None if known.none else known.bound,
         "makespan": known.makespan,
         "starts": known.starts,
         "status": known.status(),
-        "activities": parse(opened.text).end - 1,
-        "names": names_of(opened),
+        **activities_of(opened),
         "nodes": known.psmax.nodes,
         "seconds": round(clock.elapsed(), 3),
         "versions": versions(),

@@ -92,13 +92,13 @@ class Named(InFolder):
         told = psmax("check", "--project", self.project, given=self.starts.read_bytes())
         self.assertEqual(told, "feasible 9\n")
         first = self.starts.read_text().partition("\n")[0]
-        self.assertEqual(json.loads(first.removeprefix("optimal 9 ")), {"names": ["strip", "mend", "close"]})
+        self.assertEqual(json.loads(first.removeprefix("optimal 9 ")), {"names": ["strip", "mend", "close"], "durations": [3, 4, 2]})
 
     def test_faults_of_tables(self) -> None:
         for text, fault in (("activity,name,start\n1,strip,x\n", "row 2, column C (start): 'x' is not a whole number"),
                             ("activity,name,start\n1,strip,0\n1,mend,3\n", "row 3: a second start of activity 1"),
                             ("activity,start\nstrip,\n", "row 2, column B (start): no start"),
-                            ('optimal 9 {"names": 3}\n0 0\n', "line 1: the names in it can't be read")):
+                            ('optimal 9 {"names": 3}\n0 0\n', "line 1: what it says of the activities can't be read")):
             with self.subTest(text):
                 self.refused(plan("check", self.project, self.file("bad", text)), 2, fault)
 

@@ -121,6 +121,14 @@ class Comparing(InFolder):
         ran = plan("compare", self.file("old.csv", self.OLD), self.file("new.csv", self.NEW), "--from", "2026-03-05",
                    "--workdays", "mon-fri")
         self.assertIn("  pour   2026-03-09 -> 2026-03-11, 2 later\n", ran.stdout)
+        self.assertIn("makespan 10 -> 11, 1 later (2026-03-18 -> 2026-03-19)\n", ran.stdout)
+
+    def test_milestones(self) -> None:
+        """They stand at the day on which work ends, in the lines of psmax too."""
+        for name, day in (("old", 3), ("new", 4)):
+            self.file(name, f'feasible {day} bound 1 {{"names": ["dig", "done"], "durations": [2, 0]}}\n0 0\n1 0\n2 {day}\n3 {day}\n')
+        ran = plan("compare", self.folder / "old", self.folder / "new", "--from", "2026-03-02")
+        self.assertIn("  done  2026-03-04 -> 2026-03-05, 1 later\n", ran.stdout)
 
     def test_numbers(self) -> None:
         """Answers of psmax, which have no names; those of a page go with them."""
