@@ -2,16 +2,15 @@
 from . import dates, drawing
 from .answer import Answer, feasible
 from .clock import Clock
-from .csv_text import write_sheet
 from .dates import Calendar, Wanted
-from .files import STANDARD_INPUT, guard, write_whole
-from .gantt import show
+from .files import STANDARD_INPUT, guard
+from .gantt import Chart
 from .given import read_answer
 from .names import Names
 from .opened import open_project
 from .psmax import SECONDS, Psmax
 from .window import Window, windows
-from .write import list_separator, rows
+from .write import Table, put, rows
 
 CRITICAL = "critical"
 
@@ -49,19 +48,16 @@ def text(answer: Answer, names: Names, calendar: Calendar | None, found: dict[in
     return "".join(line + "\n" for line in lines)
 
 
-def floats(path: str, given: str | None, out: str | None, chart: bool, picture: str | None, wanted: Wanted,
-           page: str | None, width: int, excel: bool, separator: str | None) -> int:
+def floats(path: str, given: str | None, page: str | None, wanted: Wanted, table: Table, chart: Chart) -> int:
     opened = open_project(path, page)
-    guard([out, picture], opened.inputs() | {"the answer": given or STANDARD_INPUT} | wanted.inputs())
+    guard([table.out, chart.svg], opened.inputs() | {"the answer": given or STANDARD_INPUT} | wanted.inputs())
     calendar, psmax = dates.chosen(wanted, opened), Psmax(Clock(SECONDS), path)
     known = feasible(opened, read_answer(given), psmax)
     found = windows(known.project, known.starts, opened.text, psmax)
-    if out is not None:
-        table = with_windows(known, opened.names, calendar, found)
-        write_whole(out, write_sheet(table, list_separator(opened, excel, separator), excel).encode())
-    if chart or picture is not None:
-        shown = drawing.make(known.project, known.starts, opened.names, known.title(), (), calendar, found)
-        show(shown, picture, width)
-    elif out is None:
+    if table.out is not None:
+        put(table.text(with_windows(known, opened.names, calendar, found), opened), table.out)
+    if chart.is_wanted:
+        chart.show(drawing.make(known.project, known.starts, opened.names, known.title(), (), calendar, found))
+    elif table.out is None:
         print(text(known, opened.names, calendar, found), end="")
     return 0

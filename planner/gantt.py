@@ -1,4 +1,6 @@
 """`plan gantt`: a schedule as a chart, in plain text or as SVG."""
+from dataclasses import dataclass
+
 from . import dates, drawing, svg
 from .answer import judged
 from .clock import Clock
@@ -89,23 +91,30 @@ def use_sign(units: int, capacity: int) -> str:
     return str(units if capacity <= 9 else -(-9 * units // capacity))
 
 
-def gantt(path: str, given: str | None, chart: str | None, wanted: Wanted, page: str | None, width: int) -> int:
+@dataclass(frozen=True)
+class Chart:
+    """What the words of a command say of a chart that is drawn."""
+
+    svg: str | None
+    width: int
+    is_wanted: bool = True
+
+    def show(self, shown: Drawing) -> None:
+        if self.svg is not None:
+            write_whole(self.svg, svg.draw(shown).encode())
+        else:
+            print(text(shown, self.width), end="")
+
+
+def gantt(path: str, given: str | None, page: str | None, wanted: Wanted, chart: Chart) -> int:
     """Draws starts that are no feasible schedule too, with their violations."""
     opened = open_project(path, page)
-    guard([chart], opened.inputs() | {"the answer": given or STANDARD_INPUT} | wanted.inputs())
+    guard([chart.svg], opened.inputs() | {"the answer": given or STANDARD_INPUT} | wanted.inputs())
     calendar = dates.chosen(wanted, opened)
     answer, psmax = read_answer(given), Psmax(Clock(SECONDS), path)
     if answer.instead:
         print(answer.instead)
         return 0
     known = judged(opened, answer, psmax)
-    shown = drawing.make(known.project, known.starts, opened.names, known.title(), known.violations, calendar)
-    show(shown, chart, width)
+    chart.show(drawing.make(known.project, known.starts, opened.names, known.title(), known.violations, calendar))
     return 0
-
-
-def show(shown: Drawing, chart: str | None, width: int) -> None:
-    if chart is not None:
-        write_whole(chart, svg.draw(shown).encode())
-    else:
-        print(text(shown, width), end="")

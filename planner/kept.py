@@ -23,15 +23,23 @@ class Kept:
         self.there: Answer | None = None  # the schedule of this project that another has put there
 
     def look(self) -> Answer | None:
-        """The schedule that the file holds, where it holds one of this project; psmax finds it feasible."""
+        """The schedule that the file holds, where it holds one of this project; psmax finds it feasible. What is no answer
+        at all is a fault, since it would be lost."""
         data = read_bytes(self.path) if os.path.isfile(self.path) else None
         if data is not None and data != self.written:
-            try:
-                self.there = feasible(self.opened, answer_of(data, self.path), Psmax(Clock(SECONDS), self.opened.path))
-            except BadInput:
-                self.there = None
+            self.there = self.schedule_in(data)
         self.written = data
         return self.there if data is not None else None
+
+    def schedule_in(self, data: bytes) -> Answer | None:
+        try:
+            given = answer_of(data, self.path)
+        except BadInput:
+            raise BadInput(f"{self.path} is there, and is no answer; name another file with --out") from None
+        try:
+            return feasible(self.opened, given, Psmax(Clock(SECONDS), self.opened.path))
+        except BadInput:
+            return None
 
     def put(self, known: Known) -> bool:
         """Writes the best schedule, unless another one has put a shorter one there meanwhile. Says whether it is there."""
@@ -51,7 +59,7 @@ class Kept:
         """The same while the search goes on; where it fails, that is told, and is tried again at the end."""
         try:
             self.put(known)
-        except Failed as fault:
+        except (BadInput, Failed) as fault:
             tell(known.psmax.clock, f"{fault}")
 
 

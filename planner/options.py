@@ -112,11 +112,15 @@ def add_table(one: argparse.ArgumentParser) -> None:
     one.add_argument("--separator", choices=[*SEPARATORS], help="between cells (comma; with --excel that of the table)")
 
 
+def table(options: argparse.Namespace) -> write.Table:
+    return write.Table(options.out, options.excel, options.separator)
+
+
 def add_write(one: argparse.ArgumentParser) -> None:
     add_schedule(one)
     add_table(one)
     add_calendar(one)
-    one.set_defaults(run=lambda o: write.write(o.project, o.answer, o.out, wanted(o), o.names, o.excel, o.separator))
+    one.set_defaults(run=lambda o: write.write(o.project, o.answer, o.names, wanted(o), table(o)))
 
 
 def add_float(one: argparse.ArgumentParser) -> None:
@@ -125,8 +129,8 @@ def add_float(one: argparse.ArgumentParser) -> None:
     add_chart(one)
     one.add_argument("--chart", action="store_true", help="draw a chart instead of a table")
     add_calendar(one)
-    one.set_defaults(run=lambda o: floats.floats(o.project, o.answer, o.out, o.chart, o.svg, wanted(o), o.names, o.width,
-                                                 o.excel, o.separator))
+    one.set_defaults(run=lambda o: floats.floats(o.project, o.answer, o.names, wanted(o), table(o),
+                                                 gantt.Chart(o.svg, o.width, o.chart or o.svg is not None)))
 
 
 def add_chart(one: argparse.ArgumentParser) -> None:
@@ -138,7 +142,7 @@ def add_gantt(one: argparse.ArgumentParser) -> None:
     add_schedule(one)
     add_chart(one)
     add_calendar(one)
-    one.set_defaults(run=lambda o: gantt.gantt(o.project, o.answer, o.svg, wanted(o), o.names, o.width))
+    one.set_defaults(run=lambda o: gantt.gantt(o.project, o.answer, o.names, wanted(o), gantt.Chart(o.svg, o.width)))
 
 
 def add_check(one: argparse.ArgumentParser) -> None:

@@ -1,5 +1,6 @@
 """`plan write`: a schedule as a table in CSV, with names and, from a first day on, with dates."""
 import sys
+from dataclasses import dataclass
 
 from . import dates
 from .answer import Answer, feasible
@@ -11,6 +12,20 @@ from .given import read_answer
 from .names import Names
 from .opened import ProjectFile, open_project
 from .psmax import SECONDS, Psmax
+
+
+@dataclass(frozen=True)
+class Table:
+    """What the words of a command say of a table that is written."""
+
+    out: str | None
+    excel: bool
+    separator: str | None
+
+    def text(self, table: list[list[object]], opened: ProjectFile) -> str:
+        """The separator is the one that is named; for a spreadsheet else that of the table, since hers wrote it."""
+        named = SEPARATORS[self.separator] if self.separator is not None else None
+        return write_sheet(table, named or (opened.separator() if self.excel else ","), self.excel)
 
 
 def rows(answer: Answer, names: Names, calendar: Calendar | None) -> list[list[object]]:
@@ -32,16 +47,10 @@ def put(text: str, out: str | None) -> None:
         sys.stdout.write(text)
 
 
-def list_separator(opened: ProjectFile, excel: bool, named: str | None) -> str:
-    """The separator that is named; for a spreadsheet else that of the table, since her spreadsheet wrote it."""
-    return SEPARATORS[named] if named is not None else opened.separator() if excel else ","
-
-
-def write(path: str, given: str | None, out: str | None, wanted: Wanted, page: str | None, excel: bool,
-          separator: str | None) -> int:
+def write(path: str, given: str | None, page: str | None, wanted: Wanted, table: Table) -> int:
     opened = open_project(path, page)
-    guard([out], opened.inputs() | {"the answer": given or STANDARD_INPUT} | wanted.inputs())
+    guard([table.out], opened.inputs() | {"the answer": given or STANDARD_INPUT} | wanted.inputs())
     calendar = dates.chosen(wanted, opened)
     known = feasible(opened, read_answer(given), Psmax(Clock(SECONDS), path))
-    put(write_sheet(rows(known, opened.names, calendar), list_separator(opened, excel, separator), excel), out)
+    put(table.text(rows(known, opened.names, calendar), opened), table.out)
     return 0

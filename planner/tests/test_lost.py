@@ -109,6 +109,15 @@ class Results(InFolder):
         self.assertEqual(best.read_text().split()[:2], ["optimal", "7"])
 
 
+    def test_what_is_no_answer(self) -> None:
+        """Any other file stays."""
+        for text in ("my own words\n", TABLE, TWO_JOBS + "x"):
+            there = self.file("there", text)
+            self.refused(plan("solve", INPUTS / "two-jobs.sch", "--out", there), 2, "there is there, and is no answer")
+            self.assertEqual(there.read_text(), text)
+        self.assertEqual(plan("solve", INPUTS / "two-jobs.sch", "--out", self.file("empty", "")).returncode, 0)
+
+
 class Ends(InFolder):
     """Ctrl-C, a request to end and a terminal that closes end every command alike."""
 
