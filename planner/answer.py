@@ -66,23 +66,25 @@ def tie(opened: ProjectFile, project: Project, given: Given) -> Tied:
     """Finds the activities of an answer by their names; by their numbers where the answer or the project has none."""
     if given.names and opened.names.activities:
         return by_name(project, given, opened.names.activities)
+    numbers = range(1, project.end) if given.is_table else range(project.end + 1)
+    is_whole = sorted(given.starts) == [*range(numbers.start, numbers.start + len(given.starts))]
+    if is_whole and len(given.starts) != len(numbers):
+        raise BadInput(f"{given.called}: starts of {len(given.starts)} activities, and {opened.path} has {len(numbers)}"
+                       f"{'' if given.is_table else ' with its start and end'}; without names nobody can say which they are")
+    may_be_older(opened, given)
     starts = dict(given.starts)
     if given.is_table:
         starts |= {0: 0, project.end: least_end(project, starts)}
-    if len(starts) != project.end + 1 and set(starts) == set(range(len(starts))):
-        raise BadInput(f"{given.called}: starts of {len(starts) - 2} activities, and {opened.path} has {project.end - 1}; "
-                       "without names nobody can say which they are")
-    may_be_older(opened, given)
-    gone = [f"activity {number}" for number in starts if number > project.end]
-    return Tied(starts, [number for number in range(project.end + 1) if number not in starts], gone)
+    gone = [f"activity {number}" for number in given.starts if number not in numbers]
+    return Tied(starts, [number for number in numbers if number not in given.starts], gone)
 
 
 def by_name(project: Project, given: Given, names: dict[int, str]) -> Tied:
-    """The start of the project is 0, and its end the least that the others leave."""
+    """The end of the project starts when the others let it."""
     inner = range(1, project.end)
     now = {number: names.get(number, "") for number in inner}
     pairs = same_names(given.names, now)
-    starts = {0: 0} | {pairs[was]: given.starts[was] for was in pairs if was in given.starts}
+    starts = {0: given.starts.get(0, 0)} | {pairs[was]: given.starts[was] for was in pairs if was in given.starts}
     gone = [f"{number} ({name})" if name else f"{number}" for number, name in given.names.items() if number not in pairs]
     starts[project.end] = least_end(project, starts)
     return Tied(starts, [number for number in inner if number not in starts], gone)

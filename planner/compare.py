@@ -43,7 +43,8 @@ def same_activities(was: Side, now: Side) -> dict[int, int]:
     if any(was.names.values()) and any(now.names.values()):
         return same_names(was.names, now.names)
     if was.starts.keys() != now.starts.keys():
-        raise BadInput(f"{len(was.starts)} activities and {len(now.starts)}; without names nobody can say which are the same")
+        raise BadInput(f"{len(was.starts)} activities and {len(now.starts)}; "
+                       "without names nobody can say which are the same")
     return {i: i for i in was.starts}
 
 
@@ -58,8 +59,9 @@ def differences(was: Side, now: Side, calendar: Calendar | None) -> list[str]:
     for i, j in sorted(moved, key=lambda pair: (now.starts[pair[1]], pair[1])):
         change = f"{was.when(i, calendar)} -> {now.when(j, calendar)}{late(now.starts[j] - was.starts[i])}"
         told.append(f"  {now.called(j):{wide}}  {change}")
-    told += [f"  {now.called(i):{wide}}  new, at {now.when(i, calendar)}" for i in sorted(new, key=now.starts.__getitem__)]
-    told += [f"  {was.called(i):{wide}}  gone, was at {was.when(i, calendar)}" for i in sorted(gone, key=was.starts.__getitem__)]
+    for side, numbers, says in ((now, new, "new, at"), (was, gone, "gone, was at")):
+        for i in sorted(numbers, key=side.starts.__getitem__):
+            told.append(f"  {side.called(i):{wide}}  {says} {side.when(i, calendar)}")
     return [*told, f"{len(pairs) - len(moved)} of {len(now.starts)} start as before"]
 
 

@@ -58,7 +58,8 @@ class Days(Calendar):
 
     heads = ("first day", "last day")
 
-    def __init__(self, first: datetime.date, step: int, workdays: frozenset[int], holidays: frozenset[datetime.date]) -> None:
+    def __init__(self, first: datetime.date, step: int, workdays: frozenset[int],
+                 holidays: frozenset[datetime.date]) -> None:
         self.step = step
         self.workdays = workdays
         self.holidays = holidays

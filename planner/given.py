@@ -70,7 +70,7 @@ def from_lines(text: str, called: str, activities: Mapping[str, object]) -> Give
     if brace:
         activities = json_object("{" + told)
     names, durations = activities.get("names", []), activities.get("durations", [])
-    if not isinstance(names, list) or not isinstance(durations, list) or not all(type(length) is int for length in durations):
+    if not isinstance(names, list) or not isinstance(durations, list) or not all(type(one) is int for one in durations):
         raise BadInput(f"{called}: line 1: what it says of the activities can't be read")
     starts = starts_in(lines[1:], 2, called)
     ends = {i: starts[i] + length for i, length in enumerate(durations, 1) if i in starts}
@@ -171,6 +171,6 @@ def from_sheet(sheet: Sheet, called: str) -> Given:
 def whole(sheet: Sheet, called: str, number: int, row: list[str], column: int) -> int:
     text = cell(row, column)
     if not START.fullmatch(text):
-        place = f"row {number}, column {letters(column)} ({short(sheet.heads[column])})"
-        raise BadInput(f"{called}: {place}: '{short(text)}' is not a whole number" if text else f"{called}: {place}: no start")
+        fault = f"'{short(text)}' is not a whole number" if text else "a whole number is missing"
+        raise BadInput(f"{called}: row {number}, column {letters(column)} ({short(sheet.heads[column])}): {fault}")
     return int(text)

@@ -7,12 +7,14 @@ from .clock import Clock, tell
 from .csv_text import write_sheet
 from .errors import BadInput, Failed
 from .files import read_bytes, write_whole
-from .given import answer_of
+from .given import Given, answer_of
 from .known import Known
 from .opened import ProjectFile
 from .project import parse
 from .psmax import SECONDS, Psmax
 from .write import rows
+
+WITHOUT_SCHEDULE = (b"no schedule", b"unknown bound ")  # the beginnings of answers of a search
 
 
 class Kept:
@@ -32,10 +34,15 @@ class Kept:
         return self.there if data is not None else None
 
     def schedule_in(self, data: bytes) -> Answer | None:
+        """What holds no schedule may go, but not what is no answer."""
+        if not data.strip() or data.startswith(WITHOUT_SCHEDULE):
+            return None
         try:
             given = answer_of(data, self.path)
-        except BadInput:
-            raise BadInput(f"{self.path} is there, and is no answer; name another file with --out") from None
+        except BadInput as fault:
+            given = Given(self.path, instead=str(fault))
+        if given.instead:
+            raise BadInput(f"{self.path} is there, and is no answer; name another file with --out")
         try:
             return feasible(self.opened, given, Psmax(Clock(SECONDS), self.opened.path))
         except BadInput:

@@ -135,7 +135,8 @@ def add_float(one: argparse.ArgumentParser) -> None:
 
 def add_chart(one: argparse.ArgumentParser) -> None:
     one.add_argument("--svg", metavar="FILE", help="draw a picture there instead")
-    one.add_argument("--width", type=number(20, 500), default=80, metavar="COLUMNS", help="columns for the time, at most (80)")
+    one.add_argument("--width", type=number(20, 500), default=80, metavar="COLUMNS",
+                     help="columns for the time, at most (80)")
 
 
 def add_gantt(one: argparse.ArgumentParser) -> None:

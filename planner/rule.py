@@ -92,7 +92,7 @@ class Pass:
         return [self.starts[activity] for activity in range(len(self.luck))]
 
     def choose(self) -> int:
-        """Of the activities whose predecessors are placed, the one of least luck, with the latest start where that counts."""
+        """Of the activities whose predecessors are placed, the one of least luck, and of least latest start with it."""
         waiting = [j for j in range(len(self.luck)) if j not in self.starts and self.before[j] <= self.starts.keys()]
         ranks = [(self.luck[j] + (self.latest[j] if self.by_latest else 0.0), j) for j in waiting]
         return min(ranks)[1]

@@ -13,7 +13,8 @@ LETTER = 7  # pixels of a letter, about
 MARKS = 12  # about so many numbers on the ruler
 
 STYLE = """text { font: 12px sans-serif; fill: #222 } .title { font-weight: bold } .time { fill: #666 }
-.bar { fill: #3a7ca5 } .critical { fill: #d9822b } .float { fill: #b8cfdd } .point { fill: #c0392b } .use { fill: #9bb8a0 } .over { fill: #c0392b }
+.bar { fill: #3a7ca5 } .critical { fill: #d9822b } .float { fill: #b8cfdd } .point { fill: #c0392b }
+.use { fill: #9bb8a0 } .over { fill: #c0392b }
 .grid { stroke: #ddd } .most { stroke: #555; stroke-dasharray: 4 3 }"""
 
 

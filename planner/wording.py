@@ -36,7 +36,8 @@ class Words:
     def needs(self, activity: int) -> str:
         """What this activity needs more of than there is."""
         pairs = enumerate(zip(self.project.demands[activity], self.project.capacities))
-        told = [f"{need} of {self.names.resource(k)}, of which there {are(units)}" for k, (need, units) in pairs if need > units]
+        told = [f"{need} of {self.names.resource(k)}, of which there {are(units)}"
+                for k, (need, units) in pairs if need > units]
         return f"{self.names.activity(activity)} needs {', '.join(told)}"
 
     def violation(self, violation: str, starts: Sequence[int]) -> str:

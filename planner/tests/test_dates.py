@@ -50,8 +50,8 @@ class Dates(InFolder):
         wanted = [["2026-04-02", "2026-04-08"], ["2026-04-08", "2026-04-08"], ["2026-04-09", "2026-04-10"]]
         self.assertEqual(self.written(*words)[1:], wanted)
         self.assertEqual(self.written("--from", "2026-04-04", *words[2:])[1][0], "2026-04-07")
-        self.assertEqual(self.written("--from", "2026-03-06", "--workdays", "mon-sat")[1:2], [["2026-03-06", "2026-03-09"]])
-        self.assertEqual(self.written("--from", "2026-03-06", "--workdays", "sat-mon,wed")[1:2], [["2026-03-07", "2026-03-09"]])
+        self.assertEqual(self.written("--from", "2026-03-06", "--workdays", "mon-sat")[1], ["2026-03-06", "2026-03-09"])
+        self.assertEqual(self.written("--from", "2026-03-06", "--workdays", "sat-mon,wed")[1], ["2026-03-07", "2026-03-09"])
 
     def test_once_in_the_page(self) -> None:
         """`plan read` writes the calendar into the page, keeps it there, and all commands take it from there."""

@@ -52,7 +52,8 @@ class Float(InFolder):
         lines = plan("float", self.project, self.answer, "--chart").stdout.splitlines()
         self.assertEqual([line.split()[-1] for line in lines[3:8]], ["...-#..", "***....", ".....**", "......*", "--#----"])
         self.assertEqual(plan("float", self.project, self.answer, "--svg", self.folder / "f.svg").stdout, "")
-        boxes = [node.get("class") for node in ElementTree.parse(self.folder / "f.svg").iter("{http://www.w3.org/2000/svg}rect")]
+        picture = ElementTree.parse(self.folder / "f.svg")
+        boxes = [node.get("class") for node in picture.iter("{http://www.w3.org/2000/svg}rect")]
         self.assertEqual([boxes.count(kind) for kind in ("critical", "float", "bar")], [2, 2, 2])
 
     def test_every_start_between_is_one(self) -> None:

@@ -1,4 +1,6 @@
 """A resource that is held beyond one activity, by an activity of fixed length that starts with another."""
+import re
+
 from .helpers import InFolder, plan
 
 # By hand: one scaffold, held for 6 days from the start of each erection on; two walls take 6 + 6 = 12 days.
@@ -27,8 +29,7 @@ class Hold(InFolder):
 
     def test_the_same_by_two_lags(self) -> None:
         short = self.file("short.csv", TABLE)
-        by_lags = TABLE.replace("with erect north,,", "start of erect north,0,0").replace("with erect south,,", "start of erect south,0,0")
-        long = self.file("long.csv", by_lags)
+        long = self.file("long.csv", re.sub("with (erect .*),,", r"start of \1,0,0", TABLE))
         for table in (short, long):
             self.assertEqual(plan("read", table).returncode, 0)
         self.assertEqual(short.with_suffix(".sch").read_bytes(), long.with_suffix(".sch").read_bytes())

@@ -7,12 +7,14 @@ LAGS = "activity,days,after,at least,at most\n"
 
 class OfTables(InFolder):
     def told(self, rows: str, *texts: str, faults: int = 1, heads: str = HEADS) -> None:
-        self.refused(plan("read", self.file("t.csv", heads + rows)), 2, *(f"t.csv: {text}" for text in texts), faults=faults)
+        told = [f"t.csv: {text}" for text in texts]
+        self.refused(plan("read", self.file("t.csv", heads + rows)), 2, *told, faults=faults)
 
     def test_what_read_promises(self) -> None:
         """No schedule where an activity needs more than there is, or where there is none."""
         ran = plan("read", self.file("t.csv", HEADS + "lift,2,6,,,\n"))
-        self.assertEqual(ran.stdout.splitlines()[1], "Activity 1 (lift) needs 6 of crew, of which there are 5, so there is no schedule.")
+        self.assertEqual(ran.stdout.splitlines()[1],
+                         "Activity 1 (lift) needs 6 of crew, of which there are 5, so there is no schedule.")
         self.told("", "no activity stands below row 1")
         self.told(",,,,,\n", "no activity stands below row 1")
 
@@ -22,8 +24,10 @@ class OfTables(InFolder):
         self.told("lift,3.5,,,,\n", "row 2, column B (days): '3.5' is not a whole number")
 
     def test_a_comma_between_names(self) -> None:
-        self.told('a,1,,,,\nb,1,,,,\nc,1,,"a, b",,\n', "row 4, column D (after): no activity 'a, b'; between names stands ';'")
-        self.told("a,1,,,,\nb,1,,,,\nc,1,,a,,,b\n", "row 4, column G: a cell beyond the last column; names in one cell have ';'")
+        self.told('a,1,,,,\nb,1,,,,\nc,1,,"a, b",,\n',
+                  "row 4, column D (after): no activity 'a, b'; between names stands ';', and not ','")
+        self.told("a,1,,,,\nb,1,,,,\nc,1,,a,,,b\n",
+                  "row 4, column G: a cell beyond the last column; names in one cell have ';' between them")
 
     def test_names_that_can_not_be(self) -> None:
         for name, reason in (("Start", "it stands for the start of the project"), ("end", "the end of the project"),
@@ -36,9 +40,10 @@ class OfTables(InFolder):
     def test_all_faults_at_once(self) -> None:
         """In the order of the rows, one line each, and none that follows from another."""
         self.told("dig,five,9999999,,,\nend,1,,dig,3,2\npour,,,digg; end,,\n,,,dig,,x\n",
-                  "row 2, column B (days): 'five'", "row 2, column C (crew (5)): 9999999 is more", "row 3, column A (activity): 'end'",
-                  "row 3, column F (at most): at most 2 is less than", "row 4, column B (days): a whole number is missing",
-                  "row 4, column D (after): no activity 'digg'", "row 5, column F (at most): 'x'", faults=7)
+                  "row 2, column B (days): 'five'", "row 2, column C (crew (5)): 9999999 is more",
+                  "row 3, column A (activity): 'end'", "row 3, column F (at most): at most 2 is less than",
+                  "row 4, column B (days): a whole number is missing", "row 4, column D (after): no activity 'digg'",
+                  "row 5, column F (at most): 'x'", faults=7)
         self.told("a,x,\n", "row 1, column C (crew)", "row 2, column B (days)", faults=2, heads="activity,days,crew\n")
         self.told("", "row 1, column A (job)", "row 1 has no column for the name", "row 1 has no column for the duration",
                   faults=3, heads="job\n")
@@ -50,9 +55,10 @@ class OfProjects(InFolder):
     def test_what_is_no_project(self) -> None:
         table, answer = self.file("t.csv", "activity,days\na,1\n"), self.file("best", "optimal 3\n0 0\n")
         other = self.file("t.txt", "sep=;\nName;Weeks\na;1\n")
+        told = f"t.csv: this is a table, and no project; `plan read {table}` makes one of it"
         for command in ("solve", "why", "where", "gantt", "write", "check", "float"):
             with self.subTest(command):
-                self.refused(plan(command, table, given=b"0 0\n"), 2, f"this is a table, and no project; `plan read {table}`")
+                self.refused(plan(command, table, given=b"0 0\n"), 2, told)
                 self.refused(plan(command, other, given=b"0 0\n"), 2, "this is a table, and no project")
                 self.refused(plan(command, answer, given=b"0 0\n"), 2, "best: this is an answer, and no project")
         self.refused(plan("solve", self.file("t.xlsx", b"PK\x03\x04")), 2, "this is a spreadsheet file, and no project")

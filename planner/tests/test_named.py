@@ -65,7 +65,7 @@ class Named(InFolder):
         for answer in self.answers:
             for command in (("write",), ("solve", "--start")):
                 ran = plan(command[0], self.project, *command[1:], answer)
-                self.refused(ran, 2, "1 (close) must start at least 6 after 2 (mend) starts (0 after it ends), and starts 4 after",
+                self.refused(ran, 2, "1 (close) must start at least 6 after 2 (mend) starts (0 after it ends), and starts 4 ",
                              "at 7, 2 units of pit are in use, of which there is 1: 1 (close), 2 (mend)", faults=2)
 
     def test_a_name_twice(self) -> None:
@@ -73,7 +73,8 @@ class Named(InFolder):
         page = "| | Activity | Days | pit |\n|---|---|---|---|\n| 1, 2 | same | 3 | |\n| 3 | other | 2 | |\n"
         self.file("p.md", page)
         out = self.folder / "same.csv"
-        self.assertEqual(plan("write", self.project, self.file("s", "0 0\n1 0\n2 3\n3 7\n4 9\n"), "--out", out).returncode, 0)
+        starts = self.file("s", "0 0\n1 0\n2 3\n3 7\n4 9\n")
+        self.assertEqual(plan("write", self.project, starts, "--out", out).returncode, 0)
         self.assertEqual(plan("check", self.project, out).stdout, "feasible 9\n")
         self.file("p.md", page.replace("| 1, 2 |", "| 2, 3 |").replace("| 3 | o", "| 1 | o"))
         self.assertIn("no start for activity 2 (same)", plan("check", self.project, out).stderr)
@@ -82,7 +83,11 @@ class Named(InFolder):
         """Another count of activities is told, and so is an answer that is older than the project."""
         given = self.file("plain", psmax("solve", given=self.project.read_bytes()))
         self.read(INSERTED)
-        self.refused(plan("write", self.project, given), 2, "starts of 3 activities, and", "has 4; without names")
+        self.refused(plan("write", self.project, given), 2, "starts of 5 activities, and", "has 6 with its start and end")
+        table = self.file("plain.csv", "activity,name,start,end\n1,,0,3\n2,,3,7\n3,,7,9\n")
+        self.refused(plan("write", self.project, table), 2, "starts of 3 activities, and", "has 4; without names")
+        self.read(TABLE.partition("close")[0])
+        self.refused(plan("check", self.project, table), 2, "starts of 3 activities, and", "has 2; without names")
         self.read(MOVED)
         os.utime(given, (0, 0))
         ran = plan("gantt", self.project, given)
@@ -92,12 +97,13 @@ class Named(InFolder):
         told = psmax("check", "--project", self.project, given=self.starts.read_bytes())
         self.assertEqual(told, "feasible 9\n")
         first = self.starts.read_text().partition("\n")[0]
-        self.assertEqual(json.loads(first.removeprefix("optimal 9 ")), {"names": ["strip", "mend", "close"], "durations": [3, 4, 2]})
+        self.assertEqual(json.loads(first.removeprefix("optimal 9 ")),
+                         {"names": ["strip", "mend", "close"], "durations": [3, 4, 2]})
 
     def test_faults_of_tables(self) -> None:
         for text, fault in (("activity,name,start\n1,strip,x\n", "row 2, column C (start): 'x' is not a whole number"),
                             ("activity,name,start\n1,strip,0\n1,mend,3\n", "row 3: a second start of activity 1"),
-                            ("activity,start\nstrip,\n", "row 2, column B (start): no start"),
+                            ("activity,start\nstrip,\n", "row 2, column B (start): a whole number is missing"),
                             ('optimal 9 {"names": 3}\n0 0\n', "line 1: what it says of the activities can't be read")):
             with self.subTest(text):
                 self.refused(plan("check", self.project, self.file("bad", text)), 2, fault)
@@ -113,4 +119,5 @@ class Named(InFolder):
         for given in (psmax("solve", "--json", given=site.read_bytes()), plan("solve", site, "--json").stdout):
             self.assertEqual(plan("check", site, given=given.encode()).stdout, "feasible 36\n")
         ran = plan("check", INPUTS / "two-jobs.sch", given=b"0 0\n1 0\n2 2\n3 6\n")
-        self.assertEqual((ran.returncode, ran.stdout), (4, "at 2, 2 units of resource 0 are in use, of which there is 1: 1, 2\n"))
+        told = "at 2, 2 units of resource 0 are in use, of which there is 1: 1, 2\n"
+        self.assertEqual((ran.returncode, ran.stdout), (4, told))

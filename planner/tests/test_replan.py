@@ -1,4 +1,6 @@
 """A schedule of which a part has started is planned again, and two schedules are compared."""
+import pathlib
+
 from .helpers import InFolder, Ran, plan, psmax
 
 # By hand: one crane, and what is lifted is bolted at once. 3 + 2 + 4 + 2 = 11 in this order, as the lags ask for.
@@ -9,7 +11,7 @@ lift roof,4,1,bolt beams,,
 cover roof,2,,lift roof,,
 """
 LONGER = TABLE.replace("bolt beams,2", "bolt beams,4")  # two days more
-INSERTED = TABLE.replace("lift roof,4", "test beams,1,1,bolt beams,,\nlift roof,4").replace("1,bolt beams,,\ncover", "1,test beams,,\ncover")
+INSERTED = TABLE.replace("lift roof,4,1,bolt beams", "test beams,1,1,bolt beams,,\nlift roof,4,1,test beams")
 
 
 class Replanning(InFolder):
@@ -29,6 +31,11 @@ class Replanning(InFolder):
         rows = [line.split(",") for line in ran.stdout.splitlines()[1:]]
         return {row[1]: int(row[2]) for row in rows}
 
+    def late(self) -> pathlib.Path:
+        """The old schedule, with the roof three days later."""
+        text = self.old.read_text().replace("lift roof,5,9", "lift roof,8,12").replace("9,11", "12,14")
+        return self.file("late.csv", text)
+
     def replanned(self, day: object, *words: object) -> Ran:
         return plan("solve", self.project, "--start", self.old, "--frozen", day, "--out", self.new, *words)
 
@@ -46,7 +53,7 @@ class Replanning(InFolder):
         not started by then, it could not start before."""
         ran = self.replanned(6)
         self.assertEqual((ran.returncode, ran.stdout, self.starts(self.new)), (0, "optimal 11\n", self.starts(self.old)))
-        late = self.file("late.csv", self.old.read_text().replace("lift roof,5,9", "lift roof,8,12").replace("9,11", "12,14"))
+        late = self.late()
         ran = plan("solve", self.project, "--start", late, "--frozen", 7, "--out", self.folder / "again.csv")
         self.assertEqual((ran.stdout, self.starts(self.folder / "again.csv")["lift roof"]), ("optimal 13\n", 7), ran.stderr)
 
@@ -86,7 +93,7 @@ class Replanning(InFolder):
 
     def test_the_file_keeps_what_is_shorter(self) -> None:
         """A schedule of the project that is shorter than what keeps the past isn't replaced by that."""
-        late = self.file("late.csv", self.old.read_text().replace("lift roof,5,9", "lift roof,8,12").replace("9,11", "12,14"))
+        late = self.late()
         ran = plan("solve", self.project, "--start", late, "--frozen", 9, "--out", self.old)
         self.refused(ran, 2, "old.csv holds a schedule of 11 that doesn't keep what has started")
 
@@ -126,7 +133,8 @@ class Comparing(InFolder):
     def test_milestones(self) -> None:
         """They stand at the day on which work ends, in the lines of psmax too."""
         for name, day in (("old", 3), ("new", 4)):
-            self.file(name, f'feasible {day} bound 1 {{"names": ["dig", "done"], "durations": [2, 0]}}\n0 0\n1 0\n2 {day}\n3 {day}\n')
+            first = f'feasible {day} bound 1 {{"names": ["dig", "done"], "durations": [2, 0]}}'
+            self.file(name, f"{first}\n0 0\n1 0\n2 {day}\n3 {day}\n")
         ran = plan("compare", self.folder / "old", self.folder / "new", "--from", "2026-03-02")
         self.assertIn("  done  2026-03-04 -> 2026-03-05, 1 later\n", ran.stdout)
 

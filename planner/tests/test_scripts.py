@@ -31,7 +31,8 @@ class Json(InFolder):
 
     def test_by_hand(self) -> None:
         told = self.told(INPUTS / "two-jobs.sch")
-        self.assertEqual([*told], ["bound", "makespan", "starts", "status", "names", "durations", "nodes", "seconds", "versions"])
+        self.assertEqual([*told], ["bound", "makespan", "starts", "status", "names", "durations", "nodes", "seconds",
+                                   "versions"])
         self.assertEqual([told[key] for key in ("bound", "makespan", "status", "durations")], [7, 7, "optimal", [3, 4]])
         self.assertGreater(told["seconds"], 0)
         self.assertGreater(told["nodes"], 0)
@@ -132,7 +133,8 @@ class Batch(InFolder):
     def test_schedules(self) -> None:
         (self.folder / "best").mkdir()
         self.assertEqual(plan("batch", self.folder, "--out", self.folder / "best", "--part", "5/5").returncode, 0)
-        told = psmax("check", "--project", self.folder / "two-jobs.sch", given=(self.folder / "best/two-jobs.starts").read_bytes())
+        best = (self.folder / "best/two-jobs.starts").read_bytes()
+        told = psmax("check", "--project", self.folder / "two-jobs.sch", given=best)
         self.assertEqual(told, "feasible 7\n")
 
     def test_faults(self) -> None:
@@ -181,10 +183,11 @@ class Installed(InFolder):
                              env={**os.environ, "PSMAX": PSMAX})
         self.assertIn(f"plan {__version__}", ran.stdout)
 
-    @unittest.skipUnless(all(map(importlib.util.find_spec, ("pip", "setuptools", "wheel"))), "no tools to build a package here")
+    @unittest.skipUnless(all(map(importlib.util.find_spec, ("pip", "setuptools", "wheel"))), "no tools for packages here")
     def test_pip_install(self) -> None:
         source = self.folder / "source"
-        shutil.copytree(TOP / "planner", source / "planner", ignore=shutil.ignore_patterns("tests", "projects", "__pycache__"))
+        unused = shutil.ignore_patterns("tests", "projects", "__pycache__")
+        shutil.copytree(TOP / "planner", source / "planner", ignore=unused)
         shutil.copy(TOP / "pyproject.toml", source)
         ran = self.run_there(sys.executable, "-m", "pip", "install", "--quiet", "--no-index", "--no-deps",
                              "--no-build-isolation", "--target", "there", source)
