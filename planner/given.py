@@ -53,6 +53,8 @@ def answer_of(data: bytes, called: str) -> Given:
     sheet = answer_sheet(text)
     if sheet is not None:
         return from_sheet(sheet, called)
+    if named_sheet(text) is not None:
+        return Given(called, instead="This is a table without a column `start`, and no answer.")
     if text.lstrip().startswith("{"):
         return from_json(text, called)
     return from_lines(text, called, {})
@@ -137,15 +139,20 @@ def first_line(told: dict[str, object]) -> str | None:
 
 def answer_sheet(text: str) -> Sheet | None:
     """The rows of an answer in CSV, as `plan write` makes it; none where the text is none."""
+    sheet = named_sheet(text)
+    return sheet if sheet is not None and "start" in map(str.lower, sheet.heads) else None
+
+
+def named_sheet(text: str) -> Sheet | None:
+    """The rows of a table in which activities have names or numbers; none where the text is none."""
     first = text[:10_000].lower()
-    if "start" not in first or not ("activity" in first or "name" in first):
+    if "activity" not in first and "name" not in first:
         return None
     try:
         sheet = read_sheet("", text)
     except BadInput:
         return None
-    heads = [head.lower() for head in sheet.heads]
-    return sheet if "start" in heads and ("activity" in heads or "name" in heads) else None
+    return sheet if {"activity", "name"} & {head.lower() for head in sheet.heads} else None
 
 
 def from_sheet(sheet: Sheet, called: str) -> Given:

@@ -1,7 +1,7 @@
 """A search for a shorter and shorter schedule with a rising bound, until both meet or the time is over."""
 from collections.abc import Callable, Sequence
 from dataclasses import dataclass
-from functools import partial
+from functools import cached_property, partial
 
 from .clock import tell
 from .deadlines import Deadlines, with_fewer_resources
@@ -66,9 +66,9 @@ class Search:
         nodes = FIRST_NODES
         self.by_needs(project)
         if self.old is not None and not self.known.settled:
-            self.repair(project, self.old)
+            self.repair(self.old)
         self.plain(nodes)
-        rule = None if self.known.settled else self.make_rule(project)
+        rule = None if self.known.settled else self.rule
         neighbours = Neighbours(project, self.known)
         deadlines = Deadlines(project, self.known)
         eased = with_fewer_resources(project, self.known)
@@ -116,7 +116,9 @@ class Search:
         if answer.bound is not None:
             self.known.at_least(answer.bound, call)
 
-    def make_rule(self, project: Project) -> Rule | None:
+    @cached_property
+    def rule(self) -> Rule | None:
+        project = parse(self.text)
         if len(project.durations) > LARGEST + 2:
             tell(self.clock, f"without the priority rule, which takes at most {LARGEST} activities")
             return None
@@ -124,12 +126,11 @@ class Search:
             return None
         return Rule(project, longest(project, self.clock))
 
-    def repair(self, project: Project, old: Old) -> None:
+    def repair(self, old: Old) -> None:
         """The old schedule, in its order: first with no start before the old one, then without that."""
-        rule = self.make_rule(project)
         none: dict[int, int] = {}
         for floors in (old.starts, none):
-            starts = rule.in_order(old.starts, floors, self.clock) if rule is not None else None
+            starts = self.rule.in_order(old.starts, floors, self.clock) if self.rule is not None else None
             if starts is not None:
                 self.known.offer(tuple(starts), f"{old.called}, repaired")
 

@@ -64,6 +64,14 @@ class OfProjects(InFolder):
         self.refused(plan("solve", self.file("t.xlsx", b"PK\x03\x04")), 2, "this is a spreadsheet file, and no project")
 
 
+class OfAnswers(InFolder):
+    def test_what_is_no_answer(self) -> None:
+        table = self.file("t.csv", HEADS + "lift,2,,,,\n")
+        self.assertIn("This is a table without a column `start`", plan("gantt", INPUTS / "two-jobs.sch", table).stdout)
+        for words in (("write", INPUTS / "two-jobs.sch"), ("compare", table), ("solve", INPUTS / "two-jobs.sch", "--start")):
+            self.refused(plan(*words, table), 2, "t.csv: This is a table without a column `start`, and no answer.")
+
+
 class Why(InFolder):
     def told(self, table: str) -> str:
         self.assertEqual(plan("read", self.file("t.csv", table)).returncode, 0)
