@@ -40,6 +40,8 @@ class Batch:
 def batch(wanted: Batch) -> int:
     projects = chosen(wanted)
     guard([wanted.csv], {f"the project {path.name}": str(path) for path in projects})
+    if wanted.out is not None and not os.path.isdir(wanted.out):
+        raise Failed(f"cannot write into {wanted.out}: it is no folder")
     done = read_rows(wanted.csv) if wanted.csv is not None and os.path.exists(wanted.csv) else {}
     left = [path for path in projects if done.get(path.name, {}).get("status", FAULT) == FAULT]
     clock = Clock(float("inf"))

@@ -24,5 +24,5 @@ def circles(project: Project, psmax: Psmax) -> Iterator[list[Arc]]:
 def in_words(circle: list[Arc], words: Words) -> list[str]:
     over = sum(arc.lag for arc in circle)
     return ["These lags contradict each other:", *(f"  {words.lag(arc)}" for arc in circle),
-            f"  Around that circle they add up to {over}, and at most 0 can be kept: of what is at most, something must be "
-            f"{over} more, or of what is at least {over} less."]
+            f"  Around that circle they add up to {over}, and at most 0 can be kept.",
+            f"  Something that is at most must be {over} more, or something that is at least {over} less."]

@@ -141,6 +141,7 @@ class Batch(InFolder):
         self.refused(plan("batch"), 2, "either a FOLDER, or --join")
         self.refused(plan("batch", self.folder, "--join", "a"), 2, "either a FOLDER, or --join")
         self.refused(plan("batch", self.folder / "gone"), 1, "it is no folder")
+        self.refused(plan("batch", self.folder, "--out", self.folder / "gone"), 1, "gone: it is no folder")
         self.refused(plan("batch", self.folder, "--part", "3/2"), 2, "'3/2' is not a part such as 1/4")
         self.refused(plan("batch", self.folder, "--csv", self.file("t.csv", "a,b\n")), 2, "not a table of `plan batch`")
         (self.folder / "none").mkdir()
