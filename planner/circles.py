@@ -23,6 +23,8 @@ def circles(project: Project, psmax: Psmax) -> Iterator[list[Arc]]:
 
 def in_words(circle: list[Arc], words: Words) -> list[str]:
     over = sum(arc.lag for arc in circle)
+    change = (f"Something that is at most must be {over} more, or something that is at least {over} less."
+              if any(arc.lag < 0 for arc in circle) else "Each of them waits for the others, so one of these lags must go.")
     return ["These lags contradict each other:", *(f"  {words.lag(arc)}" for arc in circle),
             f"  Around that circle they add up to {over}, and at most 0 can be kept.",
-            f"  Something that is at most must be {over} more, or something that is at least {over} less."]
+            f"  {change}"]

@@ -138,7 +138,7 @@ def chosen(wanted: Wanted, opened: ProjectFile) -> Calendar | None:
 
 def calendar(settings: dict[str, str], folder: str) -> Calendar:
     """The calendar of the settings. A kind of period that has no length by the calendar counts as a day."""
-    first = moment(settings["from"], "--from")
+    first = moment(settings["from"], "from")
     period = settings["period"] if settings.get("period") in MINUTES else "days"
     by_workdays = "workdays" in settings or "holidays" in settings
     if by_workdays and period != "days":

@@ -41,7 +41,7 @@ def read_activities(path: str, out: str | None, wanted: Wanted) -> int:
     named = page_of(target)
     guard([target, named], {"the table": path} | wanted.inputs())
     project, names, unit = read_table(path, table)
-    names.source = printable(os.path.basename(path))
+    names.source = printable(os.path.relpath(path, os.path.dirname(named) or "."))
     there = read_bytes(named) if os.path.exists(named) else None
     must_be_ours(target, named, names.source, there, out is not None)
     names.settings = settings(there, wanted, named, unit)

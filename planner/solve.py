@@ -8,7 +8,7 @@ from functools import partial
 from . import __version__, dates, drawing, svg
 from .answer import feasible
 from .clock import Clock, tell
-from .dates import Wanted
+from .dates import Calendar, Wanted
 from .errors import BadInput, Failed
 from .files import guard, write_whole
 from .given import read_answer
@@ -41,8 +41,9 @@ class Options:
 def solve(path: str, options: Options) -> int:
     opened = open_project(path)
     guard([options.out, options.svg], opened.inputs() | options.inputs())
+    calendar = dates.chosen(options.wanted, opened) if options.svg or options.frozen else None
     kept = None if options.out is None else Kept(options.out, opened)
-    beginning = begin_with(opened, options)
+    beginning = begin_with(opened, options, calendar)
     schedules = list(beginning.schedules)
     there = kept.look() if kept is not None else None
     if kept is not None and there is not None:
@@ -60,12 +61,14 @@ def solve(path: str, options: Options) -> int:
     except Failed:
         if known.starts is not None:
             give(known, opened, options, kept)
+            draw(known, opened, options, calendar)
         raise
     give(known, opened, options, kept)
+    draw(known, opened, options, calendar)
     return 0 if known.settled else 3
 
 
-def begin_with(opened: ProjectFile, options: Options) -> Beginning:
+def begin_with(opened: ProjectFile, options: Options, calendar: Calendar | None) -> Beginning:
     if options.start is None:
         if options.frozen is not None:
             raise BadInput("--frozen needs --start, the schedule of which a part has started")
@@ -73,19 +76,22 @@ def begin_with(opened: ProjectFile, options: Options) -> Beginning:
     given, psmax = read_answer(options.start), Psmax(Clock(SECONDS), opened.path)
     if options.frozen is None:
         return from_schedule(opened, given, psmax)
-    return from_frozen(opened, given, psmax, options.frozen, dates.chosen(options.wanted, opened))
+    return from_frozen(opened, given, psmax, options.frozen, calendar)
 
 
 def give(known: Known, opened: ProjectFile, options: Options, kept: Kept | None) -> None:
-    """Prints what is known, and writes the files that were asked for. A schedule that can't be written is printed."""
+    """Prints what is known, and writes the schedule where that was asked for. One that can't be written is printed."""
     plain = known.answer().decode()
     try:
         if kept is not None and kept.put(known):
             plain = known.first_line() + "\n"
     finally:
         sys.stdout.write(as_json(known, opened) if options.json else plain)
+
+
+def draw(known: Known, opened: ProjectFile, options: Options, calendar: Calendar | None) -> None:
     if options.svg is not None and known.starts is not None:
-        drawn = drawing.make(parse(opened.text), known.starts, opened.names, known.first_line())
+        drawn = drawing.make(parse(opened.text), known.starts, opened.names, known.first_line(), (), calendar)
         write_whole(options.svg, svg.draw(drawn).encode())
 
 
@@ -107,4 +113,8 @@ def as_json(known: Known, opened: ProjectFile) -> str:
 
 def versions() -> dict[str, str]:
     """Of plan, of the psmax that it calls, and of Python."""
-    return {"plan": __version__, "psmax": Psmax(Clock(SECONDS)).version(), "python": platform.python_version()}
+    try:
+        psmax = Psmax(Clock(SECONDS)).version()
+    except Failed:
+        psmax = "not found"
+    return {"plan": __version__, "psmax": psmax, "python": platform.python_version()}

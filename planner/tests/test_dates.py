@@ -64,6 +64,8 @@ class Dates(InFolder):
         self.assertIn("2026-04-08", self.ran("gantt").stdout)
         self.assertIn("2026-04-09  2026-04-09  2026-04-09      0  critical", self.ran("float").stdout)
         self.assertEqual(self.written("--from", "2026-04-08")[1], ["2026-04-08", "2026-04-10"])
+        self.assertEqual(plan("solve", self.folder / "p.sch", "--svg", self.folder / "s.svg").returncode, 0)
+        self.assertIn("build: 2026-04-02 to 2026-04-08", (self.folder / "s.svg").read_text())
 
     def test_charts(self) -> None:
         """By hand: a bar for each working day, the dates of the starts beside them, and on the ruler."""
@@ -119,6 +121,6 @@ class Dates(InFolder):
                      faults=2)
         self.refused(self.ran("write", *first, "--holidays", self.folder / "gone"), 1, "cannot read")
         self.refused(self.ran("write", "--workdays", "mon-fri"), 2, "--workdays needs --from")
-        self.refused(self.ran("write", "--from", "soon"), 2, "--from soon: not a date")
+        self.refused(self.ran("write", "--from", "soon"), 2, "from soon: not a date")
         self.refused(self.ran("write", "--from", "9999-12-31"), 2, "9999")
         self.refused(plan("read", self.folder / "p.csv", "--workdays", "x"), 2, "workdays x")

@@ -52,6 +52,14 @@ class Inputs(InFolder):
         self.spared(("read", "w.sch", "--out"), "hard")
         self.spared(("batch", str(self.folder), "--csv"), "w.sch")
 
+    def test_a_table_in_another_folder(self) -> None:
+        """The page says where the table is, from its own folder on."""
+        (self.folder / "there").mkdir()
+        there = self.folder / "there" / "w.sch"
+        self.assertEqual(plan("read", self.folder / "w.csv", "--out", there).returncode, 0)
+        self.refused(plan("write", there, self.folder / "w.st", "--out", self.folder / "w.csv"), 2, "is the table of the project")
+        self.assertEqual((self.folder / "w.csv").read_text(), TABLE)
+
     def test_an_answer_on_standard_input(self) -> None:
         with open(self.folder / "w.st", "rb") as answer:
             words = [sys.executable, str(PLAN), "write", str(self.folder / "w.sch"), "--out", str(self.folder / "hard.st")]

@@ -87,6 +87,10 @@ class Why(InFolder):
         self.assertIn("3 (d) starts at most 10 after 2 (c) starts (6 after it ends)", text)
         self.assertIn("No greatest lag, taken out alone, opens a schedule.", text)
 
+    def test_a_circle_without_a_greatest_lag(self) -> None:
+        text = self.told(f"{LAGS}a,5,b,,\nb,3,a,,\n")
+        self.assertIn("Each of them waits for the others, so one of these lags must go.", text)
+
     def test_ends_as_in_the_table(self) -> None:
         """By hand: the table says 2 after the end of an activity of 5, which is 7 after its start."""
         text = self.told(f"{LAGS}a,5,,,\nb,3,a,,\nc,1,b,1,\n,,a,any,2\n")

@@ -50,6 +50,7 @@ class Json(InFolder):
     def test_version(self) -> None:
         ran = plan("--version")
         self.assertRegex(ran.stdout, rf"^plan {re.escape(__version__)}, psmax \d+\.\d+\.\d+, Python 3\.\d+\.\d+\n$")
+        self.assertIn("psmax not found", plan("--version", psmax="/gone").stdout)
 
 
 class Batch(InFolder):

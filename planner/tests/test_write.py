@@ -36,5 +36,5 @@ class Write(InFolder):
         self.refused(plan("write", INPUTS / "two-jobs.sch", given=b"no schedule\n"), 2, "no schedule")
 
     def test_dates(self) -> None:
-        self.refused(plan("write", INPUTS / "two-jobs.sch", "--from", "soon", given=STARTS), 2, "--from soon")
+        self.refused(plan("write", INPUTS / "two-jobs.sch", "--from", "soon", given=STARTS), 2, "from soon")
         self.refused(plan("write", INPUTS / "two-jobs.sch", "--from", "9999-12-31", given=STARTS), 2, "9999")
