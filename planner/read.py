@@ -9,6 +9,7 @@ from .clock import Clock
 from .dates import Wanted
 from .errors import BadInput
 from .files import guard, read_bytes, read_text, write_whole
+from .given import answer_sheet
 from .letters import printable
 from .names import MADE, page, read_page
 from .opened import page_of
@@ -35,6 +36,8 @@ def read(path: str, out: str | None, wanted: Wanted) -> int:
 def read_activities(path: str, out: str | None, wanted: Wanted) -> int:
     """The table to a .sch file beside it, or to the one that is named, and the page of names beside that."""
     table = read_text(path)
+    if answer_sheet(table) is not None:
+        raise BadInput(f"{path}: this is an answer, and no table of activities")
     target = out if out is not None else os.path.splitext(path)[0] + ".sch"
     if os.path.basename(target) in ("", ".", "..") or target.endswith(".md"):
         raise BadInput(f"the project can't be written to '{target}'; name a .sch file with --out")

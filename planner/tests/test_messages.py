@@ -18,6 +18,9 @@ class OfTables(InFolder):
         self.told("", "no activity stands below row 1")
         self.told(",,,,,\n", "no activity stands below row 1")
 
+    def test_an_answer_is_no_table(self) -> None:
+        self.told("1,lift,0,2\n", "this is an answer, and no table of activities", heads="activity,name,start,end\n")
+
     def test_numbers(self) -> None:
         self.told("lift,-3,,,,\n", "row 2, column B (days): -3 is below 0")
         self.told("lift,3,-1,,,\n", "row 2, column C (crew (5)): -1 is below 0")
