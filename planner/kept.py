@@ -7,14 +7,14 @@ from .clock import Clock, tell
 from .csv_text import write_sheet
 from .errors import BadInput, Failed
 from .files import read_bytes, write_whole
-from .given import Given, answer_of
+from .given import answer_of
 from .known import Known
 from .opened import ProjectFile
 from .project import parse
 from .psmax import SECONDS, Psmax
 from .write import rows
 
-WITHOUT_SCHEDULE = (b"no schedule", b"unknown bound ")  # the beginnings of answers of a search
+WITHOUT_STARTS = (b"no schedule", b"unknown bound ")  # the beginnings of answers of a search
 
 
 class Kept:
@@ -22,11 +22,10 @@ class Kept:
         self.path = path
         self.opened = opened
         self.written: bytes | None = None  # what it holds, as far as is known
-        self.there: Answer | None = None  # the schedule of this project that another has put there
+        self.there: Answer | None = None  # the schedule that it holds, if another put it there
 
     def look(self) -> Answer | None:
-        """The schedule that the file holds, where it holds one of this project; psmax finds it feasible. What is no answer
-        at all is a fault, since it would be lost."""
+        """The schedule of this project that the file holds; psmax finds it feasible."""
         data = read_bytes(self.path) if os.path.isfile(self.path) else None
         if data is not None and data != self.written:
             self.there = self.schedule_in(data)
@@ -34,19 +33,17 @@ class Kept:
         return self.there if data is not None else None
 
     def schedule_in(self, data: bytes) -> Answer | None:
-        """What holds no schedule may go, but not what is no answer."""
-        if not data.strip() or data.startswith(WITHOUT_SCHEDULE):
+        """What holds no starts may go, but neither what is no answer nor the starts of another project, or of this one
+        before it was changed."""
+        if not data.strip() or data.startswith(WITHOUT_STARTS):
             return None
+        psmax = Psmax(Clock(SECONDS), self.opened.path)
+        psmax.earliest(self.opened.text)
         try:
-            given = answer_of(data, self.path)
+            return feasible(self.opened, answer_of(data, self.path), psmax)
         except BadInput as fault:
-            given = Given(self.path, instead=str(fault))
-        if given.instead:
-            raise BadInput(f"{self.path} is there, and is no answer; name another file with --out")
-        try:
-            return feasible(self.opened, given, Psmax(Clock(SECONDS), self.opened.path))
-        except BadInput:
-            return None
+            raise BadInput(f"{self.path} is no schedule of {self.opened.path}, and would be lost; name another file with --out",
+                           *fault.args) from None
 
     def put(self, known: Known) -> bool:
         """Writes the best schedule, unless another one has put a shorter one there meanwhile. Says whether it is there."""
@@ -67,7 +64,7 @@ class Kept:
         try:
             self.put(known)
         except (BadInput, Failed) as fault:
-            tell(known.psmax.clock, f"{fault}")
+            tell(known.psmax.clock, f"{fault.args[0]}")
 
 
 def answer_text(known: Known, opened: ProjectFile, as_table: bool) -> bytes:

@@ -110,20 +110,29 @@ class Results(InFolder):
         self.assertEqual(ran.returncode, 3, ran.stderr)
         self.assertLessEqual(int(best.read_text().split()[1]), int(short.split()[1]))
 
-    def test_another_project(self) -> None:
-        """The answer of another project is no schedule of this one, and gives way."""
-        best = self.file("best", "optimal 2\n0 0\n1 2\n")
-        self.assertEqual(plan("solve", INPUTS / "two-jobs.sch", "--out", best).returncode, 0)
-        self.assertEqual(best.read_text().split()[:2], ["optimal", "7"])
-
-
-    def test_what_is_no_answer(self) -> None:
-        """Any other file stays."""
-        for text in ("my own words\n", TABLE, TWO_JOBS + "x"):
+    def test_what_is_no_schedule_of_this_project(self) -> None:
+        """The answer of another project stays, of this one before its table was changed, and any other file."""
+        self.assertEqual(plan("read", self.file("w.csv", TABLE)).returncode, 0)
+        old = self.folder / "old.csv"
+        self.assertEqual(plan("solve", self.folder / "w.sch", "--out", old).returncode, 0)
+        self.assertEqual(plan("read", self.file("w.csv", TABLE + "c,1,1\n")).returncode, 0)
+        told = "is no schedule of"
+        ran = plan("solve", self.folder / "w.sch", "--out", old)
+        self.refused(ran, 2, f"old.csv {told}", "name another file with --out", "no start for activity 3 (c)", faults=2)
+        for text in (old.read_text(), "optimal 2\n0 0\n1 2\n", "my own words\n", TABLE, TWO_JOBS, "record 1\n"):
             there = self.file("there", text)
-            self.refused(plan("solve", INPUTS / "two-jobs.sch", "--out", there), 2, "there is there, and is no answer")
+            ran = plan("solve", INPUTS / "three-jobs-lags.sch", "--out", there)
+            self.refused(ran, 2, f"there {told}", faults=2)
             self.assertEqual(there.read_text(), text)
-        self.assertEqual(plan("solve", INPUTS / "two-jobs.sch", "--out", self.file("empty", "")).returncode, 0)
+
+    def test_what_holds_no_starts(self) -> None:
+        for text in ("", "no schedule\n", "unknown bound 3\n"):
+            best = self.file("best", text)
+            self.assertEqual(plan("solve", INPUTS / "two-jobs.sch", "--out", best).returncode, 0)
+            self.assertEqual(best.read_text().split()[:2], ["optimal", "7"])
+
+    def test_a_bad_project(self) -> None:
+        self.refused(plan("solve", self.file("p.sch", "x"), "--out", self.file("best", STARTS)), 2, "p.sch: word 0")
 
 
 class Ends(InFolder):
