@@ -97,7 +97,8 @@ def row_of(path: pathlib.Path, wanted: Batch, clock: Clock) -> Row | None:
         return None
     row = dict.fromkeys(HEADS, "") | {"project": path.name, "limit": f"{wanted.seconds:g}"}
     if child.returncode not in (0, 3):
-        return row | {"status": FAULT, "fault": out_of_it[1].strip().rpartition("\n")[2].removeprefix("plan: ")}
+        faults = [line.removeprefix("plan: ") for line in out_of_it[1].splitlines() if line.startswith("plan: ")]
+        return row | {"status": FAULT, "fault": "; ".join(faults) or f"exit status {child.returncode}"}
     told = json.loads(out_of_it[0])
     known = {head: f"{told[head]}" for head in ("status", "makespan", "bound", "seconds", "nodes") if told[head] is not None}
     return row | known | {"activities": f"{len(told['durations'])}", "plan": told["versions"]["plan"],
@@ -151,5 +152,8 @@ def join(paths: Sequence[str], csv: str | None) -> int:
             if there != row and FAULT not in (there["status"], row["status"]):
                 raise BadInput(f"{path}: a second row for {project}, which says something else")
             joined[project] = row if there["status"] == FAULT else there
+    lost = sorted(read_rows(csv).keys() - joined.keys()) if csv is not None and os.path.exists(csv) else []
+    if lost:
+        raise BadInput(f"{csv} has a row for {lost[0]}, which would be lost; name another file with --csv")
     put(table(joined), csv)
     return 0

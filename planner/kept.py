@@ -42,8 +42,8 @@ class Kept:
         try:
             return feasible(self.opened, answer_of(data, self.path), psmax)
         except BadInput as fault:
-            raise BadInput(f"{self.path} is no schedule of {self.opened.path}, and would be lost; name another file with --out",
-                           *fault.args) from None
+            told = f"{self.path} is no schedule of {self.opened.path}, and would be lost; name another file with --out"
+            raise BadInput(told, *fault.args) from None
 
     def put(self, known: Known) -> bool:
         """Writes the best schedule, unless another one has put a shorter one there meanwhile. Says whether it is there."""

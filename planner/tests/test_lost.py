@@ -57,8 +57,9 @@ class Inputs(InFolder):
         (self.folder / "there").mkdir()
         there = self.folder / "there" / "w.sch"
         self.assertEqual(plan("read", self.folder / "w.csv", "--out", there).returncode, 0)
-        self.refused(plan("write", there, self.folder / "w.st", "--out", self.folder / "w.csv"), 2, "is the table of the project")
-        self.assertEqual((self.folder / "w.csv").read_text(), TABLE)
+        table = self.folder / "w.csv"
+        self.refused(plan("write", there, self.folder / "w.st", "--out", table), 2, "is the table of the project")
+        self.assertEqual(table.read_text(), TABLE)
 
     def test_an_answer_on_standard_input(self) -> None:
         with open(self.folder / "w.st", "rb") as answer:

@@ -115,6 +115,8 @@ class Batch(InFolder):
         self.assertEqual(plan("batch", "--join", *parts, parts[0], "--csv", self.csv).returncode, 0)
         self.assertEqual(self.csv.read_text(), ran.stdout)
         self.refused(plan("batch", "--join", *parts, "--csv", parts[0]), 2, "which would be lost")
+        self.file("all.csv", HEADS + "more.sch,2,feasible,9,7,1.0,5,1,0,0,\n")
+        self.refused(plan("batch", "--join", *parts, "--csv", self.csv), 2, "all.csv has a row for more.sch, which would be")
         other = self.file("other.csv", parts[0].read_text().replace("optimal,7", "optimal,8"))
         self.refused(plan("batch", "--join", *parts, other), 2, "other.csv: a second row for UPPER.SCH")
 
