@@ -33,7 +33,7 @@ class Tied:
 
     starts: dict[int, int]
     new: list[int]
-    gone: list[str]
+    gone: dict[int, str]  # by their numbers in the answer, what they are called
 
 
 def judged(opened: ProjectFile, given: Given, psmax: Psmax) -> Answer:
@@ -45,7 +45,7 @@ def judged(opened: ProjectFile, given: Given, psmax: Psmax) -> Answer:
     tied = tie(opened, project, given)
     words = Words(project, opened.names)
     faults = [f"no start for activity {words.names.activity(number)}" for number in tied.new]
-    faults += [f"{name} is no activity of {opened.path}" for name in tied.gone]
+    faults += [f"{name} is no activity of {opened.path}" for name in tied.gone.values()]
     if faults:
         raise BadInput(*(f"{given.called}: {fault}" for fault in at_most(faults)))
     starts = tuple(tied.starts[activity] for activity in range(project.end + 1))
@@ -75,7 +75,7 @@ def tie(opened: ProjectFile, project: Project, given: Given) -> Tied:
     starts = dict(given.starts)
     if given.is_table:
         starts |= {0: 0, project.end: least_end(project, starts)}
-    gone = [f"activity {number}" for number in given.starts if number not in numbers]
+    gone = {number: f"activity {number}" for number in given.starts if number not in numbers}
     return Tied(starts, [number for number in numbers if number not in given.starts], gone)
 
 
@@ -85,7 +85,8 @@ def by_name(project: Project, given: Given, names: dict[int, str]) -> Tied:
     now = {number: names.get(number, "") for number in inner}
     pairs = same_names(given.names, now)
     starts = {0: given.starts.get(0, 0)} | {pairs[was]: given.starts[was] for was in pairs if was in given.starts}
-    gone = [f"{number} ({name})" if name else f"{number}" for number, name in given.names.items() if number not in pairs]
+    gone = {number: f"{number} ({name})" if name else f"activity {number}"
+            for number, name in given.names.items() if number not in pairs}
     starts[project.end] = least_end(project, starts)
     return Tied(starts, [number for number in inner if number not in starts], gone)
 

@@ -52,7 +52,8 @@ def from_frozen(opened: ProjectFile, given: Given, psmax: Psmax, day: str, calen
     old = {i: start for i, start in tied.starts.items() if 0 < i < project.end and i not in started}
     told = [f"{len(started)} of {project.end - 1} activities start before {day} in {given.called}, and stay"]
     told += [f"{words.names.activity(i)} is new" for i in tied.new if i != project.end]
-    told += [f"{name} is no activity any more" for name in tied.gone]
+    told += [f"{name} is no activity any more" + (", and had started" if given.starts.get(i, now) < now else "")
+             for i, name in tied.gone.items()]
     schedules = []
     if not tied.new:
         schedules.append((tuple(tied.starts[i] for i in range(project.end + 1)), given.called))

@@ -66,8 +66,10 @@ class Replanning(InFolder):
         self.assertEqual(self.starts(self.new)["test beams"], 5)
         self.read(TABLE)
         ran = plan("solve", self.project, "--start", self.new, "--frozen", 1)
-        self.assertIn("3 (test beams) is no activity any more", ran.stderr)
+        self.assertIn("3 (test beams) is no activity any more\n", ran.stderr)
         self.assertEqual(ran.stdout.partition("\n")[0], "optimal 11")
+        ran = plan("solve", self.project, "--start", self.new, "--frozen", 6)
+        self.assertIn("3 (test beams) is no activity any more, and had started\n", ran.stderr)
 
     def test_by_date(self) -> None:
         """By hand: day 4 is Friday; the roof is lifted from day 5 on, the Monday after."""
