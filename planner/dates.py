@@ -127,7 +127,7 @@ class Moments(Calendar):
 
 def chosen(wanted: Wanted, opened: ProjectFile) -> Calendar | None:
     """The calendar of the command's words and of the page; none where neither says when the project begins."""
-    settings = opened.names.settings | wanted.settings(opened.page)
+    settings = {"period": opened.names.unit} | opened.names.settings | wanted.settings(opened.page)
     if wanted.first is None and "from" not in settings:
         for option in ("workdays", "holidays"):
             if getattr(wanted, option) is not None:

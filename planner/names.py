@@ -1,7 +1,7 @@
 """The page beside a project: a table like those of examples/*.md, which names its activities and resources, and perhaps a
 second one, which says from when on and on which days there is work."""
 import re
-from dataclasses import dataclass, field
+from dataclasses import dataclass, field, replace
 
 from .project import Project
 
@@ -14,6 +14,7 @@ SETTINGS = ("period", "from", "workdays", "holidays")  # rows of the second tabl
 class Names:
     activities: dict[int, str] = field(default_factory=dict)
     resources: list[str] = field(default_factory=list)
+    unit: str = ""  # what a period is, as the column of durations is called
     settings: dict[str, str] = field(default_factory=dict)  # of the calendar
     source: str = ""  # the table that the project was made from
 
@@ -27,7 +28,7 @@ class Names:
 
     def with_dummies(self, end: int) -> "Names":
         """The same with names for the start and the end."""
-        return Names(self.activities | {0: "the start", end: "the end"}, self.resources, self.settings, self.source)
+        return replace(self, activities=self.activities | {0: "the start", end: "the end"})
 
 
 def read_page(data: bytes) -> Names:
@@ -37,7 +38,7 @@ def read_page(data: bytes) -> Names:
     for place, row in enumerate(rows):
         if place > 0 and len(row) >= 3 and all(re.fullmatch(":?-+:?", cell) for cell in row) and not found.resources:
             found.resources = rows[place - 1][3:]
-            found.settings.setdefault("period", rows[place - 1][2].lower())
+            found.unit = rows[place - 1][2].lower()
         elif len(row) >= 2 and re.fullmatch(r"\d{1,9}(, *\d{1,9})*", row[0]):
             found.activities |= {int(number): row[1] for number in row[0].split(",")}
         elif len(row) == 2 and row[0] in SETTINGS:
@@ -52,10 +53,10 @@ def cell_text(cell: str) -> str:
     return "".join(sign if sign.isprintable() else " " for sign in cell.replace("\\|", "|")).strip()
 
 
-def page(title: str, project: Project, names: Names, unit: str) -> str:
+def page(title: str, project: Project, names: Names) -> str:
     """The page of a project that was read from a table."""
     lines = [f"# {title}", "", f"The numbers, names and demands of `{title}.sch`. {MADE.format(names.source)}", ""]
-    lines.append(table_row(["", "Activity", unit.capitalize(), *names.resources]))
+    lines.append(table_row(["", "Activity", names.unit.capitalize(), *names.resources]))
     lines.append("|" + "---|" * (3 + len(names.resources)))
     for activity in range(1, project.end):
         demands = [f"{demand}" if demand else "" for demand in project.demands[activity]]

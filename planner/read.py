@@ -43,15 +43,15 @@ def read_activities(path: str, out: str | None, wanted: Wanted) -> int:
         raise BadInput(f"the project can't be written to '{target}'; name a .sch file with --out")
     named = page_of(target)
     guard([target, named], {"the table": path} | wanted.inputs())
-    project, names, unit = read_table(path, table)
+    project, names = read_table(path, table)
     names.source = printable(os.path.relpath(path, os.path.dirname(named) or "."))
     there = read_bytes(named) if os.path.exists(named) else None
     must_be_ours(target, named, names.source, there, out is not None)
-    names.settings = settings(there, wanted, named, unit)
+    names.settings = settings(there, wanted, named, names.unit)
     text = project.text()
     answer = Psmax(Clock(SECONDS), path).earliest(text)
     write_whole(target, text)
-    write_whole(named, page(printable(pathlib.Path(target).stem), project, names, unit).encode())
+    write_whole(named, page(printable(pathlib.Path(target).stem), project, names).encode())
     sizes = f"{project.end - 1} activities, {len(project.capacities)} resources, {len(project.arcs)} lags"
     print(f"{target}: {sizes}; names in {named}")
     print(what_is_clear(answer, project, Words(project, names)))
@@ -70,7 +70,6 @@ def must_be_ours(target: str, named: str, source: str, there: bytes | None, is_n
 def settings(there: bytes | None, wanted: Wanted, named: str, unit: str) -> dict[str, str]:
     """The calendar for the page: what the words say, and else what the page that stands there says."""
     kept = read_page(there).settings if there is not None else {}
-    kept.pop("period", None)
     found = kept | wanted.settings(named)
     dates.calendar({"from": "2000-01-01", "period": unit} | found, os.path.dirname(named))
     return found

@@ -36,8 +36,8 @@ def is_known(head: str) -> bool:
     return bool(head) and kind_of(head) is not None
 
 
-def read_table(file: str, text: str) -> tuple[Project, Names, str]:
-    """The project of a table, its names, and what a period is called."""
+def read_table(file: str, text: str) -> tuple[Project, Names]:
+    """The project of a table, and its names."""
     sheet, faults = read_sheet(file, text), Faults()
     columns = read_heads(file, sheet, faults)
     plan = Plan()
@@ -56,9 +56,9 @@ def read_table(file: str, text: str) -> tuple[Project, Names, str]:
     none = (0,) * len(resources)
     capacities = tuple(int(found[2]) for found in resources)
     project = Project((0, *plan.durations, 0), (none, *plan.demands, none), capacities, tuple(plan.arcs))
-    names = Names({number: name for name, number in plan.names.items()}, [found[1] for found in resources])
     unit = columns.heads[columns.places["duration"]].lower()
-    return project, names, "periods" if unit == "duration" else unit
+    names = {number: name for name, number in plan.names.items()}
+    return project, Names(names, [found[1] for found in resources], "periods" if unit == "duration" else unit)
 
 
 def read_heads(file: str, sheet: Sheet, faults: Faults) -> Columns:

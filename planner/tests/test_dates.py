@@ -35,6 +35,11 @@ class Dates(InFolder):
                 self.read(unit)
                 self.assertEqual(self.written(*words)[1 : 1 + len(wanted)], wanted)
 
+    def test_a_period_that_is_said_once(self) -> None:
+        self.read("periods", "--from", "2026-03-02T06:00", "--period", "hours")
+        self.read("periods")
+        self.assertEqual(self.written()[1], ["2026-03-02 06:00", "2026-03-02 09:00"])
+
     def test_a_page_written_by_hand(self) -> None:
         """The page of the plant shutdown counts in hours."""
         shutdown = EXAMPLES / "plant-shutdown"
