@@ -6,7 +6,6 @@ from dataclasses import dataclass
 from functools import partial
 
 from . import __version__, dates, drawing, svg
-from .answer import feasible
 from .clock import Clock, tell
 from .dates import Calendar, Wanted
 from .errors import BadInput, Failed

@@ -120,16 +120,3 @@ class Faults(InFolder):
                     told = child.communicate()[1]
             self.assertEqual(child.returncode, status)
             self.assertNotIn("Traceback", told)
-
-    def test_installed(self) -> None:
-        """As `make install` lays it out: plan finds its modules in share and psmax beside itself."""
-        (self.folder / "bin").mkdir()
-        shutil.copy(PLAN, self.folder / "bin" / "plan")
-        shutil.copy(PSMAX, self.folder / "bin" / "psmax")
-        (self.folder / "share" / "psmax" / "planner").mkdir(parents=True)
-        for path in PLAN.parent.glob("*.py"):
-            shutil.copy(path, self.folder / "share" / "psmax" / "planner")
-        given = {name: value for name, value in os.environ.items() if name != "PSMAX"}
-        words = [sys.executable, str(self.folder / "bin" / "plan"), "solve", str(SITE)]
-        ran = subprocess.run(words, capture_output=True, env=given)
-        self.assertEqual(ran.stdout.partition(b"\n")[0], b"optimal 36")
