@@ -11,7 +11,7 @@ from .given import Given
 from .letters import at_most
 from .opened import ProjectFile
 from .project import MOST_ARCS, MOST_UNITS, Arc, Project, parse
-from .psmax import Psmax
+from .psmax import Psmax, starts_text
 from .search import Old
 from .window import stretches
 from .wording import Words
@@ -54,10 +54,13 @@ def from_frozen(opened: ProjectFile, given: Given, psmax: Psmax, day: str, calen
     told += [f"{words.names.activity(i)} is new" for i in tied.new if i != project.end]
     told += [f"{name} is no activity any more" + (", and had started" if given.starts.get(i, now) < now else "")
              for i, name in tied.gone.items()]
+    limited = replace(project, arcs=(*project.arcs, *arcs))
     schedules = []
     if not tied.new:
-        schedules.append((tuple(tied.starts[i] for i in range(project.end + 1)), given.called))
-    limited = replace(project, arcs=(*project.arcs, *arcs))
+        starts = tuple(tied.starts[i] for i in range(project.end + 1))
+        broken = psmax.check(limited.text(), starts_text(starts)).violations
+        told += at_most([f"{given.called}: {words.violation(violation, starts)}" for violation in broken])
+        schedules += [] if broken else [(starts, given.called)]
     for circle in circles(limited, psmax) if psmax.earliest(limited.text()).cycle is not None else ():
         told += in_words(circle, words)
     return Beginning(limited.text(), schedules, Old(given.called, old), arcs, told)
