@@ -113,7 +113,8 @@ def test(parts, folder, with_tests=False):
 
 def prove(parts):
     BUILD.mkdir(exist_ok=True)
-    keeps = "--anew" in subprocess.run(["rt", "help"], capture_output=True, text=True).stdout
+    told = subprocess.run(["rt", "help"], stdout=subprocess.PIPE, stderr=subprocess.STDOUT, text=True).stdout
+    keeps = "--anew" in told
     words = ["rt", "ci", "--anew"] if keeps and os.environ.get("ANEW") else ["rt", "ci"]
     parts.run("proofs, tests and edits", lambda: counted(words, BUILD / "ci.log"))
     for name, crate in PROGRAMS.items():
