@@ -8,7 +8,7 @@ PREFIX ?= /usr/local
 JOBS ?= $(shell nproc)
 MODULES := $(filter-out planner/measure.py,$(wildcard planner/*.py))
 SOURCES := crates.txt HANDLES $(shell find crates -path '*/out' -prune -o \( -name '*.rt' -o -name '*.antt' \) -print)
-AT_HAND := $(shell if [ build/psmax -nt release/psmax ]; then echo build/psmax; else echo release/psmax; fi)
+AT_HAND := $(shell if [ build/psmax -nt release/psmax ]; then echo build; else echo release; fi)
 
 all: build/psmax
 
@@ -17,10 +17,11 @@ build/psmax: $(SOURCES)
 	@command -v rt > /dev/null || { echo "make needs the Rattle toolchain: its command rt is not on the PATH"; exit 1; }
 	rt all check --jobs $(JOBS)
 	cd crates/solver_cli && rt run --jobs $(JOBS) -- --help < /dev/null > /dev/null
+	cd crates/psprove && rt run --jobs $(JOBS) -- --help < /dev/null > /dev/null
 	cd crates/book_events && rt run --jobs $(JOBS) < stdin > /dev/null
 	cd crates/book_bench && rt run --jobs $(JOBS) -- 1 < stdin > /dev/null
 	mkdir -p build
-	cp crates/book_events/out/book_events crates/book_bench/out/book_bench build
+	cp crates/psprove/out/psprove crates/book_events/out/book_events crates/book_bench/out/book_bench build
 	cp crates/solver_cli/out/solver_cli build/psmax.new
 	mv build/psmax.new build/psmax
 
@@ -37,15 +38,16 @@ bench: build/psmax
 	python3 bench/records.py build/psmax
 	python3 bench/book.py build/book_bench
 
-# The program at hand is installed as it is: that needs no toolchain.
+# The programs at hand are installed as they are: that needs no toolchain.
 install:
-	install -D -m 755 $(AT_HAND) $(DESTDIR)$(PREFIX)/bin/psmax
+	install -d $(DESTDIR)$(PREFIX)/bin
+	install -m 755 $(AT_HAND)/psmax $(AT_HAND)/psprove $(DESTDIR)$(PREFIX)/bin
 	install -D -m 755 planner/plan $(DESTDIR)$(PREFIX)/bin/plan
 	install -d $(DESTDIR)$(PREFIX)/share/psmax/planner
 	install -m 644 $(MODULES) $(DESTDIR)$(PREFIX)/share/psmax/planner
-	install -m 755 tests/verify.py $(DESTDIR)$(PREFIX)/share/psmax
+	install -m 755 tests/verify.py tests/verify_lemmas.py $(DESTDIR)$(PREFIX)/share/psmax
 	install -d $(addprefix $(DESTDIR)$(PREFIX)/share/,man/man1 doc/psmax/docs doc/psmax/examples)
-	install -m 644 docs/psmax.1 docs/plan.1 $(DESTDIR)$(PREFIX)/share/man/man1
+	install -m 644 docs/psmax.1 docs/psprove.1 docs/plan.1 $(DESTDIR)$(PREFIX)/share/man/man1
 	install -m 644 README.md $(DESTDIR)$(PREFIX)/share/doc/psmax
 	install -m 644 docs/*.md $(DESTDIR)$(PREFIX)/share/doc/psmax/docs
 	install -m 644 examples/*.md examples/*.sch examples/*.starts $(DESTDIR)$(PREFIX)/share/doc/psmax/examples

@@ -1,13 +1,17 @@
-"""Calls of the program on the smallest projects that reach each of its paths, and what it has to answer."""
+"""Calls of psmax and of psprove on the smallest projects that reach each of their paths, and what they have to answer."""
 import pathlib
 
 import verify
 
-INPUTS = pathlib.Path(__file__).resolve().parent / "inputs"
+TESTS = pathlib.Path(__file__).resolve().parent
 
 
 def project(name):
-    return (INPUTS / f"{name}.sch").read_bytes()
+    return (TESTS / "inputs" / f"{name}.sch").read_bytes()
+
+
+def lemmas(name):
+    return (TESTS / "lemmas" / name).read_bytes()
 
 
 TWO, THREE, LAGS = project("two-jobs"), project("three-jobs-capacity-two"), project("three-jobs-lags")
@@ -53,7 +57,7 @@ class Call:
     def is_want(self, ended, record):
         """Whether a call ended for want of memory, or of a thread where it has workers."""
         status, out, fault = ended
-        wants = [b"psmax: out of memory\n"]
+        wants = [b"psmax: out of memory\n", b"psprove: out of memory\n"]
         if {"--workers", "--start", "--record"} & set(self.words):
             wants.append(b"psmax: cannot start a thread\n")
         return status == 1 and out == b"" and fault in wants and record == b""
@@ -98,4 +102,14 @@ CALLS = [
     Call(VERIFY, DEAD_RECORD, DEAD, out=b"proved no schedule\n"),
     Call(VERIFY, LAGS_RECORD.replace(b"0 1 2\n", b"0 1 3\n"), LAGS, exit=4, fault=b"psmax: line 4: set\n"),
     Call(VERIFY, LAGS_RECORD.replace(b"cut\n", b""), LAGS, exit=2, fault=b"psmax: line 6: short\n"),
+]
+
+WORKED, WORKED_RECORD = lemmas("worked.sch"), lemmas("worked.rec")
+PROOFS = [
+    Call(VERIFY, WORKED_RECORD, WORKED, out=b"proved optimal 8\n"),
+    Call(VERIFY, b"record 2\nbound 8\nforce 1 2\nend clique 3 7 2 3\n", WORKED, out=b"proved bound 8\n"),
+    Call(VERIFY, b"record 2\nno schedule\nend dead\n", CYCLE, out=b"proved no schedule\n"),
+    Call(VERIFY, WORKED_RECORD.replace(b"use 0", b"use 1"), WORKED, exit=4, fault=b"psprove: line 6: add\n"),
+    Call(VERIFY, WORKED_RECORD[:-1], WORKED, exit=2, fault=b"psprove: line 8: form\n"),
+    Call(VERIFY, WORKED_RECORD, WORKED[:20], exit=2, fault=b"psprove: ends before word 10\n"),
 ]

@@ -23,7 +23,7 @@ import time
 
 TOP = pathlib.Path(__file__).resolve().parent.parent
 BUILD, RELEASE = TOP / "build", TOP / "release"
-PROGRAMS = {"psmax": "solver_cli", "book_events": "book_events"}
+PROGRAMS = {"psmax": "solver_cli", "psprove": "psprove", "book_events": "book_events"}
 STEP = re.compile(r"^rt: .*( proved$|NOT PROVED|trying its must-fail edits|NOT REFUSED|BAD EDIT)")  # what a proof tells as it goes
 KIT = re.compile(r"^    (rattle-kit-.+)$", re.M)
 
@@ -88,14 +88,17 @@ def at_hand():
 
 def scripts(folder, with_tests):
     """The scripts, each with its name and words. Growths are refused by a library, which a C compiler makes."""
-    psmax, book_events = str(folder / "psmax"), str(folder / "book_events")
+    psmax, psprove, book_events = (str(folder / name) for name in PROGRAMS)
     yield "cases", ["tests/run.py", psmax]
+    yield "cases of psprove", ["tests/run.py", psprove, "--cases", "tests/proofs.jsonl"]
     yield "workers", ["tests/workers.py", psmax, "--runs", "100"]
     yield "records", ["tests/records.py", psmax, "--seeded", "20", "--damaged", "1000"]
+    yield "lemmas", ["tests/lemmas.py", psprove, "--damaged", "200"]
     yield "books", ["tests/books.py", book_events]
     if shutil.which(os.environ.get("CC", "cc")):
         yield "events", ["tests/events.py", book_events]
         yield "refused growths", ["tests/growths.py", psmax]
+        yield "those of psprove", ["tests/growths.py", psprove, "--proofs"]
         if with_tests:
             yield "growths of tests", ["tests/test_growths.py"]
     else:

@@ -1,9 +1,9 @@
 #!/usr/bin/env python3
-"""tests/growths.py PROGRAM [--only WORD]
+"""tests/growths.py PROGRAM [--proofs] [--only WORD]
 
-Refuses each growth of memory of whole calls of the program in turn: the Nth alone, the Nth and the next, and the Nth and
-all after it, from N = 1 until no growth is refused. Each run has to end with the usual answer, or with `psmax: out of
-memory` (with workers also `psmax: cannot start a thread`), status 1 and empty outputs.
+Refuses each growth of memory of whole calls of psmax, or with --proofs of psprove, in turn: the Nth alone, the Nth and the
+next, and the Nth and all after it, from N = 1 until no growth is refused. Each run has to end with the usual answer, or with
+the fault `out of memory` (with workers also `cannot start a thread`), status 1 and empty outputs.
 
 The last line counts the runs."""
 import argparse
@@ -14,7 +14,7 @@ import pathlib
 import sys
 import tempfile
 
-from calls import CALLS
+from calls import CALLS, PROOFS
 from refusing import Refusing, all_from, library, one, two
 
 AFTER = 3  # so many runs without a refusal end a call: by several threads, growths are not the same in each run
@@ -50,11 +50,12 @@ def judged(made, program, call, ends):
 def main():
     parser = argparse.ArgumentParser()
     parser.add_argument("program")
+    parser.add_argument("--proofs", action="store_true")
     parser.add_argument("--only", default="")
     options = parser.parse_args()
     program = str(pathlib.Path(options.program).resolve())
     passed = failed = 0
-    calls = [call for call in CALLS if options.only in " ".join(call.words)]
+    calls = [call for call in (PROOFS if options.proofs else CALLS) if options.only in " ".join(call.words)]
     ends = collections.Counter()
     with tempfile.TemporaryDirectory() as folder, concurrent.futures.ThreadPoolExecutor(os.cpu_count()) as pool:
         made = library(folder)

@@ -1,7 +1,7 @@
 #!/usr/bin/env python3
-"""tests/run.py PROGRAM [--only WORD]
+"""tests/run.py PROGRAM [--only WORD] [--cases FILE ..]
 
-Runs the program on every case of tests/cases.jsonl and examples/cases.jsonl, each in a new folder,
+Runs the program on every case of the files, tests/cases.jsonl and examples/cases.jsonl if not said, each in a new folder,
 prints each failure, and last 'N passed, M failed'.
 
 A case is one line of JSON: name, args, exit, and, where they matter: stdin, stdin_pieces (standard input is then a
@@ -17,7 +17,10 @@ Python's os.fsdecode gives them. An input is one of
   {"repeat": [TEXT, N]}     the text so many times
   {"made": [NAME, WORD]}    what a script of inputs/ prints for this word
   {"concat": [INPUT, ..]}   these one after another
-  {"path": PATH}            this file or device itself"""
+  {"path": PATH}            this file or device itself, which for standard input may be one of the case's files
+and one of the files may be
+  {"link": NAME}            a symbolic link to another file
+  {"second_name": NAME}     another file under a second name"""
 import argparse
 import json
 import os
@@ -54,6 +57,15 @@ def wanted(spec, inputs):
     return spec.encode() if isinstance(spec, str) else content(spec, inputs)
 
 
+def make(path, spec, inputs):
+    if "link" in spec:
+        path.symlink_to(spec["link"])
+    elif "second_name" in spec:
+        path.hardlink_to(path.parent / spec["second_name"])
+    else:
+        path.write_bytes(content(spec, inputs))
+
+
 def verified(program, folder, inputs, project, record, out):
     """What is wrong with a record: psmax and a checker that shares nothing with it must accept it with the verdict."""
     (folder / ".project").write_bytes(content(project, inputs))
@@ -72,10 +84,10 @@ def failures(program, case, inputs):
     with tempfile.TemporaryDirectory() as folder:
         folder = pathlib.Path(folder)
         for name, spec in case.get("files", {}).items():
-            (folder / name).write_bytes(content(spec, inputs))
+            make(folder / name, spec, inputs)
         spec = case.get("stdin")
         if spec and "path" in spec:
-            stdin = os.open(spec["path"], os.O_RDONLY)  # may be a folder, which `open` refuses
+            stdin = os.open(folder / spec["path"], os.O_RDONLY)  # may be a folder, which `open` refuses
         elif "stdin_pieces" in case:
             stdin, pipe = os.pipe()
             giver = threading.Thread(target=give, args=(pipe, content(spec, inputs), case["stdin_pieces"]))
@@ -123,10 +135,11 @@ def main():
     parser = argparse.ArgumentParser()
     parser.add_argument("program")
     parser.add_argument("--only", default="")
+    parser.add_argument("--cases", nargs="+", type=pathlib.Path, default=[TOP / "tests/cases.jsonl", TOP / "examples/cases.jsonl"])
     options = parser.parse_args()
     program = str(pathlib.Path(options.program).resolve())
     passed = failed = 0
-    for cases in (TOP / "tests" / "cases.jsonl", TOP / "examples" / "cases.jsonl"):
+    for cases in map(pathlib.Path.resolve, options.cases):
         inputs = cases.parent if cases.parent.name == "examples" else cases.parent / "inputs"
         for line in cases.read_text().splitlines():
             case = json.loads(line)

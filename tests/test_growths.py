@@ -27,7 +27,7 @@ ENDS = re.compile(
     rb"|assertion `left == right` failed(?:.*\n)*  left: (?:Some\(|Err\()?" + WANT + rb"\)?\n right: (?:.*\n)*"
 )
 # The crates whose tests hold so.
-CRATES = ("words", "longest_path", "profile", "forbidden_sets", "bounds", "branching", "best_word", "worker")
+CRATES = ("words", "best_word", "node_tests", "run_tests")
 SECONDS = 10  # so long may the runs of one test take together
 
 

@@ -278,20 +278,21 @@ def read_project(path):
     raise Fault(0, f"{path}: not a project", 2)
 
 
-def main(words):
+def run(program, words, verdict):
+    """Prints the verdict on PROJECT.sch and RECORD, or the fault as the program names it; the exit status."""
     try:
         if len(words) != 2:
-            raise Fault(0, "the words are verify.py PROJECT.sch RECORD", 2)
-        print(verify(read_project(words[0]), *read_record(read(words[1]))), flush=True)
+            raise Fault(0, f"the words are {os.path.basename(sys.argv[0])} PROJECT.sch RECORD", 2)
+        print(verdict(read_project(words[0]), read(words[1])), flush=True)
     except Fault as fault:
-        print(f"psmax: {fault}", file=sys.stderr)
+        print(f"{program}: {fault}", file=sys.stderr)
         return fault.status
     except (MemoryError, BrokenPipeError, KeyboardInterrupt) as fault:
         os.dup2(os.open(os.devnull, os.O_WRONLY), 1)
-        print(f"psmax: ended by {type(fault).__name__}", file=sys.stderr)
+        print(f"{program}: ended by {type(fault).__name__}", file=sys.stderr)
         return 1
     return 0
 
 
 if __name__ == "__main__":
-    sys.exit(main(sys.argv[1:]))
+    sys.exit(run("psmax", sys.argv[1:], lambda project, text: verify(project, *read_record(text))))

@@ -158,12 +158,13 @@ class Installed(InFolder):
         return subprocess.run([*map(str, words)], capture_output=True, text=True, env=given, cwd=self.folder)
 
     def test_make_install(self) -> None:
-        """The program, plan, manual pages, documents and verify.py; the last shows no traceback."""
-        ran = subprocess.run(["make", "-s", "install", f"PREFIX={self.folder}", f"AT_HAND={PSMAX}"], cwd=TOP,
-                             capture_output=True, text=True)
+        """The programs, plan, manual pages, documents and verify.py; the last shows no traceback."""
+        words = ["make", "-s", "install", f"PREFIX={self.folder}", f"AT_HAND={pathlib.Path(PSMAX).parent}"]
+        ran = subprocess.run(words, cwd=TOP, capture_output=True, text=True)
         self.assertEqual(ran.returncode, 0, ran.stderr)
         share, site = self.folder / "share", EXAMPLES / "building-site.sch"
-        for name in ("man/man1/plan.1", "man/man1/psmax.1", "doc/psmax/README.md", "doc/psmax/docs/PLANNER.md"):
+        pages = ("man/man1/plan.1", "man/man1/psmax.1", "man/man1/psprove.1")
+        for name in (*pages, "doc/psmax/README.md", "doc/psmax/docs/PLANNER.md"):
             self.assertTrue((share / name).is_file(), name)
         record = self.folder / "record"
         answer = psmax("solve", "--record", record, given=site.read_bytes())

@@ -1,6 +1,6 @@
 -- What is found in a report is counted, and a report's kids are opened.
 use Rattle.std.proofs.Common.{◌≡◌, ◌∙◌, ◌<◌, ◌+◌, ◌^◌, ℕ, ℤ, Bool, true, false, ◌++◌, Option, Some, None, refl, sym, ap, subst, length, arith}
-use Rattle.std.specs.Prelude.{IfSome, IfNone, option_map}
+use Rattle.std.specs.Prelude.{IfSome, option_map}
 use Rattle.std.specs.Option.{is_some, option_or}
 use Rattle.std.specs.List.Sorted.{IsPermutation}
 use Rattle.std.proofs.Math.ListN.{set}
@@ -11,7 +11,7 @@ use Rattle.branching.specs.Covered.{ceiling_of}
 use Rattle.branching.specs.Fair.{Expansion, IsFair}
 use Rattle.book.specs.State.{Named, BookState, in_hand, best_makespan}
 use Rattle.book.specs.Sound.{AreNamedBelow}
-use Rattle.book.specs.Offering.{Improves}
+use Rattle.book.specs.Offering.{Improves, IsShorterFound}
 use Rattle.book.specs.Below.{is_below, kids_below}
 use Rattle.book.specs.CheckingIn.{named_from, Accepts}
 use Rattle.book.specs.OpenNodes.{InsertsKids}
@@ -20,12 +20,12 @@ use Rattle.book.specs.Views.{IsKept}
 use Rattle.book.proofs.Lists.{all_left, filter_at_most}
 
 -- nothing shorter was found
-pub not_improved : (old found : Option ScheduleOf) (shorter limit : Option ℤ) → limit ≡ ceiling_of old → IfNone shorter (IfSome found (λ s. Reaches limit (makespan s.starts))) → is_some shorter ≡ false → Improves old found false old × (option_or shorter limit ≡ ceiling_of old)
+pub not_improved : (old found : Option ScheduleOf) (shorter limit : Option ℤ) → limit ≡ ceiling_of old → IsShorterFound found limit shorter → is_some shorter ≡ false → Improves old found false old × (option_or shorter limit ≡ ceiling_of old)
 not_improved old found None limit is none e = ((subst (λ (l : Option ℤ). IfSome found (λ s. Reaches l (makespan s.starts))) is none, refl), is)
 not_improved old found (Some length) limit is none e = absurd (cc)
 
 -- a shorter schedule was found
-pub improved : (old found new : Option ScheduleOf) (shorter limit : Option ℤ) → limit ≡ ceiling_of old → IfSome shorter (λ length. (s : ScheduleOf) × (found ≡ Some s) × (length ≡ makespan s.starts) × IsUnder limit length) → is_some shorter ≡ true → new ≡ found → Improves old found true new × (option_or shorter limit ≡ ceiling_of new)
+pub improved : (old found new : Option ScheduleOf) (shorter limit : Option ℤ) → limit ≡ ceiling_of old → IsShorterFound found limit shorter → is_some shorter ≡ true → new ≡ found → Improves old found true new × (option_or shorter limit ≡ ceiling_of new)
 improved old found new None limit is some e same = absurd (cc)
 improved old found new (Some length) limit is (s, f, l, below) e same = (
   (s, f, subst (λ (n : ℤ). IsUnder (ceiling_of old) n) l (subst (λ (o : Option ℤ). IsUnder o length) is below), same),

@@ -11,8 +11,13 @@ pub record CountsOf : Type 0 where
   pub waiting : ℕ
   pub hand : ℕ
 
+-- counts, in this order
+abbrev pub tally : ℕ → ℕ → ℕ → ℕ → ℕ → ℕ → CountsOf
+tally opened checked cut taken waiting hand =
+    record { opened = opened; checked = checked; cut = cut; taken = taken; waiting = waiting; hand = hand }
+
 abbrev pub counts_of : BookState → CountsOf
-counts_of s = record { opened = s.opened; checked = s.checked; cut = s.cut; taken = s.taken; waiting = length s.waiting; hand = length (in_hand s.hands) }
+counts_of s = tally s.opened s.checked s.cut s.taken (length s.waiting) (length (in_hand s.hands))
 
 -- each node that was opened was checked in, was cut, is open or is in hand
 abbrev pub AddUp : CountsOf → Type 0

@@ -23,6 +23,7 @@ Step old event reply new = ⊥
 -- the events have these replies, one step after the other
 abbrev pub Run : BookState → List Event → List Reply → BookState → Type 0
 Run old [] [] new = new ≡ old
-Run old (event ∷ events) (reply ∷ replies) new = (between : BookState) × Step old event reply between × Run between events replies new
+Run old (event ∷ events) (reply ∷ replies) new =
+    (between : BookState) × Step old event reply between × Run between events replies new
 Run old [] (reply ∷ replies) new = ⊥
 Run old (event ∷ events) [] new = ⊥

@@ -4,7 +4,7 @@ use Rattle.std.specs.Arc.{arc_value}
 use Rattle.std.specs.List.{filter}
 use Rattle.std.specs.List.Sorted.{IsPermutation}
 use Rattle.branching.specs.Subproblem.{Subproblem}
-use Rattle.book.specs.State.{Named}
+use Rattle.book.specs.State.{Named, node_named}
 use Rattle.book.specs.Below.{kids_below}
 use Rattle.book.specs.CheckingIn.{named_from}
 use Rattle.book.specs.declared.open_nodes.Rank.{Rank}
@@ -26,11 +26,12 @@ is_older first n = nat_lt n.name first
 
 -- a node goes in under a name; the nodes of older names stay, and in their order
 pub record Inserts (name : ℕ) (node : Subproblem) (old new : List Named) : Type 0 where
-  pub nodes : IsPermutation (record { name = name; node = node } ∷ old) new
+  pub nodes : IsPermutation (node_named name node ∷ old) new
   pub older : (first : ℕ) → first ≤ name → filter (is_older first) new ≡ filter (is_older first) old
 
 -- so many kids go in: those below the limit, under the names from the first on
-pub record InsertsKids (first : ℕ) (limit : Option ℤ) (kids : List Subproblem) (count : ℕ) (old new : List Named) : Type 0 where
+pub record InsertsKids
+    (first : ℕ) (limit : Option ℤ) (kids : List Subproblem) (count : ℕ) (old new : List Named) : Type 0 where
   pub count_is : count ≡ length (kids_below limit kids)
   pub nodes : IsPermutation (named_from first (kids_below limit kids) ++ old) new
   pub older : filter (is_older first) new ≡ old

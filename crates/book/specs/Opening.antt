@@ -5,7 +5,7 @@ use Rattle.network.specs.Walk.{HasPositiveCycle}
 use Rattle.branching.specs.Subproblem.{Subproblem}
 use Rattle.branching.specs.Covered.{IsRootOf}
 use Rattle.branching.specs.declared.search.TheConstants.{MAX_TAKES}
-use Rattle.book.specs.State.{Named, BookState}
+use Rattle.book.specs.State.{Named, node_named, BookState}
 use Rattle.book.specs.Trail.{Entry, no_entry}
 use Rattle.book.specs.declared.answers.TheConstants.{MAX_WORKERS}
 use Rattle.book.specs.declared.answers.BookFault.{BookFault}
@@ -38,7 +38,7 @@ new_state p workers takes nodes =
 -- the root under name 0; where a closed walk of the project's rules has positive weight, no node
 abbrev pub AreFirst : Problem → List Named → Type 0
 AreFirst p nodes =
-    ((root : Subproblem) × IsRootOf p root × (nodes ≡ record { name = 0; node = root } ∷ []))
+    ((root : Subproblem) × IsRootOf p root × (nodes ≡ node_named 0 root ∷ []))
     ⊎ (HasPositiveCycle (arcs_of p []) × (nodes ≡ []))
 
 -- the first nodes are open
@@ -56,7 +56,9 @@ first_entries nodes = replicate (length nodes) no_entry
 
 -- the same book with a trail of the first nodes
 abbrev pub IsOpenedRecorded : Problem → ℕ → ℕ → BookState → Type 0
-IsOpenedRecorded p workers takes new = (nodes : List Named) × AreFirst p nodes × (new ≡ record (new_state p workers takes nodes) { trail = Some (first_entries nodes) })
+IsOpenedRecorded p workers takes new =
+    (nodes : List Named) × AreFirst p nodes
+    × (new ≡ record (new_state p workers takes nodes) { trail = Some (first_entries nodes) })
 
 abbrev pub OpensRecorded : Problem → ℕ → ℕ → Result BookState BookFault → Type 0
 OpensRecorded p workers takes (Ok new) = AreAllowed workers takes × IsOpenedRecorded p workers takes new

@@ -1,9 +1,9 @@
 -- What is true of the trail of a book whenever nobody is changing it.
-use Rattle.std.specs.Prelude.{◌≡◌, ◌+◌, List, length}
+use Rattle.std.specs.Prelude.{◌≡◌, ◌+◌, List, [], length, IfSome}
 use Rattle.std.specs.List.{All, count_by}
 use Rattle.book.specs.State.{Named, BookState, live, best_makespan}
 use Rattle.book.specs.Trail.{Entry, not_ended, entry_at, path_to}
-use Rattle.book.specs.RightTrail.{IsRightTrail, has_ended}
+use Rattle.book.specs.RightTrail.{IsRightTrail, IsWholeTree, has_ended}
 
 -- the node stands under its name with its pairs, and has not ended
 pub record IsNoted (entries : List Entry) (n : Named) : Type 0 where
@@ -17,3 +17,7 @@ pub record IsRecorded (s : BookState) (entries : List Entry) : Type 0 where
   pub all_named : length entries ≡ s.opened
   pub noted : All (IsNoted entries) (live s)
   pub ended : count_by (λ (e : Entry). has_ended e.ending) entries ≡ s.checked + s.cut
+
+-- once no node is open or in hand, the trail, if one is kept, is a whole tree
+abbrev pub EndsWhole : BookState → Type 0
+EndsWhole s = live s ≡ [] → IfSome s.trail (IsWholeTree s.project (best_makespan s))

@@ -1,5 +1,5 @@
 -- What becomes of a trail when the nodes that it tells of end, and when kids are opened.
-use Rattle.std.specs.Prelude.{ℕ, ◌+◌, ℤ, Bool, true, false, if◌then◌else◌, Option, None, Some, option_map, List, [], ◌∷◌, ◌++◌, map, length, drop, slice_get, slice_set}
+use Rattle.std.specs.Prelude.{ℕ, ◌+◌, ◌<◌, ◌^◌, ℤ, Bool, true, false, if◌then◌else◌, Option, None, Some, option_map, List, [], ◌∷◌, ◌++◌, map, length, drop, slice_get, slice_set}
 use Rattle.network.specs.declared.lag.Pair.{Pair}
 use Rattle.network.specs.Schedule.{ScheduleOf}
 use Rattle.forbidden_sets.specs.MinimalSet.{MinimalSet}
@@ -8,23 +8,27 @@ use Rattle.branching.specs.Fates.{FateOf, is_kid, is_dead, is_cut}
 use Rattle.branching.specs.Fair.{Expansion}
 use Rattle.book.specs.State.{Named}
 use Rattle.book.specs.Below.{is_below, kids_below}
-use Rattle.book.specs.Trail.{PairFate, was_named, was_dead, was_not_opened, Ending, not_ended, was_cut, was_solved, was_split, Entry, entry_at}
+use Rattle.book.specs.Trail.{PairFate, was_named, was_dead, was_not_opened, Ending, not_ended, was_cut, was_solved, was_split, Entry, TrailOf, entry_at}
 use Rattle.book.specs.declared.trail.Origin.{Origin}
 
 -- the node under a name ends so
 abbrev pub ended_as : List Entry → ℕ → Ending → List Entry
-ended_as entries name ending = slice_set entries name (record { origin = (entry_at entries name).origin; forced = (entry_at entries name).forced; ending = ending })
+ended_as entries name ending = slice_set entries name (record (entry_at entries name) { ending = ending })
 
 -- these nodes end as cut
 abbrev pub note_cut : List Named → List Entry → List Entry
 note_cut [] entries = entries
 note_cut (n ∷ nodes) entries = note_cut nodes (ended_as entries n.name was_cut)
 
+-- where a kid came from: its parent, and the pair that gave it
+abbrev pub origin_of : ℕ → Pair → Origin
+origin_of parent pair = record { parent = parent; pair = pair }
+
 -- the entry of a kid, whose parent has this name and so many pairs
 abbrev pub kid_entry : ℕ → ℕ → Subproblem → Entry
 kid_entry parent depth kid =
     record {
-      origin = option_map (λ (pair : Pair). let o : Origin = record { parent = parent; pair = pair } in o) (slice_get kid.pairs depth);
+      origin = option_map (origin_of parent) (slice_get kid.pairs depth);
       forced = drop (depth + 1) kid.pairs;
       ending = not_ended;
     }
@@ -46,8 +50,10 @@ next_name limit next kid = if is_below limit kid.bound then next + 1 else next
 abbrev pub fates_under : Option ℤ → ℕ → ℕ → List FateOf → List Subproblem → List PairFate
 fates_under limit depth next [] kids = []
 fates_under limit depth next (is_dead forced ∷ fates) kids = was_dead forced ∷ fates_under limit depth next fates kids
-fates_under limit depth next (is_cut forced ∷ fates) kids = was_not_opened forced ∷ fates_under limit depth next fates kids
-fates_under limit depth next (is_kid ∷ fates) (kid ∷ kids) = kid_fate limit depth next kid ∷ fates_under limit depth (next_name limit next kid) fates kids
+fates_under limit depth next (is_cut forced ∷ fates) kids =
+    was_not_opened forced ∷ fates_under limit depth next fates kids
+fates_under limit depth next (is_kid ∷ fates) (kid ∷ kids) =
+    kid_fate limit depth next kid ∷ fates_under limit depth (next_name limit next kid) fates kids
 -- there is a kid for each such fate
 fates_under limit depth next (is_kid ∷ fates) [] = []
 
@@ -59,8 +65,17 @@ ending_by (Some set) found fates = was_split set.resource set.members fates
 
 -- how the node of a report ended, where the kids below the limit are opened under the names from the next on
 abbrev pub ending_of : Option ℤ → ℕ → Expansion → Ending
-ending_of limit next report = ending_by report.split report.found (fates_under limit (length report.node.pairs) next report.fates report.kids)
+ending_of limit next report =
+    ending_by report.split report.found
+    (fates_under limit (length report.node.pairs) next report.fates report.kids)
 
 -- the node of a report ends, and the kids below the limit are opened
 abbrev pub checked_in : Option ℤ → ℕ → Expansion → List Entry → List Entry
-checked_in limit name report entries = ended_as entries name (ending_of limit (length entries) report) ++ map (kid_entry name (length report.node.pairs)) (kids_below limit report.kids)
+checked_in limit name report entries =
+    ended_as entries name (ending_of limit (length entries) report)
+    ++ map (kid_entry name (length report.node.pairs)) (kids_below limit report.kids)
+
+-- the trail has the node under the name, and names for all kids of its report
+abbrev pub MayNote : ℕ → Expansion → TrailOf → Type 0
+MayNote name report trail =
+    (name < length trail.entries) × (length trail.entries + length report.kids < 2 ^ 64)

@@ -28,14 +28,18 @@ pub record IsNotOpenedUnder (p : Problem) (limit : Option ℤ) (pairs forced : L
 abbrev pub IsRightFate : Problem → Option ℤ → List Entry → ℕ → Pair → PairFate → Type 0
 IsRightFate p limit entries name pair (was_named later) = IsKidUnder p entries name pair later
 IsRightFate p limit entries name pair (was_dead forced) = IsDeadUnder p (path_to entries name ++ pair ∷ []) forced
-IsRightFate p limit entries name pair (was_not_opened forced) = IsNotOpenedUnder p limit (path_to entries name ++ pair ∷ []) forced
+IsRightFate p limit entries name pair (was_not_opened forced) =
+    IsNotOpenedUnder p limit (path_to entries name ++ pair ∷ []) forced
 
 -- the node under a name could end so: without a limit none is cut, and none is solved, and none is split that is dead
 abbrev pub IsRightEnding : Problem → Option ℤ → List Entry → ℕ → Ending → Type 0
 IsRightEnding p limit entries name not_ended = Unit {0}
 IsRightEnding p limit entries name was_cut = IsCutUnder p (path_to entries name) limit
 IsRightEnding p limit entries name was_solved = IsSolvedUnder p (path_to entries name) limit
-IsRightEnding p limit entries name (was_split resource members fates) = IsLive p (path_to entries name) × IsRightSet p resource members × AllZip (IsRightFate p limit entries name) (ordered_pairs members) fates
+IsRightEnding p limit entries name (was_split resource members fates) =
+    IsLive p (path_to entries name)
+    × IsRightSet p resource members
+    × AllZip (IsRightFate p limit entries name) (ordered_pairs members) fates
 
 -- the first node is without pairs; where there is none, a closed walk of the project's rules has positive weight
 abbrev pub IsRooted : Problem → List Entry → Type 0

@@ -1,5 +1,5 @@
 -- The state of the search book: the best schedule so far, the nodes that are open or in hand, and counts.
-use Rattle.std.specs.Prelude.{ℕ, ℤ, Bool, List, [], ◌∷◌, ◌++◌, Option, Some, None}
+use Rattle.std.specs.Prelude.{◌≡◌, ℕ, ℤ, Bool, List, [], ◌∷◌, ◌++◌, Option, Some, None, slice_get}
 use Rattle.network.specs.Problem.{Problem}
 use Rattle.network.specs.Schedule.{ScheduleOf}
 use Rattle.branching.specs.Subproblem.{Subproblem}
@@ -28,6 +28,14 @@ pub record BookState : Type 0 where
   pub halted : Bool
   -- what became of each node; none where that isn't kept
   pub trail : Option (List Entry)
+
+-- the node under this name
+abbrev pub node_named : ℕ → Subproblem → Named
+node_named name node = record { name = name; node = node }
+
+-- the worker is there and has this node in hand
+abbrev pub Holds : List (Option Named) → ℕ → Named → Type 0
+Holds hands worker held = slice_get hands worker ≡ Some (Some held)
 
 -- the nodes in hand
 abbrev pub in_hand : List (Option Named) → List Named

@@ -4,7 +4,7 @@ use Rattle.std.specs.Arc.{arc_value}
 use Rattle.std.specs.List.{All, Any}
 use Rattle.std.specs.List.Sorted.{IsPermutation}
 use Rattle.branching.specs.Ceiling.{IsUnder, Reaches}
-use Rattle.book.specs.State.{Named, BookState, in_hand, best_makespan}
+use Rattle.book.specs.State.{Named, Holds, BookState, in_hand, best_makespan}
 use Rattle.book.specs.Recording.{note_cut}
 use Rattle.book.specs.declared.answers.Ticket.{Ticket}
 use Rattle.book.specs.declared.answers.Take.{Take}
@@ -16,7 +16,7 @@ GoesBefore a b = (a.node.bound <ℤ b.node.bound) ⊎ ((a.node.bound ≡ b.node.
 
 -- the worker's hand holds a node, or holds none
 abbrev pub IsFull : List (Option Named) → ℕ → Bool → Type 0
-IsFull hands worker true = (held : Named) × (slice_get hands worker ≡ Some (Some held))
+IsFull hands worker true = (held : Named) × Holds hands worker held
 IsFull hands worker false = slice_get hands worker ≡ Some None
 
 -- the worker is there with an empty hand, and the book isn't halted
@@ -35,7 +35,12 @@ IsSettled s = (0 < length s.waiting) × All (λ (n : Named). Reaches (best_makes
 -- the open nodes of a settled book are cut, and the trail, if one is kept, tells it; any other book stays as it is
 abbrev pub Cuts : BookState → BookState → Type 0
 Cuts old new =
-    (IsSettled old × (new ≡ record old { waiting = []; cut = old.cut + length old.waiting; trail = option_map (note_cut old.waiting) old.trail }))
+    (IsSettled old
+    × (new ≡ record old {
+      waiting = [];
+      cut = old.cut + length old.waiting;
+      trail = option_map (note_cut old.waiting) old.trail;
+    }))
     ⊎ (((old.waiting ≡ []) ⊎ CanImprove old) × (new ≡ old))
 
 -- no node is left open
@@ -49,7 +54,11 @@ pub record HandsOut (old : BookState) (worker : ℕ) (ticket : Ticket) (new : Bo
   pub first : Named
   pub moved : IsPermutation old.waiting (first ∷ new.waiting)
   pub before : All (GoesBefore first) new.waiting
-  pub others : new ≡ record old { waiting = new.waiting; hands = slice_set old.hands worker (Some first); taken = old.taken + 1 }
+  pub others : new ≡ record old {
+    waiting = new.waiting;
+    hands = slice_set old.hands worker (Some first);
+    taken = old.taken + 1;
+  }
   pub name : ticket.name ≡ first.name
   pub node : arc_value ticket.node ≡ first.node
   pub ceiling : ticket.ceiling ≡ best_makespan old
@@ -61,4 +70,5 @@ Takes old worker answer.Halted new = IsFull old.hands worker false × (old.halte
 Takes old worker answer.Done new = LeavesNoneOpen old worker new × (in_hand new.hands ≡ [])
 Takes old worker answer.Idle new = LeavesNoneOpen old worker new × (0 < length (in_hand new.hands))
 Takes old worker answer.LimitReached new = MayTake old worker × CanImprove old × (old.taken ≡ old.limit) × (new ≡ old)
-Takes old worker (answer.Ticket ticket) new = MayTake old worker × CanImprove old × (old.taken < old.limit) × HandsOut old worker ticket new
+Takes old worker (answer.Ticket ticket) new =
+    MayTake old worker × CanImprove old × (old.taken < old.limit) × HandsOut old worker ticket new

@@ -41,4 +41,5 @@ IsTrueOf p (verdict.Open best bound) = IsLowerBound p bound × IfSome best (IsRe
 abbrev pub IsVerdictOf : BookState → Verdict → Type 0
 IsVerdictOf s (verdict.Optimal length) = (live s ≡ []) × (best_makespan s ≡ Some length)
 IsVerdictOf s verdict.NoSchedule = (live s ≡ []) × (best_makespan s ≡ None)
-IsVerdictOf s (verdict.Open best bound) = (0 < length (live s)) × (best ≡ best_makespan s) × IsLeast (known_bounds s) (Some bound)
+IsVerdictOf s (verdict.Open best bound) =
+    (0 < length (live s)) × (best ≡ best_makespan s) × IsLeast (known_bounds s) (Some bound)

@@ -1,6 +1,5 @@
-ghost use Rattle.std.specs.Prelude.{◌≡◌, ◌↔◌, ◌<◌, IsTrue, true, false, [], length, Ok, Err, IfOk, IfErr, IfSome, option_map};
+ghost use Rattle.std.specs.Prelude.{◌≡◌, ◌↔◌, ◌<◌, IsTrue, true, false, length, Ok, Err, IfOk, IfErr, IfSome, option_map};
 ghost use Rattle.std.specs.Arc.{arc_value};
-ghost use Rattle.book.specs.State.{live, best_makespan};
 ghost use Rattle.book.specs.Sound.{IsSound, IsWithinLimits};
 ghost use Rattle.book.specs.Opening.{AreAllowed, AreFirst, Opens, OpensRecorded};
 ghost use Rattle.book.specs.Offering.{Offers};
@@ -8,8 +7,7 @@ ghost use Rattle.book.specs.Taking.{IsFull, Cuts, HandsOut, Takes};
 ghost use Rattle.book.specs.CheckingIn.{MayCheckIn, Judges, Accepts, ChecksIn};
 ghost use Rattle.book.specs.GivingBack.{GivesBack};
 ghost use Rattle.book.specs.Counts.{counts_of};
-ghost use Rattle.book.specs.Recorded.{IsRecorded};
-ghost use Rattle.book.specs.RightTrail.{IsWholeTree};
+ghost use Rattle.book.specs.Recorded.{IsRecorded, EndsWhole};
 ghost use Rattle.book.specs.TrailViews.{trail_for};
 ghost use Rattle.book.specs.Verdicts.{IsLeast, known_bounds, IsBoundFor, IsTrueOf, IsVerdictOf};
 
@@ -379,9 +377,10 @@ impl Book {
     /// What became of each node, where the book was opened by [`Book::open_recorded`]. Once no node is open or in hand, it is a
     /// whole tree.
     pub fn trail(&self) -> Option<&Trail>
-        ensures trail { option_map (λ trail. trail.now) result ≡ option_map (trail_for self.now.project) self.now.trail }
+        ensures trail { option_map (λ trail. trail.now) result
+            ≡ option_map (trail_for self.now.project) self.now.trail }
         ensures recorded { IfSome self.now.trail (IsRecorded self.now) }
-        ensures whole { live self.now ≡ [] → IfSome self.now.trail (IsWholeTree self.now.project (best_makespan self.now)) }
+        ensures whole { EndsWhole self.now }
     {
         self.trail.as_ref()
     }
@@ -390,7 +389,7 @@ impl Book {
     pub fn into_trail(self) -> Option<Trail>
         ensures trail { result ≡ option_map (trail_for self.project) self.trail }
         ensures recorded { IfSome self.trail (IsRecorded self) }
-        ensures whole { live self ≡ [] → IfSome self.trail (IsWholeTree self.project (best_makespan self)) }
+        ensures whole { EndsWhole self }
     {
         let Book { trail, .. } = self;
         trail
@@ -402,7 +401,7 @@ impl Book {
         ensures trail { result.1 ≡ option_map (trail_for self.project) self.trail }
         ensures sound { IsSound self }
         ensures recorded { IfSome self.trail (IsRecorded self) }
-        ensures whole { live self ≡ [] → IfSome self.trail (IsWholeTree self.project (best_makespan self)) }
+        ensures whole { EndsWhole self }
     {
         let Book {
             best,

@@ -15,19 +15,26 @@ pub struct Counts {
 }
 
 impl Model for Counts {
-    ghost use Rattle.book.specs.Counts.{CountsOf, AddUp};
+    ghost use Rattle.book.specs.Counts.{CountsOf, tally, AddUp};
 
     ghost Value = { CountsOf };
 
-    ghost view = { λ c. record { opened = c.opened; checked = c.checked; cut = c.cut; taken = c.taken; waiting = c.waiting; hand = c.hand } };
+    ghost view = { λ c. tally c.opened c.checked c.cut c.taken c.waiting c.hand };
 
-    ghost inverse = { λ d. record { opened = d.opened; checked = d.checked; cut = d.cut; taken = d.taken; waiting = d.waiting; hand = d.hand } };
+    ghost inverse = { λ d. record {
+      opened = d.opened;
+      checked = d.checked;
+      cut = d.cut;
+      taken = d.taken;
+      waiting = d.waiting;
+      hand = d.hand;
+    } };
 
-    ghost invariant = { λ c. AddUp (record { opened = c.opened; checked = c.checked; cut = c.cut; taken = c.taken; waiting = c.waiting; hand = c.hand }) };
+    ghost invariant = { λ c. AddUp (tally c.opened c.checked c.cut c.taken c.waiting c.hand) };
 }
 
 impl Counts {
-    ghost use Rattle.book.specs.Counts.{CountsOf, AddUp};
+    ghost use Rattle.book.specs.Counts.{CountsOf, tally, AddUp};
 
     /// Counts that add up.
     pub(crate) fn new(
@@ -38,8 +45,8 @@ impl Counts {
         waiting: u64,
         hand: u64,
     ) -> Counts
-        requires { AddUp (record { opened = opened; checked = checked; cut = cut; taken = taken; waiting = waiting; hand = hand }) }
-        ensures { result ≡ record { opened = opened; checked = checked; cut = cut; taken = taken; waiting = waiting; hand = hand } }
+        requires { AddUp (tally opened checked cut taken waiting hand) }
+        ensures { result ≡ tally opened checked cut taken waiting hand }
     {
         Counts {
             opened,

@@ -1,7 +1,7 @@
-ghost use Rattle.std.specs.Prelude.{◌≡◌, ◌≢◌, ◌<◌, ◌≤◌, [], ◌∷◌, length, replicate, Some, None, IfOk, IfSome, IfNone, MatchOption, slice_get, slice_set};
+ghost use Rattle.std.specs.Prelude.{◌≡◌, ◌≢◌, ◌<◌, ◌≤◌, [], ◌∷◌, length, replicate, Some, None, IfOk, IfSome, IfNone, MatchOption, slice_set};
 ghost use Rattle.std.specs.Arc.{arc_value};
 ghost use Rattle.std.specs.List.{All};
-ghost use Rattle.book.specs.State.{Named, in_hand};
+ghost use Rattle.book.specs.State.{Named, node_named, Holds, in_hand};
 ghost use Rattle.book.specs.Taking.{IsFull};
 ghost use Rattle.book.specs.Verdicts.{IsLeast, bounds_of};
 ghost use Rattle.book.specs.Hands.{held_node, hand_of};
@@ -37,7 +37,7 @@ impl Model for Hands {
 
 /// The node in a hand, where it has this name.
 fn node_named(hand: &Option<Held>, name: u64) -> Option<&Arc<Lean>>
-    ensures found { IfSome result (λ node. hand_of hand.now ≡ Some (record { name = name; node = arc_value node.now })) }
+    ensures found { IfSome result (λ node. hand_of hand.now ≡ Some (node_named name (arc_value node.now))) }
     ensures none { IfNone result (All (λ (held : Named). held.name ≢ name) (in_hand (hand_of hand.now ∷ []))) }
 {
     match hand {
@@ -83,7 +83,7 @@ impl Hands {
 
     /// The worker that has the node of this name in hand, and the node.
     pub(crate) fn find(&self, name: u64) -> Option<(usize, &Arc<Lean>)>
-        ensures found { IfSome result (λ found. slice_get self.now found.0 ≡ Some (Some (record { name = name; node = arc_value found.1.now }))) }
+        ensures found { IfSome result (λ found. Holds self.now found.0 (node_named name (arc_value found.1.now))) }
         ensures none { IfNone result (All (λ (held : Named). held.name ≢ name) (in_hand self.now)) }
     {
         for (worker, hand) in self.hands.iter().enumerate() {

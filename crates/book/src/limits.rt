@@ -1,10 +1,10 @@
-ghost use Rattle.std.specs.Prelude.{◌≡◌, IfSome, IfNone};
+ghost use Rattle.std.specs.Prelude.{◌≡◌};
 ghost use Rattle.std.specs.Bool.{OnTrue, OnFalse};
-ghost use Rattle.network.specs.Schedule.{ScheduleOf, makespan};
 ghost use Rattle.branching.specs.Ceiling.{IsUnder, Reaches};
 ghost use Rattle.branching.specs.Covered.{ceiling_of};
 ghost use Rattle.book.specs.Below.{is_below};
 ghost use Rattle.book.specs.CheckingIn.{IsInTime};
+ghost use Rattle.book.specs.Offering.{IsShorterFound};
 
 use branching::Report;
 use network::Schedule;
@@ -45,8 +45,7 @@ pub(crate) fn is_in_time(ceiling: Option<i64>, best: Option<i64>) -> bool
 
 /// The makespan of what a report found, where that is below the limit.
 pub(crate) fn shorter_found(report: &Report, limit: Option<i64>) -> Option<i64>
-    ensures found { IfSome result (λ length. (schedule : ScheduleOf) × (report.now.found ≡ Some schedule) × (length ≡ makespan schedule.starts) × IsUnder limit length) }
-    ensures none { IfNone result (IfSome report.now.found (λ schedule. Reaches limit (makespan schedule.starts))) }
+    ensures { IsShorterFound report.now.found limit result }
 {
     let length = report.found()?.makespan();
     if is_below(length, limit) {

@@ -135,7 +135,9 @@ impl OpenNodes {
 
     /// Takes out the first node: once for a hand, and once for a ticket.
     pub(crate) fn pop_first(&mut self) -> Option<(Held, Arc<Lean>)>
-        ensures first { IfSome result (λ first. (self.old ≡ held_node first.0 ∷ self.new) × All (GoesBefore (held_node first.0)) self.new × (arc_value first.1 ≡ arc_value first.0.node)) }
+        ensures popped { IfSome result (λ first. self.old ≡ held_node first.0 ∷ self.new) }
+        ensures before { IfSome result (λ first. All (GoesBefore (held_node first.0)) self.new) }
+        ensures twin { IfSome result (λ first. arc_value first.1 ≡ arc_value first.0.node) }
         ensures none { IfNone result ((self.old ≡ []) × (self.new ≡ [])) }
     {
         let (rank, opened) = self.nodes.pop_first()?;

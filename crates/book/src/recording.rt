@@ -1,7 +1,7 @@
 ghost use Rattle.std.specs.Prelude.{◌≡◌, ◌+◌, ◌^◌, ◌<◌, [], length, IfOk, OnOk, OnErr, IfSome, option_map};
 ghost use Rattle.book.specs.Sound.{AreNamedBelow};
 ghost use Rattle.book.specs.OpenNodes.{InsertsKids};
-ghost use Rattle.book.specs.Recording.{note_cut, checked_in};
+ghost use Rattle.book.specs.Recording.{note_cut, checked_in, MayNote};
 ghost use Rattle.book.specs.TrailViews.{with_entries};
 
 use crate::open_nodes::OpenNodes;
@@ -37,7 +37,7 @@ pub(crate) fn note_report(
     limit: Option<i64>,
     report: &Report,
 ) -> Result<(), AllocError>
-    requires known { IfSome trail.old (λ trail. (name < length trail.entries) × (length trail.entries + length report.now.kids < 2 ^ 64)) }
+    requires known { IfSome trail.old (MayNote name report.now) }
     ensures ok { OnOk result (trail.new ≡ option_map (with_entries (checked_in limit name report.now)) trail.old) }
     ensures err { OnErr result (trail.new ≡ trail.old) }
 {

@@ -3,7 +3,7 @@ ghost use Rattle.std.specs.Arc.{arc_value};
 ghost use Rattle.branching.specs.Fate.{fate_value};
 ghost use Rattle.book.specs.Below.{kids_below};
 ghost use Rattle.book.specs.Trail.{no_entry};
-ghost use Rattle.book.specs.TrailViews.{pair_fate, node_ending, trail_entry};
+ghost use Rattle.book.specs.TrailViews.{pair_fate, node_ending, trail_entry, trail_for, with_entries};
 ghost use Rattle.book.specs.Recording.{ended_as, kid_entry, kid_fate, next_name, fates_under, ending_of, checked_in};
 
 use crate::limits::is_below;
@@ -148,7 +148,8 @@ fn fates_of_pairs(
     kids: &[Arc<Lean>],
 ) -> Result<Vec<KidFate>, AllocError>
     requires { first + length kids.now < 2 ^ 64 }
-    ensures { IfOk result (λ all. map pair_fate all.items ≡ fates_under limit depth first (map fate_value fates.now) (map arc_value kids.now)) }
+    ensures { IfOk result (λ all. map pair_fate all.items
+        ≡ fates_under limit depth first (map fate_value fates.now) (map arc_value kids.now)) }
 {
     let mut all = Vec::with_capacity(alloc, fates.len())?;
     let mut next = first;
@@ -211,7 +212,8 @@ fn entries_of_kids(
     depth: usize,
     kids: &[Arc<Lean>],
 ) -> Result<Vec<TrailEntry>, AllocError>
-    ensures { IfOk result (λ entries. map trail_entry entries.items ≡ map (kid_entry parent depth) (kids_below limit (map arc_value kids.now))) }
+    ensures { IfOk result (λ entries. map trail_entry entries.items
+        ≡ map (kid_entry parent depth) (kids_below limit (map arc_value kids.now))) }
 {
     let mut entries = Vec::new(alloc);
     for kid in kids {
@@ -238,7 +240,7 @@ impl Trail {
         project: Arc<Project>,
         roots: usize,
     ) -> Result<Trail, AllocError>
-        ensures { IfOk result (λ trail. trail ≡ record { project = arc_value project; entries = replicate roots no_entry }) }
+        ensures { IfOk result (λ trail. trail ≡ trail_for (arc_value project) (replicate roots no_entry)) }
     {
         let mut entries = Vec::with_capacity(alloc, roots)?;
         for _ in 0..roots {
@@ -281,7 +283,8 @@ impl Trail {
 
     /// Adds entries. Where memory runs out, nothing changes.
     fn add(&mut self, more: &mut Vec<TrailEntry>) -> Result<(), AllocError>
-        ensures ok { OnOk result (self.new ≡ record self.old { entries = self.old.entries ++ map trail_entry more.old.items }) }
+        ensures ok { OnOk result (self.new
+            ≡ record self.old { entries = self.old.entries ++ map trail_entry more.old.items }) }
         ensures err { OnErr result (self.new ≡ self.old) }
     {
         self.entries.append(more)
@@ -297,7 +300,7 @@ impl Trail {
     ) -> Result<(), AllocError>
         requires known { name < length self.old.entries }
         requires names { length self.old.entries + length report.now.kids < 2 ^ 64 }
-        ensures ok { OnOk result (self.new ≡ record self.old { entries = checked_in limit name report.now self.old.entries }) }
+        ensures ok { OnOk result (self.new ≡ with_entries (checked_in limit name report.now) self.old) }
         ensures err { OnErr result (self.new ≡ self.old) }
     {
         let first = self.entries.len() as u64;

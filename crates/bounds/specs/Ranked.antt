@@ -18,11 +18,16 @@ AreKeysOf ends tasks keys = keys ≡ map (λ t. start ends t.activity) tasks
 -- the first count numbers are the tails of the tasks, each once, and the ranks are those of each task's tail
 pub record AreRanked (tails : List ℤ) (tasks : List Task) (rising ranks : List ℕ) (count : ℕ) : Type 0 where
   pub of_tails : AreTailsOf tails tasks (take count rising)
-  pub ranks_are : (i : ℕ) → i < length tasks → slice_index ranks i ≡ rank_of (take count rising) (tail_of tails (task_at tasks i))
+  pub ranks_are : (i : ℕ) → i < length tasks →
+      slice_index ranks i ≡ rank_of (take count rising) (tail_of tails (task_at tasks i))
 
 -- the load of the task at a place, with its head and its rank from the lists
 abbrev pub keyed_load : List ℤ → List ℕ → List Task → ℕ → Load
-keyed_load keys ranks tasks i = record { head = unsigned_abs (start keys i); rank = slice_index ranks i; work = (task_at tasks i).work }
+keyed_load keys ranks tasks i = record {
+  head = unsigned_abs (start keys i);
+  rank = slice_index ranks i;
+  work = (task_at tasks i).work;
+}
 
 -- the loads of all tasks, by falling head
 pub record AreRankedLoads (heads : List ℤ) (ranks : List ℕ) (tasks : List Task) (loads : List Load) : Type 0 where

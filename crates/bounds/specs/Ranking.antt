@@ -20,4 +20,5 @@ pub record IsRanked (keys : List ℤ) (order : List ℕ) (n count : ℕ) (rising
   pub few : count ≤ n
   pub up : (i j : ℕ) → i < j → j < count → slice_index rising i < slice_index rising j
   pub keys_are : (q : ℕ) → q < count → IsKeyOf keys order n (slice_index rising q)
-  pub ranked : (i : ℕ) → i < n → IsRank rising count (unsigned_abs (key_at keys order i)) (slice_index ranks (slice_index order i))
+  pub ranked : (i : ℕ) → i < n →
+      IsRank rising count (unsigned_abs (key_at keys order i)) (slice_index ranks (slice_index order i))

@@ -11,6 +11,11 @@ line_of capacity tails = map (λ b. capacity * b) tails ++ FAR_MARK ∷ []
 abbrev pub room_before : List ℕ → ℕ → ℕ
 room_before rooms q = sum_by (λ room. room) (take q rooms)
 
+-- the room of the first slots is what lies between the first mark and the next one
+abbrev pub AreRoomsOf : List ℕ → List ℕ → Type 0
+AreRoomsOf line rooms =
+    (q : ℕ) → q < length line → slice_index line 0 + room_before rooms q ≡ slice_index line q
+
 -- each skip leads to a later slot, or to the end, and all slots that it leaves out are full
 pub record AreSkips (rooms skips : List ℕ) : Type 0 where
   pub count : length skips ≡ length rooms

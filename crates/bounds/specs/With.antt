@@ -18,13 +18,17 @@ pub record IsBoundBetween (p : Problem) (heads tails : List ℤ) (bound : ℤ) :
 
 -- c is the bound of the matrix of each node of the project whose matrix this is, with one pair more
 abbrev pub IsBoundWith : Problem → Rows → Pair → ℤ → Type 0
-IsBoundWith p rows pair c = (pairs : List Pair) (new : Rows) → IsProjectMatrix p pairs rows → IsProjectMatrix p (pairs ++ pair ∷ []) new → IsBoundOf p new c
+IsBoundWith p rows pair c =
+    (pairs : List Pair) (new : Rows) → IsProjectMatrix p pairs rows → IsProjectMatrix p (pairs ++ pair ∷ []) new →
+    IsBoundOf p new c
 
 -- c is a true bound of each node of the project whose matrix this is, with one pair more
 abbrev pub IsTrueBoundWith : Problem → Rows → Pair → ℤ → Type 0
-IsTrueBoundWith p rows pair c = (pairs : List Pair) → IsProjectMatrix p pairs rows → IsTrueBound p (pairs ++ pair ∷ []) c
+IsTrueBoundWith p rows pair c =
+    (pairs : List Pair) → IsProjectMatrix p pairs rows → IsTrueBound p (pairs ++ pair ∷ []) c
 
--- c is not above the bound of the matrix with one pair more, and is that bound where it is below the ceiling, if there is one
+-- c is not above the bound of the matrix with one pair more, and is that bound where it is below the ceiling, if there
+-- is one
 pub record IsBoundUnder (p : Problem) (rows : Rows) (pair : Pair) (ceiling : Option ℤ) (c : ℤ) : Type 0 where
   pub low : (bound : ℤ) → IsBoundWith p rows pair bound → c ≤ℤ bound
   pub exact : IfSome ceiling (λ limit. c <ℤ limit) → IsBoundWith p rows pair c

@@ -49,6 +49,3 @@ pub fn bound(alloc: Global, project: &Project, matrix: &Matrix) -> Result<i64, A
     let energy = energy(alloc, project, matrix)?;
     Ok(critical(matrix).max(energy))
 }
-
-#[cfg(test)]
-mod tests;

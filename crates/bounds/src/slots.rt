@@ -2,7 +2,7 @@ ghost use Rattle.std.specs.Prelude.{◌≡◌, ◌+◌, ◌<◌, ◌≤◌, ℕ,
 ghost use Rattle.std.specs.List.{All};
 ghost use Rattle.std.specs.List.Sorted.{IsNonDecreasing};
 ghost use Rattle.bounds.specs.Loads.{AreLoads, IsGreatestShare};
-ghost use Rattle.bounds.specs.Slots.{line_of, room_before, AreSkips, IsFilled};
+ghost use Rattle.bounds.specs.Slots.{line_of, room_before, AreRoomsOf, AreSkips, IsFilled};
 
 use crate::limits::{FAR_MARK, MAX_CAPACITY, MAX_END, MAX_SHARE};
 use crate::load::Load;
@@ -24,7 +24,7 @@ fn take_line(line: &mut [u64], capacity: u64, tails: &[u64])
 fn take_rooms(rooms: &mut [u64], line: &[u64])
     requires room { length rooms.old + 1 ≡ length line.now }
     requires rising { IsNonDecreasing line.now }
-    ensures { (q : ℕ) → q < length line.now → slice_index line.now 0 + room_before rooms.new q ≡ slice_index line.now q }
+    ensures { AreRoomsOf line.now rooms.new }
 {
     for place in 0..rooms.len() {
         rooms[place] = line[place + 1] - line[place];

@@ -1,6 +1,6 @@
 ghost use Rattle.std.specs.Prelude.{◌≡◌, ◌<◌, ◌≤◌, length, IfOk};
 ghost use Rattle.network.specs.Problem.{activity_count, resource_count};
-ghost use Rattle.bounds.specs.Energy.{IsResourceEnergy, IsEnergyUnder};
+ghost use Rattle.bounds.specs.Energy.{IsResourceEnergy, IsEnergyWhereAny, IsEnergyUnder};
 ghost use Rattle.bounds.specs.Ends.{AreEnds, IsGreatestEnds};
 ghost use Rattle.bounds.specs.Tasks.{all_tasks};
 
@@ -104,7 +104,7 @@ impl TaskRooms {
         requires heads { AreEnds (activity_count project.now) heads.now }
         requires tails { AreEnds (activity_count project.now) tails.now }
         requires ends { IsGreatestEnds heads.now tails.now ends }
-        requires known { known.now.resource < resource_count project.now → IsResourceEnergy project.now heads.now tails.now known.now.resource known.now.energy }
+        requires known { IsEnergyWhereAny project.now heads.now tails.now known.now.resource known.now.energy }
         requires limit { known.now.energy ≤ MAX_SHARE }
         requires rooms { self.old ≡ all_tasks project.now }
         ensures rooms { self.new ≡ self.old }
@@ -132,7 +132,7 @@ impl TaskRooms {
         requires heads { AreEnds (activity_count project.now) heads.now }
         requires tails { AreEnds (activity_count project.now) tails.now }
         requires ends { IsGreatestEnds heads.now tails.now ends }
-        requires known { known.now.resource < resource_count project.now → IsResourceEnergy project.now heads.now tails.now known.now.resource known.now.energy }
+        requires known { IsEnergyWhereAny project.now heads.now tails.now known.now.resource known.now.energy }
         requires limit { known.now.energy ≤ MAX_SHARE }
         requires rooms { self.old ≡ all_tasks project.now }
         ensures rooms { self.new ≡ self.old }

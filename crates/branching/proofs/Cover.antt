@@ -1,7 +1,7 @@
 -- A feasible schedule keeps some ordered pair of any forbidden set whose members take time: at the
 -- greatest of their starts they don't all run, so one of them has ended.
-use Rattle.std.proofs.Common.{◌≡◌, ◌≢◌, ℕ, true, ◌&&◌, List, [], ◌∷◌, get_or, subst, ◌⊎◌, inl, inr, arith}
-use Rattle.std.specs.Prelude.{ℤ, pos, ◌+ℤ◌, ◌≤ℤ◌, ◌<ℤ◌, int_le, int_lt}
+use Rattle.std.proofs.Common.{◌≡◌, ◌≢◌, ℕ, true, List, [], ◌∷◌, get_or, subst, ◌⊎◌, inl, inr, arith}
+use Rattle.std.specs.Prelude.{ℤ, pos, ◌+ℤ◌, ◌≤ℤ◌, ◌<ℤ◌}
 use Rattle.std.specs.List.{All, Any, Contains}
 use Rattle.std.proofs.lemmas.Int.{ints, by_lt_z}
 use Rattle.std.proofs.lemmas.List.Elements.{All-nil, All-cons, All-contains}
@@ -10,7 +10,9 @@ use Rattle.network.specs.Problem.{Problem, activity_count, duration, demand}
 use Rattle.network.specs.Schedule.{start, is_running, Keeps, IsFeasible}
 use Rattle.branching.specs.Pairs.{pair_of, ordered_pairs}
 use Rattle.branching.specs.Right.{IsRightSet}
-use Rattle.branching.proofs.Lists.{here, there, BeginsFrom, rising_sum}
+use Rattle.branching.proofs.Lists.{here, there}
+use Rattle.rivals.proofs.Rising.{BeginsFrom, rising_sum}
+use Rattle.rivals.proofs.Apart.{runs_when}
 use Rattle.branching.proofs.OrderedPairs.{contains_pair}
 
 -- ---- members that start last, and members that end before
@@ -47,9 +49,6 @@ some_ends p s u (x ∷ xs) = longer (some_ends p s u xs)
         by_lt_z u (start s x +ℤ duration p x)
         (λ later. inr (All-cons (EndsAfter p s u) x xs later after))
         (λ done. inl (x, (here x xs, done)))
-
-pub runs_when : (s u e : ℤ) → s ≤ℤ u → u <ℤ e → (int_le s u && int_lt u e) ≡ true
-runs_when s u e h k = grind (arith, ints)
 
 -- they can't all run at the greatest of their starts
 not_all_run : (p : Problem) (s : List ℤ) (k : ℕ) (set : List ℕ) (m : ℕ) → IsFeasible p s → IsRightSet p k set → StartsLast s set m → All (EndsAfter p s (start s m)) set → ⊥

@@ -126,7 +126,7 @@ root_covers p root is_root = record {
 -- a take keeps the search sound
 pub take_keeps : (old new : SearchState) → IsTake old new → IsSoundState old → IsSoundState new
 take_keeps old new take sound =
-    let reached : IsCovered old.project old.best (take.rest ++ take.node ∷ []) = drops_keep old.project old.best old.nodes (take.rest ++ take.node ∷ []) take.last_under sound in
+    let reached : IsCovered old.project old.best (take.rest ++ take.node ∷ []) = drops_keep old.project old.best old.nodes (take.rest ++ take.node ∷ []) take.pops.0 sound in
     let node : IsNodeOf old.project take.node = All-contains (IsNodeOf old.project) (take.rest ++ take.node ∷ []) take.node reached.of_nodes (Contains-push take.rest take.node) in
     rw (take.project, take.nodes)
     (expansion_keeps old.project old.best new.best take.rest take.node take.report take.is_report.fair

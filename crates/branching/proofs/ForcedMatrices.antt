@@ -10,7 +10,7 @@ use Rattle.longest_path.specs.Insert.{AddsArc, ClosesCycle}
 use Rattle.bounds.specs.Bound.{critical_weight, IsBoundOf}
 use Rattle.bounds.proofs.Existence.{IsBoundOf-exists}
 use Rattle.bounds.proofs.TrueBounds.{IsTrueBoundFor-bound}
-use Rattle.branching.specs.Incompatible.{AreIncompatible}
+use Rattle.rivals.specs.Incompatible.{AreIncompatible}
 use Rattle.branching.specs.Subproblem.{Subproblem, IsNode}
 use Rattle.branching.specs.Right.{IsForced, IsDead}
 use Rattle.branching.specs.Ceiling.{IsUnder, Reaches}

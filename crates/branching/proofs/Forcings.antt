@@ -15,7 +15,7 @@ use Rattle.network.specs.Walk.{Rows, entry}
 use Rattle.longest_path.specs.Relax.{greater, joined}
 use Rattle.longest_path.proofs.Reach.{same_some}
 use Rattle.branching.specs.Pairs.{pair_of}
-use Rattle.branching.specs.Incompatible.{AreIncompatible, AllIncompatible}
+use Rattle.rivals.specs.Incompatible.{AreIncompatible, AllIncompatible}
 use Rattle.branching.specs.IncompatibleRows.{pairs_before, pairs_of, IsRowOf, AreRowsOf}
 use Rattle.branching.specs.declared.incompatible.Incompatible.{Incompatible}
 use Rattle.branching.specs.Forcing.{IsForcedAt, IsForcedIn, IsForcedWith, IsFirstForced, way_over}

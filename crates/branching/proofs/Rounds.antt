@@ -12,7 +12,7 @@ use Rattle.network.specs.Walk.{Rows, weight, entry, IsWalk, IsMatrixOf, IsGreate
 use Rattle.network.proofs.Schedules.{arcs_of-push}
 use Rattle.longest_path.specs.Relax.{Reaches}
 use Rattle.earliest.proofs.Entries.{reached}
-use Rattle.branching.specs.Incompatible.{AreIncompatible}
+use Rattle.rivals.specs.Incompatible.{AreIncompatible}
 use Rattle.branching.specs.Forcing.{IsForcedIn}
 use Rattle.branching.proofs.Lists.{contains_cases}
 

@@ -22,7 +22,8 @@ use Rattle.branching.specs.Right.{IsRightSet, IsCutUnder}
 use Rattle.branching.specs.Ceiling.{IsBelow, Reaches}
 use Rattle.branching.specs.Fates.{FateOf, AreFates}
 use Rattle.branching.specs.Fair.{IsNewTo, IsKidOf, IsReport}
-use Rattle.branching.proofs.Lists.{here, BeginsFrom, rising_length}
+use Rattle.branching.proofs.Lists.{here}
+use Rattle.rivals.proofs.Rising.{BeginsFrom, rising_length}
 use Rattle.branching.proofs.OrderedPairs.{all_pairs, count_pairs}
 use Rattle.branching.proofs.Cover.{some_kept}
 use Rattle.branching.proofs.Fates.{fates_kids, fates_cover, fates_few}

@@ -21,6 +21,12 @@ pub record Expansion : Type 0 where
   pub fates : List FateOf
   pub kids : List Subproblem
 
+-- the report of these parts
+abbrev pub report_of :
+    Subproblem → Option ℤ → Option ScheduleOf → Option MinimalSet → List FateOf → List Subproblem → Expansion
+report_of node ceiling found split fates kids =
+    record { node = node; ceiling = ceiling; found = found; split = split; fates = fates; kids = kids }
+
 -- the schedule is shorter than the best, if there is one
 abbrev pub IsShorterThan : Option ScheduleOf → List ℤ → Type 0
 IsShorterThan best s = IfSome best (λ best. makespan s <ℤ makespan best.starts)
@@ -45,7 +51,8 @@ pub record IsFoundFor (node : Subproblem) (found : ScheduleOf) : Type 0 where
 pub record IsFair (report : Expansion) : Type 0 where
   pub of_found : IfSome report.found (IsFoundFor report.node)
   pub of_kids : All (IsKidOf report.node) report.kids
-  pub covers : (s : List ℤ) → NodeStandsFor report.node s → IsBelow report.ceiling s → IsShorterThan report.found s → Any (λ kid. NodeStandsFor kid s) report.kids
+  pub covers : (s : List ℤ) → NodeStandsFor report.node s → IsBelow report.ceiling s →
+      IsShorterThan report.found s → Any (λ kid. NodeStandsFor kid s) report.kids
   pub few : length report.kids ≤ MAX_KIDS
 
 -- a set was split: it may be, nothing is found, and there is a right fate for each of its ordered pairs
@@ -58,7 +65,9 @@ pub record IsSplitBy (report : Expansion) (set : MinimalSet) : Type 0 where
 pub record IsUnsplit (report : Expansion) : Type 0 where
   pub no_fates : report.fates ≡ []
   pub no_kids : report.kids ≡ []
-  pub of_found : MatchOption report.found (IsCutUnder report.node.project report.node.pairs report.ceiling) (λ found. IsLeastSchedule report.node.project report.node.pairs found.starts)
+  pub of_found : MatchOption report.found
+      (IsCutUnder report.node.project report.node.pairs report.ceiling)
+      (λ found. IsLeastSchedule report.node.project report.node.pairs found.starts)
 
 -- what a `Report` keeps: it is fair, and tells how
 pub record IsReport (report : Expansion) : Type 0 where

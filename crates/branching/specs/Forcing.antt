@@ -1,11 +1,12 @@
 -- Pairs that are forced, one after the other, by the matrix of a node and a pair.
-use Rattle.std.specs.Prelude.{◌≡◌, ℤ, neg_ℤ, ◌<ℤ◌, Option, Some, List, [], ◌∷◌, ◌++◌}
+use Rattle.std.specs.Prelude.{◌≡◌, ℤ, neg_ℤ, ◌<ℤ◌, Option, Some, MatchOption, List, [], ◌∷◌, ◌++◌}
 use Rattle.std.specs.List.{All}
 use Rattle.network.specs.declared.lag.Pair.{Pair}
-use Rattle.network.specs.Problem.{Problem, duration}
+use Rattle.network.specs.Problem.{Problem, duration, pair_arc}
 use Rattle.network.specs.ProjectMatrix.{IsProjectMatrix}
 use Rattle.network.specs.Walk.{Rows, entry}
 use Rattle.longest_path.specs.Relax.{greater, joined}
+use Rattle.longest_path.specs.Insert.{weight_over}
 use Rattle.branching.specs.Subproblem.{Subproblem}
 use Rattle.branching.specs.Right.{AllForced}
 use Rattle.branching.specs.Fates.{IsDeadBy}
@@ -26,7 +27,8 @@ IsForcedIn p rows pair = IsForcedAt p pair (entry rows pair.before pair.after)
 
 -- the weight of the way over the arc of one pair more, where there is one
 abbrev pub way_over : Problem → Rows → Pair → Pair → Option ℤ
-way_over p rows added pair = joined (joined (entry rows pair.before added.before) (Some (duration p added.before))) (entry rows added.after pair.after)
+way_over p rows added pair =
+    joined (weight_over (pair_arc p added) rows pair.before) (entry rows added.after pair.after)
 
 -- there is a way over the arc of one pair more, and once that is added the pair is forced
 pub record IsForcedWith (p : Problem) (rows : Rows) (added pair : Pair) : Type 0 where
@@ -41,6 +43,11 @@ pub record IsFirstForced (p : Problem) (rows : Rows) (pairs : List Pair) (pair :
   pub split : pairs ≡ before ++ pair ∷ after
   pub forced : IsForcedIn p rows pair
   pub none_before : All (λ other. ¬ IsForcedIn p rows other) before
+
+-- the first of the pairs that is forced in the matrix, or none where none is
+abbrev pub IsNextForced : Problem → Rows → List Pair → Option Pair → Type 0
+IsNextForced p rows pairs next =
+    MatchOption next (All (λ pair. ¬ IsForcedIn p rows pair) pairs) (IsFirstForced p rows pairs)
 
 -- forced pairs were added after these, and the rows are the matrix of them all
 pub record IsForcedMatrix (p : Problem) (pairs forced : List Pair) (rows : Rows) : Type 0 where

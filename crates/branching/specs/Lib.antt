@@ -1,5 +1,4 @@
 pub mod Last
-pub mod Incompatible
 pub mod Subproblem
 pub mod Pairs
 pub mod IncompatibleRows

@@ -1,10 +1,20 @@
 -- What kids have of a node.
-use Rattle.std.specs.Prelude.{◌≡◌}
+use Rattle.std.specs.Prelude.{◌≡◌, ℤ, ◌++◌}
 use Rattle.std.specs.Arc.{arc_value}
 use Rattle.branching.specs.Subproblem.{Subproblem}
+use Rattle.branching.specs.Last.{last_pairs}
+use Rattle.branching.specs.declared.pair_list.Last.{Last}
 use Rattle.branching.specs.declared.parent.Parent.{Parent}
 
 -- its project and its pairs
 pub record IsParent (node : Subproblem) (parent : Parent) : Type 0 where
   pub project : (arc_value parent.base).project ≡ node.project
   pub pairs : parent.pairs.items ≡ node.pairs
+
+-- the node with these pairs after its parent's
+abbrev pub node_under : Parent → Last → ℤ → Subproblem
+node_under parent last bound = record {
+  project = (arc_value parent.base).project;
+  pairs = parent.pairs.items ++ last_pairs last;
+  bound = bound;
+}

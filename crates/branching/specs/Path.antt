@@ -20,7 +20,8 @@ front pairs = take (length pairs - 1) pairs
 -- a mark for each pair, the last one first, leads back to the matrix without that pair and those after it
 abbrev pub LeadBack : Problem → List Pair → List Rows → Type 0
 LeadBack p pairs [] = pairs ≡ []
-LeadBack p pairs (rows ∷ marks) = (0 < length pairs) × IsProjectMatrix p (front pairs) rows × LeadBack p (front pairs) marks
+LeadBack p pairs (rows ∷ marks) =
+    (0 < length pairs) × IsProjectMatrix p (front pairs) rows × LeadBack p (front pairs) marks
 
 -- the rows are the matrix of the project and the pairs, and the marks lead back
 pub record IsPath (p : Problem) (pairs : List Pair) (m : Marked) : Type 0 where

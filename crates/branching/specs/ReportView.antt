@@ -1,9 +1,10 @@
 -- The fields of a `Report`, as a caller sees them.
 use Rattle.std.specs.Prelude.{map}
 use Rattle.std.specs.Arc.{arc_value}
-use Rattle.branching.specs.Fair.{Expansion}
+use Rattle.branching.specs.Fair.{Expansion, report_of}
 use Rattle.branching.specs.Fate.{fate_value}
 use Rattle.branching.specs.declared.report.Report.TheInside.{Inside}
 
 abbrev pub expansion_of : Inside → Expansion
-expansion_of r = record { node = arc_value r.node; ceiling = r.ceiling; found = r.found; split = r.split; fates = map fate_value r.fates.items; kids = map arc_value r.kids.items }
+expansion_of r =
+    report_of (arc_value r.node) r.ceiling r.found r.split (map fate_value r.fates.items) (map arc_value r.kids.items)

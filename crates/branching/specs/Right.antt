@@ -7,7 +7,7 @@ use Rattle.network.specs.Forbidden.{IsForbidden}
 use Rattle.network.specs.Problem.{Problem, activity_count, resource_count, duration, arcs_of}
 use Rattle.network.specs.Schedule.{IsLeastSchedule, IsFeasible, makespan}
 use Rattle.network.specs.Walk.{IsGreatestWeight, HasPositiveCycle}
-use Rattle.branching.specs.Incompatible.{AreIncompatible}
+use Rattle.rivals.specs.Incompatible.{AreIncompatible}
 use Rattle.branching.specs.Subproblem.{IsLive, IsBoundOfPairs}
 
 -- the second activity can't end before the first starts: the greatest weight of a walk from the first to

@@ -1,5 +1,5 @@
 -- What a node of the search is: a project, the pairs that were added, and a lower bound.
-use Rattle.std.specs.Prelude.{ℤ, List, ◌∷◌, ◌++◌}
+use Rattle.std.specs.Prelude.{ℤ, List, [], ◌∷◌, ◌++◌}
 use Rattle.network.specs.declared.lag.Pair.{Pair}
 use Rattle.network.specs.Problem.{Problem, arcs_of, NameActivities}
 use Rattle.network.specs.ProjectMatrix.{IsProjectMatrix}
@@ -12,6 +12,10 @@ pub record Subproblem : Type 0 where
   pub project : Problem
   pub pairs : List Pair
   pub bound : ℤ
+
+-- the node without pairs
+abbrev pub root_node : Problem → ℤ → Subproblem
+root_node p bound = record { project = p; pairs = []; bound = bound }
 
 -- the node with a pair, pairs that this forced, and a bound
 abbrev pub kid_of : Subproblem → Pair → List Pair → ℤ → Subproblem

@@ -16,6 +16,11 @@ pub record DropsOver (ceiling : Option ℤ) (old new : List Subproblem) : Type 0
   pub from_end : old ≡ new ++ dropped
   pub over : All (λ node. ¬ IsUnder ceiling node.bound) dropped
 
+-- the last node below the ceiling goes off a stack, and so do those after it; where none is below it, all go
+abbrev pub PopsUnder : Option ℤ → List Subproblem → Option Subproblem → List Subproblem → Type 0
+PopsUnder ceiling old None new = DropsOver ceiling old [] × (new ≡ [])
+PopsUnder ceiling old (Some node) new = DropsOver ceiling old (new ++ node ∷ []) × IsUnder ceiling node.bound
+
 -- of the best and what was found, the shorter, or the one that is there
 pub record IsShorterOf (best found shorter : Option ScheduleOf) : Type 0 where
   pub than_best : (s : List ℤ) → IsShorterThan shorter s → IsShorterThan best s
@@ -27,8 +32,7 @@ pub record IsTake (old new : SearchState) : Type 0 where
   pub rest : List Subproblem
   pub node : Subproblem
   pub report : Expansion
-  pub last_under : DropsOver (ceiling_of old.best) old.nodes (rest ++ node ∷ [])
-  pub is_under : IsUnder (ceiling_of old.best) node.bound
+  pub pops : PopsUnder (ceiling_of old.best) old.nodes (Some node) rest
   pub expanded : IsReportOn node (ceiling_of old.best) report
   pub is_report : IsReport report
   pub project : new.project ≡ old.project
@@ -38,7 +42,8 @@ pub record IsTake (old new : SearchState) : Type 0 where
 -- so many takes lead from one state to another
 pub data Takes : ℕ → SearchState → SearchState → Type 0 where
   no_take : (state : SearchState) → Takes 0 state state
-  one_more : (n : ℕ) (first between last : SearchState) → Takes n first between → IsTake between last → Takes (suc n) first last
+  one_more : (n : ℕ) (first between last : SearchState) → Takes n first between → IsTake between last →
+      Takes (suc n) first last
 
 -- a search begins with no schedule, and with the root alone
 abbrev pub first_state : Problem → Subproblem → SearchState
@@ -51,7 +56,8 @@ pub record IsLeft (state : SearchState) (bound : ℤ) : Type 0 where
 
 -- the outcome that a state of a search has
 abbrev pub IsOutcomeOf : SearchState → Outcome → Type 0
-IsOutcomeOf state (Optimal best) = (state.best ≡ Some best) × All (λ node. ¬ IsUnder (ceiling_of state.best) node.bound) state.nodes
+IsOutcomeOf state (Optimal best) =
+    (state.best ≡ Some best) × All (λ node. ¬ IsUnder (ceiling_of state.best) node.bound) state.nodes
 IsOutcomeOf state NoSchedule = (state.best ≡ None) × (state.nodes ≡ [])
 IsOutcomeOf state (Stopped best bound) = (state.best ≡ best) × IsLeft state bound
 

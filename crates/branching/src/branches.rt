@@ -1,10 +1,8 @@
-ghost use Rattle.std.specs.Prelude.{◌≡◌, [], map, IfOk};
-ghost use Rattle.std.specs.Arc.{arc_value};
+ghost use Rattle.std.specs.Prelude.{◌≡◌, [], IfOk};
 ghost use Rattle.network.specs.Problem.{NameActivities};
 ghost use Rattle.bounds.specs.Workspace.{IsWorkspaceFor};
 ghost use Rattle.branching.specs.Subproblem.{IsTiedTo};
-ghost use Rattle.branching.specs.Fate.{fate_value};
-ghost use Rattle.branching.specs.Fates.{AreFates};
+ghost use Rattle.branching.specs.Fate.{AreBranches};
 
 use crate::branch::{Branch, branch_of};
 use crate::fate::Fate;
@@ -67,7 +65,7 @@ pub(crate) fn branches_of(
     requires named { NameActivities node.now.project pairs.now }
     ensures unchanged { matrix.new ≡ matrix.old }
     ensures bounds { bounds.new ≡ bounds.old }
-    ensures fates { IfOk result (λ made. AreFates node.now ceiling pairs.now (map fate_value made.fates.items) (map arc_value made.kids.items)) }
+    ensures fates { IfOk result (AreBranches node.now ceiling pairs.now) }
 {
     let Branches {
         mut kids,

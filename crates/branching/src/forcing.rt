@@ -1,12 +1,12 @@
-ghost use Rattle.std.specs.Prelude.{◌≡◌, ◌↔◌, ◌<◌, [], ◌∷◌, ◌++◌, length, Some, IsTrue, IfOk, IfSome, MatchOption};
-ghost use Rattle.std.specs.List.{All, Any};
+ghost use Rattle.std.specs.Prelude.{◌≡◌, ◌↔◌, ◌<◌, [], ◌∷◌, ◌++◌, length, IsTrue, IfOk, IfSome};
+ghost use Rattle.std.specs.List.{Any};
 ghost use Rattle.network.specs.Limits.{IsWithin};
 ghost use Rattle.network.specs.Problem.{activity_count, pair_arc, NameActivities};
 ghost use Rattle.network.specs.ProjectMatrix.{IsProjectMatrix};
 ghost use Rattle.branching.specs.declared.with_arc.TheConstants.{MAX_WAY_WITH};
-ghost use Rattle.branching.specs.IncompatibleRows.{pairs_before, pairs_of, IsRowOf, AreRowsOf};
+ghost use Rattle.branching.specs.IncompatibleRows.{pairs_of_row, pairs_of, IsRowOf, AreRowsOf};
 ghost use Rattle.branching.specs.Subproblem.{Subproblem};
-ghost use Rattle.branching.specs.Forcing.{IsForcedAt, IsForcedIn, IsForcedWith, IsFirstForced, IsForcingOf};
+ghost use Rattle.branching.specs.Forcing.{IsForcedAt, IsForcedWith, IsNextForced, IsForcingOf};
 
 use crate::incompatible::Incompatible;
 use crate::lean::Lean;
@@ -45,7 +45,7 @@ fn is_forced_at(project: &Project, pair: Pair, greatest: Option<i64>) -> bool
 fn next_in_row(project: &Project, matrix: &Matrix, row: &Incompatible) -> Option<Pair>
     requires size { length matrix.now ≡ activity_count project.now }
     requires row { IsRowOf project.now row.now }
-    ensures { MatchOption result (All (λ pair. ¬ IsForcedIn project.now matrix.now pair) (pairs_before row.now.activity row.now.others.items)) (IsFirstForced project.now matrix.now (pairs_before row.now.activity row.now.others.items)) }
+    ensures { IsNextForced project.now matrix.now (pairs_of_row row.now) result }
 {
     let before = row.activity;
     for after in row.others.as_slice() {
@@ -64,7 +64,7 @@ fn next_in_row(project: &Project, matrix: &Matrix, row: &Incompatible) -> Option
 fn next_forced(project: &Project, matrix: &Matrix, incompatible: &[Incompatible]) -> Option<Pair>
     requires size { length matrix.now ≡ activity_count project.now }
     requires rows { AreRowsOf project.now incompatible.now }
-    ensures { MatchOption result (All (λ pair. ¬ IsForcedIn project.now matrix.now pair) (pairs_of incompatible.now)) (IsFirstForced project.now matrix.now (pairs_of incompatible.now)) }
+    ensures { IsNextForced project.now matrix.now (pairs_of incompatible.now) result }
 {
     for row in incompatible {
         if let Some(pair) = next_in_row(project, matrix, row) {
@@ -80,7 +80,7 @@ fn forces_in_row(project: &Project, matrix: &Matrix, row: &Incompatible, added: 
     requires size { length matrix.now ≡ activity_count project.now }
     requires row { IsRowOf project.now row.now }
     requires named { NameActivities project.now (added ∷ []) }
-    ensures { IsTrue result ↔ Any (IsForcedWith project.now matrix.now added) (pairs_before row.now.activity row.now.others.items) }
+    ensures { IsTrue result ↔ Any (IsForcedWith project.now matrix.now added) (pairs_of_row row.now) }
 {
     let before = row.activity;
     let arc = project.pair_arc(added);

@@ -1,8 +1,8 @@
-ghost use Rattle.std.specs.Prelude.{◌≡◌, ◌↔◌, IsTrue, ◌∷◌, ◌++◌, [], IfOk};
+ghost use Rattle.std.specs.Prelude.{◌≡◌, ◌↔◌, IsTrue, ◌∷◌, IfOk};
 ghost use Rattle.std.specs.Arc.{arc_value};
 ghost use Rattle.network.specs.Limits.{IsProject};
-ghost use Rattle.branching.specs.Subproblem.{Subproblem, IsNode, kid_of};
-ghost use Rattle.branching.specs.Parent.{IsParent};
+ghost use Rattle.branching.specs.Subproblem.{IsNode, kid_of, root_node};
+ghost use Rattle.branching.specs.Parent.{IsParent, node_under};
 ghost use Rattle.branching.specs.Last.{last_pairs};
 
 use crate::base::Base;
@@ -55,8 +55,8 @@ impl Lean {
         last: Last,
         bound: i64,
     ) -> Result<Arc<Lean>, AllocError>
-        requires { IsNode (record { project = (arc_value (arc_value parent).base).project; pairs = (arc_value parent).pairs.items ++ last_pairs last; bound = bound }) }
-        ensures { IfOk result (λ node. arc_value node ≡ record { project = (arc_value (arc_value parent).base).project; pairs = (arc_value parent).pairs.items ++ last_pairs last; bound = bound }) }
+        requires { IsNode (node_under (arc_value parent) last bound) }
+        ensures { IfOk result (λ node. arc_value node ≡ node_under (arc_value parent) last bound) }
     {
         let pairs = PairList::of(Arc::try_clone(&parent)?, last);
         let node = Lean {
@@ -69,8 +69,8 @@ impl Lean {
 
     /// The node without pairs, to be shared.
     pub(crate) fn root(alloc: Global, base: Arc<Base>, bound: i64) -> Result<Arc<Lean>, AllocError>
-        requires { IsNode (record { project = (arc_value base).project; pairs = []; bound = bound }) }
-        ensures { IfOk result (λ node. arc_value node ≡ record { project = (arc_value base).project; pairs = []; bound = bound }) }
+        requires { IsNode (root_node (arc_value base).project bound) }
+        ensures { IfOk result (λ node. arc_value node ≡ root_node (arc_value base).project bound) }
     {
         let pairs = Vec::new(alloc);
         let parent = Arc::new(alloc, Parent { base, pairs })?;

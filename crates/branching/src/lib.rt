@@ -31,7 +31,6 @@ mod workspace;
 pub use branches::Branches;
 pub use expansion::expand;
 pub use fate::Fate;
-pub use incompatible::are_incompatible;
 pub use lean::Lean;
 pub use marking::insert_under_mark;
 pub use node::{Node, rebuild, root};
@@ -41,6 +40,3 @@ pub use pairs::ordered_pairs;
 pub use report::{MAX_KIDS, Report};
 pub use search::{MAX_TAKES, search_alone};
 pub use searcher::Searcher;
-
-#[cfg(test)]
-mod tests;

@@ -43,7 +43,7 @@ impl Model for Report {
 }
 
 impl Report {
-    ghost use Rattle.branching.specs.Fair.{Expansion, IsReport};
+    ghost use Rattle.branching.specs.Fair.{Expansion, report_of, IsReport};
 
     /// A report of these parts.
     pub(crate) fn new(
@@ -54,8 +54,10 @@ impl Report {
         fates: Vec<Fate>,
         kids: Vec<Arc<Lean>>,
     ) -> Report
-        requires { IsReport (record { node = arc_value node; ceiling = ceiling; found = found; split = split; fates = map fate_value fates.items; kids = map arc_value kids.items }) }
-        ensures { result ≡ record { node = arc_value node; ceiling = ceiling; found = found; split = split; fates = map fate_value fates.items; kids = map arc_value kids.items } }
+        requires { IsReport (report_of (arc_value node) ceiling found split
+            (map fate_value fates.items) (map arc_value kids.items)) }
+        ensures { result ≡ report_of (arc_value node) ceiling found split
+            (map fate_value fates.items) (map arc_value kids.items) }
     {
         Report {
             node,

@@ -17,4 +17,5 @@ pub record AreEarliest (p : Problem) (pairs : List Pair) (starts : List ℤ) : T
 
 -- the starts are the earliest of each project and pairs whose matrix this is
 abbrev pub AreEarliestFor : Rows → List ℤ → Type 0
-AreEarliestFor rows starts = (p : Problem) (pairs : List Pair) → IsProjectMatrix p pairs rows → AreEarliest p pairs starts
+AreEarliestFor rows starts =
+    (p : Problem) (pairs : List Pair) → IsProjectMatrix p pairs rows → AreEarliest p pairs starts

@@ -57,6 +57,3 @@ pub fn tails(alloc: Global, project: &Project, matrix: &Matrix) -> Result<Vec<i6
     }
     Ok(tails)
 }
-
-#[cfg(test)]
-mod tests;

@@ -4,12 +4,16 @@ use Rattle.std.specs.List.{All, Contains, sum_by}
 use Rattle.std.specs.List.Sorted.{IsStrictlyIncreasing}
 use Rattle.forbidden_sets.specs.declared.shrinking.Load.{Load}
 
+-- how much the loads ask for together
+abbrev pub total_of : List Load → ℕ
+total_of loads = sum_by (λ load. load.demand) loads
+
 -- the activities that ask for any, each with how much it asks for
 pub record AreLoads (r : ℕ → ℕ) (activities : List ℕ) (loads : List Load) : Type 0 where
   pub among : All (λ load. Contains activities load.activity) loads
   pub demands : All (λ load. load.demand ≡ r load.activity) loads
   pub once : (f : ℕ → ℕ) → sum_by (λ load. f load.activity) loads ≤ sum_by f activities
-  pub total : sum_by (λ load. load.demand) loads ≡ sum_by r activities
+  pub total : total_of loads ≡ sum_by r activities
 
 -- by rising demand, ties by rising number
 abbrev pub ComesBefore : Load → Load → Type 0

@@ -4,8 +4,6 @@
 
 mod set;
 mod shrinking;
-#[cfg(test)]
-mod tests;
 
 pub use set::ForbiddenSet;
 pub use shrinking::{shrink, shrink_activities};

@@ -29,7 +29,7 @@ impl Model for ForbiddenSet {
 }
 
 impl ForbiddenSet {
-    ghost use Rattle.forbidden_sets.specs.MinimalSet.{MinimalSet, IsMinimalSet};
+    ghost use Rattle.forbidden_sets.specs.MinimalSet.{MinimalSet, set_of, IsMinimalSet};
 
     /// The set of these members and demands.
     pub(crate) fn new(
@@ -38,8 +38,8 @@ impl ForbiddenSet {
         members: SmallVec<usize, 8>,
         demands: SmallVec<u64, 8>,
     ) -> ForbiddenSet
-        requires { IsMinimalSet (record { resource = resource; capacity = capacity; members = members.items; demands = demands.items }) }
-        ensures { result ≡ record { resource = resource; capacity = capacity; members = members.items; demands = demands.items } }
+        requires { IsMinimalSet (set_of resource capacity members.items demands.items) }
+        ensures { result ≡ set_of resource capacity members.items demands.items }
     {
         ForbiddenSet {
             resource,

@@ -1,9 +1,9 @@
 ghost use Rattle.std.specs.Prelude.{◌≡◌, ◌<◌, ◌≤◌, ◌+◌, ◌*◌, ℕ, pos, ◌≤ℤ◌, length, map, drop, IfOk};
-ghost use Rattle.std.specs.List.{All, AllPairs, Contains, sum_by};
+ghost use Rattle.std.specs.List.{All, AllPairs, Contains};
 ghost use Rattle.std.specs.List.Sorted.{IsStrictlyIncreasing, IsNonDecreasing, IsPermutation};
 ghost use Rattle.network.specs.Forbidden.{IsForbidden, IsMinimalForbidden};
 ghost use Rattle.network.specs.Problem.{activity_count, resource_count, demand, capacity};
-ghost use Rattle.forbidden_sets.specs.Shrunk.{AreLoads, AreShrunk, ComesBefore};
+ghost use Rattle.forbidden_sets.specs.Shrunk.{AreLoads, AreShrunk, ComesBefore, total_of};
 ghost use Rattle.forbidden_sets.specs.declared.shrinking.Load.{Load};
 
 use crate::set::ForbiddenSet;
@@ -50,7 +50,7 @@ fn by_demand(
 fn total(loads: &[Load]) -> u64
     requires few { length loads.now ≤ MAX_ACTIVITIES }
     requires small { All (λ load. pos load.demand ≤ℤ MAX_AMOUNT) loads.now }
-    ensures { result ≡ sum_by (λ load. load.demand) loads.now }
+    ensures { result ≡ total_of loads.now }
 {
     let mut total = 0;
     for load in loads {
@@ -65,10 +65,10 @@ fn spared(loads: &[Load], capacity: u64) -> usize
     requires few { length loads.now ≤ MAX_ACTIVITIES }
     requires small { All (λ load. pos load.demand ≤ℤ MAX_AMOUNT) loads.now }
     requires order { AllPairs ComesBefore loads.now }
-    requires forbidden { capacity < sum_by (λ load. load.demand) loads.now }
+    requires forbidden { capacity < total_of loads.now }
     ensures inside { result ≤ length loads.now }
-    ensures forbidden { capacity < sum_by (λ load. load.demand) (drop result loads.now) }
-    ensures needed { All (λ load. sum_by (λ load. load.demand) (drop result loads.now) ≤ capacity + load.demand) (drop result loads.now) }
+    ensures forbidden { capacity < total_of (drop result loads.now) }
+    ensures needed { All (λ load. total_of (drop result loads.now) ≤ capacity + load.demand) (drop result loads.now) }
 {
     let mut rest = total(loads);
     let mut count = 0;
@@ -103,7 +103,8 @@ fn least_needed(
     requires activities { All (λ i. i < activity_count project.now) activities.now }
     requires rising { IsStrictlyIncreasing activities.now }
     requires forbidden { IsForbidden project.now resource activities.now }
-    ensures { IfOk result (λ members. AreShrunk (demand project.now resource) (capacity project.now resource) activities.now members.items) }
+    ensures { IfOk result (λ members.
+        AreShrunk (demand project.now resource) (capacity project.now resource) activities.now members.items) }
 {
     let loads = by_demand(alloc, project, resource, activities)?;
     let loads = loads.as_slice();

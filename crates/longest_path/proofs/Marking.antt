@@ -1,8 +1,14 @@
 -- The marks stay where they lead while rows are saved and put back.
 use Rattle.std.proofs.Common.{◌≡◌, refl, sym, ◌∙◌, ap, subst, ℕ, ◌≤◌, arith, reverse, List, [], ◌∷◌, ◌++◌, length, take, drop, length-append, ◌+◌}
+use Rattle.std.specs.Prelude.{Result, Ok, Err, OnErr, IfErr}
 use Rattle.std.proofs.Math.Seq.{drop-length}
 use Rattle.std.proofs.lemmas.List.{drop-append-le, take-append-drop, length-take-le, reverse-append}
 use Rattle.std.proofs.lemmas.List.Elements.{All-head, All-tail, All-same}
+use Rattle.network.specs.declared.lag.Lag.{Lag}
+use Rattle.longest_path.specs.declared.fault.PathFault.{PathFault}
+use Rattle.longest_path.specs.declared.fault.PathFault.TheVariants.{PositiveCycle}
+use Rattle.longest_path.specs.Fault.{IsInsertFault}
+use Rattle.longest_path.specs.Insert.{ClosesCycle}
 use Rattle.longest_path.specs.Matrix.{IsMatrix}
 use Rattle.longest_path.specs.Saved.{SavedPart, SavedParts, undone, LeadsBack}
 use Rattle.longest_path.specs.Marked.{marked_rows, AreNested, IsMarked}
@@ -75,3 +81,8 @@ still_marked rows new saved more counts m is width size b =
       nested = nested_weaker (length saved.saves) (length more.saves) counts (omega arith) m.nested;
       matrices = All-same IsMatrix (marked_rows more.saves new counts) (marked_rows saved.saves rows counts) (still_there rows new saved more counts m b) m.matrices;
     }
+
+-- a positive cycle is the only fault of an insert that saves nothing
+pub insert_fault : {X : Type 0} (e : Lag) (rows : Rows) (r : Result X PathFault) → OnErr r (ClosesCycle e rows) → IfErr r (λ fault. fault ≡ PositiveCycle e.from) → IfErr r (IsInsertFault e rows)
+insert_fault e rows (Ok x) closes is = tt
+insert_fault e rows (Err fault) closes is = subst (IsInsertFault e rows) (sym is) (refl, closes)

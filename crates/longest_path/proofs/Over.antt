@@ -22,7 +22,7 @@ use Rattle.longest_path.proofs.Span.{IsSquare-inside}
 use Rattle.longest_path.proofs.Cells.{placed_inside}
 use Rattle.network.specs.declared.limits.TheConstants.{MAX_LAG_WEIGHT, MAX_WALK_WEIGHT}
 use Rattle.network.specs.Limits.{IsWithin}
-use Rattle.longest_path.specs.declared.grid.TheConstants.{MAX_FIRST_WEIGHT, MAX_WAY_WEIGHT}
+use Rattle.longest_path.specs.declared.grid.TheConstants.{MAX_FIRST_WEIGHT}
 
 pub kept_by : (w : ℤ) (o p : Option ℤ) → ((y : ℤ) → p ≡ Some y → Reaches (w +ℤ y) o) → o ≡ greater o (joined (Some w) p)
 kept_by w o None h = sym (greater_none o)
@@ -117,10 +117,6 @@ entry_below n a b rows s ge = none_by (entry rows a b) refl
     none_by (Some w) e = let lt : a < n = (IsSquare-inside n a b w rows s e).0 in absurd (omega arith)
 
 -- sums of entries are small
-pub small_through : (m a : ℕ) (first : ℤ) (via : List ℤ) (old : Rows) → IsRow m old via → entry old a m ≡ Some first →
-    ((a b : ℕ) (x y : ℤ) → entry old a m ≡ Some x → entry old m b ≡ Some y → IsWithin MAX_WAY_WEIGHT (x +ℤ y)) → HasSmallSums first via
-small_through m a first via old is at h = λ k y e. h a k first y at (sym (is.says k) ∙ e)
-
 pub small_over : (first : ℤ) (via : List ℤ) (old : Rows) → ((k : ℕ) (y : ℤ) → weight_at via k ≡ Some y → (a : ℕ) × (b : ℕ) × (entry old a b ≡ Some y)) → IsWithin MAX_FIRST_WEIGHT first → HasEntriesWithin MAX_WALK_WEIGHT old → HasSmallSums first via
 small_over first via old is p within = λ k y e.
     let at = is k y e in
@@ -130,6 +126,13 @@ small_over first via old is p within = λ k y e.
     let f : y ≤ℤ MAX_WALK_WEIGHT = q.at_most in
     let g : neg_ℤ MAX_WALK_WEIGHT ≤ℤ y = q.at_least in
     record { at_most = omega (arith, ints); at_least = omega (arith, ints) }
+
+pub small_through : (m a : ℕ) (first : ℤ) (via : List ℤ) (old : Rows) → IsRow m old via → entry old a m ≡ Some first → HasEntriesWithin MAX_WALK_WEIGHT old → HasSmallSums first via
+small_through m a first via old is at within =
+    let p : IsWithin MAX_WALK_WEIGHT first = within a m first at in
+    let a : first ≤ℤ MAX_WALK_WEIGHT = p.at_most in
+    let b : neg_ℤ MAX_WALK_WEIGHT ≤ℤ first = p.at_least in
+    small_over first via old (λ k y e. (m, k, sym (is.says k) ∙ e)) (record { at_most = omega (arith, ints); at_least = omega (arith, ints) }) within
 
 pub one_sum_fits : (x w : ℤ) → IsWithin MAX_WALK_WEIGHT x → IsWithin MAX_LAG_WEIGHT w → FitsSigned w64 (x +ℤ w)
 one_sum_fits x w p light =

@@ -16,7 +16,8 @@ pub record IsMatrixWith (e : Lag) (old new : Rows) : Type 0 where
 -- all rows may take the way over the arc, and then there is a matrix again
 pub record TakesArc (e : Lag) (rows : Rows) : Type 0 where
   pub ready : IsReady e rows
-  pub taken : (new : Rows) → IsSquare (length rows) new → ((a b : ℕ) → IsOver e rows a b (entry new a b)) → IsMatrixWith e rows new
+  pub taken : (new : Rows) → IsSquare (length rows) new → ((a b : ℕ) → IsOver e rows a b (entry new a b)) →
+      IsMatrixWith e rows new
 
 abbrev pub IsEffectOf : Lag → Rows → Effect → Type 0
 IsEffectOf e rows closes = ClosesCycle e rows

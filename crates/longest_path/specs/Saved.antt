@@ -21,7 +21,8 @@ pub record SavedParts : Type 0 where
 -- the saved parts, whose cells stand one after another
 abbrev pub saves_of : List Part → List ℤ → List SavedPart
 saves_of [] cells = []
-saves_of (part ∷ others) cells = record { row = part.row; from = part.from; cells = take part.count cells } ∷ saves_of others (drop part.count cells)
+saves_of (part ∷ others) cells =
+    record { row = part.row; from = part.from; cells = take part.count cells } ∷ saves_of others (drop part.count cells)
 
 -- how many cells parts have
 abbrev pub cell_count : List Part → ℕ
@@ -41,6 +42,11 @@ pub record AreSaved (width : ℕ) (parts : List Part) (cells : List ℤ) : Type 
 -- the rows with a saved part put back
 abbrev pub put_back : SavedPart → Rows → Rows
 put_back save rows = slice_set rows save.row (written_at save.from save.cells (slice_index_or rows save.row []))
+
+-- the part that was saved last is put back, and is saved no more
+abbrev pub PutsLastBack : List SavedPart → List SavedPart → Rows → Rows → Type 0
+PutsLastBack old_saves saves old rows =
+    (save : SavedPart) × (old_saves ≡ saves ++ save ∷ []) × (rows ≡ put_back save old)
 
 -- the rows with all saved parts put back, the last saved first
 abbrev pub undone : List SavedPart → Rows → Rows

@@ -1,8 +1,8 @@
-ghost use Rattle.std.specs.Prelude.{◌≡◌, ◌++◌, [], slice_set, ◌+◌, ◌*◌, ◌+ℤ◌, ◌≤ℤ◌, ◌<◌, ◌≤◌, ℕ, length, slice_index_or, take, drop, None, Some, IfOk, IfSome};
+ghost use Rattle.std.specs.Prelude.{◌≡◌, [], slice_set, ◌+◌, ◌*◌, ◌+ℤ◌, ◌≤ℤ◌, ◌<◌, ◌≤◌, ℕ, length, slice_index_or, take, drop, None, Some, IfOk, IfSome};
 ghost use Rattle.network.specs.Walk.{entry, Rows};
 ghost use Rattle.longest_path.specs.Relax.{greater, joined};
 ghost use Rattle.longest_path.specs.Rows.{IsSquare, IsWithoutArcs, IsRaised};
-ghost use Rattle.longest_path.specs.Grid.{weight_of, weight_at, placed_at, written_at, IsRelaxed, IsRow, IsRowRelaxed, HasSmallSums};
+ghost use Rattle.longest_path.specs.Grid.{weight_of, weight_at, placed_at, written_at, replaced_at, relaxed_by, IsRelaxed, IsRow, IsRowRelaxed, HasSmallSums};
 ghost use Rattle.network.specs.declared.limits.TheConstants.{MAX_ACTIVITIES, MAX_LAG_WEIGHT, MAX_WALK_WEIGHT};
 ghost use Rattle.network.specs.Limits.{IsWithin};
 ghost use Rattle.longest_path.specs.declared.grid.TheConstants.{MAX_FIRST_WEIGHT, MAX_WAY_WEIGHT};
@@ -60,7 +60,7 @@ fn relax(row: &mut [i32], first: i32, via: &[i32])
     requires wide { length row.old ≡ length via.now }
     requires fits { HasSmallSums first via.now }
     ensures wide { length row.new ≡ length row.old }
-    ensures through { (k : ℕ) → weight_at row.new k ≡ greater (weight_at row.old k) (joined (Some first) (weight_at via.now k)) }
+    ensures through { (k : ℕ) → weight_at row.new k ≡ relaxed_by first (weight_at via.now k) (weight_at row.old k) }
 {
     for b in 0..row.len() {
         row[b] = better(row[b], sum(first, via[b]));
@@ -122,7 +122,7 @@ fn put_part(cells: &mut [i32], size: usize, a: usize, from: usize, part: &[i32])
     requires whole { length cells.old ≡ size * size }
     requires inside { from + length part.now ≤ size }
     ensures long { length cells.new ≡ length cells.old }
-    ensures put { cells.new ≡ take (a * size + from) cells.old ++ (part.now ++ drop (a * size + from + length part.now) cells.old) }
+    ensures put { cells.new ≡ replaced_at (a * size + from) part.now cells.old }
 {
     let start = row_start(size, a) + from;
     cells[start..start + part.len()].copy_from_slice(part);

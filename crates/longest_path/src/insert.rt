@@ -1,4 +1,4 @@
-ghost use Rattle.std.specs.Prelude.{◌≡◌, ◌<◌, ℕ, ℤ, ◌+ℤ◌, length, Some, FitsSigned, IfSome, MatchOption};
+ghost use Rattle.std.specs.Prelude.{◌≡◌, ◌<◌, ℕ, ℤ, ◌+ℤ◌, length, Some, FitsSigned, IfSome};
 ghost use Rattle.std.specs.Int.{w64};
 ghost use Rattle.std.specs.Bool.{MatchBool};
 ghost use Rattle.network.specs.Walk.{entry};
@@ -6,7 +6,7 @@ ghost use Rattle.longest_path.specs.Relax.{joined, Reaches};
 ghost use Rattle.longest_path.specs.Rows.{IsSquare};
 ghost use Rattle.longest_path.specs.Grid.{placed_at};
 ghost use Rattle.longest_path.specs.Passes.{IsRowOver};
-ghost use Rattle.longest_path.specs.Insert.{IsOver, IsReadyRow, IsReady};
+ghost use Rattle.longest_path.specs.Insert.{weight_over, IsFirstOver, IsOver, IsReadyRow, IsReady};
 ghost use Rattle.network.specs.declared.limits.TheConstants.{MAX_LAG_WEIGHT, MAX_WALK_WEIGHT};
 ghost use Rattle.network.specs.Limits.{IsWithin};
 
@@ -43,9 +43,7 @@ pub(crate) fn first_over(grid: &Grid, a: usize, arc: Lag) -> Option<i64>
     requires to_vertex { arc.to < length grid.now }
     requires light { IsWithin MAX_LAG_WEIGHT arc.weight }
     requires entry_fits { (x : ℤ) → entry grid.now a arc.from ≡ Some x → IsWithin MAX_WALK_WEIGHT x }
-    ensures { MatchOption result
-        ((w : ℤ) → joined (entry grid.now a arc.from) (Some arc.weight) ≡ Some w → Reaches w (entry grid.now a arc.to))
-        (λ first. joined (entry grid.now a arc.from) (Some arc.weight) ≡ Some first) }
+    ensures { IsFirstOver arc grid.now a result }
 {
     let first = grid.get(a, arc.from)? + arc.weight;
     if is_reached(first, grid.get(a, arc.to)) {
@@ -59,7 +57,7 @@ pub(crate) fn first_over(grid: &Grid, a: usize, arc: Lag) -> Option<i64>
 fn go_over_row(grid: &mut Grid, a: usize, arc: Lag, from: usize, via: &[i32])
     requires { IsReadyRow a arc from via.now grid.old }
     ensures square { IsSquare (length grid.old) grid.new }
-    ensures over { IsRowOver a (joined (entry grid.old a arc.from) (Some arc.weight)) (placed_at from via.now) grid.old grid.new }
+    ensures over { IsRowOver a (weight_over arc grid.old a) (placed_at from via.now) grid.old grid.new }
 {
     let Some(first) = first_over(grid, a, arc) else {
         return;

@@ -19,6 +19,3 @@ pub use fault::PathFault;
 pub use marked::MarkedMatrix;
 pub use matrix::Matrix;
 pub use recurrence::longest;
-
-#[cfg(test)]
-mod tests;

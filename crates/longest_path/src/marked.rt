@@ -30,7 +30,10 @@ impl Model for MarkedMatrix {
 
     ghost Value = { Marked };
 
-    ghost view = { λ s. record { rows = s.matrix; marks = marked_rows s.saves.saves s.matrix (reverse s.marks.items) } };
+    ghost view = { λ s. record {
+      rows = s.matrix;
+      marks = marked_rows s.saves.saves s.matrix (reverse s.marks.items);
+    } };
 
     ghost invariant = { λ s. IsMarked s.matrix s.saves (reverse s.marks.items) };
 }
@@ -85,8 +88,8 @@ impl MarkedMatrix {
     /// marks stay.
     ///
     /// [`PathFault::PositiveCycle`] comes where the arc closes a walk of positive weight, and names
-    /// `i`. [`PathFault::Memory`] comes where there was none for what may gain. A fault leaves
-    /// the matrix as it was.
+    /// `i`. [`PathFault::Memory`] comes where there was none for what may gain, and only where there is a
+    /// mark: else nothing is saved. A fault leaves the matrix as it was.
     pub fn insert(&mut self, i: usize, j: usize, w: i64) -> Result<(), PathFault>
         requires from_activity { i < length self.old.rows }
         requires to_activity { j < length self.old.rows }
@@ -97,6 +100,11 @@ impl MarkedMatrix {
         ensures fault { IfErr result (IsInsertFault (arc_of i j w) self.old.rows) }
         ensures unchanged { OnErr result (self.new ≡ self.old) }
     {
+        if self.marks.is_empty() {
+            let inserted = self.matrix.insert(i, j, w);
+            prove!(self.matrix.activity_count() > i);
+            return inserted;
+        }
         self.matrix.insert_saved(i, j, w, &mut self.saves)
     }
 }

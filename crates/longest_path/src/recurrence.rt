@@ -1,7 +1,7 @@
-ghost use Rattle.std.specs.Prelude.{◌≡◌, ◌<◌, ◌≤◌, ℕ, ℤ, pos, ◌+ℤ◌, ◌≤ℤ◌, length, Some, IfSome, IfOk, IfErr};
+ghost use Rattle.std.specs.Prelude.{◌≡◌, ◌<◌, ◌≤◌, ℤ, pos, ◌≤ℤ◌, length, Some, IfSome, IfOk, IfErr};
 ghost use Rattle.std.specs.Bool.{MatchBool};
 ghost use Rattle.network.specs.Problem.{activity_count, arcs_of, NameActivities};
-ghost use Rattle.network.specs.Walk.{entry, IsMatrixOf, HaveOneMatrix, AreInside, AreLight};
+ghost use Rattle.network.specs.Walk.{IsMatrixOf, HaveOneMatrix, AreInside, AreLight};
 ghost use Rattle.longest_path.specs.Relax.{IfSomeAbove};
 ghost use Rattle.longest_path.specs.Rows.{IsSquare};
 ghost use Rattle.longest_path.specs.Grid.{IsRow, HasSmallSums};
@@ -10,7 +10,7 @@ ghost use Rattle.longest_path.specs.Matrix.{HasEntriesWithin};
 ghost use Rattle.longest_path.specs.Fault.{Explains};
 ghost use Rattle.network.specs.declared.limits.TheConstants.{MAX_ACTIVITIES, MAX_WALK_WEIGHT};
 ghost use Rattle.network.specs.Limits.{IsWithin};
-ghost use Rattle.longest_path.specs.declared.grid.TheConstants.{MAX_FIRST_WEIGHT, MAX_WAY_WEIGHT};
+ghost use Rattle.longest_path.specs.declared.grid.TheConstants.{MAX_FIRST_WEIGHT};
 
 use crate::fault::PathFault;
 use crate::grid::Grid;
@@ -64,7 +64,6 @@ fn pass(grid: &mut Grid, m: usize, via: &[i32])
     requires vertex { m < length grid.old }
     requires copy { IsRow m grid.old via.now }
     requires within { HasEntriesWithin MAX_WALK_WEIGHT grid.old }
-    requires fits { (a b : ℕ) (x y : ℤ) → entry grid.old a m ≡ Some x → entry grid.old m b ≡ Some y → IsWithin MAX_WAY_WEIGHT (x +ℤ y) }
     ensures square { IsSquare (length grid.old) grid.new }
     ensures through { IsThrough m grid.old grid.new }
 {

@@ -1,13 +1,12 @@
 //! The steps of an insert that saves the cells that may gain.
 
-ghost use Rattle.std.specs.Prelude.{◌≡◌, ◌<◌, ◌≤◌, ℕ, ℤ, ◌+ℤ◌, length, take, drop, Some, IfErr, OnOk, OnErr};
+ghost use Rattle.std.specs.Prelude.{◌≡◌, ◌<◌, ◌≤◌, ℕ, ℤ, ◌+ℤ◌, length, take, drop, IfErr, OnOk, OnErr};
 ghost use Rattle.network.specs.Walk.{entry};
-ghost use Rattle.longest_path.specs.Relax.{joined};
 ghost use Rattle.longest_path.specs.Rows.{IsSquare};
 ghost use Rattle.longest_path.specs.Grid.{placed_at, IsRelaxed};
 ghost use Rattle.longest_path.specs.Passes.{IsRowOver};
 ghost use Rattle.longest_path.specs.Matrix.{IsMatrix};
-ghost use Rattle.longest_path.specs.Insert.{arc_of, AddsArc, IsOver, IsReadyPart, IsReadyRow};
+ghost use Rattle.longest_path.specs.Insert.{arc_of, AddsArc, weight_over, IsOver, IsReadyPart, IsReadyRow};
 ghost use Rattle.longest_path.specs.Fault.{IsInsertFault};
 ghost use Rattle.longest_path.specs.Saved.{LeadsBack, MayGoOver, undone};
 ghost use Rattle.network.specs.declared.limits.TheConstants.{MAX_LAG_WEIGHT};
@@ -112,7 +111,7 @@ fn go_over_row_saved(
     requires width { saves.old.width ≡ length grid.old }
     ensures square { IsSquare (length grid.old) grid.new }
     ensures width { saves.new.width ≡ saves.old.width }
-    ensures over { OnOk result (IsRowOver a (joined (entry grid.old a arc.from) (Some arc.weight)) (placed_at from via.now) grid.old grid.new) }
+    ensures over { OnOk result (IsRowOver a (weight_over arc grid.old a) (placed_at from via.now) grid.old grid.new) }
     ensures back { LeadsBack saves.old.saves saves.new.saves grid.old grid.new }
 {
     let Some(first) = first_over(grid, a, arc) else {

@@ -1,5 +1,5 @@
 ghost use Rattle.std.specs.Prelude.{◌≡◌, ◌++◌, ◌∷◌, [], ◌<◌, ◌≤◌, ◌+◌, ◌-◌, length, take, drop, OnOk, OnErr};
-ghost use Rattle.longest_path.specs.Saved.{SavedPart, put_back, undone};
+ghost use Rattle.longest_path.specs.Saved.{PutsLastBack, undone};
 ghost use Rattle.network.specs.Walk.{Rows};
 
 use crate::grid::Grid;
@@ -66,7 +66,8 @@ impl Saves {
         requires low { row < self.old.width }
         requires inside { from + length cells.now ≤ self.old.width }
         ensures width { self.new.width ≡ self.old.width }
-        ensures added { OnOk result (self.new.saves ≡ self.old.saves ++ record { row = row; from = from; cells = cells.now } ∷ []) }
+        ensures added { OnOk result (self.new.saves
+            ≡ self.old.saves ++ record { row = row; from = from; cells = cells.now } ∷ []) }
         ensures unchanged { OnErr result (self.new ≡ self.old) }
     {
         self.parts.reserve(1)?;
@@ -81,7 +82,7 @@ impl Saves {
         requires some { 0 < length self.old.saves }
         requires wide { length grid.old ≡ self.old.width }
         ensures width { self.new.width ≡ self.old.width }
-        ensures last { (save : SavedPart) × (self.old.saves ≡ self.new.saves ++ save ∷ []) × (grid.new ≡ put_back save grid.old) }
+        ensures last { PutsLastBack self.old.saves self.new.saves grid.old grid.new }
         ensures size { length grid.new ≡ length grid.old }
     {
         let part = self.parts.pop().unwrap();

@@ -30,12 +30,16 @@ is_zero z = int_le (pos 0) z && int_le z (pos 0)
 -- two durations or more, a row of demands for each, and a demand for each resource
 abbrev pub shape_fault : Problem → Option ProjectFault
 shape_fault p =
-    unless (nat_le 2 (activity_count p) && nat_eq (length p.demands) (activity_count p) && list_all (λ row. nat_eq (length row) (resource_count p)) p.demands) Shape
+    unless
+    (nat_le 2 (activity_count p) && nat_eq (length p.demands) (activity_count p)
+    && list_all (λ row. nat_eq (length row) (resource_count p)) p.demands)
+    Shape
 
 abbrev pub count_fault : Problem → Option ProjectFault
 count_fault p =
     or_else (unless (nat_le (activity_count p) MAX_ACTIVITIES) (Limit quantity.Activities))
-    (or_else (unless (nat_le (resource_count p) MAX_RESOURCES) (Limit quantity.Resources)) (unless (nat_le (length p.lags) MAX_LAGS) (Limit quantity.Lags)))
+    (or_else (unless (nat_le (resource_count p) MAX_RESOURCES) (Limit quantity.Resources))
+    (unless (nat_le (length p.lags) MAX_LAGS) (Limit quantity.Lags)))
 
 abbrev pub dummy_fault : Problem → ℕ → Option ProjectFault
 dummy_fault p i = unless (is_zero (duration p i) && list_all is_zero (slice_index_or p.demands i [])) (Dummy i)
@@ -43,13 +47,15 @@ dummy_fault p i = unless (is_zero (duration p i) && list_all is_zero (slice_inde
 abbrev pub amount_fault : Problem → Option ProjectFault
 amount_fault p =
     or_else (unless (list_all is_amount p.durations) (Limit quantity.Duration))
-    (or_else (unless (list_all (λ row. list_all is_amount row) p.demands) (Limit quantity.Demand)) (unless (list_all is_amount p.capacities) (Limit quantity.Capacity)))
+    (or_else (unless (list_all (λ row. list_all is_amount row) p.demands) (Limit quantity.Demand))
+    (unless (list_all is_amount p.capacities) (Limit quantity.Capacity)))
 
 -- the given arc at a place, among n activity_count, after one that leads from last
 abbrev pub arc_fault : ℕ → ℕ → ℕ → Lag → Option ProjectFault
 arc_fault n place last e =
     or_else (unless (nat_lt e.from n) (Activity place e.from))
-    (or_else (unless (nat_lt e.to n) (Activity place e.to)) (or_else (unless (is_weight e.weight) (Limit quantity.Lag)) (unless (nat_le last e.from) Shape)))
+    (or_else (unless (nat_lt e.to n) (Activity place e.to))
+    (or_else (unless (is_weight e.weight) (Limit quantity.Lag)) (unless (nat_le last e.from) Shape)))
 
 abbrev pub lag_fault : ℕ → ℕ → ℕ → List Lag → Option ProjectFault
 lag_fault n place last [] = None
@@ -58,4 +64,8 @@ lag_fault n place last (e ∷ es) = or_else (arc_fault n place last e) (lag_faul
 -- the first fault, in the order of the tests
 abbrev pub first_fault : Problem → Option ProjectFault
 first_fault p =
-    or_else (shape_fault p) (or_else (count_fault p) (or_else (dummy_fault p 0) (or_else (dummy_fault p (end_of p)) (or_else (amount_fault p) (lag_fault (activity_count p) 0 0 p.lags)))))
+    or_else (shape_fault p)
+    (or_else (count_fault p)
+    (or_else (dummy_fault p 0)
+    (or_else (dummy_fault p (end_of p))
+    (or_else (amount_fault p) (lag_fault (activity_count p) 0 0 p.lags)))))

@@ -19,4 +19,5 @@ IsForbidden p k members = capacity p k < joint_demand p k members
 pub record IsMinimalForbidden (p : Problem) (k : ℕ) (members : List ℕ) : Type 0 where
   pub rising : IsStrictlyIncreasing members
   pub forbidden : IsForbidden p k members
-  pub minimal : (kept : ℕ → Bool) (i : ℕ) → Contains members i → kept i ≡ false → ¬ IsForbidden p k (filter kept members)
+  pub minimal : (kept : ℕ → Bool) (i : ℕ) → Contains members i → kept i ≡ false →
+      ¬ IsForbidden p k (filter kept members)

@@ -60,7 +60,8 @@ pub record IsFeasible (p : Problem) (s : List ℤ) : Type 0 where
 pub record IsLeastSchedule (p : Problem) (pairs : List Pair) (s : List ℤ) : Type 0 where
   pub schedule : IsSchedule p s
   pub keeps : KeepsAll p s pairs
-  pub least : (t : List ℤ) → IsSchedule p t → KeepsAll p t pairs → (i : ℕ) → i < activity_count p → start s i ≤ℤ start t i
+  pub least : (t : List ℤ) → IsSchedule p t → KeepsAll p t pairs →
+      (i : ℕ) → i < activity_count p → start s i ≤ℤ start t i
 
 -- what a `Schedule` is: starts, and the project that they are for
 pub record ScheduleOf : Type 0 where

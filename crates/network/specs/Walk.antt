@@ -42,7 +42,8 @@ abbrev pub IsGreatestWeight : List Lag → ℕ → ℕ → Option ℤ → Type 0
 IsGreatestWeight arcs a b w =
     MatchOption w
     ((es : List Lag) → ¬ IsWalk arcs a es b)
-    (λ g. ((es : List Lag) × IsWalk arcs a es b × (weight es ≡ g)) × ((es : List Lag) → IsWalk arcs a es b → weight es ≤ℤ g))
+    (λ g. ((es : List Lag) × IsWalk arcs a es b × (weight es ≡ g))
+    × ((es : List Lag) → IsWalk arcs a es b → weight es ≤ℤ g))
 
 -- the rows of a matrix: a weight for each two vertices, none where there is no walk
 abbrev pub Rows : Type 0

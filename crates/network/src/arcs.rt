@@ -26,7 +26,8 @@ pub(crate) fn push_end_arcs(
     end: usize,
 ) -> Result<(), AllocError>
     requires { end ≤ length durations.now }
-    ensures { OnOk result (arcs.new.items ≡ arcs.old.items ++ map (λ i. lasting durations.now i end) (range_with_len 0 end)) }
+    ensures { OnOk result (arcs.new.items
+        ≡ arcs.old.items ++ map (λ i. lasting durations.now i end) (range_with_len 0 end)) }
 {
     for i in 0..end {
         arcs.push(Lag {
@@ -45,7 +46,8 @@ pub(crate) fn push_pair_arcs(
     pairs: &[Pair],
 ) -> Result<(), AllocError>
     requires { All (λ q. q.before < length durations.now) pairs.now }
-    ensures { OnOk result (arcs.new.items ≡ arcs.old.items ++ map (λ q. lasting durations.now q.before q.after) pairs.now) }
+    ensures { OnOk result (arcs.new.items
+        ≡ arcs.old.items ++ map (λ q. lasting durations.now q.before q.after) pairs.now) }
 {
     for pair in pairs {
         arcs.push(Lag {

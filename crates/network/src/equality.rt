@@ -10,7 +10,8 @@ use crate::parts::Parts;
 /// Whether the rows are the same.
 #[tactic(auto, using(crate::proofs::Equal::pointwise_map))]
 fn rows_equal(left: &[Vec<i64>], right: &[Vec<i64>]) -> bool
-    ensures { result ≡ pointwise (pointwise int_eq) (map (λ row. row.items) left.now) (map (λ row. row.items) right.now) }
+    ensures { result
+        ≡ pointwise (pointwise int_eq) (map (λ row. row.items) left.now) (map (λ row. row.items) right.now) }
 {
     left == right
 }

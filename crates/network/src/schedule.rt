@@ -22,7 +22,8 @@ impl Model for Schedule {
 
     ghost view = { λ s. record { project = arc_value s.project; starts = s.starts.items } };
 
-    ghost invariant = { λ s. IsFeasible (arc_value s.project) s.starts.items × AreStarts (arc_value s.project) s.starts.items };
+    ghost invariant = { λ s. IsFeasible (arc_value s.project) s.starts.items
+        × AreStarts (arc_value s.project) s.starts.items };
 }
 
 impl Schedule {

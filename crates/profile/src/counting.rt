@@ -1,9 +1,9 @@
-ghost use Rattle.std.specs.Prelude.{◌≡◌, ℕ, ◌+◌, ◌<◌, ◌≤◌, ◌≤ℤ◌, length, slice_index};
+ghost use Rattle.std.specs.Prelude.{◌≡◌, ℕ, ◌<◌, ◌≤◌, ◌≤ℤ◌, length};
 ghost use Rattle.std.specs.List.{All};
-ghost use Rattle.network.specs.Problem.{activity_count, resource_count, demand};
+ghost use Rattle.network.specs.Problem.{activity_count, resource_count};
 ghost use Rattle.network.specs.Limits.{AreStarts};
 ghost use Rattle.orders.specs.Orders.{key_at, Rises};
-ghost use Rattle.profile.specs.Counts.{AreEnds, IsCount, HasCome};
+ghost use Rattle.profile.specs.Counts.{AreEnds, AddsDemands, IsCount, HasCome};
 
 use network::Project;
 
@@ -24,7 +24,7 @@ fn add_demands(project: &Project, totals: &mut [u64], activity: usize)
     requires activity { activity < activity_count project.now }
     requires columns { length totals.old ≡ resource_count project.now }
     requires room { All (λ total. total ≤ 2000000000) totals.old }
-    ensures { (k : ℕ) → k < resource_count project.now → slice_index totals.new k ≡ slice_index totals.old k + demand project.now k activity }
+    ensures { AddsDemands project.now activity totals.old totals.new }
 {
     let demands = project.demands(activity);
     for resource in 0..totals.len() {

@@ -9,8 +9,6 @@ mod counting;
 mod overload;
 mod overload_sweep;
 mod sweep;
-#[cfg(test)]
-mod tests;
 mod times;
 mod usage;
 

@@ -1,7 +1,7 @@
 ghost use Rattle.std.specs.Prelude.{◌≡◌, IfOk, IfSome, IfNone};
 ghost use Rattle.network.specs.Limits.{AreStarts};
-ghost use Rattle.network.specs.Schedule.{use_at, running, IsWithinCapacities};
-ghost use Rattle.profile.specs.Overloads.{IsFirstOverload, start_times, excesses};
+ghost use Rattle.network.specs.Schedule.{running, IsWithinCapacities};
+ghost use Rattle.profile.specs.Overloads.{IsFirstOverload, TellsUse, start_times, excesses};
 ghost use Rattle.profile.specs.SweepOf.{IsSweepFor};
 
 use crate::overload::Excess;
@@ -31,9 +31,14 @@ impl Model for OverloadSweep {
 
     ghost Value = { SweepOf };
 
-    ghost view = { λ s. record { activities = length s.by_start.items; resources = length s.started.items; running = s.running.items } };
+    ghost view = { λ s. record {
+      activities = length s.by_start.items;
+      resources = length s.started.items;
+      running = s.running.items;
+    } };
 
-    ghost invariant = { λ s. HasRoom s.by_start.items s.by_end.items s.ends.items s.started.items s.ended.items (vec_capacity s.running) };
+    ghost invariant = { λ s.
+        HasRoom s.by_start.items s.by_end.items s.ends.items s.started.items s.ended.items (vec_capacity s.running) };
 }
 
 impl OverloadSweep {
@@ -72,7 +77,7 @@ impl OverloadSweep {
         ensures sweep { IsSweepFor project.now self.new }
         ensures none { IfNone result (IsWithinCapacities project.now starts.now) }
         ensures first { IfSome result (λ excess. IsFirstOverload project.now starts.now excess.time excess.resource) }
-        ensures used { IfSome result (λ excess. excess.used ≡ use_at project.now starts.now excess.resource excess.time) }
+        ensures used { IfSome result (TellsUse project.now starts.now) }
         ensures running { IfSome result (λ excess. self.new.running ≡ running project.now starts.now excess.time) }
     {
         let found = first_in(

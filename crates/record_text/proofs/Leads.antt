@@ -1,123 +1,138 @@
--- Rows that a tree begins with.
-use Rattle.std.proofs.Common.{◌≡◌, ℕ, zero, suc, ◌<◌, List, [], ◌∷◌, ◌++◌, map, Some, None, refl, sym, ap, ◌∙◌, subst, arith, append_assoc, append-nil}
-use Rattle.std.specs.List.{AllByRecursion}
-use Rattle.record_text.specs.declared.line.Line.{Line}
-use Rattle.record_text.specs.declared.line.Line.TheVariants as kind
-use Rattle.record_text.specs.declared.line.Claim.{Claim}
-use Rattle.record_text.specs.SearchRecord.{SearchRecord}
-use Rattle.record_text.specs.Shape.{still_due, HasMembers, Completes}
-use Rattle.record_text.specs.Text.{IsWritableLine, IsWritableClaim, row_of, head_rows, rows_of, IsRecord}
-use Rattle.record_text.specs.TextFaults.{AreRows, Begin}
-use Rattle.record_text.specs.Reading.{line_of}
-use Rattle.record_text.proofs.LineReads.{row_injective, line_again}
-use Rattle.record_text.proofs.HeadReads.{head_injective}
-use Rattle.record_text.proofs.Shapes.{trees_law}
-use Rattle.std.proofs.lemmas.List.{map-append}
+-- Rows that are read one after another, each as a line, until none is due: the text of a tree, or of blocks.
+use Rattle.std.proofs.Common.{◌≡◌, ◌≢◌, ℕ, zero, suc, ◌+◌, ◌<◌, Option, Some, None, List, [], ◌∷◌, ◌++◌, map, length, refl, sym, ap, ◌∙◌, subst, arith, append_assoc, append-nil, length-append}
+use Rattle.std.proofs.lemmas.List.{length-map, map-append}
+use Rattle.record_text.specs.Rows.{line_pieces, form, trailing, Begin, HasRowFault, missing}
+use Rattle.record_text.proofs.Rows.{Stands, missing_at, form_at, trailing_at}
 
--- the lines lead from one count of nodes that are due to another
-abbrev pub Leads : ℕ → List Line → ℕ → Type 0
-Leads due [] after = due ≡ after
-Leads due (line ∷ lines) after = (0 < due) × HasMembers line × Leads (still_due due line) lines after
+-- which line a row is where so much is due, how much is due after it, and a line that takes one of that
+pub record Rules (Line : Type 0) : Type 0 where
+  pub read : ℕ → List ℕ → Option Line
+  pub row_of : Line → List ℕ
+  pub next : ℕ → Line → ℕ
+  pub last : Line
+  pub reads_last : (due : ℕ) → 0 < due → read due (row_of last) ≡ Some last
+  pub next_last : (due : ℕ) → 0 < due → next due last + 1 ≡ due
+  pub takes : (due : ℕ) (row : List ℕ) (line : Line) → read due row ≡ Some line → row_of line ≡ row
 
-abbrev pub AreWritable : List Line → Type 0
-AreWritable lines = AllByRecursion IsWritableLine lines
+-- the lines lead from what is due before them to what is due after
+abbrev pub Leads : {Line : Type 0} → Rules Line → ℕ → List Line → ℕ → Type 0
+Leads m due [] after = due ≡ after
+Leads m due (line ∷ lines) after = (0 < due) × (m.read due (m.row_of line) ≡ Some line) × Leads m (m.next due line) lines after
 
-pub leads_more : (due : ℕ) (lines : List Line) (after : ℕ) (line : Line) → Leads due lines after → 0 < after → HasMembers line → Leads due (lines ++ line ∷ []) (still_due after line)
-leads_more due [] after line e some has = rw e (some, has, refl)
-leads_more due (l ∷ ls) after line h some has = (h.0, h.1, leads_more (still_due due l) ls after line h.2 some has)
+pub leads_append : {Line : Type 0} (m : Rules Line) (due : ℕ) (xs ys : List Line) (mid after : ℕ) → Leads m due xs mid → Leads m mid ys after → Leads m due (xs ++ ys) after
+leads_append m due [] ys mid after e h = subst (λ (n : ℕ). Leads m n ys after) (sym e) h
+leads_append m due (x ∷ xs) ys mid after e h = (e.0, e.1, leads_append m (m.next due x) xs ys mid after e.2 h)
 
-pub writable_append : (xs ys : List Line) → AreWritable xs → AreWritable ys → AreWritable (xs ++ ys)
-writable_append [] ys hx hy = hy
-writable_append (x ∷ xs) ys hx hy = (hx.0, writable_append xs ys hx.1 hy)
+lasts : {Line : Type 0} → Rules Line → ℕ → List Line
+lasts m zero = []
+lasts m (suc n) = m.last ∷ lasts m n
 
-pub leads_completes : (due : ℕ) (lines others : List Line) (after : ℕ) → Leads due lines after → Completes after others → Completes due (lines ++ others)
-leads_completes due [] others after e h = subst (λ (n : ℕ). Completes n others) (sym e) h
-leads_completes due (l ∷ ls) others after e h = (e.0, e.1, leads_completes (still_due due l) ls others after e.2 h)
-
-deads : ℕ → List Line
-deads zero = []
-deads (suc n) = kind.Dead ∷ deads n
-
-deads_complete : (n : ℕ) → Completes n (deads n)
-unfolding deads
-deads_complete zero = refl
-deads_complete (suc n) = (omega arith, tt, subst (λ (k : ℕ). Completes k (deads n)) (omega arith) (deads_complete n))
-
-deads_writable : (n : ℕ) → AreWritable (deads n)
-unfolding deads
-deads_writable zero = tt
-deads_writable (suc n) = (tt, deads_writable n)
+leads_lasts : {Line : Type 0} (m : Rules Line) (n : ℕ) → Leads m n (lasts m n) 0
+unfolding lasts
+leads_lasts m zero = refl
+leads_lasts m (suc n) =
+    let less : n ≡ m.next (suc n) m.last = omega (arith, m.next_last (suc n) (omega arith)) in
+    (omega arith, m.reads_last (suc n) (omega arith), subst (λ (k : ℕ). Leads m k (lasts m n) 0) less (leads_lasts m n))
 
 -- ---- what goes on from rows that lead somewhere
 
-pub record Others (lines ms : List Line) (more : List (List ℕ)) (after : ℕ) : Type 0 where
+pub record Others {Line : Type 0} (m : Rules Line) (xs ys : List Line) (more : List (List ℕ)) (after : ℕ) : Type 0 where
   pub others : List Line
-  pub is : ms ≡ lines ++ others
-  pub rows : map row_of others ≡ more
-  pub completes : Completes after others
-  pub writable : AreWritable others
+  pub is : ys ≡ xs ++ others
+  pub rows : map m.row_of others ≡ more
+  pub leads : Leads m after others 0
 
-pub others_of : (due : ℕ) (lines ms : List Line) (more : List (List ℕ)) (after : ℕ) → Leads due lines after → AreWritable lines → Completes due ms → AreWritable ms → map row_of ms ≡ map row_of lines ++ more → Others lines ms more after
-others_of due [] ms more after leads wl complete wm h = record { others = ms; is = refl; rows = h; completes = subst (λ (n : ℕ). Completes n ms) leads complete; writable = wm }
-others_of due (l ∷ ls) [] more after leads wl complete wm h = absurd cc
-others_of due (l ∷ ls) (m ∷ ms) more after leads wl complete wm h =
-    let first : row_of m ≡ row_of l = cc in
-    let rest : map row_of ms ≡ map row_of ls ++ more = cc in
-    let same : m ≡ l = row_injective m l wm.0 complete.1 wl.0 leads.1 first in
-    let o = others_of (still_due due l) ls ms more after leads.2 wl.1 (subst (λ (k : Line). Completes (still_due due k) ms) same complete.2) wm.1 rest in
-    record { others = o.others; is = ap (λ (k : Line). k ∷ ms) same ∙ ap (λ (ks : List Line). l ∷ ks) o.is; rows = o.rows; completes = o.completes; writable = o.writable }
+pub others_of : {Line : Type 0} (m : Rules Line) (due : ℕ) (xs ys : List Line) (more : List (List ℕ)) (after : ℕ) → Leads m due xs after → Leads m due ys 0 → map m.row_of ys ≡ map m.row_of xs ++ more → Others m xs ys more after
+others_of m due [] ys more after lx ly h = record { others = ys; is = refl; rows = h; leads = subst (λ (n : ℕ). Leads m n ys 0) lx ly }
+others_of m due (x ∷ xs) [] more after lx ly h = absurd cc
+others_of {Line} m due (x ∷ xs) (y ∷ ys) more after lx ly h =
+    let first : m.row_of y ≡ m.row_of x = cc in
+    let rest : map m.row_of ys ≡ map m.row_of xs ++ more = cc in
+    let found : Some y ≡ Some x = sym ly.1 ∙ ap (m.read due) first ∙ lx.1 in
+    let same : y ≡ x = cc in
+    let o = others_of m (m.next due x) xs ys more after lx.2 (subst (λ (k : Line). Leads m (m.next due k) ys 0) same ly.2) rest in
+    record { others = o.others; is = ap (λ (k : Line). k ∷ ys) same ∙ ap (λ (ks : List Line). x ∷ ks) o.is; rows = o.rows; leads = o.leads }
 
--- ---- part of a record's rows
-
-pub record Partway (head : Claim) (front : List Line) (due : ℕ) : Type 0 where
-  pub claim : IsWritableClaim head
-  pub lines : AreWritable front
-  pub leads : Leads 1 front due
-
-abbrev pub rows_at : Claim → List Line → List (List ℕ)
-rows_at claim lines = head_rows claim ++ map row_of lines
-
-pub record_from : (claim : Claim) (lines : List Line) → IsWritableClaim claim → AreWritable lines → Completes 1 lines → IsRecord (record { claim = claim; lines = lines })
-record_from claim lines wc wl complete = record { claim = wc; lines = wl; tree = (trees_law lines).0 complete }
-
-pub completes_of : (r : SearchRecord) → IsRecord r → Completes 1 r.lines
-completes_of r h = (trees_law r.lines).1 h.tree
-
--- a record whose rows begin so
-pub record Onward (claim : Claim) (lines : List Line) (due : ℕ) (more : List (List ℕ)) (r : SearchRecord) : Type 0 where
-  pub same : r.claim ≡ claim
-  pub rest : Others lines r.lines more due
-
-pub onward : (claim : Claim) (lines : List Line) (due : ℕ) (more : List (List ℕ)) (r : SearchRecord) → Partway claim lines due → IsRecord r → rows_of r ≡ rows_at claim lines ++ more → Onward claim lines due more r
-onward claim lines due more r p is h =
-    let i = head_injective r.claim claim (map row_of r.lines) (map row_of lines ++ more) is.claim p.claim (h ∙ append_assoc (head_rows claim) (map row_of lines) more) in
-    record { same = i.0; rest = others_of 1 lines r.lines more due p.leads p.lines (completes_of r is) is.lines i.1 }
-
-pub partway_begins : (claim : Claim) (lines : List Line) (due : ℕ) → Partway claim lines due → Begin (rows_at claim lines)
-partway_begins claim lines due p = record {
-  whole = record { claim = claim; lines = lines ++ deads due };
-  of_record = record_from claim (lines ++ deads due) p.claim (writable_append lines (deads due) p.lines (deads_writable due)) (leads_completes 1 lines (deads due) due p.leads (deads_complete due));
-  rest = map row_of (deads due);
-  spelled = ap (λ (rows : List (List ℕ)). head_rows claim ++ rows) (map-append row_of lines (deads due)) ∙ sym (append_assoc (head_rows claim) (map row_of lines) (map row_of (deads due)));
-}
-
-pub partway_open : (claim : Claim) (lines : List Line) (due : ℕ) → Partway claim lines due → 0 < due → ¬ AreRows (rows_at claim lines)
-partway_open claim lines due p some (r, is, h) =
-    let o = (onward claim lines due [] r p is (h ∙ sym (append-nil (rows_at claim lines)))).rest in
-    ended o.others o.rows o.completes
+-- nothing goes on once nothing is due
+pub none_more : {Line : Type 0} (m : Rules Line) (xs ys : List Line) (more : List (List ℕ)) → Leads m 1 xs 0 → Leads m 1 ys 0 → map m.row_of ys ≡ map m.row_of xs ++ more → (more ≡ []) × (ys ≡ xs)
+none_more {Line} m xs ys more lx ly h = let o = others_of m 1 xs ys more 0 lx ly h in ended o.others o.is o.rows o.leads
   where
-    ended : (others : List Line) → map row_of others ≡ [] → Completes due others → ⊥
-    ended [] e c = omega (arith, c, some)
-    ended (m ∷ ms) e c = cc
+    ended : (others : List Line) → ys ≡ xs ++ others → map m.row_of others ≡ more → Leads m 0 others 0 → (more ≡ []) × (ys ≡ xs)
+    ended [] is rows leads = (sym rows, is ∙ append-nil xs)
+    ended (l ∷ ls) is rows leads = absurd (omega (arith, leads.0))
 
-pub partway_no_line : (claim : Claim) (lines : List Line) (due : ℕ) (row : List ℕ) → Partway claim lines due → line_of row ≡ None → ¬ Begin (rows_at claim lines ++ row ∷ [])
-partway_no_line claim lines due row p none b =
-    let o = (onward claim lines due (row ∷ b.rest) b.whole p b.of_record (b.spelled ∙ append_assoc (rows_at claim lines) (row ∷ []) b.rest)).rest in
-    first o.others o.rows o.completes o.writable
+-- ---- wholes that begin with some rows, and go on with lines
+
+pub record Grammar (IsWhole : List (List ℕ) → Type 0) {Line : Type 0} (m : Rules Line) (head : List (List ℕ)) : Type 0 where
+  pub whole : (lines : List Line) → Leads m 1 lines 0 → IsWhole (head ++ map m.row_of lines)
+  pub lines : (more : List (List ℕ)) → IsWhole (head ++ more) → (lines : List Line) × Leads m 1 lines 0 × (map m.row_of lines ≡ more)
+
+lines_begin : (W : List (List ℕ) → Type 0) {Line : Type 0} (m : Rules Line) (head : List (List ℕ)) → Grammar W m head → (xs : List Line) (due : ℕ) → Leads m 1 xs due → Begin W (head ++ map m.row_of xs)
+lines_begin W m head g xs due leads =
+    let back = lasts m due in
+    let same : head ++ map m.row_of (xs ++ back) ≡ (head ++ map m.row_of xs) ++ map m.row_of back = ap (λ (rows : List (List ℕ)). head ++ rows) (map-append m.row_of xs back) ∙ sym (append_assoc head (map m.row_of xs) (map m.row_of back)) in
+    (map m.row_of back, subst W same (g.whole (xs ++ back) (leads_append m 1 xs back due 0 leads (leads_lasts m due))))
+
+lines_open : (W : List (List ℕ) → Type 0) {Line : Type 0} (m : Rules Line) (head : List (List ℕ)) → Grammar W m head → (xs : List Line) (due : ℕ) → Leads m 1 xs due → 0 < due → ¬ W (head ++ map m.row_of xs)
+lines_open W {Line} m head g xs due leads some whole =
+    let (ys, ly, same) = g.lines (map m.row_of xs) whole in
+    let o = others_of m 1 xs ys [] due leads ly (same ∙ sym (append-nil (map m.row_of xs))) in
+    ended o.others o.rows o.leads
   where
-    first : (others : List Line) → map row_of others ≡ row ∷ b.rest → Completes due others → AreWritable others → ⊥
-    first [] e c w = cc
-    first (m ∷ ms) e c w = let is : row_of m ≡ row = cc in let f : Some m ≡ None = sym (line_again m w.0 c.1) ∙ ap line_of is ∙ none in cc
+    ended : (others : List Line) → map m.row_of others ≡ [] → Leads m due others 0 → ⊥
+    ended [] e l = omega (arith, l, some)
+    ended (y ∷ ys) e l = cc
 
-pub partway_whole : (claim : Claim) (lines : List Line) → Partway claim lines 0 → AreRows (rows_at claim lines)
-partway_whole claim lines p = (record { claim = claim; lines = lines }, record_from claim lines p.claim p.lines (subst (Completes 1) (append-nil lines) (leads_completes 1 lines [] 0 p.leads refl)), refl)
+lines_never : (W : List (List ℕ) → Type 0) {Line : Type 0} (m : Rules Line) (head : List (List ℕ)) → Grammar W m head → (xs : List Line) (due : ℕ) (row : List ℕ) → Leads m 1 xs due → m.read due row ≡ None → ¬ Begin W ((head ++ map m.row_of xs) ++ row ∷ [])
+lines_never W {Line} m head g xs due row leads none (rest, whole) =
+    let same : ((head ++ map m.row_of xs) ++ row ∷ []) ++ rest ≡ head ++ (map m.row_of xs ++ row ∷ rest) = append_assoc (head ++ map m.row_of xs) (row ∷ []) rest ∙ append_assoc head (map m.row_of xs) (row ∷ rest) in
+    let (ys, ly, rows) = g.lines (map m.row_of xs ++ row ∷ rest) (subst W same whole) in
+    let o = others_of m 1 xs ys (row ∷ rest) due leads ly rows in
+    first o.others o.rows o.leads
+  where
+    first : (others : List Line) → map m.row_of others ≡ row ∷ rest → Leads m due others 0 → ⊥
+    first [] e l = cc
+    first (y ∷ ys) e l = let is : m.row_of y ≡ row = cc in let f : Some y ≡ None = sym l.1 ∙ ap (m.read due) is ∙ none in cc
+
+stands : (W : List (List ℕ) → Type 0) {Line : Type 0} (m : Rules Line) (head : List (List ℕ)) → Grammar W m head → (xs : List Line) (due : ℕ) → Leads m 1 xs due → 0 < due → Stands W (head ++ map m.row_of xs)
+stands W m head g xs due leads some = record { begins = lines_begin W m head g xs due leads; unfinished = lines_open W m head g xs due leads some }
+
+-- ---- a text of which so many lines were read, the next of them numbered so
+
+pub record Reached {Line : Type 0} (m : Rules Line) (head : List (List ℕ)) (lines : List Line) (due line : ℕ) (text rest : List ℕ) : Type 0 where
+  pub leads : Leads m 1 lines due
+  pub parts : line_pieces text ≡ map m.row_of lines ++ line_pieces rest
+  pub at : line ≡ length head + length lines + 1
+
+pub reached_more : {Line : Type 0} (m : Rules Line) (head : List (List ℕ)) (lines : List Line) (due line : ℕ) (text rest row more : List ℕ) (found : Line) → Reached m head lines due line text rest → 0 < due → line_pieces rest ≡ row ∷ line_pieces more → m.read due row ≡ Some found →
+    Reached m head (lines ++ found ∷ []) (m.next due found) (line + 1) text more
+reached_more m head lines due line text rest row more found r some h is =
+    let row_is : m.row_of found ≡ row = m.takes due row found is in
+    record {
+      leads = leads_append m 1 lines (found ∷ []) due (m.next due found) r.leads (some, subst (λ (text : List ℕ). m.read due text ≡ Some found) (sym row_is) is, refl);
+      parts =
+          r.parts ∙ ap (λ (ps : List (List ℕ)). map m.row_of lines ++ ps) (h ∙ ap (λ (one : List ℕ). one ∷ line_pieces more) (sym row_is))
+          ∙ sym (append_assoc (map m.row_of lines) (m.row_of found ∷ []) (line_pieces more)) ∙ ap (λ (ps : List (List ℕ)). ps ++ line_pieces more) (sym (map-append m.row_of lines (found ∷ [])));
+      at = omega (arith, r.at, length-append lines (found ∷ []));
+    }
+
+-- where the parts of the rest have a fault, the whole text has it
+moved : (W : List (List ℕ) → Type 0) {Line : Type 0} (m : Rules Line) (head : List (List ℕ)) (lines : List Line) (due line : ℕ) (text rest : List ℕ) → Reached m head lines due line text rest → (line ≡ length (head ++ map m.row_of lines) + 1) × (((head ++ map m.row_of lines) ++ line_pieces rest) ≡ head ++ line_pieces text)
+moved W m head lines due line text rest r =
+    (omega (arith, r.at, length-append head (map m.row_of lines), length-map lines m.row_of), append_assoc head (map m.row_of lines) (line_pieces rest) ∙ ap (λ (ps : List (List ℕ)). head ++ ps) (sym r.parts))
+
+pub reached_missing : (W : List (List ℕ) → Type 0) {Line : Type 0} (m : Rules Line) (head : List (List ℕ)) → Grammar W m head → (lines : List Line) (due line : ℕ) (text rest : List ℕ) → Reached m head lines due line text rest → 0 < due → line_pieces rest ≡ rest ∷ [] → HasRowFault W (head ++ line_pieces text) line (missing rest)
+reached_missing W m head g lines due line text rest r some h =
+    let e = moved W m head lines due line text rest r in
+    rw e.0 (subst (λ (ps : List (List ℕ)). HasRowFault W ps (length (head ++ map m.row_of lines) + 1) (missing rest)) e.1 (missing_at W (head ++ map m.row_of lines) rest (stands W m head g lines due r.leads some) h))
+
+pub reached_form : (W : List (List ℕ) → Type 0) {Line : Type 0} (m : Rules Line) (head : List (List ℕ)) → Grammar W m head → (lines : List Line) (due line : ℕ) (text rest row more : List ℕ) → Reached m head lines due line text rest → 0 < due → line_pieces rest ≡ row ∷ line_pieces more → m.read due row ≡ None → HasRowFault W (head ++ line_pieces text) line form
+reached_form W m head g lines due line text rest row more r some h none =
+    let e = moved W m head lines due line text rest r in
+    rw e.0 (subst (λ (ps : List (List ℕ)). HasRowFault W ps (length (head ++ map m.row_of lines) + 1) form) e.1 (form_at W (head ++ map m.row_of lines) rest row more (stands W m head g lines due r.leads some) (lines_never W m head g lines due row r.leads none) h))
+
+pub reached_trailing : (W : List (List ℕ) → Type 0) {Line : Type 0} (m : Rules Line) (head : List (List ℕ)) → Grammar W m head → (lines : List Line) (due line : ℕ) (text rest : List ℕ) → Reached m head lines due line text rest → due ≡ 0 → rest ≢ [] → HasRowFault W (head ++ line_pieces text) line trailing
+reached_trailing W m head g lines due line text rest r none some =
+    let e = moved W m head lines due line text rest r in
+    rw e.0 (subst (λ (ps : List (List ℕ)). HasRowFault W ps (length (head ++ map m.row_of lines) + 1) trailing) e.1
+    (trailing_at W (head ++ map m.row_of lines) rest (g.whole lines (subst (Leads m 1 lines) none r.leads)) (lines_begin W m head g lines due r.leads) some))

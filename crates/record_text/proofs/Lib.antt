@@ -2,8 +2,10 @@ pub mod Shapes
 pub mod RowReads
 pub mod LineReads
 pub mod HeadReads
+pub mod Pieces
+pub mod Rows
 pub mod Leads
+pub mod TreeLines
 pub mod RowFaults
-pub mod TreeFaults
 pub mod TextLaws
 pub mod FirstFaults

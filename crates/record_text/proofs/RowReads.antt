@@ -12,7 +12,7 @@ use Rattle.record_text.specs.Reading.{has_leading_zero, number, with_number, num
 use Rattle.words.specs.Numbers.{is_numeral, natural}
 use Rattle.words.proofs.NumberLaws.{AreDigits, numerals, digits_value-below, natural-Some}
 use Rattle.std.proofs.lemmas.Bool.Decides.{nat_tests}
-use Rattle.record_text.specs.declared.number.TheConstants.{MAX_NUMBER_DIGITS}
+use Rattle.record_text.specs.declared.numeral.TheConstants.{MAX_NUMBER_DIGITS}
 
 abbrev pub left_size : Option (List ℕ) → ℕ
 left_size (Some rest) = suc (length rest)
@@ -51,6 +51,9 @@ record Spelled (word : List ℕ) (n : ℕ) : Type 0 where
 spelled : (word : List ℕ) (n : ℕ) (b : Bool) → is_numeral MAX_NUMBER_DIGITS word ≡ b → cond b (Some (digits_value 10 word)) None ≡ Some n → Spelled word n
 spelled word n false e h = absurd cc
 spelled word n true e h = record { digits = grind (arith, nat_tests); some = grind (arith, nat_tests); few = grind (arith, nat_tests); value = cc }
+
+pub natural_small : (word : List ℕ) (n : ℕ) → natural MAX_NUMBER_DIGITS word ≡ Some n → IsNumber n
+natural_small word n h = let s = spelled word n (is_numeral MAX_NUMBER_DIGITS word) refl h in rw (← s.value) (digits_value-below word MAX_NUMBER_DIGITS s.digits s.few)
 
 alone : (word : List ℕ) → has_leading_zero word ≡ false → 0 < length word → get_or word 0 0 ≡ 48 → length word ≡ 1
 alone word e some first = grind (arith, nat_tests)
@@ -105,7 +108,7 @@ digit_at (c ∷ cs) (suc i) d lt h = digit_at cs i d (omega arith) (and_parts (i
 not_space : (b : ℕ) → is_ascii_digit b ≡ true → is_space b ≡ false
 not_space b h = ne_eqb b 32 (λ same. let g : is_ascii_digit 32 ≡ true = subst (λ (m : ℕ). is_ascii_digit m ≡ true) same h in cc)
 
-no_space : (n : ℕ) → IsNumber n → All (λ b. is_space b ≡ false) (decimal n)
+pub no_space : (n : ℕ) → IsNumber n → All (λ b. is_space b ≡ false) (decimal n)
 no_space n small k d lt = not_space (get_or (decimal n) k d) (digit_at (decimal n) k d lt (are_digits n small))
 
 pub words_spaced : (word : List ℕ) (ns : List ℕ) → All (λ b. is_space b ≡ false) word → AllByRecursion IsNumber ns → fields (word ++ spaced ns) ≡ word ∷ map decimal ns
@@ -125,7 +128,7 @@ row_joined row word ns h = sym (join_with_byte-slice_split 32 row) ∙ ap (join_
 pub parts_again : (word : List ℕ) (ns : List ℕ) → All (λ b. is_space b ≡ false) word → AllByRecursion IsNumber ns → parts_of (fields (word ++ spaced ns)) ≡ Some (record { word = word; numbers = ns })
 parts_again word ns none all = rw (words_spaced word ns none all, numbers_again ns all) refl
 
-parts_from : (ws : List (List ℕ)) (p : Parts) → parts_of ws ≡ Some p → (ws ≡ p.word ∷ map decimal p.numbers) × AllByRecursion IsNumber p.numbers
+pub parts_from : (ws : List (List ℕ)) (p : Parts) → parts_of ws ≡ Some p → (ws ≡ p.word ∷ map decimal p.numbers) × AllByRecursion IsNumber p.numbers
 parts_from [] p h = absurd cc
 parts_from (w ∷ ws) p h = by_numbers (numbers ws) refl h
   where

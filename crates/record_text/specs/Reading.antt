@@ -4,7 +4,7 @@ use Rattle.std.specs.List.{slice_index}
 use Rattle.std.specs.Str.{bytes_eq}
 use Rattle.words.specs.Words.{pieces}
 use Rattle.words.specs.Numbers.{natural}
-use Rattle.record_text.specs.declared.number.TheConstants.{MAX_NUMBER_DIGITS}
+use Rattle.record_text.specs.declared.numeral.TheConstants.{MAX_NUMBER_DIGITS}
 use Rattle.record_text.specs.declared.line.Line.{Line}
 use Rattle.record_text.specs.declared.line.Line.TheVariants as kind
 

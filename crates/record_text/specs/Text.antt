@@ -3,7 +3,7 @@ use Rattle.std.specs.Prelude.{◌≡◌, ℕ, ◌<◌, ◌≤◌, ◌^◌, ℤ, 
 use Rattle.std.specs.List.{flat_map, AllByRecursion}
 use Rattle.std.specs.Fmt.{decimal, signed_decimal}
 use Rattle.record_text.specs.declared.TheConstants.{MAX_RECORD_BYTES}
-use Rattle.record_text.specs.declared.number.TheConstants.{MAX_NUMBER_DIGITS}
+use Rattle.record_text.specs.declared.numeral.TheConstants.{MAX_NUMBER_DIGITS}
 use Rattle.record_text.specs.declared.line.Claim.{Claim}
 use Rattle.record_text.specs.declared.line.Claim.TheVariants as claims
 use Rattle.record_text.specs.declared.line.Line.{Line}
@@ -28,7 +28,8 @@ row_of (kind.Split resource members) = codes "split" ++ spaced (resource ∷ mem
 
 -- the rows of a claim
 abbrev pub claim_rows : Claim → List (List ℕ)
-claim_rows (claims.Optimal makespan starts) = (codes "optimal" ++ spaced_times (makespan ∷ [])) ∷ (codes "starts" ++ spaced_times starts) ∷ []
+claim_rows (claims.Optimal makespan starts) =
+    (codes "optimal" ++ spaced_times (makespan ∷ [])) ∷ (codes "starts" ++ spaced_times starts) ∷ []
 claim_rows claims.NoSchedule = codes "no schedule" ∷ []
 
 -- the rows before those of the tree
@@ -60,7 +61,8 @@ IsWritableTime (pos n) = IsNumber n
 IsWritableTime (negsuc n) = ⊥
 
 abbrev pub IsWritableClaim : Claim → Type 0
-IsWritableClaim (claims.Optimal makespan starts) = IsWritableTime makespan × (0 < length starts) × AllByRecursion IsWritableTime starts
+IsWritableClaim (claims.Optimal makespan starts) =
+    IsWritableTime makespan × (0 < length starts) × AllByRecursion IsWritableTime starts
 IsWritableClaim claims.NoSchedule = Unit {0}
 
 abbrev pub IsWritableLine : Line → Type 0

@@ -1,49 +1,29 @@
 -- The first fault of a text that is no record's.
-use Rattle.std.specs.Prelude.{◌≡◌, ◌≢◌, ℕ, ◌+◌, ◌<◌, ◌≤◌, ◌⊎◌, List, [], ◌∷◌, ◌++◌, length}
-use Rattle.words.specs.Words.{pieces}
+use Rattle.std.specs.Prelude.{◌≡◌, ◌≢◌, ℕ, ◌<◌, ◌≤◌, ◌⊎◌, Option, None, Result, MatchResult, List, [], ◌∷◌, length}
 use Rattle.record_text.specs.declared.TheConstants.{MAX_RECORD_BYTES}
 use Rattle.record_text.specs.declared.fault.RecordFault.{RecordFault}
 use Rattle.record_text.specs.declared.fault.Why.{Why}
 use Rattle.record_text.specs.declared.fault.Why.TheVariants as why
+use Rattle.record_text.specs.Rows as rows
+use Rattle.record_text.specs.Rows.{RowFault, HasRowFault, line_pieces, missing}
 use Rattle.record_text.specs.SearchRecord.{SearchRecord}
 use Rattle.record_text.specs.Text.{rows_of, IsRecord, Spells}
-
--- what stands between the LFs of a text: its rows, and last what follows its last LF
-abbrev pub line_pieces : List ℕ → List (List ℕ)
-line_pieces text = pieces 10 text
 
 -- the rows are those of a whole record
 abbrev pub AreRows : List (List ℕ) → Type 0
 AreRows rows = (r : SearchRecord) × IsRecord r × (rows_of r ≡ rows)
 
--- some record has these rows first
-pub record Begin (rows : List (List ℕ)) : Type 0 where
-  pub whole : SearchRecord
-  pub of_record : IsRecord whole
-  pub rest : List (List ℕ)
-  pub spelled : rows_of whole ≡ rows ++ rest
+-- the name of what is wrong with a row
+abbrev pub why_of : RowFault → Why
+why_of rows.form = why.Form
+why_of rows.short = why.Short
+why_of rows.trailing = why.Trailing
 
--- a part after rows that begin a record does not go on with one: only the last part has no LF
-abbrev pub IsBroken : List (List ℕ) → List ℕ → List (List ℕ) → Type 0
-IsBroken front here [] = here ≢ []
-IsBroken front here (next ∷ back) = ¬ Begin (front ++ here ∷ [])
-
--- what is wrong with a part after rows that begin a record
-abbrev pub IsWrong : List (List ℕ) → List ℕ → List (List ℕ) → Why → Type 0
-IsWrong front here back why.Form = ¬ AreRows front × IsBroken front here back
-IsWrong front here back why.Short = ¬ AreRows front × (here ≡ []) × (back ≡ [])
-IsWrong front here back why.Trailing = AreRows front × ¬ ((here ≡ []) × (back ≡ []))
-IsWrong front here back other = ⊥
-
--- the rows before the fault's line begin a record, and that line is wrong
+-- the first row that is wrong
 pub record HasFault (all : List (List ℕ)) (fault : RecordFault) : Type 0 where
-  pub front : List (List ℕ)
-  pub here : List ℕ
-  pub back : List (List ℕ)
-  pub placed : all ≡ front ++ here ∷ back
-  pub begins : Begin front
-  pub line : fault.line ≡ length front + 1
-  pub wrong : IsWrong front here back fault.why
+  pub what : RowFault
+  pub why : fault.why ≡ why_of what
+  pub row : HasRowFault AreRows all fault.line what
 
 -- the first fault of a text: its length, and else its first line that is wrong
 abbrev pub IsFirstTextFault : List ℕ → RecordFault → Type 0
@@ -60,13 +40,22 @@ FirstFaultIsOne = (text : List ℕ) (a b : RecordFault) → IsFirstTextFault tex
 
 -- and not both
 abbrev pub FaultIsNoRecord : Type 0
-FaultIsNoRecord = (text : List ℕ) (r : SearchRecord) (fault : RecordFault) → Spells text r → IsFirstTextFault text fault → ⊥
+FaultIsNoRecord =
+    (text : List ℕ) (r : SearchRecord) (fault : RecordFault) → Spells text r → IsFirstTextFault text fault → ⊥
 
 -- that a line is not of the grammar where it stands
 abbrev pub form : ℕ → RecordFault
 form line = record { line = line; why = why.Form }
 
--- the fault where a row must come and none ends
-abbrev pub missing : List ℕ → Why
-missing [] = why.Short
-missing (b ∷ bs) = why.Form
+-- unless memory ran out, the row said nothing, and the fault is that its line is not of the grammar
+abbrev pub IsFormFault : {A : Type 0} → Option A → ℕ → RecordFault → Type 0
+IsFormFault said line fault = fault.why ≢ why.Memory → (said ≡ None) × (fault ≡ form line)
+
+-- no row ends in the text, and the fault is that one must come at this line
+abbrev pub IsMissing : List ℕ → ℕ → RecordFault → Type 0
+IsMissing text line fault =
+    (line_pieces text ≡ text ∷ []) × (fault ≡ record { line = line; why = why_of (missing text) })
+
+-- the text is read as this record, unless memory runs out
+abbrev pub IsReadAs : Result SearchRecord RecordFault → SearchRecord → Type 0
+IsReadAs read r = MatchResult read (λ found. found ≡ r) (λ fault. fault.why ≡ why.Memory)

@@ -5,10 +5,11 @@
 #![tactic(auto)]
 
 mod fault;
+mod fields;
 mod laws;
 mod line;
 mod members;
-mod number;
+mod numeral;
 mod read;
 mod record;
 mod row;
@@ -16,13 +17,15 @@ mod starts;
 mod write;
 
 pub use fault::{RecordFault, Why};
+pub use fields::{numbers, numbers_after, split_field};
 pub use laws::{shape_law, text_law};
 pub use line::{Claim, Line};
 pub use members::Members;
-pub use number::MAX_NUMBER_DIGITS;
+pub use numeral::{MAX_NUMBER_DIGITS, number};
 pub use read::tree_line;
 pub use record::Record;
-pub use starts::Starts;
+pub use starts::{Starts, read_starts};
+pub use write::{put_numbers, put_times};
 
 /// How many bytes the text of a record may have that is read.
 pub const MAX_RECORD_BYTES: usize = 268_435_456;

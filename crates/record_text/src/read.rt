@@ -1,22 +1,24 @@
-ghost use Rattle.std.specs.Prelude.{◌≡◌, ◌≢◌, ◌<◌, ◌≤◌, ◌+◌, ◌*◌, ◌∷◌, [], ◌++◌, length, map, pos, codes, Some, None, IfOk, IfErr};
-ghost use Rattle.std.specs.List.{All, AllByRecursion};
-ghost use Rattle.record_text.specs.Text.{IsNumber, IsWritableClaim, IsWritableLine, claim_rows, head_rows, row_of};
-ghost use Rattle.record_text.specs.TextFaults.{line_pieces, form, missing, HasFault};
+ghost use Rattle.std.specs.Prelude.{◌≡◌, ◌≢◌, ◌<◌, ◌≤◌, ◌+◌, ◌*◌, ◌∷◌, [], ◌++◌, length, map, codes, Some, IfOk, IfErr};
+ghost use Rattle.std.specs.List.{AllByRecursion};
+ghost use Rattle.record_text.specs.Text.{IsWritableClaim, IsWritableLine, claim_rows, head_rows, row_of};
+ghost use Rattle.record_text.specs.Rows.{line_pieces, missing};
+ghost use Rattle.record_text.specs.TextFaults.{why_of, IsFormFault, IsMissing, HasFault};
 ghost use Rattle.record_text.specs.Reading.{makespan_in, starts_in};
 ghost use Rattle.record_text.specs.Shape.{Completes, still_due, count_members};
 ghost use Rattle.record_text.specs.declared.fault.Why.TheVariants.{Memory};
 
 use crate::MAX_RECORD_BYTES;
 use crate::fault::{RecordFault, Why};
+use crate::fields::numbers_after;
 use crate::line::{Claim, Line};
-use crate::row::{line_of, numbers_after};
-use crate::starts::Starts;
-use std::alloc::{AllocError, Global};
+use crate::row::line_of;
+use crate::starts::{Starts, read_starts};
+use std::alloc::Global;
 use words::split_once;
 
 /// What is wrong where a row must come and none ends.
 fn missing(text: &[u8]) -> Why
-    ensures { result ≡ missing text.now }
+    ensures { result ≡ why_of (missing text.now) }
 {
     match text {
         [] => Why::Short,
@@ -28,7 +30,7 @@ fn missing(text: &[u8]) -> Why
 pub(crate) fn next_row(text: &[u8], line: usize) -> Result<(&[u8], &[u8]), RecordFault>
     ensures row { IfOk result (λ r. line_pieces text.now ≡ r.0.now ∷ line_pieces r.1.now) }
     ensures shorter { IfOk result (λ r. length r.0.now + 1 + length r.1.now ≡ length text.now) }
-    ensures fault { IfErr result (λ fault. (line_pieces text.now ≡ text.now ∷ []) × (fault ≡ record { line = line; why = missing text.now })) }
+    ensures fault { IfErr result (IsMissing text.now line) }
 {
     match split_once(text, b'\n') {
         Some((row, rest)) => Ok((row, rest)),
@@ -39,24 +41,14 @@ pub(crate) fn next_row(text: &[u8], line: usize) -> Result<(&[u8], &[u8]), Recor
     }
 }
 
-/// Numbers as times.
-fn times(alloc: Global, numbers: &[usize]) -> Result<Vec<i64>, AllocError>
-    requires { All IsNumber numbers.now }
-    ensures { IfOk result (λ times. times.items ≡ map pos numbers.now) }
-{
-    let mut times = Vec::with_capacity(alloc, numbers.len())?;
-    for number in numbers {
-        times.push(*number as i64)?;
-    }
-    Ok(times)
-}
-
 /// The makespan that a row claims.
 fn makespan(alloc: Global, row: &[u8]) -> Result<i64, RecordFault>
     ensures found { IfOk result (λ makespan. makespan_in row.now ≡ Some makespan) }
-    ensures fault { IfErr result (λ fault. fault.why ≢ Memory → (makespan_in row.now ≡ None) × (fault ≡ form 2)) }
+    ensures fault { IfErr result (IsFormFault (makespan_in row.now) 2) }
 {
-    let numbers = numbers_after(alloc, b"optimal".as_slice(), row, 2)?;
+    let Some(numbers) = numbers_after(alloc, b"optimal".as_slice(), row)? else {
+        return Err(RecordFault::form(2));
+    };
     match numbers.as_slice() {
         [makespan] => Ok(*makespan as i64),
         _ => Err(RecordFault::form(2)),
@@ -66,14 +58,12 @@ fn makespan(alloc: Global, row: &[u8]) -> Result<i64, RecordFault>
 /// The starts that a row has.
 fn starts(alloc: Global, row: &[u8]) -> Result<Starts, RecordFault>
     ensures found { IfOk result (λ starts. starts_in row.now ≡ Some starts) }
-    ensures fault { IfErr result (λ fault. fault.why ≢ Memory → (starts_in row.now ≡ None) × (fault ≡ form 3)) }
+    ensures fault { IfErr result (IsFormFault (starts_in row.now) 3) }
 {
-    let numbers = numbers_after(alloc, b"starts".as_slice(), row, 3)?;
-    if numbers.is_empty() {
-        return Err(RecordFault::form(3));
+    match read_starts(alloc, row)? {
+        Some(starts) => Ok(starts),
+        None => Err(RecordFault::form(3)),
     }
-    let starts = times(alloc, &numbers)?;
-    Ok(Starts::new(starts))
 }
 
 /// The claim of a record, from its second line on, and what follows it.
@@ -81,7 +71,8 @@ pub(crate) fn read_claim(alloc: Global, text: &[u8]) -> Result<(Claim, &[u8]), R
     ensures rows { IfOk result (λ r. line_pieces text.now ≡ claim_rows r.0 ++ line_pieces r.1.now) }
     ensures writable { IfOk result (λ r. IsWritableClaim r.0) }
     ensures shorter { IfOk result (λ r. length r.1.now ≤ length text.now) }
-    ensures fault { IfErr result (λ fault. fault.why ≢ Memory → HasFault (codes "record 1" ∷ line_pieces text.now) fault) }
+    ensures fault { IfErr result (λ fault.
+        fault.why ≢ Memory → HasFault (codes "record 1" ∷ line_pieces text.now) fault) }
 {
     let (row, rest) = next_row(text, 2)?;
     if row == b"no schedule".as_slice() {
@@ -131,7 +122,8 @@ pub(crate) fn read_lines(
     ensures rows { IfOk result (λ lines. line_pieces text.now ≡ map row_of lines.items ++ [] ∷ []) }
     ensures writable { IfOk result (λ lines. AllByRecursion IsWritableLine lines.items) }
     ensures complete { IfOk result (λ lines. Completes 1 lines.items) }
-    ensures fault { IfErr result (λ fault. fault.why ≢ Memory → HasFault (head_rows claim.now ++ line_pieces text.now) fault) }
+    ensures fault { IfErr result (λ fault.
+        fault.why ≢ Memory → HasFault (head_rows claim.now ++ line_pieces text.now) fault) }
 {
     let mut lines = Vec::new(alloc);
     let mut rest = text;

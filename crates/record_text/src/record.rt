@@ -1,7 +1,7 @@
-ghost use Rattle.std.specs.Prelude.{◌≡◌, ◌≢◌, ◌≤◌, nat_lt, length, IfOk, OnOk, IfErr, MatchResult};
+ghost use Rattle.std.specs.Prelude.{◌≡◌, ◌≢◌, ◌≤◌, nat_lt, length, IfOk, OnOk, IfErr};
 ghost use Rattle.record_text.specs.SearchRecord.{SearchRecord};
 ghost use Rattle.record_text.specs.Text.{IsRecord, Spells, record_text};
-ghost use Rattle.record_text.specs.TextFaults.{IsFirstTextFault};
+ghost use Rattle.record_text.specs.TextFaults.{IsFirstTextFault, IsReadAs};
 ghost use Rattle.record_text.specs.declared.fault.Why.TheVariants.{Memory};
 
 use crate::MAX_RECORD_BYTES;
@@ -97,7 +97,7 @@ impl Record {
     /// The record that this text is that of, or the text's first fault.
     pub fn read(alloc: Global, text: &[u8]) -> Result<Record, RecordFault>
         ensures found { IfOk result (λ r. Spells text.now r) }
-        ensures only { (r : SearchRecord) → Spells text.now r → MatchResult result (λ q. q ≡ r) (λ fault. fault.why ≡ Memory) }
+        ensures only { (r : SearchRecord) → Spells text.now r → IsReadAs result r }
         ensures fault { IfErr result (λ fault. fault.why ≢ Memory → IsFirstTextFault text.now fault) }
     {
         Record::read_text(alloc, text)
@@ -107,7 +107,7 @@ impl Record {
     /// is a law, as a function.
     #[tactic(auto, using(crate::proofs::TextLaws::spells_written))]
     pub fn read_written(&self, alloc: Global) -> Result<Record, RecordFault>
-        ensures { length (record_text self.now) ≤ MAX_RECORD_BYTES → MatchResult result (λ q. q ≡ self.now) (λ fault. fault.why ≡ Memory) }
+        ensures { length (record_text self.now) ≤ MAX_RECORD_BYTES → IsReadAs result self.now }
     {
         let text = self.write(alloc)?;
         Record::read(alloc, &text)

@@ -6,7 +6,7 @@ use crate::line::{Claim, Line};
 use std::alloc::AllocError;
 
 /// Writes each time with a space before it.
-fn put_times(out: &mut String, times: &[i64]) -> Result<(), AllocError>
+pub fn put_times(out: &mut String, times: &[i64]) -> Result<(), AllocError>
     ensures { OnOk result (string_bytes out.new ≡ string_bytes out.old ++ spaced_times times.now) }
 {
     for time in times {
@@ -16,7 +16,7 @@ fn put_times(out: &mut String, times: &[i64]) -> Result<(), AllocError>
 }
 
 /// Writes each number with a space before it.
-fn put_numbers(out: &mut String, numbers: &[usize]) -> Result<(), AllocError>
+pub fn put_numbers(out: &mut String, numbers: &[usize]) -> Result<(), AllocError>
     ensures { OnOk result (string_bytes out.new ≡ string_bytes out.old ++ spaced numbers.now) }
 {
     for number in numbers {

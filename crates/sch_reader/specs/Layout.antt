@@ -1,5 +1,6 @@
 -- The places of a project text, what fits each, and the fault of each.
-use Rattle.std.specs.Prelude.{ℕ, zero, suc, ◌+◌, ◌-◌, ◌==◌, Bool, ◌&&◌, ◌||◌, List, [], ◌∷◌, ◌++◌, length, ℤ, pos, neg_ℤ, nat_abs, int_le, if◌then◌else◌}
+use Rattle.std.specs.Prelude.{ℕ, zero, suc, ◌+◌, ◌-◌, ◌==◌, Bool, ◌&&◌, ◌||◌, List, [], ◌∷◌, ◌++◌, length, map, Vec, ℤ, pos, neg_ℤ, nat_abs, int_le, if◌then◌else◌}
+use Rattle.std.specs.declared.alloc.Global.{Global}
 use Rattle.sch_reader.specs.declared.fault.SchFault.{SchFault}
 use Rattle.sch_reader.specs.declared.fault.SchFault.TheVariants as faults
 use Rattle.sch_reader.specs.declared.place.Place.{Place}
@@ -100,6 +101,10 @@ request_row last resources id = do
 pub record Requests : Type 0 where
   pub durations : List ℤ
   pub demands : List (List ℤ)
+
+-- the lists that a reader fills with them
+abbrev pub requests_of : Vec ℤ Global × Vec (Vec ℤ Global) Global → Requests
+requests_of lists = record { durations = lists.0.items; demands = map (λ row. row.items) lists.1.items }
 
 abbrev pub no_requests : Requests
 no_requests = record { durations = []; demands = [] }

@@ -1,10 +1,10 @@
-ghost use Rattle.std.specs.Prelude.{◌≡◌, ◌≢◌, ◌≤◌, ◌<◌, ◌+◌, ◌↔◌, nat_abs, pos, IfOk, IfErr, MatchResult, length, map, ℕ};
+ghost use Rattle.std.specs.Prelude.{◌≡◌, ◌≢◌, ◌≤◌, ◌<◌, ◌+◌, ◌↔◌, nat_abs, pos, IfOk, IfErr, MatchResult, length, ℕ};
 ghost use Rattle.network.specs.Problem.{Problem};
 ghost use Rattle.network.specs.declared.limits.TheConstants.{MAX_ACTIVITIES, MAX_RESOURCES};
 ghost use Rattle.network.specs.Limits.{IsProject};
 ghost use Rattle.sch_reader.specs.declared.fault.SchFault.{SchFault};
 ghost use Rattle.sch_reader.specs.Text.{Spells, IsFirstFault};
-ghost use Rattle.sch_reader.specs.Layout.{row_of, lags_to, network_row, network_rows, request_row, request_rows, amount_place, header, project_text};
+ghost use Rattle.sch_reader.specs.Layout.{row_of, lags_to, network_row, network_rows, request_row, request_rows, requests_of, amount_place, header, project_text};
 ghost use Rattle.sch_reader.specs.Reading.{Reads, Gives, reading, whole_reading};
 ghost use Rattle.network.specs.Parts.{problem_of};
 ghost use Rattle.sch_reader.specs.Words.{text_words};
@@ -153,9 +153,7 @@ fn request_rows(
     resources: usize,
 ) -> Result<(Vec<i64>, Vec<Vec<i64>>), SchFault>
     requires { activities + 2 ≤ MAX_ACTIVITIES }
-    ensures { Reads
-        (λ r. record { durations = r.0.items; demands = map (λ v. v.items) r.1.items })
-        result reader.new
+    ensures { Reads requests_of result reader.new
         (reading (request_rows (activities + 2) (activities + 1) resources 0) reader.old) }
 {
     let mut durations = Vec::with_capacity(alloc, activities + 2)?;

@@ -37,7 +37,10 @@ line_entries lines = map (λ line. entry_of (words spaces line)) lines
 
 -- an answer of the program, whose first line is passed over
 abbrev pub is_answer : List ℕ → Bool
-is_answer text = starts_with nat_eq text (codes "optimal ") || starts_with nat_eq text (codes "feasible ") || starts_with nat_eq text (codes "earliest ")
+is_answer text =
+    starts_with nat_eq text (codes "optimal ")
+    || starts_with nat_eq text (codes "feasible ")
+    || starts_with nat_eq text (codes "earliest ")
 
 -- what the lines of a text say, the first line first
 abbrev pub entries : List ℕ → List Entry
@@ -72,12 +75,15 @@ abbrev pub entry_fault : ℕ → List Entry → ℕ → Entry → Option StartsF
 entry_fault activities before line Nothing = None
 entry_fault activities before line Wrong = Some (faults.Token line)
 entry_fault activities before line (Gives activity start) =
-    if nat_lt activity activities then (if is_some (start_given before activity) then Some (faults.Repeated line) else None) else Some (faults.Activity line)
+    if nat_lt activity activities
+    then (if is_some (start_given before activity) then Some (faults.Repeated line) else None)
+    else Some (faults.Activity line)
 
 -- the first fault of entries from a line on, after these entries
 abbrev pub line_fault : ℕ → List Entry → ℕ → List Entry → Option StartsFault
 line_fault activities before line [] = None
-line_fault activities before line (e ∷ es) = or_else (entry_fault activities before line e) (line_fault activities (before ++ e ∷ []) (line + 1) es)
+line_fault activities before line (e ∷ es) =
+    or_else (entry_fault activities before line e) (line_fault activities (before ++ e ∷ []) (line + 1) es)
 
 -- the least activity without a start
 abbrev pub missing_fault : List (Option ℤ) → Option StartsFault
@@ -86,7 +92,9 @@ missing_fault starts = option_map faults.Missing (position is_none starts)
 -- the first fault of a text: its length, then its lines in order, then the activities
 abbrev pub starts_fault : ℕ → List ℕ → Option StartsFault
 starts_fault activities text =
-    if nat_lt MAX_TEXT_BYTES (length text) then Some faults.TooLong else or_else (line_fault activities [] 1 (entries text)) (missing_fault (starts_given activities (entries text)))
+    if nat_lt MAX_TEXT_BYTES (length text)
+    then Some faults.TooLong
+    else or_else (line_fault activities [] 1 (entries text)) (missing_fault (starts_given activities (entries text)))
 
 -- the start that a text gives each activity, in order
 abbrev pub starts_of : ℕ → List ℕ → List ℤ

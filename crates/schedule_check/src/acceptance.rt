@@ -35,7 +35,8 @@ pub fn accept(
     starts: Vec<i64>,
 ) -> Result<Schedule, AcceptFault>
     requires { AreStarts (arc_value project) starts.items }
-    ensures schedule { IfOk result (λ schedule. schedule ≡ record { project = arc_value project; starts = starts.items }) }
+    ensures schedule { IfOk result (λ schedule.
+        schedule ≡ record { project = arc_value project; starts = starts.items }) }
     ensures feasible { OnOk result (IsFeasible (arc_value project) starts.items) }
     ensures fault { IfErr result (IsRefusal (arc_value project) starts.items) }
 {

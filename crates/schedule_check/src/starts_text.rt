@@ -1,10 +1,10 @@
-ghost use Rattle.std.specs.Prelude.{◌≡◌, ◌≢◌, ◌+◌, ◌<◌, ◌≤◌, ◌^◌, length, List, [], ℤ, Option, None, Some, OnOk, IfOk, IfErr};
+ghost use Rattle.std.specs.Prelude.{◌≡◌, ◌≢◌, ◌+◌, ◌<◌, ◌≤◌, ◌^◌, length, [], None, Some, OnOk, IfOk, IfErr};
 ghost use Rattle.std.specs.List.{All};
 ghost use Rattle.std.specs.Result.{result_err};
 ghost use Rattle.std.specs.Str.Lines.{lines};
 ghost use Rattle.network.specs.Limits.{IsTime};
 ghost use Rattle.schedule_check.specs.Starts.{entries, line_entries, line_fault, starts_fault, starts_given, starts_of, IsStartsText};
-ghost use Rattle.schedule_check.specs.Table.{first_fault, with_entries};
+ghost use Rattle.schedule_check.specs.Table.{first_fault, with_entries, SaysTheSame};
 ghost use Rattle.schedule_check.specs.declared.fault.StartsFault.TheVariants.{Memory};
 
 use crate::entry::{entry_of, is_answer};
@@ -16,8 +16,7 @@ use words::MAX_TEXT_BYTES;
 
 /// What is left of a text without the first line of an answer, and the number of its first line.
 fn skip_answer(text: &[u8]) -> (&[u8], usize)
-    ensures fault { (found : List (Option ℤ)) → first_fault found 1 (entries text.now) ≡ first_fault found result.1 (line_entries (lines result.0.now)) }
-    ensures table { (found : List (Option ℤ)) → with_entries found (entries text.now) ≡ with_entries found (line_entries (lines result.0.now)) }
+    ensures same { SaysTheSame text.now result.0.now result.1 }
     ensures room { result.1 + length result.0.now ≤ length text.now + 1 }
 {
     if is_answer(text) {
@@ -60,7 +59,8 @@ fn read_lines(
     requires { length text.now ≤ MAX_TEXT_BYTES }
     ensures fine { OnOk result (line_fault activities [] 1 (entries text.now) ≡ None) }
     ensures table { IfOk result (λ table. table.items ≡ starts_given activities (entries text.now)) }
-    ensures fault { IfErr result (λ fault. fault ≢ Memory → line_fault activities [] 1 (entries text.now) ≡ Some fault) }
+    ensures fault { IfErr result (λ fault.
+        fault ≢ Memory → line_fault activities [] 1 (entries text.now) ≡ Some fault) }
 {
     let mut table = empty_table(alloc, activities)?;
     let (rest, first) = skip_answer(text);

@@ -84,7 +84,8 @@ fn push_overloads(
     starts: &[i64],
 ) -> Result<(), AllocError>
     requires { AreStarts project.now starts.now }
-    ensures { OnOk result (violations.new.items ≡ violations.old.items ++ overload_violations (excesses project.now starts.now)) }
+    ensures { OnOk result (violations.new.items
+        ≡ violations.old.items ++ overload_violations (excesses project.now starts.now)) }
 {
     let excesses = overloads(alloc, project, starts)?;
     for excess in &excesses {

@@ -7,7 +7,7 @@ use Rattle.record_text.specs.declared.line.Line.{Line}
 use Rattle.record_text.specs.declared.line.Line.TheVariants as kind
 use Rattle.record_text.specs.Tree.{Tree, force, solved, cut, dead, split, Trees, no_trees, tree, count_trees, pair_count, IsTree, AreTrees, lines_of, lines_of_all}
 use Rattle.search_record.specs.Places.{Place, place, places, kid_places}
-use Rattle.search_record.specs.Members.{due_after}
+use Rattle.search_record.specs.Due.{due_after}
 
 -- a split has a node for each ordered pair of its members
 pub kid_for_each : (members : List ℕ) (kids : Trees) → count_trees kids ≡ pair_count members → count_trees kids ≡ length (ordered_pairs members)
@@ -17,7 +17,7 @@ kid_for_each members kids count = count ∙ sym (count_pairs members)
 abbrev pub flat : List (List Pair) → List Line → List Place
 flat due [] = []
 flat [] (line ∷ lines) = []
-flat (pairs ∷ due) (line ∷ lines) = place pairs line ∷ flat (due_after pairs line ++ due) lines
+flat (pairs ∷ due) (line ∷ lines) = place pairs line ∷ flat (due_after line (pairs ∷ due)) lines
 
 abbrev pub with_pair : List Pair → Pair → List Pair
 with_pair pairs pair = pairs ++ pair ∷ []

@@ -17,7 +17,7 @@ use Rattle.record_text.specs.declared.line.Line.{Line}
 use Rattle.record_text.specs.declared.line.Line.TheVariants as kind
 use Rattle.record_text.specs.SearchRecord.{IsTreeOf}
 use Rattle.record_text.specs.Tree.{Tree, force, solved, cut, dead, split, lines_of}
-use Rattle.search_record.specs.Members.{due_after}
+use Rattle.search_record.specs.Due.{due_after}
 use Rattle.search_record.specs.Places.{Place, place, places, kid_places}
 use Rattle.search_record.specs.Right.{IsRightLine, IsRightPlace, AreRightLines}
 use Rattle.search_record.specs.Faults.{why_wrong, IsFirstWrong}
@@ -49,10 +49,10 @@ some_due p limit lines [] line rest count so_far = absurd (let same = so_far.eno
 some_due p limit lines (pairs ∷ due) line rest count so_far = omega arith
 
 pub reached_more : (p : Problem) (limit : Option ℤ) (lines : List Line) (pairs : List Pair) (due : List (List Pair)) (line : Line) (rest : List Line) (count : ℕ) →
-    Reached p limit lines (pairs ∷ due) (line ∷ rest) count → IsRightLine p limit pairs line → Reached p limit lines (due_after pairs line ++ due) rest (count + 1)
+    Reached p limit lines (pairs ∷ due) (line ∷ rest) count → IsRightLine p limit pairs line → Reached p limit lines (due_after line (pairs ∷ due)) rest (count + 1)
 reached_more p limit lines pairs due line rest count so_far here = record {
   before = so_far.before ++ place pairs line ∷ [];
-  placed = so_far.placed ∙ sym (append_assoc so_far.before (place pairs line ∷ []) (flat (due_after pairs line ++ due) rest));
+  placed = so_far.placed ∙ sym (append_assoc so_far.before (place pairs line ∷ []) (flat (due_after line (pairs ∷ due)) rest));
   counted = omega (arith, length-append so_far.before (place pairs line ∷ []), so_far.counted);
   right = All-push (IsRightPlace p limit) so_far.before (place pairs line) so_far.right here;
   enough = omega (arith, so_far.enough);
@@ -73,7 +73,7 @@ reached_wrong p limit first lines pairs due line rest count t fault of so_far no
   tree_of = of;
   before = so_far.before;
   here = place pairs line;
-  after = flat (due_after pairs line ++ due) rest;
+  after = flat (due_after line (pairs ∷ due)) rest;
   placed = sym (flat_whole t lines of.shape of.spelled) ∙ so_far.placed;
   right = so_far.right;
   wrong = no_right;

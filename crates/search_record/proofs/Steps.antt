@@ -1,5 +1,5 @@
 -- The nodes that are due, step by step.
-use Rattle.std.proofs.Common.{◌≡◌, ℕ, zero, suc, ◌≤◌, Bool, true, false, List, [], ◌∷◌, ◌++◌, length, map, take, reverse, refl, sym, ap, ◌∙◌, arith, length-append, append_assoc, ◌+◌, ◌<◌, Result, Ok, Err, ℤ, Option}
+use Rattle.std.proofs.Common.{◌≡◌, ℕ, zero, suc, ◌≤◌, Bool, true, false, List, [], ◌∷◌, ◌++◌, length, map, take, drop, reverse, refl, sym, ap, ◌∙◌, arith, length-append, append_assoc, ◌+◌, ◌<◌, Result, Ok, Err, ℤ, Option}
 use Rattle.std.specs.Prelude.{OnOk, OnErr}
 use Rattle.std.specs.List.{All}
 use Rattle.std.proofs.lemmas.List.{reverse-append, take-append-le, length-take-le, map-append}
@@ -15,7 +15,7 @@ use Rattle.search_record.specs.Members.{NamesActivities}
 use Rattle.search_record.specs.Right.{IsRightLine}
 use Rattle.search_record.specs.declared.later.Later.{Later}
 use Rattle.search_record.specs.Later.{pairs_at, nodes_due, AreNested, IsOver, later_at}
-use Rattle.search_record.specs.Due.{IsDueAlong}
+use Rattle.search_record.specs.Due.{IsDueAlong, due_forced, due_split}
 
 pub nested_deeper : (p : Problem) (d e : ℕ) (later : List Later) → d ≤ e → AreNested p d later → AreNested p e later
 nested_deeper p d e [] deep h = tt
@@ -39,26 +39,28 @@ take_twice (suc n) (suc d) (x ∷ xs) few = ap (λ (rest : List Pair). x ∷ res
 take_moved : (path : List Pair) (pair : Pair) (d n : ℕ) → d ≤ length path → n ≤ d → take n (take d path ++ pair ∷ []) ≡ take n path
 take_moved path pair d n deep few = take-append-le n (take d path) (pair ∷ []) (omega (arith, length-take-le d path deep)) ∙ take_twice n d path few
 
-pub forced_due : (p : Problem) (there : Bool) (path : List Pair) (later : List Later) (pair : Pair) → AreNested p (length path) later → IsOver there later → (pairs : List Pair) (rest : List (List Pair)) → nodes_due there path later ≡ pairs ∷ rest
-    → nodes_due there (path ++ pair ∷ []) later ≡ (pairs ++ pair ∷ []) ∷ rest
-forced_due p false path later pair nested over pairs rest is = absurd (nothing later over is)
-  where
-    nothing : (ks : List Later) → ks ≡ [] → map (pairs_at path) ks ≡ pairs ∷ rest → ⊥
-    nothing [] over is = cc
-    nothing (k ∷ ks) over is = cc
-forced_due p true path later pair nested over pairs rest is =
-    let first : path ≡ pairs = cc in
-    let others : map (pairs_at path) later ≡ rest = cc in
-    ap (λ (q : List Pair). (q ++ pair ∷ []) ∷ map (pairs_at (path ++ pair ∷ [])) later) first
-    ∙ ap (λ (nodes : List (List Pair)). (pairs ++ pair ∷ []) ∷ nodes) (same_nodes p (length path) path (path ++ pair ∷ []) (λ n few. take_pushed path pair n few) later nested ∙ others)
+-- where no node is there, none is due
+none_due : (path : List Pair) (later : List Later) → later ≡ [] → map (pairs_at path) later ≡ []
+none_due path [] over = refl
+none_due path (k ∷ ks) over = cc
 
-pub left_due : (p : Problem) (there : Bool) (path : List Pair) (k : Later) (ks : List Later) → AreNested p (length path) (k ∷ ks) → IsOver there (k ∷ ks) → (pairs : List Pair) (rest : List (List Pair)) → nodes_due there path (k ∷ ks) ≡ pairs ∷ rest
-    → nodes_due there (take k.depth path ++ k.pair ∷ []) ks ≡ rest
-left_due p false path k ks nested over pairs rest is = cc
-left_due p true path k ks nested over pairs rest is =
-    let others : pairs_at path k ∷ map (pairs_at path) ks ≡ rest = cc in
+pub forced_due : (p : Problem) (there : Bool) (path : List Pair) (later : List Later) (pair : Pair) → AreNested p (length path) later → IsOver there later
+    → nodes_due there (path ++ pair ∷ []) later ≡ due_forced pair (nodes_due there path later)
+forced_due p true path later pair nested over =
+    ap (λ (nodes : List (List Pair)). (path ++ pair ∷ []) ∷ nodes) (same_nodes p (length path) path (path ++ pair ∷ []) (λ n few. take_pushed path pair n few) later nested)
+forced_due p false path later pair nested over =
+    none_due (path ++ pair ∷ []) later over ∙ sym (ap (due_forced pair) (none_due path later over))
+
+pub left_due : (p : Problem) (there : Bool) (path : List Pair) (k : Later) (ks : List Later) → AreNested p (length path) (k ∷ ks) → IsOver there (k ∷ ks)
+    → nodes_due there (take k.depth path ++ k.pair ∷ []) ks ≡ drop 1 (nodes_due there path (k ∷ ks))
+left_due p false path k ks nested over = cc
+left_due p true path k ks nested over =
     ap (λ (nodes : List (List Pair)). pairs_at path k ∷ nodes) (same_nodes p k.depth path (pairs_at path k) (λ n few. take_moved path k.pair k.depth n nested.0 few) ks nested.2)
-    ∙ others
+
+-- where no later node is left, none is due
+pub last_due : (there : Bool) (path : List Pair) (later : List Later) → later ≡ [] → nodes_due false path later ≡ drop 1 (nodes_due there path later)
+last_due true path later over = none_due path later over ∙ sym (none_due path later over)
+last_due false path later over = none_due path later over ∙ sym (ap (λ (nodes : List (List Pair)). drop 1 nodes) (none_due path later over))
 
 pub left_nested : (p : Problem) (path : List Pair) (k : Later) (ks : List Later) → AreNested p (length path) (k ∷ ks) → AreNested p (length (take k.depth path ++ k.pair ∷ [])) ks
 left_nested p path k ks nested = nested_deeper p k.depth (length (take k.depth path ++ k.pair ∷ [])) ks (omega (arith, length-append (take k.depth path) (k.pair ∷ []), length-take-le k.depth path nested.0)) nested.2
@@ -80,19 +82,10 @@ kids_due path (pair ∷ added) later =
     ap (λ (kept : List Pair). (kept ++ pair ∷ []) ∷ map (pairs_at path) (map (later_at (length path)) added ++ later)) (take_whole path)
     ∙ ap (λ (nodes : List (List Pair)). (path ++ pair ∷ []) ∷ nodes) (kids_due path added later)
 
-pub split_due : (there : Bool) (path : List Pair) (later new : List Later) (added : List Pair) → new ≡ map (later_at (length path)) added ++ later → IsOver there later → (pairs : List Pair) (rest : List (List Pair)) → nodes_due there path later ≡ pairs ∷ rest
-    → nodes_due there path new ≡ pairs ∷ (map (λ (pair : Pair). pairs ++ pair ∷ []) added ++ rest)
-split_due false path later new added grows over pairs rest is = absurd (nothing later over is)
-  where
-    nothing : (ks : List Later) → ks ≡ [] → map (pairs_at path) ks ≡ pairs ∷ rest → ⊥
-    nothing [] over is = cc
-    nothing (k ∷ ks) over is = cc
-split_due true path later new added grows over pairs rest is =
-    let first : path ≡ pairs = cc in
-    let others : map (pairs_at path) later ≡ rest = cc in
-    ap (λ (ks : List Later). path ∷ map (pairs_at path) ks) grows
-    ∙ ap (λ (nodes : List (List Pair)). path ∷ nodes) (kids_due path added later ∙ ap (λ (nodes : List (List Pair)). map (λ (pair : Pair). path ++ pair ∷ []) added ++ nodes) others)
-    ∙ ap (λ (q : List Pair). q ∷ (map (λ (pair : Pair). q ++ pair ∷ []) added ++ rest)) first
+pub split_due : (there : Bool) (path : List Pair) (later new : List Later) (members : List ℕ) → new ≡ map (later_at (length path)) (ordered_pairs members) ++ later → IsOver there later → 0 < length (nodes_due there path later)
+    → drop 1 (nodes_due there path new) ≡ due_split members (nodes_due there path later)
+split_due true path later new members grows over some = ap (map (pairs_at path)) grows ∙ kids_due path (ordered_pairs members) later
+split_due false path later new members grows over some = absurd (let none = ap length (none_due path later over) in omega (arith, none, some))
 
 -- ---- one step
 

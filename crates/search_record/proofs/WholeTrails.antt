@@ -11,16 +11,12 @@ use Rattle.book.specs.RightTrail.{IsWholeTree}
 use Rattle.record_text.specs.SearchRecord.{SearchRecord}
 use Rattle.record_text.specs.Text.{IsWritableClaim, IsRecord}
 use Rattle.record_text.specs.Tree.{lines_of}
-use Rattle.search_record.specs.Claims.{claim_of}
+use Rattle.search_record.specs.Claims.{claim_of, IsKeptSchedule}
 use Rattle.search_record.specs.Places.{places}
 use Rattle.search_record.specs.Right.{limit_of, IsRightPlace, AreRightStarts, IsRight}
 use Rattle.search_record.specs.TrailTree.{tree_under}
 use Rattle.search_record.proofs.Spelled.{spelled_claim, spelled_tree}
 use Rattle.search_record.proofs.TrailTrees.{trail_right}
-
--- a schedule as its type keeps it
-abbrev pub IsKeptSchedule : ScheduleOf → Type 0
-IsKeptSchedule s = IsFeasible s.project s.starts × AreStarts s.project s.starts
 
 -- the best of a search for the project, and the whole trail of that
 pub record IsOver (p : Problem) (best : Option ScheduleOf) (entries : List Entry) : Type 0 where

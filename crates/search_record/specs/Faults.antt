@@ -2,6 +2,7 @@
 use Rattle.std.specs.Prelude.{◌≡◌, ◌⊎◌, ℕ, ◌+◌, ℤ, Option, List, [], ◌∷◌, ◌++◌, length}
 use Rattle.std.specs.List.{All}
 use Rattle.network.specs.Problem.{Problem}
+use Rattle.branching.specs.Right.{IsDead}
 use Rattle.record_text.specs.declared.fault.RecordFault.{RecordFault}
 use Rattle.record_text.specs.declared.fault.Why.{Why}
 use Rattle.record_text.specs.declared.fault.Why.TheVariants as why
@@ -27,7 +28,8 @@ why_wrong kind.Cut = why.Leaf
 why_wrong kind.Dead = why.Leaf
 
 -- of the lines of a tree, which are numbered from this one, the first that is not right
-pub record IsFirstWrong (p : Problem) (limit : Option ℤ) (first : ℕ) (lines : List Line) (fault : RecordFault) : Type 0 where
+pub record IsFirstWrong
+    (p : Problem) (limit : Option ℤ) (first : ℕ) (lines : List Line) (fault : RecordFault) : Type 0 where
   pub whole : Tree
   pub tree_of : IsTreeOf lines whole
   pub before : List Place
@@ -38,6 +40,11 @@ pub record IsFirstWrong (p : Problem) (limit : Option ℤ) (first : ℕ) (lines 
   pub wrong : ¬ IsRightPlace p limit here
   pub line : fault.line ≡ first + length before
   pub why : fault.why ≡ why_wrong here.line
+
+-- the same where the root of the tree is dead, whatever the project and the limit
+abbrev pub IsFirstWrongOfDead : ℕ → List Line → RecordFault → Type 0
+IsFirstWrongOfDead first lines fault =
+    (p : Problem) (limit : Option ℤ) → IsDead p [] → IsFirstWrong p limit first lines fault
 
 -- the starts are wrong
 pub record HasWrongStarts (p : Problem) (claim : Claim) (fault : RecordFault) : Type 0 where

@@ -18,7 +18,13 @@ nodes_due is_there path later = (if is_there then path ∷ [] else []) ++ map (p
 -- each leaves the path where it ends, or no deeper than the one before it does, by a pair of activities
 abbrev pub AreNested : Problem → ℕ → List Later → Type 0
 AreNested p depth [] = Unit {0}
-AreNested p depth (later ∷ others) = (later.depth ≤ depth) × NameActivities p (later.pair ∷ []) × AreNested p later.depth others
+AreNested p depth (later ∷ others) =
+    (later.depth ≤ depth) × NameActivities p (later.pair ∷ []) × AreNested p later.depth others
+
+-- with pairs of activities added, they are nested still
+abbrev pub StayNested : ℕ → List Pair → List Later → List Later → Type 0
+StayNested depth pairs old new =
+    (p : Problem) → NameActivities p pairs → AreNested p depth old → AreNested p depth new
 
 -- where no node is there, none comes later
 abbrev pub IsOver : Bool → List Later → Type 0

@@ -1,9 +1,7 @@
 -- Which lines name activities alone.
-use Rattle.std.specs.Prelude.{ℕ, ◌<◌, pos, ◌<ℤ◌, List, [], ◌∷◌, ◌++◌, map}
+use Rattle.std.specs.Prelude.{ℕ, ◌<◌, pos, ◌<ℤ◌, [], ◌∷◌}
 use Rattle.std.specs.List.{All}
-use Rattle.network.specs.declared.lag.Pair.{Pair}
 use Rattle.network.specs.Problem.{Problem, activity_count, duration, NameActivities}
-use Rattle.branching.specs.Pairs.{ordered_pairs}
 use Rattle.record_text.specs.declared.line.Line.{Line}
 use Rattle.record_text.specs.declared.line.Line.TheVariants as kind
 
@@ -17,11 +15,3 @@ abbrev pub NamesActivities : Problem → Line → Type 0
 NamesActivities p (kind.Force pair) = NameActivities p (pair ∷ [])
 NamesActivities p (kind.Split resource members) = All (λ i. i < activity_count p) members
 NamesActivities p line = Unit {0}
-
--- the pairs of the nodes that come next after a line of a node, before any other that is due
-abbrev pub due_after : List Pair → Line → List (List Pair)
-due_after pairs (kind.Force pair) = (pairs ++ pair ∷ []) ∷ []
-due_after pairs (kind.Split resource members) = map (λ pair. pairs ++ pair ∷ []) (ordered_pairs members)
-due_after pairs kind.Solved = []
-due_after pairs kind.Cut = []
-due_after pairs kind.Dead = []

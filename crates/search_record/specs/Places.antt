@@ -22,7 +22,8 @@ abbrev mutual
   places pairs solved = place pairs kind.Solved ∷ []
   places pairs cut = place pairs kind.Cut ∷ []
   places pairs dead = place pairs kind.Dead ∷ []
-  places pairs (split resource members kids) = place pairs (kind.Split resource members) ∷ kid_places pairs (ordered_pairs members) kids
+  places pairs (split resource members kids) =
+      place pairs (kind.Split resource members) ∷ kid_places pairs (ordered_pairs members) kids
 
   pub kid_places : List Pair → List Pair → Trees → List Place
   kid_places pairs (pair ∷ more) (tree t ts) = places (pairs ++ pair ∷ []) t ++ kid_places pairs more ts

@@ -1,9 +1,11 @@
 -- When a record is right for a project.
-use Rattle.std.specs.Prelude.{◌≡◌, ℤ, Option, Some, None, List, []}
+use Rattle.std.specs.Prelude.{◌≡◌, ◌↔◌, ℤ, Bool, IsTrue, Option, Some, None, List, []}
 use Rattle.std.specs.List.{All}
 use Rattle.network.specs.declared.lag.Pair.{Pair}
 use Rattle.network.specs.Problem.{Problem}
+use Rattle.network.specs.ProjectMatrix.{IsProjectMatrix}
 use Rattle.network.specs.Schedule.{IsFeasible, makespan}
+use Rattle.network.specs.Walk.{Rows}
 use Rattle.branching.specs.Subproblem.{IsLive}
 use Rattle.branching.specs.Right.{IsForced, IsRightSet, IsDead, IsCutUnder, IsSolvedUnder}
 use Rattle.record_text.specs.declared.line.Claim.{Claim}
@@ -26,6 +28,10 @@ IsRightLine p limit pairs kind.Solved = IsSolvedUnder p pairs limit
 IsRightLine p limit pairs kind.Cut = IsCutUnder p pairs limit
 IsRightLine p limit pairs kind.Dead = IsDead p pairs
 IsRightLine p limit pairs (kind.Split resource members) = IsLive p pairs × IsRightSet p resource members
+
+-- whatever pairs the rows are the matrix of, the test tells whether this holds of them
+abbrev pub Tells : Problem → Rows → (List Pair → Type 0) → Bool → Type 0
+Tells p rows Holds test = (pairs : List Pair) → IsProjectMatrix p pairs rows → IsTrue test ↔ Holds pairs
 
 abbrev pub IsRightPlace : Problem → Option ℤ → Place → Type 0
 IsRightPlace p limit here = IsRightLine p limit here.pairs here.line

@@ -60,7 +60,8 @@ node_lines forced last = map kind.Force forced ++ last ∷ []
 
 -- the lines of a pair's own node
 abbrev pub fate_lines : List Entry → PairFate → List Line
-fate_lines entries (was_named name) = node_lines (entry_at entries name).forced (ending_line (entry_at entries name).ending)
+fate_lines entries (was_named name) =
+    node_lines (entry_at entries name).forced (ending_line (entry_at entries name).ending)
 fate_lines entries (was_dead forced) = node_lines forced kind.Dead
 fate_lines entries (was_not_opened forced) = node_lines forced kind.Cut
 
@@ -90,4 +91,5 @@ LeadOn count name (fate ∷ fates) = LeadsOn count name fate × LeadOn count nam
 
 -- each node's kids have later names
 abbrev pub KidsAreLater : List Entry → Type 0
-KidsAreLater entries = (name : ℕ) → name < length entries → LeadOn (length entries) name (ending_fates (entry_at entries name).ending)
+KidsAreLater entries =
+    (name : ℕ) → name < length entries → LeadOn (length entries) name (ending_fates (entry_at entries name).ending)

@@ -1,9 +1,8 @@
-ghost use Rattle.std.specs.Prelude.{◌≡◌, ◌<◌, List, [], ◌∷◌, ◌++◌, map, length, IfOk, OnOk, MatchOption};
+ghost use Rattle.std.specs.Prelude.{◌≡◌, ◌<◌, List, [], ◌∷◌, drop, length, IfOk, OnOk};
 ghost use Rattle.network.specs.declared.lag.Pair.{Pair};
 ghost use Rattle.network.specs.Problem.{NameActivities};
 ghost use Rattle.branching.specs.Path.{Path};
-ghost use Rattle.branching.specs.Right.{IsDead};
-ghost use Rattle.search_record.specs.Due.{DueNodes};
+ghost use Rattle.search_record.specs.Due.{IsRootDue, due_forced, due_split, due_after};
 
 use crate::later::{Later, push_later};
 use crate::node::Node;
@@ -30,7 +29,10 @@ impl<'a> Model for Due<'a> {
 
     ghost Value = { DueNodes };
 
-    ghost view = { λ s. record { project = s.node.project; nodes = nodes_due s.is_there s.node.pairs (reverse s.later.items) } };
+    ghost view = { λ s. record {
+      project = s.node.project;
+      nodes = nodes_due s.is_there s.node.pairs (reverse s.later.items);
+    } };
 
     ghost invariant = { λ s. IsDueAlong s.is_there s.node (reverse s.later.items) };
 }
@@ -38,12 +40,11 @@ impl<'a> Model for Due<'a> {
 impl<'a> Due<'a> {
     ghost use Rattle.std.specs.List.{All};
     ghost use Rattle.network.specs.Problem.{activity_count};
-    ghost use Rattle.branching.specs.Pairs.{ordered_pairs};
-    ghost use Rattle.search_record.specs.Members.{NamesActivities, due_after};
+    ghost use Rattle.search_record.specs.Members.{NamesActivities};
 
     /// The node without pairs alone; none where the project itself has a closed walk of positive weight.
     pub(crate) fn root(alloc: Global, project: &'a Project) -> Result<Option<Due<'a>>, AllocError>
-        ensures { IfOk result (λ found. MatchOption found (IsDead project.now []) (λ due. due ≡ record { project = project.now; nodes = [] ∷ [] })) }
+        ensures { IfOk result (IsRootDue project.now) }
     {
         match Node::root(alloc, project)? {
             Some(node) => Ok(Some(Due {
@@ -69,7 +70,7 @@ impl<'a> Due<'a> {
         requires there { 0 < length self.old.nodes }
         requires named { NameActivities self.old.project (pair ∷ []) }
         ensures project { self.new.project ≡ self.old.project }
-        ensures nodes { OnOk result ((pairs : List Pair) (rest : List (List Pair)) → self.old.nodes ≡ pairs ∷ rest → self.new.nodes ≡ (pairs ++ pair ∷ []) ∷ rest) }
+        ensures nodes { OnOk result (self.new.nodes ≡ due_forced pair self.old.nodes) }
     {
         self.node.add(pair)
     }
@@ -78,7 +79,7 @@ impl<'a> Due<'a> {
     fn leave(&mut self) -> Result<(), AllocError>
         requires { 0 < length self.old.nodes }
         ensures project { self.new.project ≡ self.old.project }
-        ensures nodes { OnOk result ((pairs : List Pair) (rest : List (List Pair)) → self.old.nodes ≡ pairs ∷ rest → self.new.nodes ≡ rest) }
+        ensures nodes { OnOk result (self.new.nodes ≡ drop 1 self.old.nodes) }
     {
         match self.later.pop() {
             Some(later) => {
@@ -95,7 +96,7 @@ impl<'a> Due<'a> {
         requires there { 0 < length self.old.nodes }
         requires named { All (λ i. i < activity_count self.old.project) members.now }
         ensures project { self.new.project ≡ self.old.project }
-        ensures nodes { OnOk result ((pairs : List Pair) (rest : List (List Pair)) → self.old.nodes ≡ pairs ∷ rest → self.new.nodes ≡ map (λ pair. pairs ++ pair ∷ []) (ordered_pairs members.now) ++ rest) }
+        ensures nodes { OnOk result (self.new.nodes ≡ due_split members.now self.old.nodes) }
     {
         let pairs = ordered_pairs(alloc, members)?;
         let depth = self.node.depth();
@@ -109,7 +110,7 @@ impl<'a> Due<'a> {
         requires there { 0 < length self.old.nodes }
         requires named { NamesActivities self.old.project line.now }
         ensures project { self.new.project ≡ self.old.project }
-        ensures nodes { OnOk result ((pairs : List Pair) (rest : List (List Pair)) → self.old.nodes ≡ pairs ∷ rest → self.new.nodes ≡ due_after pairs line.now ++ rest) }
+        ensures nodes { OnOk result (self.new.nodes ≡ due_after line.now self.old.nodes) }
     {
         match line {
             Line::Force(pair) => self.force(*pair)?,

@@ -1,9 +1,7 @@
 ghost use Rattle.std.specs.Prelude.{◌≡◌, IfOk, OnOk, IfSome, option_map};
-ghost use Rattle.network.specs.Limits.{AreStarts};
-ghost use Rattle.network.specs.Schedule.{IsFeasible};
 ghost use Rattle.branching.specs.Covered.{ceiling_of};
 ghost use Rattle.book.specs.RightTrail.{IsWholeTree};
-ghost use Rattle.search_record.specs.Claims.{claim_of};
+ghost use Rattle.search_record.specs.Claims.{claim_of, IsKeptSchedule};
 ghost use Rattle.search_record.specs.Right.{IsRight};
 
 use crate::walk::trail_lines;
@@ -15,7 +13,7 @@ use std::alloc::{AllocError, Global};
 /// What a search claims whose best schedule this is.
 fn claim_of(alloc: Global, best: Option<&Schedule>) -> Result<Claim, AllocError>
     ensures claim { IfOk result (λ claim. claim ≡ claim_of (option_map (λ schedule. schedule.now) best.entry)) }
-    ensures schedule { OnOk result (IfSome (option_map (λ schedule. schedule.now) best.entry) (λ s. IsFeasible s.project s.starts × AreStarts s.project s.starts)) }
+    ensures schedule { OnOk result (IfSome (option_map (λ schedule. schedule.now) best.entry) IsKeptSchedule) }
 {
     let Some(schedule) = best else {
         return Ok(Claim::NoSchedule);
@@ -31,7 +29,8 @@ fn claim_of(alloc: Global, best: Option<&Schedule>) -> Result<Claim, AllocError>
 /// The record of a search that is over: the trail is a whole tree for the makespan of the search's best schedule. It
 /// claims that the best is a shortest schedule, or that there is none where none was found.
 pub fn of_trail(alloc: Global, trail: &Trail, best: Option<&Schedule>) -> Result<Record, AllocError>
-    requires whole { IsWholeTree trail.now.project (ceiling_of (option_map (λ schedule. schedule.now) best)) trail.now.entries }
+    requires whole { IsWholeTree trail.now.project
+        (ceiling_of (option_map (λ schedule. schedule.now) best)) trail.now.entries }
     requires of_project { IfSome (option_map (λ schedule. schedule.now) best) (λ s. s.project ≡ trail.now.project) }
     ensures right { IfOk result (IsRight trail.now.project) }
     ensures claim { IfOk result (λ shown. shown.claim ≡ claim_of (option_map (λ schedule. schedule.now) best.entry)) }

@@ -1,26 +1,24 @@
-ghost use Rattle.std.specs.Prelude.{◌↔◌, ◌∷◌, [], List, IsTrue, IfOk};
-ghost use Rattle.network.specs.declared.lag.Pair.{Pair};
+ghost use Rattle.std.specs.Prelude.{◌∷◌, [], IfOk};
 ghost use Rattle.network.specs.Problem.{NameActivities};
-ghost use Rattle.network.specs.ProjectMatrix.{IsProjectMatrix};
 ghost use Rattle.bounds.specs.Bound.{IsMatrixFor};
 ghost use Rattle.branching.specs.Right.{IsTooLateFor, IsForced, IsCut, IsSolved};
-ghost use Rattle.search_record.specs.Right.{IsRightLine};
+ghost use Rattle.search_record.specs.Right.{IsRightLine, Tells};
 
 use crate::members::is_right_set;
 use bounds::bound;
-use branching::are_incompatible;
 use earliest::least_starts;
 use longest_path::Matrix;
 use network::{Pair, Project};
 use profile::first_overload;
 use record_text::Line;
+use rivals::are_incompatible;
 use std::alloc::{AllocError, Global};
 
 /// Whether the pair's second activity can't end before its first starts.
 fn is_too_late(project: &Project, matrix: &Matrix, pair: Pair) -> bool
     requires matrix { IsMatrixFor project.now matrix.now }
     requires named { NameActivities project.now (pair ∷ []) }
-    ensures { (pairs : List Pair) → IsProjectMatrix project.now pairs matrix.now → IsTrue result ↔ IsTooLateFor project.now pairs pair }
+    ensures { Tells project.now matrix.now (λ pairs. IsTooLateFor project.now pairs pair) result }
 {
     match matrix.get(pair.before, pair.after) {
         Some(weight) => weight + project.duration(pair.after) > 0,
@@ -31,7 +29,7 @@ fn is_too_late(project: &Project, matrix: &Matrix, pair: Pair) -> bool
 /// Whether the pair is forced, by the matrix of its node.
 fn is_forced(project: &Project, matrix: &Matrix, pair: Pair) -> bool
     requires { IsMatrixFor project.now matrix.now }
-    ensures { (pairs : List Pair) → IsProjectMatrix project.now pairs matrix.now → IsTrue result ↔ IsForced project.now pairs pair }
+    ensures { Tells project.now matrix.now (λ pairs. IsForced project.now pairs pair) result }
 {
     if !are_incompatible(project, pair) {
         return false;
@@ -42,7 +40,7 @@ fn is_forced(project: &Project, matrix: &Matrix, pair: Pair) -> bool
 /// Whether the bound of a node's matrix is at least the limit.
 fn is_cut(alloc: Global, project: &Project, matrix: &Matrix, limit: i64) -> Result<bool, AllocError>
     requires { IsMatrixFor project.now matrix.now }
-    ensures { IfOk result (λ yes. (pairs : List Pair) → IsProjectMatrix project.now pairs matrix.now → IsTrue yes ↔ IsCut project.now pairs limit) }
+    ensures { IfOk result (Tells project.now matrix.now (λ pairs. IsCut project.now pairs limit)) }
 {
     let bound = bound(alloc, project, matrix)?;
     Ok(bound >= limit)
@@ -56,7 +54,7 @@ fn is_solved(
     limit: i64,
 ) -> Result<bool, AllocError>
     requires { IsMatrixFor project.now matrix.now }
-    ensures { IfOk result (λ yes. (pairs : List Pair) → IsProjectMatrix project.now pairs matrix.now → IsTrue yes ↔ IsSolved project.now pairs limit) }
+    ensures { IfOk result (Tells project.now matrix.now (λ pairs. IsSolved project.now pairs limit)) }
 {
     let end = project.activity_count() - 1;
     let starts = least_starts(alloc, matrix)?;
@@ -77,7 +75,7 @@ pub(crate) fn is_right_by(
     line: &Line,
 ) -> Result<bool, AllocError>
     requires { IsMatrixFor project.now matrix.now }
-    ensures { IfOk result (λ yes. (pairs : List Pair) → IsProjectMatrix project.now pairs matrix.now → IsTrue yes ↔ IsRightLine project.now limit pairs line.now) }
+    ensures { IfOk result (Tells project.now matrix.now (λ pairs. IsRightLine project.now limit pairs line.now)) }
 {
     let right = match line {
         Line::Force(pair) => is_forced(project, matrix, *pair),

@@ -1,6 +1,5 @@
 ghost use Rattle.std.specs.Prelude.{◌≡◌, ◌++◌, map, reverse, OnOk};
-ghost use Rattle.network.specs.Problem.{Problem, NameActivities};
-ghost use Rattle.search_record.specs.Later.{AreNested, later_at};
+ghost use Rattle.search_record.specs.Later.{StayNested, later_at};
 
 use network::Pair;
 use std::alloc::AllocError;
@@ -18,8 +17,9 @@ pub(crate) fn push_later(
     depth: usize,
     mut pairs: Vec<Pair>,
 ) -> Result<(), AllocError>
-    ensures added { OnOk result (reverse later.new.items ≡ map (later_at depth) pairs.items ++ reverse later.old.items) }
-    ensures nested { (p : Problem) → NameActivities p pairs.items → AreNested p depth (reverse later.old.items) → AreNested p depth (reverse later.new.items) }
+    ensures added { OnOk result (reverse later.new.items
+        ≡ map (later_at depth) pairs.items ++ reverse later.old.items) }
+    ensures nested { StayNested depth pairs.items (reverse later.old.items) (reverse later.new.items) }
 {
     while let Some(pair) = pairs.pop() {
         later.push(Later { depth, pair })?;

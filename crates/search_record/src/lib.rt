@@ -14,8 +14,6 @@ mod lines;
 mod members;
 mod node;
 mod proved;
-#[cfg(test)]
-mod tests;
 mod verification;
 mod walk;
 

@@ -6,7 +6,7 @@ ghost use Rattle.record_text.specs.SearchRecord.{IsTreeOf};
 ghost use Rattle.record_text.specs.declared.line.Line.TheVariants as kind;
 ghost use Rattle.record_text.specs.declared.fault.Why.TheVariants.{Memory};
 ghost use Rattle.search_record.specs.Right.{AreRightLines};
-ghost use Rattle.search_record.specs.Faults.{why_wrong, IsFirstWrong};
+ghost use Rattle.search_record.specs.Faults.{why_wrong, IsFirstWrong, IsFirstWrongOfDead};
 
 use crate::due::Due;
 use network::Project;
@@ -34,7 +34,7 @@ fn is_dead(line: &Line) -> bool
 fn check_dead(first: usize, lines: &[Line]) -> Result<(), RecordFault>
     requires { (t : Tree) × IsTreeOf lines.now t }
     ensures right { OnOk result ((p : Problem) (limit : Option ℤ) → IsDead p [] → AreRightLines p limit lines.now) }
-    ensures fault { IfErr result (λ fault. (p : Problem) (limit : Option ℤ) → IsDead p [] → IsFirstWrong p limit first lines.now fault) }
+    ensures fault { IfErr result (IsFirstWrongOfDead first lines.now) }
 {
     let line = &lines[0];
     if is_dead(line) {

@@ -1,10 +1,9 @@
-ghost use Rattle.std.specs.Prelude.{◌≡◌, ◌≤◌, ◌↔◌, ◌++◌, ◌∷◌, [], List, length, take, IsTrue, IfOk, OnOk, OnErr, MatchOption};
-ghost use Rattle.network.specs.declared.lag.Pair.{Pair};
-ghost use Rattle.network.specs.Problem.{Problem, NameActivities};
+ghost use Rattle.std.specs.Prelude.{◌≡◌, ◌≤◌, ◌↔◌, ◌++◌, ◌∷◌, [], length, take, IsTrue, IfOk, OnOk, OnErr, MatchOption};
+ghost use Rattle.network.specs.Problem.{NameActivities};
 ghost use Rattle.network.specs.ProjectMatrix.{IsProjectMatrix};
 ghost use Rattle.branching.specs.Path.{Path};
 ghost use Rattle.branching.specs.Right.{IsDead};
-ghost use Rattle.search_record.specs.Node.{IsMarkedAlong, IsAlong, IsAlongSome};
+ghost use Rattle.search_record.specs.Node.{IsAlongSome, IsRootNode, GoesAlong, StaysAlong};
 ghost use Rattle.search_record.specs.Right.{IsRightLine};
 
 use crate::judge::is_right_by;
@@ -47,7 +46,7 @@ fn go_along(
 ) -> Result<(), AllocError>
     requires named { NameActivities project.now (pair ∷ []) }
     requires along { IsAlongSome project.now matrix.old }
-    ensures along { OnOk result ((pairs : List Pair) → length pairs ≡ depth → IsAlong project.now pairs matrix.old → IsAlong project.now (pairs ++ pair ∷ []) matrix.new) }
+    ensures along { OnOk result (GoesAlong project.now depth pair matrix.old matrix.new) }
     ensures unchanged { OnErr result (matrix.new ≡ matrix.old) }
 {
     if matrix.mark_count() < depth {
@@ -65,7 +64,7 @@ fn go_along(
 fn go_back_to(matrix: &mut MarkedMatrix, count: usize)
     ensures at_once { length matrix.old.marks ≤ count → matrix.new ≡ matrix.old }
     ensures back { count ≤ length matrix.old.marks → length matrix.new.marks ≡ count }
-    ensures path { (p : Problem) (pairs : List Pair) → IsMarkedAlong p pairs matrix.old → IsMarkedAlong p pairs matrix.new }
+    ensures path { StaysAlong matrix.old matrix.new }
 {
     while matrix.mark_count() > count {
         matrix.go_back();
@@ -75,7 +74,7 @@ fn go_back_to(matrix: &mut MarkedMatrix, count: usize)
 impl<'a> Node<'a> {
     /// The node without pairs; none where the project itself has a closed walk of positive weight.
     pub(crate) fn root(alloc: Global, project: &'a Project) -> Result<Option<Node<'a>>, AllocError>
-        ensures { IfOk result (λ found. MatchOption found (IsDead project.now []) (λ node. node ≡ record { project = project.now; pairs = [] })) }
+        ensures { IfOk result (IsRootNode project.now) }
     {
         prove!(project.activity_count() >= 2);
         match longest(alloc, project, &[]) {
@@ -98,7 +97,9 @@ impl<'a> Node<'a> {
 
     /// The matrix of the project and the pairs; none where these have a closed walk of positive weight.
     fn matrix(&self) -> Option<&Matrix>
-        ensures { MatchOption result (IsDead self.now.project self.now.pairs) (λ matrix. IsProjectMatrix self.now.project self.now.pairs matrix.now) }
+        ensures { MatchOption result
+            (IsDead self.now.project self.now.pairs)
+            (λ matrix. IsProjectMatrix self.now.project self.now.pairs matrix.now) }
     {
         if self.matrix.mark_count() < self.pairs.len() {
             return None;

@@ -69,8 +69,10 @@ fn write_kid<'a>(
     kid: &KidFate,
 ) -> Result<&'a [KidFate], AllocError>
     requires { IsNamed (length entries.now) (pair_fate kid.now) }
-    ensures lines { OnOk result (lines.new.items ≡ lines.old.items ++ fate_lines (map trail_entry entries.now) (pair_fate kid.now)) }
-    ensures behind { IfOk result (λ fates. map pair_fate fates.now ≡ fates_behind (map trail_entry entries.now) (pair_fate kid.now)) }
+    ensures lines { OnOk result (lines.new.items
+        ≡ lines.old.items ++ fate_lines (map trail_entry entries.now) (pair_fate kid.now)) }
+    ensures behind { IfOk result (λ fates. map pair_fate fates.now
+        ≡ fates_behind (map trail_entry entries.now) (pair_fate kid.now)) }
 {
     match kid {
         KidFate::Opened { name } => {

@@ -1,7 +1,7 @@
 //! Workers that search one project over one locked book.
 //!
-//! [`solve`] does the whole: it opens a book, starts a thread for each worker, joins them and tells what is known then.
-//! [`solve_recorded`] also keeps what became of each node, of which a record of the search can be made.
+//! [`search`] does the whole: it opens a book, starts a thread for each worker, joins them and tells what is known then. It
+//! can keep what became of each node, of which a record of the search can be made.
 //! [`Shared`], [`Desk`] and [`work`] are its parts, for callers with threads of their own. Whatever the threads do, the
 //! book is sound whenever its lock is free, so its verdict is true of its project.
 //!
@@ -16,8 +16,6 @@ mod locked;
 mod serving;
 mod shared;
 mod solution;
-#[cfg(test)]
-mod tests;
 mod threads;
 
 pub use desk::{Desk, Tally};
@@ -25,4 +23,4 @@ pub use fault::SolveFault;
 pub use gate::{Gate, Moment, OpenGate};
 pub use serving::work;
 pub use shared::Shared;
-pub use solution::{Solved, solve, solve_recorded};
+pub use solution::{Solved, search, solve, solve_recorded};

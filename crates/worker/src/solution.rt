@@ -1,4 +1,4 @@
-ghost use Rattle.std.specs.Prelude.{◌≡◌, ◌+◌, ◌<◌, ◌↔◌, IfOk, IfErr, IfSome, length, map, sum_by, vec_len};
+ghost use Rattle.std.specs.Prelude.{◌≡◌, ◌+◌, ◌<◌, ◌↔◌, IfOk, IfErr, IfSome, is_some, length, map, sum_by, vec_len};
 ghost use Rattle.std.specs.Arc.{arc_value};
 ghost use Rattle.std.specs.Bool.{OnTrue};
 ghost use Rattle.book.specs.State.{live};
@@ -151,9 +151,46 @@ fn search_with<L: Ledger + Send + Sync, G: Gate, R: Threads + Wait + Sync>(
 
 /// Searches a project with workers in threads of their own: 1 to [`MAX_WORKERS`](book::MAX_WORKERS) of them, which
 /// take 1 to [`MAX_TAKES`](branching::MAX_TAKES) nodes in all. A schedule that is known is offered before they start.
+/// A recorded search keeps a trail: what became of each node that was opened. Where it was not stopped, a record of it
+/// can be made of the trail and the shortest schedule.
 ///
 /// Workers pass the gate while they don't hold the lock. Where several ended with faults, that of the one of least number
 /// is answered; [`SolveFault::Thread`] where a thread could not be started.
+pub fn search<G: Gate, R: Threads + Wait + Sync>(
+    rt: &R,
+    alloc: Global,
+    project: Arc<Project>,
+    workers: usize,
+    takes: u64,
+    start: Option<Schedule>,
+    recorded: bool,
+    gate: &G,
+) -> Result<(Solved, Option<Trail>), SolveFault>
+    ensures solution { IfOk result (λ r. IsSolution (arc_value project) workers takes r.0) }
+    ensures trail { IfOk result (λ r. IfSome r.1 (IsTrailOf (arc_value project) r.0.outcome)) }
+    ensures recorded { IfOk result (λ r. is_some r.1 ≡ recorded) }
+    ensures limits { RefusesLimits workers takes result }
+{
+    if !are_allowed(workers, takes) {
+        return Err(SolveFault::Limit);
+    }
+    let shared = Arc::try_clone(&project)?;
+    let book = if recorded {
+        Book::open_recorded(alloc, shared, workers, takes)?
+    } else {
+        Book::open(alloc, shared, workers, takes)?
+    };
+    let blank = Blank::new(workers as u64);
+    let (solved, trail) = search_with::<Brand, G, R>(
+        rt, alloc, blank, &project, book, workers, takes, start, gate,
+    )?;
+    if trail.is_some() != recorded {
+        return Err(SolveFault::Thread);
+    }
+    Ok((solved, trail))
+}
+
+/// Searches as [`search`] does, without a record.
 pub fn solve<G: Gate, R: Threads + Wait + Sync>(
     rt: &R,
     alloc: Global,
@@ -166,19 +203,11 @@ pub fn solve<G: Gate, R: Threads + Wait + Sync>(
     ensures solution { IfOk result (IsSolution (arc_value project) workers takes) }
     ensures limits { RefusesLimits workers takes result }
 {
-    if !are_allowed(workers, takes) {
-        return Err(SolveFault::Limit);
-    }
-    let book = Book::open(alloc, Arc::try_clone(&project)?, workers, takes)?;
-    let blank = Blank::new(workers as u64);
-    let (solved, _) = search_with::<Brand, G, R>(
-        rt, alloc, blank, &project, book, workers, takes, start, gate,
-    )?;
+    let (solved, _) = search(rt, alloc, project, workers, takes, start, false, gate)?;
     Ok(solved)
 }
 
-/// Searches as [`solve`] does, and keeps a trail: what became of each node that was opened. Where the search was not
-/// stopped, a record of it can be made of the trail and the shortest schedule.
+/// Searches as [`search`] does, with a record.
 pub fn solve_recorded<G: Gate, R: Threads + Wait + Sync>(
     rt: &R,
     alloc: Global,
@@ -192,16 +221,9 @@ pub fn solve_recorded<G: Gate, R: Threads + Wait + Sync>(
     ensures trail { IfOk result (λ r. IsTrailOf (arc_value project) r.0.outcome r.1) }
     ensures limits { RefusesLimits workers takes result }
 {
-    if !are_allowed(workers, takes) {
-        return Err(SolveFault::Limit);
-    }
-    let book = Book::open_recorded(alloc, Arc::try_clone(&project)?, workers, takes)?;
-    let blank = Blank::new(workers as u64);
-    let (solved, trail) = search_with::<Brand, G, R>(
-        rt, alloc, blank, &project, book, workers, takes, start, gate,
-    )?;
-    match trail {
-        Some(trail) => Ok((solved, trail)),
-        None => Err(SolveFault::Thread),
-    }
+    let (solved, Some(trail)) = search(rt, alloc, project, workers, takes, start, true, gate)?
+    else {
+        unreachable!()
+    };
+    Ok((solved, trail))
 }

@@ -21,7 +21,8 @@ fn join_all<L: Ledger, R: Threads>(
     running: Vec<JoinHandle<Ended<L>>>,
     places: Vec<Desk<L>>,
 ) -> (Vec<Desk<L>>, Option<WorkFault>)
-    requires { (places.items ≡ []) × (vec_len running ≤ vec_capacity places) }
+    requires empty { places.items ≡ [] }
+    requires room { vec_len running ≤ vec_capacity places }
     ensures { vec_len result.0 ≡ vec_len running }
 {
     let mut desks = places;
@@ -55,7 +56,11 @@ pub(crate) fn run_workers<L: Ledger + Send + Sync, G: Gate, R: Threads + Wait + 
         thread::scope_env(),
         rt,
         move |scope| -> Result<Vec<Desk<L>>, SolveFault>
-            requires { IsRow shared.now desks.items × (room.items ≡ []) × (places.items ≡ []) × (vec_len desks ≤ vec_capacity room) × (vec_len desks ≤ vec_capacity places) }
+            requires row { IsRow shared.now desks.items }
+            requires room { room.items ≡ [] }
+            requires places { places.items ≡ [] }
+            requires room_for_all { vec_len desks ≤ vec_capacity room }
+            requires places_for_all { vec_len desks ≤ vec_capacity places }
             ensures count { IfOk result (λ back. vec_len back ≡ vec_len desks) }
             ensures fault { IfErr result IsWithinLimits }
         {

@@ -6,7 +6,7 @@ use Rattle.network.specs.Problem.{Problem, pair_arc}
 use Rattle.longest_path.specs.Insert.{AddsArc}
 use Rattle.longest_path.specs.Fault.{IsInsertFault}
 use Rattle.branching.specs.Base.{BaseOf}
-use Rattle.branching.specs.Incompatible.{AreIncompatible, AllIncompatible}
+use Rattle.rivals.specs.Incompatible.{AreIncompatible, AllIncompatible}
 use Rattle.branching.specs.IncompatibleRows.{pairs_of, AreRowsOf}
 use Rattle.branching.specs.Forcing.{IsFirstForced}
 use Rattle.branching.proofs.ForcedMatrices.{both_named, one_forced, dead_forced}

@@ -10,7 +10,7 @@ use Rattle.network.specs.Walk.{entry}
 use Rattle.longest_path.specs.Relax.{greater, joined}
 use Rattle.branching.specs.declared.incompatible.Incompatible.{Incompatible}
 use Rattle.branching.specs.Forcing.{IsForcedWith, way_over}
-use Rattle.branching.specs.Incompatible.{AreIncompatible}
+use Rattle.rivals.specs.Incompatible.{AreIncompatible}
 use Rattle.branching.specs.IncompatibleRows.{pairs_before}
 use Rattle.branching.specs.Pairs.{pair_of}
 use Rattle.branching.proofs.Forcings.{unless, when, both_ways, over_by, by_way, no_way, none_before, none_over, none_from, none_of_all, pair_more, some_of_row, row_at}

@@ -3,7 +3,7 @@ use Rattle.std.specs.List.{All}
 use Rattle.std.proofs.lemmas.List.{take_all}
 use Rattle.branching.specs.declared.incompatible.Incompatible.{Incompatible}
 use Rattle.branching.specs.Forcing.{IsForcedIn}
-use Rattle.branching.specs.Incompatible.{AreIncompatible}
+use Rattle.rivals.specs.Incompatible.{AreIncompatible}
 use Rattle.branching.specs.IncompatibleRows.{pairs_before}
 use Rattle.branching.specs.Pairs.{pair_of}
 use Rattle.branching.proofs.Forcings.{unless, when, pair_more, first_of_row, row_at}

@@ -1,6 +1,6 @@
 use Rattle.std.proofs.lemmas.List.{map-append}
 use Rattle.std.proofs.lemmas.List.Elements.{All-push}
-use Rattle.branching.specs.Incompatible.{AreIncompatible}
+use Rattle.rivals.specs.Incompatible.{AreIncompatible}
 use Rattle.branching.specs.Pairs.{pair_of}
 use Rattle.branching.proofs.incompatible.incompatible_with.Goals as goal
 use Rattle.branching.proofs.incompatible.incompatible_with.Goals.{then-are_incompatible+in_ok-push, else-are_incompatible}

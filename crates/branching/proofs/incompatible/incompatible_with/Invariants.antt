@@ -1,4 +1,4 @@
-use Rattle.branching.specs.Incompatible.{AllIncompatible}
+use Rattle.rivals.specs.Incompatible.{AllIncompatible}
 use Rattle.branching.specs.IncompatibleRows.{pairs_before}
 use Rattle.branching.proofs.incompatible.incompatible_with.Given as goal
 

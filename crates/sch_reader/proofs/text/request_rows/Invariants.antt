@@ -1,8 +1,8 @@
-use Rattle.std.proofs.Common.{◌≡◌, ◌-◌, ◌+◌, map}
-use Rattle.sch_reader.specs.Layout.{request_rows}
+use Rattle.std.proofs.Common.{◌≡◌, ◌-◌, ◌+◌}
+use Rattle.sch_reader.specs.Layout.{request_rows, requests_of}
 use Rattle.sch_reader.specs.Reading.{reading}
 use Rattle.sch_reader.proofs.Loops.{requests_so_far}
 use Rattle.sch_reader.proofs.text.request_rows.Given as goal
 
 abbrev pub invariant-loop-id : goal.invariant-loop-id
-invariant-loop-id l = requests_so_far (record { durations = l.durations.items; demands = map (λ v. v.items) l.demands.items }) (l.activities + 2 - l.id) (l.activities + 1) l.resources l.id l.reader ≡ reading (request_rows (l.activities + 2) (l.activities + 1) l.resources 0) l.fn.reader
+invariant-loop-id l = requests_so_far (requests_of (l.durations, l.demands)) (l.activities + 2 - l.id) (l.activities + 1) l.resources l.id l.reader ≡ reading (request_rows (l.activities + 2) (l.activities + 1) l.resources 0) l.fn.reader

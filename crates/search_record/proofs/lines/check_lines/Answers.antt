@@ -58,7 +58,7 @@ loop-index-preserved c =
     let right : IsRightLine c.args.project.now c.args.limit c.next.result.now.pairs c.index-lines-index.result = rw project at (c.in_ok-right.ensures.0 c.if-not-right.false) in
     record {
       project = c.go_on.ensures.project ∙ c.loop-index.invariant.project;
-      reached = rw (c.in_ok-go_on.ensures.nodes c.next.result.now.pairs next.0 next.1) (reached_more p c.args.limit c.args.lines.now c.next.result.now.pairs next.0 line (drop (i + 1) c.args.lines.now) i so_far right);
+      reached = rw (c.in_ok-go_on.ensures.nodes, next.1) (reached_more p c.args.limit c.args.lines.now c.next.result.now.pairs next.0 line (drop (i + 1) c.args.lines.now) i so_far right);
     }
 
 pub returns-clause-right : goal.returns-clause-right

@@ -1,14 +1,14 @@
 use Rattle.std.proofs.Common.{◌≡◌, ◌+◌, ℕ, ℤ, true, false, List, Option, None, Some, subst, sym, ap, ◌∙◌, arith, rules}
 use Rattle.std.specs.Option.{is_some, option_or}
-use Rattle.std.specs.Prelude.{IfSome, IfNone, option_map}
-use Rattle.network.specs.Schedule.{ScheduleOf, makespan}
-use Rattle.branching.specs.Ceiling.{IsUnder, Reaches}
+use Rattle.std.specs.Prelude.{IfSome, option_map}
+use Rattle.network.specs.Schedule.{ScheduleOf}
 use Rattle.branching.specs.Covered.{ceiling_of}
 use Rattle.std.proofs.Math.ListN.{set}
 use Rattle.std.proofs.lemmas.Option.{slice_get_within}
 use Rattle.branching.specs.Fair.{Expansion, IsFair, IsReport}
 use Rattle.book.specs.State.{Named, BookState}
 use Rattle.book.specs.CheckingIn.{MayCheckIn, Accepts}
+use Rattle.book.specs.Offering.{IsShorterFound}
 use Rattle.book.specs.OpenNodes.{InsertsKids}
 use Rattle.book.specs.Trail.{TrailOf}
 use Rattle.book.specs.Recording.{checked_in}
@@ -51,13 +51,13 @@ same_left : (b : Inside) (best : Option ScheduleOf) (waiting : List Named) (hand
 same_left b best waiting hands others count trail e = λ i. left b best waiting (e i) count trail
 
 -- the report was accepted, and nothing shorter was found
-accepted_as_before : (b : Inside) (worker name : ℕ) (report : Expansion) (shorter limit : Option ℤ) (count : ℕ) (waiting : List Named) (hands : List (Option Named)) (trail : Option TrailOf) → limit ≡ ceiling_of b.best → IfNone shorter (IfSome report.found (λ s. Reaches limit (makespan s.starts))) → is_some shorter ≡ false → InsertsKids b.opened (option_or shorter limit) report.kids count b.waiting waiting → hands ≡ set b.hands worker None → trail ≡ option_map (with_entries (checked_in (option_or shorter limit) name report)) b.trail → Accepts (state_of b) worker name report (record { opened = count; improved = false }) (left b b.best waiting hands count trail)
+accepted_as_before : (b : Inside) (worker name : ℕ) (report : Expansion) (shorter limit : Option ℤ) (count : ℕ) (waiting : List Named) (hands : List (Option Named)) (trail : Option TrailOf) → limit ≡ ceiling_of b.best → IsShorterFound report.found limit shorter → is_some shorter ≡ false → InsertsKids b.opened (option_or shorter limit) report.kids count b.waiting waiting → hands ≡ set b.hands worker None → trail ≡ option_map (with_entries (checked_in (option_or shorter limit) name report)) b.trail → Accepts (state_of b) worker name report (record { opened = count; improved = false }) (left b b.best waiting hands count trail)
 accepted_as_before b worker name report shorter limit count waiting hands trail is none e inserts emptied noted =
     let kept = not_improved b.best report.found shorter limit is none e in
     accepts (state_of b) worker name report false (option_or shorter limit) count (left b b.best waiting hands count trail) kept.0 kept.1 inserts (ap entries_in noted ∙ entries_changed b.trail (checked_in (option_or shorter limit) name report)) (same_left b b.best waiting hands (set b.hands worker None) count trail emptied)
 
 -- the report was accepted, and what was found is the best
-accepted_as_better : (b : Inside) (worker name : ℕ) (report : Expansion) (found : Option ScheduleOf) (shorter limit : Option ℤ) (count : ℕ) (waiting : List Named) (hands : List (Option Named)) (trail : Option TrailOf) → limit ≡ ceiling_of b.best → IfSome shorter (λ length. (s : ScheduleOf) × (report.found ≡ Some s) × (length ≡ makespan s.starts) × IsUnder limit length) → is_some shorter ≡ true → found ≡ report.found → InsertsKids b.opened (option_or shorter limit) report.kids count b.waiting waiting → hands ≡ set b.hands worker None → trail ≡ option_map (with_entries (checked_in (option_or shorter limit) name report)) b.trail → Accepts (state_of b) worker name report (record { opened = count; improved = true }) (left b found waiting hands count trail)
+accepted_as_better : (b : Inside) (worker name : ℕ) (report : Expansion) (found : Option ScheduleOf) (shorter limit : Option ℤ) (count : ℕ) (waiting : List Named) (hands : List (Option Named)) (trail : Option TrailOf) → limit ≡ ceiling_of b.best → IsShorterFound report.found limit shorter → is_some shorter ≡ true → found ≡ report.found → InsertsKids b.opened (option_or shorter limit) report.kids count b.waiting waiting → hands ≡ set b.hands worker None → trail ≡ option_map (with_entries (checked_in (option_or shorter limit) name report)) b.trail → Accepts (state_of b) worker name report (record { opened = count; improved = true }) (left b found waiting hands count trail)
 accepted_as_better b worker name report found shorter limit count waiting hands trail is some e same inserts emptied noted =
     let better = improved b.best report.found found shorter limit is some e same in
     accepts (state_of b) worker name report true (option_or shorter limit) count (left b found waiting hands count trail) better.0 better.1 inserts (ap entries_in noted ∙ entries_changed b.trail (checked_in (option_or shorter limit) name report)) (same_left b found waiting hands (set b.hands worker None) count trail emptied)
@@ -68,11 +68,10 @@ invariant_of-self-then-is_none c =
     let told : IsReport c.args.report = c.into_parts-found.ensures.report in
     let fair : IsFair c.args.report = told.fair in
     let none : is_some c.shorter_found-shorter.result ≡ false = search rules in
-    let not_shorter : IfNone c.shorter_found-shorter.result (IfSome c.args.report.found (λ s. Reaches c.makespan_of-best.result (makespan s.starts))) = c.shorter_found-shorter.ensures.none in
     let inserts : InsertsKids c.self.inside.opened c.or-limit.result c.args.report.kids c.in-Ok.opened c.self.inside.waiting c.open_kids.new.nodes = c.in-Ok.ensures.opened in
     let noted : c.open_kids.new.trail ≡ option_map (with_entries (checked_in (option_or c.shorter_found-shorter.result c.makespan_of-best.result) c.args.name c.args.report)) c.self.inside.trail = subst (λ (l : Option ℤ). c.open_kids.new.trail ≡ option_map (with_entries (checked_in l c.args.name c.args.report)) c.self.inside.trail) c.or-limit.ensures (search rules) in
     let limit : InsertsKids c.self.inside.opened (option_or c.shorter_found-shorter.result c.makespan_of-best.result) c.args.report.kids c.in-Ok.opened c.self.inside.waiting c.open_kids.new.nodes = subst (λ (l : Option ℤ). InsertsKids c.self.inside.opened l c.args.report.kids c.in-Ok.opened c.self.inside.waiting c.open_kids.new.nodes) c.or-limit.ensures inserts in
-    let done = accepted_as_before c.self.inside c.args.worker c.args.name c.args.report c.shorter_found-shorter.result c.makespan_of-best.result c.in-Ok.opened c.open_kids.new.nodes c.empty.new.self c.open_kids.new.trail c.makespan_of-best.ensures not_shorter none limit c.empty.ensures noted in
+    let done = accepted_as_before c.self.inside c.args.worker c.args.name c.args.report c.shorter_found-shorter.result c.makespan_of-best.result c.in-Ok.opened c.open_kids.new.nodes c.empty.new.self c.open_kids.new.trail c.makespan_of-best.ensures c.shorter_found-shorter.ensures none limit c.empty.ensures noted in
     let kept = kept_accepted (state_of c.self.inside) c.args.worker c.args.name c.args.report _ _ told may done c.self.invariant.kept in
     let project = subst (λ (t : Option TrailOf). IfSome t (λ (t : TrailOf). t.project ≡ c.self.inside.project)) (sym noted) (project_kept c.self.inside.project c.self.inside.trail (checked_in (option_or c.shorter_found-shorter.result c.makespan_of-best.result) c.args.name c.args.report) c.self.invariant.of_trail) in
     record { kept = kept; of_trail = project }
@@ -80,11 +79,10 @@ invariant_of-self-then-is_none c =
 pub returns-then-is_none-clause-ok : goal.returns-then-is_none-clause-ok
 returns-then-is_none-clause-ok c =
     let none : is_some c.shorter_found-shorter.result ≡ false = search rules in
-    let not_shorter : IfNone c.shorter_found-shorter.result (IfSome c.args.report.found (λ s. Reaches c.makespan_of-best.result (makespan s.starts))) = c.shorter_found-shorter.ensures.none in
     let inserts : InsertsKids c.self.inside.opened c.or-limit.result c.args.report.kids c.in-Ok.opened c.self.inside.waiting c.open_kids.new.nodes = c.in-Ok.ensures.opened in
     let noted : c.open_kids.new.trail ≡ option_map (with_entries (checked_in (option_or c.shorter_found-shorter.result c.makespan_of-best.result) c.args.name c.args.report)) c.self.inside.trail = subst (λ (l : Option ℤ). c.open_kids.new.trail ≡ option_map (with_entries (checked_in l c.args.name c.args.report)) c.self.inside.trail) c.or-limit.ensures (search rules) in
     let limit : InsertsKids c.self.inside.opened (option_or c.shorter_found-shorter.result c.makespan_of-best.result) c.args.report.kids c.in-Ok.opened c.self.inside.waiting c.open_kids.new.nodes = subst (λ (l : Option ℤ). InsertsKids c.self.inside.opened l c.args.report.kids c.in-Ok.opened c.self.inside.waiting c.open_kids.new.nodes) c.or-limit.ensures inserts in
-    rw (← c.self.view_is) (accepted_as_before c.self.inside c.args.worker c.args.name c.args.report c.shorter_found-shorter.result c.makespan_of-best.result c.in-Ok.opened c.open_kids.new.nodes c.empty.new.self c.open_kids.new.trail c.makespan_of-best.ensures not_shorter none limit c.empty.ensures noted)
+    rw (← c.self.view_is) (accepted_as_before c.self.inside c.args.worker c.args.name c.args.report c.shorter_found-shorter.result c.makespan_of-best.result c.in-Ok.opened c.open_kids.new.nodes c.empty.new.self c.open_kids.new.trail c.makespan_of-best.ensures c.shorter_found-shorter.ensures none limit c.empty.ensures noted)
 
 pub invariant_of-self-2 : goal.invariant_of-self-2
 invariant_of-self-2 c =
@@ -92,11 +90,10 @@ invariant_of-self-2 c =
     let told : IsReport c.args.report = c.into_parts-found.ensures.report in
     let fair : IsFair c.args.report = told.fair in
     let some : is_some c.shorter_found-shorter.result ≡ true = search rules in
-    let shorter : IfSome c.shorter_found-shorter.result (λ length. (s : ScheduleOf) × (c.args.report.found ≡ Some s) × (length ≡ makespan s.starts) × IsUnder c.makespan_of-best.result length) = c.shorter_found-shorter.ensures.found in
     let inserts : InsertsKids c.self.inside.opened c.or-limit.result c.args.report.kids c.in-Ok.opened c.self.inside.waiting c.open_kids.new.nodes = c.in-Ok.ensures.opened in
     let noted : c.open_kids.new.trail ≡ option_map (with_entries (checked_in (option_or c.shorter_found-shorter.result c.makespan_of-best.result) c.args.name c.args.report)) c.self.inside.trail = subst (λ (l : Option ℤ). c.open_kids.new.trail ≡ option_map (with_entries (checked_in l c.args.name c.args.report)) c.self.inside.trail) c.or-limit.ensures (search rules) in
     let limit : InsertsKids c.self.inside.opened (option_or c.shorter_found-shorter.result c.makespan_of-best.result) c.args.report.kids c.in-Ok.opened c.self.inside.waiting c.open_kids.new.nodes = subst (λ (l : Option ℤ). InsertsKids c.self.inside.opened l c.args.report.kids c.in-Ok.opened c.self.inside.waiting c.open_kids.new.nodes) c.or-limit.ensures inserts in
-    let done = accepted_as_better c.self.inside c.args.worker c.args.name c.args.report c.into_parts-found.result.0 c.shorter_found-shorter.result c.makespan_of-best.result c.in-Ok.opened c.open_kids.new.nodes c.empty.new.self c.open_kids.new.trail c.makespan_of-best.ensures shorter some c.into_parts-found.ensures.found limit c.empty.ensures noted in
+    let done = accepted_as_better c.self.inside c.args.worker c.args.name c.args.report c.into_parts-found.result.0 c.shorter_found-shorter.result c.makespan_of-best.result c.in-Ok.opened c.open_kids.new.nodes c.empty.new.self c.open_kids.new.trail c.makespan_of-best.ensures c.shorter_found-shorter.ensures some c.into_parts-found.ensures.found limit c.empty.ensures noted in
     let kept = kept_accepted (state_of c.self.inside) c.args.worker c.args.name c.args.report _ _ told may done c.self.invariant.kept in
     let project = subst (λ (t : Option TrailOf). IfSome t (λ (t : TrailOf). t.project ≡ c.self.inside.project)) (sym noted) (project_kept c.self.inside.project c.self.inside.trail (checked_in (option_or c.shorter_found-shorter.result c.makespan_of-best.result) c.args.name c.args.report) c.self.invariant.of_trail) in
     record { kept = kept; of_trail = project }
@@ -104,11 +101,10 @@ invariant_of-self-2 c =
 pub returns-clause-ok : goal.returns-clause-ok
 returns-clause-ok c =
     let some : is_some c.shorter_found-shorter.result ≡ true = search rules in
-    let shorter : IfSome c.shorter_found-shorter.result (λ length. (s : ScheduleOf) × (c.args.report.found ≡ Some s) × (length ≡ makespan s.starts) × IsUnder c.makespan_of-best.result length) = c.shorter_found-shorter.ensures.found in
     let inserts : InsertsKids c.self.inside.opened c.or-limit.result c.args.report.kids c.in-Ok.opened c.self.inside.waiting c.open_kids.new.nodes = c.in-Ok.ensures.opened in
     let noted : c.open_kids.new.trail ≡ option_map (with_entries (checked_in (option_or c.shorter_found-shorter.result c.makespan_of-best.result) c.args.name c.args.report)) c.self.inside.trail = subst (λ (l : Option ℤ). c.open_kids.new.trail ≡ option_map (with_entries (checked_in l c.args.name c.args.report)) c.self.inside.trail) c.or-limit.ensures (search rules) in
     let limit : InsertsKids c.self.inside.opened (option_or c.shorter_found-shorter.result c.makespan_of-best.result) c.args.report.kids c.in-Ok.opened c.self.inside.waiting c.open_kids.new.nodes = subst (λ (l : Option ℤ). InsertsKids c.self.inside.opened l c.args.report.kids c.in-Ok.opened c.self.inside.waiting c.open_kids.new.nodes) c.or-limit.ensures inserts in
-    rw (← c.self.view_is) (accepted_as_better c.self.inside c.args.worker c.args.name c.args.report c.into_parts-found.result.0 c.shorter_found-shorter.result c.makespan_of-best.result c.in-Ok.opened c.open_kids.new.nodes c.empty.new.self c.open_kids.new.trail c.makespan_of-best.ensures shorter some c.into_parts-found.ensures.found limit c.empty.ensures noted)
+    rw (← c.self.view_is) (accepted_as_better c.self.inside c.args.worker c.args.name c.args.report c.into_parts-found.result.0 c.shorter_found-shorter.result c.makespan_of-best.result c.in-Ok.opened c.open_kids.new.nodes c.empty.new.self c.open_kids.new.trail c.makespan_of-best.ensures c.shorter_found-shorter.ensures some c.into_parts-found.ensures.found limit c.empty.ensures noted)
 
 pub returns-then-is_none-clause-sound : goal.returns-then-is_none-clause-sound
 returns-then-is_none-clause-sound c = (invariant_of-self-then-is_none c).kept.sound

@@ -1,11 +1,9 @@
 use Rattle.std.proofs.Common.{◌≡◌, ◌<◌, ◌+◌, ◌∷◌, List, Option, Some, false, refl, subst, sym}
-use Rattle.std.specs.List.{All}
-use Rattle.std.specs.Arc.{arc_value}
 use Rattle.std.proofs.Math.ListN.{set}
 use Rattle.std.specs.List.Sorted.{IsPermutation}
 use Rattle.std.proofs.lemmas.List.Sorted.{IsPermutation-refl}
 use Rattle.book.specs.State.{Named, BookState}
-use Rattle.book.specs.Taking.{GoesBefore, IsFull}
+use Rattle.book.specs.Taking.{IsFull}
 use Rattle.book.specs.Hands.{held_node}
 use Rattle.book.specs.Views.{state_of}
 use Rattle.book.specs.declared.answers.Ticket.{Ticket}
@@ -24,17 +22,16 @@ invariant_of-self c =
     let s : BookState = state_of c.self.inside in
     let first : Named = held_node c.in-Some.held in
     let ticket : Ticket = record { name = c.in-Some.held.name; node = c.in-Some.node; ceiling = c.makespan_of.result } in
-    let popped : (c.self.inside.waiting ≡ first ∷ c.pop_first.new.self) × All (GoesBefore first) c.pop_first.new.self × (arc_value c.in-Some.node ≡ first.node) = c.in-Some.ensures.first in
     let free : IsFull s.hands c.args.worker false = subst (λ (s : BookState). IsFull s.hands c.args.worker false) (sym c.self.view_is) c.requires.free in
     let within : s.taken < s.limit = subst (λ (s : BookState). s.taken < s.limit) (sym c.self.view_is) c.requires.within in
     let kept = kept_handed_out s c.args.worker ticket (left s c.pop_first.new.self c.fill.new.self) free within
     (record {
       first = first;
-      moved = subst (λ ns. IsPermutation ns (first ∷ c.pop_first.new.self)) (sym popped.0) (IsPermutation-refl _);
-      before = popped.1;
+      moved = subst (λ ns. IsPermutation ns (first ∷ c.pop_first.new.self)) (sym c.in-Some.ensures.popped) (IsPermutation-refl _);
+      before = c.in-Some.ensures.before;
       others = same_left s c.pop_first.new.self c.fill.new.self (set s.hands c.args.worker (Some first)) c.fill.ensures;
       name = refl;
-      node = popped.2;
+      node = c.in-Some.ensures.twin;
       ceiling = c.makespan_of.ensures;
     })
     c.self.invariant.kept in

@@ -1,12 +1,10 @@
-use Rattle.std.proofs.Common.{◌≡◌, [], subst}
-use Rattle.std.specs.Prelude.{IfSome}
-use Rattle.book.specs.State.{BookState, live, best_makespan}
-use Rattle.book.specs.RightTrail.{IsWholeTree}
+use Rattle.std.proofs.Common.{subst}
+use Rattle.book.specs.Recorded.{EndsWhole}
 use Rattle.book.specs.Views.{state_of}
 use Rattle.book.proofs.RecordedSteps.{trail_whole}
 use Rattle.book.proofs.book.Book.into_parts.Goals as goal
 
 pub returns-clause-whole : goal.returns-clause-whole
 returns-clause-whole c =
-    subst (λ (s : BookState). live s ≡ [] → IfSome s.trail (IsWholeTree s.project (best_makespan s))) c.self.view_is
+    subst EndsWhole c.self.view_is
     (λ over. trail_whole (state_of c.self.inside) c.self.invariant.kept.sound over c.self.invariant.kept.recorded)

@@ -10,13 +10,13 @@ use Rattle.branching.proofs.search.Search.take.Goals as goal
 pub expand-requires : goal.expand-requires
 expand-requires c =
     let node : Subproblem = arc_value c.in-Some.node in
-    let of : IsNodeOf c.self.inside.project.value node = last_is_node c.self.inside.project.value _ _ _ node c.in-Some.ensures.drops c.self.invariant.of_nodes in
+    let of : IsNodeOf c.self.inside.project.value node = last_is_node c.self.inside.project.value _ _ _ node c.in-Some.ensures.0 c.self.invariant.of_nodes in
     c.requires ∙ sym (ap (λ (s : SearchState). s.project) c.self.view_is) ∙ sym of.project
 
 pub invariant_of-result : goal.invariant_of-result
 invariant_of-result c =
-    let drops : DropsOver (ceiling_of c.self.inside.best) (map arc_value c.self.inside.stack.items) [] = rw c.ceiling-ceiling.ensures at c.in-None.ensures.drops in
-    rw c.in-None.ensures.none (drops_keep c.self.inside.project.value c.self.inside.best (map arc_value c.self.inside.stack.items) [] drops c.self.invariant)
+    let drops : DropsOver (ceiling_of c.self.inside.best) (map arc_value c.self.inside.stack.items) [] = rw c.ceiling-ceiling.ensures at c.in-None.ensures.0 in
+    rw c.in-None.ensures.1 (drops_keep c.self.inside.project.value c.self.inside.best (map arc_value c.self.inside.stack.items) [] drops c.self.invariant)
 
 pub invariant_of-result-2 : goal.invariant_of-result-2
 invariant_of-result-2 c =
@@ -28,8 +28,7 @@ invariant_of-result-2 c =
       rest = map arc_value c.next_node.new.stack.items;
       node = arc_value c.in-Some.node;
       report = c.in_ok-report.report;
-      last_under = rw c.ceiling-ceiling.ensures at c.in-Some.ensures.drops;
-      is_under = rw c.ceiling-ceiling.ensures at c.in-Some.ensures.under;
+      pops = rw c.ceiling-ceiling.ensures at c.in-Some.ensures;
       expanded = rw c.ceiling-ceiling.ensures at c.in_ok-report.ensures.report;
       is_report = c.into_parts-found.ensures.report;
       project = refl;

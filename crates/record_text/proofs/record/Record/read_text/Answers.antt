@@ -3,7 +3,7 @@ use Rattle.std.specs.Prelude.{codes}
 use Rattle.std.proofs.lemmas.Bool.{ltb-false}
 use Rattle.std.proofs.lemmas.Result.{err_from_is_err_and}
 use Rattle.record_text.specs.declared.TheConstants.{MAX_RECORD_BYTES}
-use Rattle.record_text.proofs.Leads.{record_from}
+use Rattle.record_text.proofs.TreeLines.{record_from}
 use Rattle.record_text.proofs.RowFaults.{missing_fault, form_fault, stands_first, no_first}
 use Rattle.record_text.proofs.TextLaws.{text_found}
 use Rattle.record_text.proofs.record.Record.read_text.Goals as goal

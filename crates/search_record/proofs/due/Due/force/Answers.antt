@@ -2,7 +2,7 @@ use Rattle.std.proofs.Common.{◌∙◌, reverse, ap}
 use Rattle.std.proofs.lemmas.Result.{on_ok_weaker}
 use Rattle.branching.specs.Path.{Path}
 use Rattle.search_record.specs.Later.{nodes_due}
-use Rattle.search_record.specs.Due.{DueNodes, IsDueAlong}
+use Rattle.search_record.specs.Due.{DueNodes, IsDueAlong, due_forced}
 use Rattle.search_record.proofs.Steps.{either, forced_along, forced_due}
 use Rattle.search_record.proofs.due.Due.force.Goals as goal
 
@@ -18,6 +18,7 @@ pub returns-clause-nodes : goal.returns-clause-nodes
 returns-clause-nodes c =
     let node = c.self.inside.node in
     let later = reverse c.self.inside.later.items in
-    on_ok_weaker c.add.result (λ added pairs rest is.
+    on_ok_weaker c.add.result (λ added.
     ap (λ (n : Path). nodes_due c.self.inside.is_there n.pairs later) added
-    ∙ forced_due node.project c.self.inside.is_there node.pairs later c.args.pair c.self.invariant.nested c.self.invariant.over pairs rest (ap (λ (d : DueNodes). d.nodes) c.self.view_is ∙ is)) c.add.ensures.added
+    ∙ forced_due node.project c.self.inside.is_there node.pairs later c.args.pair c.self.invariant.nested c.self.invariant.over
+    ∙ ap (λ (d : DueNodes). due_forced c.args.pair d.nodes) c.self.view_is) c.add.ensures.added

@@ -1,4 +1,4 @@
-use Rattle.std.proofs.Common.{◌≡◌, ◌∙◌, List, [], ◌∷◌, ◌++◌, reverse, sym, ap, take}
+use Rattle.std.proofs.Common.{◌≡◌, ◌∙◌, List, [], ◌∷◌, ◌++◌, reverse, sym, ap, take, drop}
 use Rattle.network.specs.declared.lag.Pair.{Pair}
 use Rattle.branching.specs.Path.{Path}
 use Rattle.search_record.specs.declared.later.Later.{Later}
@@ -19,7 +19,7 @@ invariant_of-self c =
     (λ same. rw same kept)
 
 pub returns-in_ok-add-in-Some-clause-nodes : goal.returns-in_ok-add-in-Some-clause-nodes
-returns-in_ok-add-in-Some-clause-nodes c = λ pairs rest is.
+returns-in_ok-add-in-Some-clause-nodes c =
     let node = c.self.inside.node in
     let there = c.self.inside.is_there in
     let behind = reverse c.pop.new.self.items in
@@ -28,5 +28,6 @@ returns-in_ok-add-in-Some-clause-nodes c = λ pairs rest is.
     let moved : c.add.new.self.pairs ≡ take c.in-Some.later.depth node.pairs ++ c.in-Some.later.pair ∷ [] =
     ap (λ (n : Path). n.pairs) c.in_ok-add-in-Some.ensures.added ∙ ap (λ (n : Path). n.pairs ++ c.in-Some.later.pair ∷ []) c.keep.ensures in
     ap (λ (new : List Pair). nodes_due there new behind) moved
-    ∙ left_due node.project there node.pairs c.in-Some.later behind along.nested along.over pairs rest
-    (ap (λ (ks : List Later). nodes_due there node.pairs ks) (sym before) ∙ ap (λ (d : DueNodes). d.nodes) c.self.view_is ∙ is)
+    ∙ left_due node.project there node.pairs c.in-Some.later behind along.nested along.over
+    ∙ ap (λ (ks : List Later). drop 1 (nodes_due there node.pairs ks)) (sym before)
+    ∙ ap (λ (d : DueNodes). drop 1 d.nodes) c.self.view_is

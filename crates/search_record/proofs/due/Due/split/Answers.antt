@@ -1,9 +1,8 @@
-use Rattle.std.proofs.Common.{ℕ, ◌<◌, ◌∙◌, List, [], ◌∷◌, ◌++◌, length, map, reverse, ap}
+use Rattle.std.proofs.Common.{ℕ, ◌<◌, ◌∙◌, List, ◌++◌, length, map, reverse, ap}
 use Rattle.network.specs.declared.lag.Pair.{Pair}
 use Rattle.network.specs.Problem.{NameActivities}
-use Rattle.branching.specs.Pairs.{ordered_pairs}
 use Rattle.search_record.specs.Later.{later_at, nodes_due}
-use Rattle.search_record.specs.Due.{DueNodes}
+use Rattle.search_record.specs.Due.{DueNodes, due_split}
 use Rattle.search_record.proofs.Steps.{split_due, split_along, named_pairs}
 use Rattle.search_record.proofs.due.Due.split.Goals as goal
 
@@ -22,12 +21,15 @@ invariant_of-self-2 c =
     split_along c.self.inside.is_there node (reverse c.self.inside.later.items) (reverse c.push_later.new.later.items) c.depth-depth.result c.depth-depth.ensures some c.self.invariant (c.push_later.ensures.nested node.project named)
 
 pub returns-clause-nodes : goal.returns-clause-nodes
-returns-clause-nodes c = λ pairs rest is.
+returns-clause-nodes c =
     let inside = c.self.inside in
     let node = c.self.inside.node in
-    c.in_ok-leave.ensures.nodes pairs (map (λ (pair : Pair). pairs ++ pair ∷ []) (ordered_pairs c.args.members.now) ++ rest)
-    (split_due inside.is_there node.pairs (reverse inside.later.items) (reverse c.push_later.new.later.items) (ordered_pairs c.args.members.now)
+    let later = reverse inside.later.items in
+    let some : 0 < length (nodes_due inside.is_there node.pairs later) = rw (ap (λ (d : DueNodes). d.nodes) c.self.view_is) c.requires.there in
+    c.in_ok-leave.ensures.nodes
+    ∙ split_due inside.is_there node.pairs later (reverse c.push_later.new.later.items) c.args.members.now
     (c.in_ok-push_later.ensures.added
-    ∙ ap (λ (depth : ℕ). map (later_at depth) c.in_ok-pairs.pairs.items ++ reverse inside.later.items) c.depth-depth.ensures
-    ∙ ap (λ (added : List Pair). map (later_at (length node.pairs)) added ++ reverse inside.later.items) c.in_ok-pairs.ensures)
-    c.self.invariant.over pairs rest (ap (λ (d : DueNodes). d.nodes) c.self.view_is ∙ is))
+    ∙ ap (λ (depth : ℕ). map (later_at depth) c.in_ok-pairs.pairs.items ++ later) c.depth-depth.ensures
+    ∙ ap (λ (added : List Pair). map (later_at (length node.pairs)) added ++ later) c.in_ok-pairs.ensures)
+    c.self.invariant.over some
+    ∙ ap (λ (d : DueNodes). due_split c.args.members.now d.nodes) c.self.view_is

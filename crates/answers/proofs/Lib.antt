@@ -1,0 +1,2 @@
+mod JsonLaws
+pub mod OutcomeLaws

@@ -1,0 +1,169 @@
+-- The texts of answers.
+use Rattle.std.specs.Prelude.{◌≡◌, ℕ, ◌+◌, Bool, true, false, Some, None, List, [], ◌∷◌, ◌++◌, ℤ, ◌<ℤ◌, codes, ◌⊎◌}
+use Rattle.std.specs.List.{flat_map}
+use Rattle.std.specs.Fmt.{decimal, signed_decimal}
+use Rattle.network.specs.Problem.{Problem, rules}
+use Rattle.network.specs.Schedule.{IsLeastSchedule, IsFeasible, makespan}
+use Rattle.network.specs.Verdict.{IsLowerBound, IsShortest, HasNoSchedule}
+use Rattle.network.specs.Walk.{IsLeastCycleTop}
+use Rattle.sch_reader.specs.Canonical.{canonical_text}
+use Rattle.schedule_check.specs.declared.violation.Violation.{Violation}
+use Rattle.schedule_check.specs.declared.violation.Violation.TheVariants as violation
+use Rattle.schedule_check.specs.Violations.{violations}
+use Rattle.record_text.specs.SearchRecord.{SearchRecord}
+use Rattle.search_record.specs.Right.{IsRight}
+use Rattle.search_record.specs.Proves.{proved_of, IsTrueOf}
+use Rattle.search_record.specs.declared.proved.Proved.{Proved}
+use Rattle.search_record.specs.declared.proved.Proved.TheVariants as proved
+use Rattle.answers.specs.JsonLine.{json_line}
+
+-- a line for each activity, from this one on: its number and its start
+abbrev pub start_lines : ℕ → List ℤ → List ℕ
+start_lines i [] = []
+start_lines i (start ∷ starts) = (decimal i ++ (codes " " ++ (signed_decimal start ++ codes "\n"))) ++ start_lines (i + 1) starts
+
+-- a word with a makespan, and the starts
+abbrev pub starts_text : List ℕ → ℤ → List ℤ → List ℕ
+starts_text word number starts = (word ++ (codes " " ++ (signed_decimal number ++ codes "\n"))) ++ start_lines 0 starts
+
+abbrev pub cycle_line : ℕ → List ℕ
+cycle_line top = codes "positive cycle " ++ (decimal top ++ codes "\n")
+
+-- ---- what `earliest` says
+
+-- the least schedule of the project
+pub record IsLeastText (p : Problem) (exit : ℕ) (written : List ℕ) : Type 0 where
+  pub starts : List ℤ
+  pub least : IsLeastSchedule p [] starts
+  pub text : written ≡ starts_text (codes "earliest") (makespan starts) starts
+  pub status : exit ≡ 0
+
+-- or, where a closed walk of its arcs is positive, the least activity that tops such a walk
+pub record IsCycleText (p : Problem) (exit : ℕ) (written : List ℕ) : Type 0 where
+  pub top : ℕ
+  pub least_top : IsLeastCycleTop (rules p) top
+  pub text : written ≡ cycle_line top
+  pub status : exit ≡ 0
+
+abbrev pub IsEarliestText : Problem → ℕ → List ℕ → Type 0
+IsEarliestText p exit written = IsLeastText p exit written ⊎ IsCycleText p exit written
+
+-- ---- what `check` says
+
+-- a line for a broken rule or an overload
+abbrev pub violation_line : Violation → List ℕ
+violation_line (violation.StartNotZero found) = codes "start " ++ (signed_decimal found ++ codes "\n")
+violation_line (violation.Lag from to weight) = codes "lag " ++ (decimal from ++ (codes " " ++ (decimal to ++ (codes " " ++ (signed_decimal weight ++ codes "\n")))))
+violation_line (violation.Overload time resource used) = codes "overload " ++ (signed_decimal time ++ (codes " " ++ (decimal resource ++ (codes " " ++ (decimal used ++ codes "\n")))))
+
+abbrev pub violations_text : List Violation → List ℕ
+violations_text found = flat_map violation_line found
+
+abbrev pub feasible_line : ℤ → List ℕ
+feasible_line makespan = codes "feasible " ++ (signed_decimal makespan ++ codes "\n")
+
+-- what `check` writes for a list of starts, and the exit status: that they are a feasible schedule,
+-- or else every violation
+pub record IsFeasibleText (p : Problem) (starts : List ℤ) (exit : ℕ) (written : List ℕ) : Type 0 where
+  pub feasible : IsFeasible p starts
+  pub text : written ≡ feasible_line (makespan starts)
+  pub status : exit ≡ 0
+
+pub record IsViolationsText (p : Problem) (starts : List ℤ) (exit : ℕ) (written : List ℕ) : Type 0 where
+  pub infeasible : ¬ IsFeasible p starts
+  pub text : written ≡ violations_text (violations p starts)
+  pub status : exit ≡ 4
+
+abbrev pub IsCheckText : Problem → List ℤ → ℕ → List ℕ → Type 0
+IsCheckText p starts exit written = IsFeasibleText p starts exit written ⊎ IsViolationsText p starts exit written
+
+-- ---- what `tidy` says
+
+-- the canonical text of the project
+pub record IsTidyText (p : Problem) (exit : ℕ) (written : List ℕ) : Type 0 where
+  pub text : written ≡ canonical_text p
+  pub status : exit ≡ 0
+
+-- ---- what `verify` says
+
+abbrev pub proved_line : Proved → List ℕ
+proved_line (proved.Optimal makespan) = codes "proved optimal " ++ (signed_decimal makespan ++ codes "\n")
+proved_line proved.NoSchedule = codes "proved no schedule\n"
+
+-- the record is right for the project: what it claims, which is true
+pub record IsProvedText (p : Problem) (shown : SearchRecord) (exit : ℕ) (written : List ℕ) : Type 0 where
+  pub right : IsRight p shown
+  pub true_of : IsTrueOf p (proved_of shown.claim)
+  pub text : written ≡ proved_line (proved_of shown.claim)
+  pub status : exit ≡ 0
+
+-- ---- what `solve` says
+
+abbrev pub bound_text : ℤ → List ℕ
+bound_text bound = codes " bound " ++ (signed_decimal bound ++ codes "\n")
+
+-- a makespan with a lower bound of all makespans, and the starts
+abbrev pub stopped_text : ℤ → ℤ → List ℤ → List ℕ
+stopped_text number bound starts = (codes "feasible " ++ (signed_decimal number ++ bound_text bound)) ++ start_lines 0 starts
+
+-- the texts of each status, or, where that is asked for, the lines of JSON
+abbrev pub optimal_text : Bool → List ℤ → List ℕ
+optimal_text false starts = starts_text (codes "optimal") (makespan starts) starts
+optimal_text true starts = json_line (Some (makespan starts)) (Some (makespan starts)) (Some starts) (codes "optimal")
+
+abbrev pub no_schedule_text : Bool → List ℕ
+no_schedule_text false = codes "no schedule\n"
+no_schedule_text true = json_line None None None (codes "no schedule")
+
+abbrev pub feasible_text : Bool → ℤ → List ℤ → List ℕ
+feasible_text false bound starts = stopped_text (makespan starts) bound starts
+feasible_text true bound starts = json_line (Some bound) (Some (makespan starts)) (Some starts) (codes "feasible")
+
+abbrev pub unknown_text : Bool → ℤ → List ℕ
+unknown_text false bound = codes "unknown" ++ bound_text bound
+unknown_text true bound = json_line (Some bound) None None (codes "unknown")
+
+-- a schedule of least makespan
+pub record IsOptimalText (p : Problem) (json : Bool) (exit : ℕ) (written : List ℕ) : Type 0 where
+  pub starts : List ℤ
+  pub feasible : IsFeasible p starts
+  pub shortest : IsShortest p (makespan starts)
+  pub text : written ≡ optimal_text json starts
+  pub status : exit ≡ 0
+
+-- that there is no schedule
+pub record IsNoScheduleText (p : Problem) (json : Bool) (exit : ℕ) (written : List ℕ) : Type 0 where
+  pub none : HasNoSchedule p
+  pub text : written ≡ no_schedule_text json
+  pub status : exit ≡ 0
+
+-- where the search was stopped: a feasible schedule, and a number that no makespan is below; where one
+-- thread searched by itself, it is below this schedule's
+pub record IsFeasibleBoundText (p : Problem) (alone json : Bool) (exit : ℕ) (written : List ℕ) : Type 0 where
+  pub starts : List ℤ
+  pub bound : ℤ
+  pub feasible : IsFeasible p starts
+  pub holds : IsLowerBound p bound
+  pub below : alone ≡ true → bound <ℤ makespan starts
+  pub text : written ≡ feasible_text json bound starts
+  pub status : exit ≡ 3
+
+-- or that number alone
+pub record IsUnknownText (p : Problem) (json : Bool) (exit : ℕ) (written : List ℕ) : Type 0 where
+  pub bound : ℤ
+  pub holds : IsLowerBound p bound
+  pub text : written ≡ unknown_text json bound
+  pub status : exit ≡ 3
+
+-- of a search in one thread by itself or by workers; as plain lines, or as one line of JSON
+abbrev pub IsSolveText : Problem → Bool → Bool → ℕ → List ℕ → Type 0
+IsSolveText p alone json exit written =
+    IsOptimalText p json exit written
+    ⊎ (IsNoScheduleText p json exit written
+    ⊎ (IsFeasibleBoundText p alone json exit written
+    ⊎ IsUnknownText p json exit written))
+
+-- what it says where starts were handed in: all that they violate, or, where they are a feasible
+-- schedule, what a search by workers has found
+abbrev pub IsStartedText : Problem → List ℤ → Bool → ℕ → List ℕ → Type 0
+IsStartedText p starts json exit written = IsViolationsText p starts exit written ⊎ (IsFeasible p starts × IsSolveText p false json exit written)

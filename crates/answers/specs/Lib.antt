@@ -1,0 +1,4 @@
+pub mod JsonLine
+pub mod Answers
+pub mod Faults
+pub mod Outcomes

@@ -1,0 +1,36 @@
+-- What is said of an outcome, and what a record beside it claims.
+use Rattle.std.specs.Prelude.{◌≡◌, ℕ, List, Bool, true, Some, None}
+use Rattle.network.specs.Problem.{Problem}
+use Rattle.branching.specs.declared.outcome.Outcome.{Outcome}
+use Rattle.branching.specs.declared.outcome.Outcome.TheVariants.{Optimal, NoSchedule, Stopped}
+use Rattle.branching.specs.Verdicts.{IsTrueOf, StopsBelowBest}
+use Rattle.record_text.specs.declared.line.Claim.{Claim}
+use Rattle.record_text.specs.declared.line.Claim.TheVariants as claims
+use Rattle.record_text.specs.SearchRecord.{SearchRecord}
+use Rattle.record_text.specs.Text.{record_text}
+use Rattle.search_record.specs.Right.{IsRight}
+use Rattle.answers.specs.Answers.{optimal_text, no_schedule_text, feasible_text, unknown_text, IsSolveText}
+
+-- what is said of an outcome, and the exit status
+abbrev pub SaysOutcome : Outcome → Bool → ℕ → List ℕ → Type 0
+SaysOutcome (Optimal best) json exit written = (exit ≡ 0) × (written ≡ optimal_text json best.starts)
+SaysOutcome NoSchedule json exit written = (exit ≡ 0) × (written ≡ no_schedule_text json)
+SaysOutcome (Stopped (Some best) bound) json exit written = (exit ≡ 3) × (written ≡ feasible_text json bound best.starts)
+SaysOutcome (Stopped None bound) json exit written = (exit ≡ 3) × (written ≡ unknown_text json bound)
+
+-- that is an answer of `solve` for each project of which the outcome is true
+abbrev pub SaidIsTrue : Type 0
+SaidIsTrue = (p : Problem) (outcome : Outcome) (alone json : Bool) (exit : ℕ) (written : List ℕ) →
+    IsTrueOf p outcome → (alone ≡ true → StopsBelowBest outcome) → SaysOutcome outcome json exit written → IsSolveText p alone json exit written
+
+-- the answer that says what is claimed
+abbrev pub claim_text : Bool → Claim → List ℕ
+claim_text json (claims.Optimal length starts) = optimal_text json starts
+claim_text json claims.NoSchedule = no_schedule_text json
+
+-- the text is that of a record that is right for the project and claims what the answer says
+pub record IsRightRecord (p : Problem) (json : Bool) (written recorded : List ℕ) : Type 0 where
+  pub shown : SearchRecord
+  pub right : IsRight p shown
+  pub claims : written ≡ claim_text json shown.claim
+  pub text : recorded ≡ record_text shown

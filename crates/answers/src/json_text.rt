@@ -1,0 +1,81 @@
+//! An answer as one line of JSON.
+
+ghost use Rattle.std.specs.Prelude.{◌≡◌, ◌++◌, ◌∷◌, [], IfOk, string_bytes, codes, option_map, map, Some, false};
+ghost use Rattle.json.specs.Print.{escape};
+ghost use Rattle.serde_json.specs.View.{view};
+ghost use Rattle.serde_json.specs.Written.{compact_text, has_float};
+ghost use Rattle.answers.specs.JsonLine.{number_data, list_data, answer_data, json_line};
+
+use serde_json::{Value, json};
+use std::alloc::{AllocError, Global};
+
+fn number_or_null(number: Option<i64>) -> Value
+    ensures { view result ≡ number_data number }
+{
+    match number {
+        None => Value::Null,
+        Some(number) => Value::from(number),
+    }
+}
+
+fn values(alloc: Global, numbers: &[i64]) -> Result<Vec<Value>, AllocError>
+    ensures { IfOk result (λ v. map view v.items ≡ map (λ z. number_data (Some z)) numbers.now) }
+{
+    let mut values = Vec::new(alloc);
+    for number in numbers {
+        values.push(Value::from(*number))?;
+    }
+    Ok(values)
+}
+
+fn list_or_null(alloc: Global, numbers: Option<&[i64]>) -> Result<Value, AllocError>
+    ensures { IfOk result (λ v. view v ≡ list_data (option_map (λ n. n.now) numbers.entry)) }
+{
+    match numbers {
+        None => Ok(Value::Null),
+        Some(numbers) => Ok(Value::Array(values(alloc, numbers)?)),
+    }
+}
+
+/// The answer as a value.
+fn answer_value(
+    alloc: Global,
+    bound: Option<i64>,
+    makespan: Option<i64>,
+    starts: Option<&[i64]>,
+    status: &str,
+) -> Result<Value, AllocError>
+    ensures { IfOk result (λ v. view v
+        ≡ answer_data bound makespan (option_map (λ n. n.now) starts.entry) status.now) }
+{
+    let bound = number_or_null(bound);
+    let makespan = number_or_null(makespan);
+    let starts = list_or_null(alloc, starts)?;
+    json!(in alloc; {"bound": bound, "makespan": makespan, "starts": starts, "status": status})
+}
+
+/// A value as one line.
+fn line_of(alloc: Global, value: &Value) -> Result<String, AllocError>
+    requires { has_float (view value.now) ≡ false }
+    ensures { IfOk result (λ t. string_bytes t ≡ compact_text (view value.now) ++ codes "\n") }
+{
+    let mut line = value.to_string(alloc)?;
+    line.push_str("\n")?;
+    Ok(line)
+}
+
+/// The answer as one line of JSON, under a status that needs no escapes.
+pub fn json_line(
+    alloc: Global,
+    bound: Option<i64>,
+    makespan: Option<i64>,
+    starts: Option<&[i64]>,
+    status: &str,
+) -> Result<String, AllocError>
+    requires { escape status.now ≡ status.now }
+    ensures { IfOk result (λ t. string_bytes t
+        ≡ json_line bound makespan (option_map (λ n. n.now) starts.entry) status.now) }
+{
+    let value = answer_value(alloc, bound, makespan, starts, status)?;
+    line_of(alloc, &value)
+}

@@ -1,0 +1,10 @@
+-- Which calls there are.
+use Rattle.std.specs.Prelude.{◌≡◌, is_some}
+use Rattle.calls.specs.declared.call.Call.{Call}
+use Rattle.runs.specs.Jobs.{IsJob, reads_second, writes_record}
+
+-- the job is within the limits, and just the files that it uses have names
+pub record IsCall (c : Call) : Type 0 where
+  pub job : IsJob c.job
+  pub second : is_some c.second ≡ reads_second c.job
+  pub record_file : is_some c.record_file ≡ writes_record c.job

@@ -1,0 +1,11 @@
+//! Calls of psmax: what the words of the command line ask for, and the files that a call names.
+#![tactic(auto)]
+
+mod call;
+mod command_line;
+mod files;
+mod help;
+
+pub use call::Call;
+pub use command_line::{WordsFault, call_of};
+pub use files::{FileFault, Opened, Opener};

@@ -1,8 +1,0 @@
-use Rattle.network.proofs.Running.{running_below, running_rising}
-use Rattle.forbidden_sets.proofs.tests.set_of.Goals as goal
-
-pub shrink-requires-clause-running : goal.shrink-requires-clause-running
-shrink-requires-clause-running c = running_below c.args.project.now c.args.starts.now c.in-Some.overload.time c.in-Some.overload.running.items (rw c.in-Some.is at c.in_ok-overload.ensures.running)
-
-pub shrink-requires-clause-rising : goal.shrink-requires-clause-rising
-shrink-requires-clause-rising c = running_rising c.args.project.now c.args.starts.now c.in-Some.overload.time c.in-Some.overload.running.items (rw c.in-Some.is at c.in_ok-overload.ensures.running)

@@ -1,0 +1,156 @@
+-- What is kept of a place, from line to line.
+use Rattle.std.proofs.Common.{◌≡◌, refl, sym, ap, ◌∙◌, subst, ℕ, ◌<◌, true, false, Bool, Option, None, Some, List, [], ◌∷◌, ◌++◌, length, append_assoc, append-nil, arith, pos, ◌≤ℤ◌, ◌<ℤ◌}
+use Rattle.std.specs.Prelude.{is_some}
+use Rattle.std.specs.List.{All}
+use Rattle.std.proofs.lemmas.Int.{ints}
+use Rattle.std.proofs.lemmas.List.{map-append}
+use Rattle.std.proofs.lemmas.List.Elements.{All-push, All-nil, Contains-append_left}
+use Rattle.network.specs.declared.lag.Lag.{Lag}
+use Rattle.network.specs.Problem.{Problem, activity_count, rules, arcs_of}
+use Rattle.network.specs.Walk.{Rows, IsWalk, weight, HasPositiveCycle, HasNoPositiveCycle, IsMatrixOf, IsLeastCycleTop}
+use Rattle.longest_path.specs.Insert.{AddsArc, ClosesCycle}
+use Rattle.longest_path.specs.Marked.{Marked}
+use Rattle.lemma_text.specs.declared.claim.Claim.{Claim}
+use Rattle.lemma_text.specs.declared.line.Line.{Line}
+use Rattle.lemma_check.specs.Lemmas.{lemma_at, lemmas_of}
+use Rattle.lemma_check.specs.Places.{place, open_lemma, Opened, arcs_in, with_arc, ended, bound_of, deadlines, first_place}
+use Rattle.lemma_check.specs.Right.{JoinsActivities}
+use Rattle.lemma_check.specs.Standing.{kept, IsKnown, Stands, IsDeadAt}
+
+walk_more : (arcs more : List Lag) (a b : ℕ) (es : List Lag) → IsWalk arcs a es b → IsWalk (arcs ++ more) a es b
+walk_more arcs more a b [] w = w
+walk_more arcs more a b (e ∷ es) w = (Contains-append_left arcs more e w.0, w.1, walk_more arcs more e.to b es w.2)
+
+-- a closed walk stays where arcs are added
+pub cycle_more : (arcs more : List Lag) → HasPositiveCycle arcs → HasPositiveCycle (arcs ++ more)
+cycle_more arcs more cycle = (cycle.0, cycle.1, record { closed = walk_more arcs more cycle.0 cycle.0 cycle.1 cycle.2.closed; positive = cycle.2.positive })
+
+-- ---- an arc more
+
+stands_with : (p : Problem) (lines : List Line) (lemmas : List (List Lag)) (own : List Lag) (lemma_open : Option Opened) (m : Marked) (is_dead : Bool) (begins : List ℕ) (opened : Option ℕ) (e : Lag) (new : Marked) (now_dead : Bool) →
+    Stands p lines (place lemmas own lemma_open) (kept m is_dead begins opened) → IsKnown (activity_count p) (arcs_in own lemma_open ++ e ∷ []) now_dead new.rows → length new.rows ≡ activity_count p → new.marks ≡ m.marks →
+    Stands p lines (with_arc e lemmas own lemma_open) (kept new now_dead begins opened)
+stands_with p lines lemmas own None m is_dead begins opened e new now_dead s known size marks = record { size = size; known = known; back = marks ∙ s.back; before = s.before; begins_at = s.begins_at; named = s.named }
+stands_with p lines lemmas own (Some lemma) m is_dead begins opened e new now_dead s known size marks = record {
+  size = size;
+  known = subst (λ (arcs : List Lag). IsKnown (activity_count p) arcs now_dead new.rows) (append_assoc own lemma.arcs (e ∷ [])) known;
+  back = (s.back.0, marks ∙ s.back.1, s.back.2);
+  before = s.before;
+  begins_at = s.begins_at;
+  named = s.named;
+}
+
+pub stands_dead : (p : Problem) (lines : List Line) (lemmas : List (List Lag)) (own : List Lag) (lemma_open : Option Opened) (m : Marked) (is_dead : Bool) (begins : List ℕ) (opened : Option ℕ) (e : Lag) →
+    is_dead ≡ true → Stands p lines (place lemmas own lemma_open) (kept m is_dead begins opened) → Stands p lines (with_arc e lemmas own lemma_open) (kept m is_dead begins opened)
+stands_dead p lines lemmas own lemma_open m is_dead begins opened e dead s =
+    let known : IsKnown (activity_count p) (arcs_in own lemma_open) true m.rows = subst (λ (b : Bool). IsKnown (activity_count p) (arcs_in own lemma_open) b m.rows) dead s.known in
+    stands_with p lines lemmas own lemma_open m is_dead begins opened e m is_dead s (subst (λ (b : Bool). IsKnown (activity_count p) (arcs_in own lemma_open ++ e ∷ []) b m.rows) (sym dead) (cycle_more (arcs_in own lemma_open) (e ∷ []) known)) s.size refl
+
+-- the matrix of a block that isn't dead
+pub live_matrix : (p : Problem) (lines : List Line) (lemmas : List (List Lag)) (own : List Lag) (lemma_open : Option Opened) (m : Marked) (is_dead : Bool) (begins : List ℕ) (opened : Option ℕ) →
+    is_dead ≡ false → Stands p lines (place lemmas own lemma_open) (kept m is_dead begins opened) → IsMatrixOf (activity_count p) (arcs_in own lemma_open) m.rows
+live_matrix p lines lemmas own lemma_open m is_dead begins opened live s = subst (λ (b : Bool). IsKnown (activity_count p) (arcs_in own lemma_open) b m.rows) live s.known
+
+dead_cycle : (p : Problem) (lines : List Line) (lemmas : List (List Lag)) (own : List Lag) (lemma_open : Option Opened) (m : Marked) (is_dead : Bool) (begins : List ℕ) (opened : Option ℕ) →
+    is_dead ≡ true → Stands p lines (place lemmas own lemma_open) (kept m is_dead begins opened) → HasPositiveCycle (arcs_in own lemma_open)
+dead_cycle p lines lemmas own lemma_open m is_dead begins opened dead s = subst (λ (b : Bool). IsKnown (activity_count p) (arcs_in own lemma_open) b m.rows) dead s.known
+
+pub stands_added : (p : Problem) (lines : List Line) (lemmas : List (List Lag)) (own : List Lag) (lemma_open : Option Opened) (m : Marked) (is_dead : Bool) (begins : List ℕ) (opened : Option ℕ) (e : Lag) (new : Marked) →
+    is_dead ≡ false → Stands p lines (place lemmas own lemma_open) (kept m is_dead begins opened) → AddsArc e m.rows new.rows → new.marks ≡ m.marks → length new.rows ≡ length m.rows →
+    Stands p lines (with_arc e lemmas own lemma_open) (kept new is_dead begins opened)
+stands_added p lines lemmas own lemma_open m is_dead begins opened e new live s adds marks size =
+    let n : ℕ = activity_count p in
+    let arcs : List Lag = arcs_in own lemma_open in
+    let before : IsMatrixOf (activity_count p) arcs m.rows = live_matrix p lines lemmas own lemma_open m is_dead begins opened live s in
+    let more : IsMatrixOf (length m.rows) (arcs ++ e ∷ []) new.rows = adds arcs (subst (λ (k : ℕ). IsMatrixOf k arcs m.rows) (sym s.size) before) in
+    let known : IsMatrixOf (activity_count p) (arcs ++ e ∷ []) new.rows = subst (λ (k : ℕ). IsMatrixOf k (arcs ++ e ∷ []) new.rows) s.size more in
+    stands_with p lines lemmas own lemma_open m is_dead begins opened e new is_dead s (subst (λ (b : Bool). IsKnown (activity_count p) (arcs ++ e ∷ []) b new.rows) (sym live) known) (size ∙ s.size) marks
+
+pub stands_closed : (p : Problem) (lines : List Line) (lemmas : List (List Lag)) (own : List Lag) (lemma_open : Option Opened) (m : Marked) (is_dead : Bool) (begins : List ℕ) (opened : Option ℕ) (e : Lag) →
+    is_dead ≡ false → Stands p lines (place lemmas own lemma_open) (kept m is_dead begins opened) → ClosesCycle e m.rows →
+    Stands p lines (with_arc e lemmas own lemma_open) (kept m true begins opened)
+stands_closed p lines lemmas own lemma_open m is_dead begins opened e live s closes =
+    let arcs : List Lag = arcs_in own lemma_open in
+    let before : IsMatrixOf (activity_count p) arcs m.rows = live_matrix p lines lemmas own lemma_open m is_dead begins opened live s in
+    let cycle = closes arcs (subst (λ (k : ℕ). IsMatrixOf k arcs m.rows) (sym s.size) before) in
+    stands_with p lines lemmas own lemma_open m is_dead begins opened e m true s (e.from, cycle.0, cycle.1) s.size refl
+
+-- ---- the first place
+
+pub stands_first : (p : Problem) (lines : List Line) (rows : Rows) → IsMatrixOf (activity_count p) (arcs_of p []) rows → Stands p lines (place [] (rules p ++ []) None) (kept (record { rows = rows; marks = [] }) false [] None)
+stands_first p lines rows m = record { size = m.square.0; known = m; back = refl; before = refl; begins_at = refl; named = All-nil (All (JoinsActivities p)) }
+
+pub stands_rules : (p : Problem) (lines : List Line) (rows : Rows) → IsMatrixOf (activity_count p) (arcs_of p []) rows → Stands p lines (place [] (rules p) None) (kept (record { rows = rows; marks = [] }) false [] None)
+stands_rules p lines rows m = subst (λ (own : List Lag). Stands p lines (place [] own None) (kept (record { rows = rows; marks = [] }) false [] None)) (append-nil (rules p)) (stands_first p lines rows m)
+
+-- where the project's own rules close a walk of positive weight, so do they with a deadline
+pub first_dead : (p : Problem) (claim : Claim) (top : ℕ) → IsLeastCycleTop (arcs_of p []) top → IsDeadAt (first_place p claim)
+first_dead p claim top least =
+    let found = least.reached in
+    let cycle : HasPositiveCycle (rules p) = subst HasPositiveCycle (append-nil (rules p)) (found.0, found.1, found.2) in
+    record { none = refl; cycle = cycle_more (rules p) (deadlines p (bound_of claim)) cycle }
+
+-- ---- a lemma begins and ends
+
+not_both : (arcs : List Lag) → HasNoPositiveCycle arcs → HasPositiveCycle arcs → ⊥
+not_both arcs live cycle =
+    let low : weight cycle.1 ≤ℤ pos 0 = live cycle.0 cycle.1 cycle.2.closed in
+    let high : pos 0 <ℤ weight cycle.1 = cycle.2.positive in
+    omega (arith, ints)
+
+-- a mark is made, and the lemma has none of its arcs yet
+pub stands_opened : (p : Problem) (lines : List Line) (lemmas : List (List Lag)) (own : List Lag) (lemma_open : Option Opened) (m : Marked) (is_dead : Bool) (begins : List ℕ) (opened : Option ℕ) (index : ℕ) (arcs : List Lag) (new : Marked) →
+    Stands p lines (place lemmas own lemma_open) (kept m is_dead begins opened) → lemma_open ≡ None → HasNoPositiveCycle own → All (JoinsActivities p) arcs → lemma_at lines index ≡ arcs → new ≡ record { rows = m.rows; marks = m.rows ∷ m.marks } →
+    Stands p lines (place lemmas own (open_lemma arcs [])) (kept new is_dead begins (Some index))
+stands_opened p lines lemmas own (Some lemma) m is_dead begins opened index arcs new s none live joins at marked = absurd (cc)
+stands_opened p lines lemmas own None m true begins opened index arcs new s none live joins at marked = absurd (not_both own live s.known)
+stands_opened p lines lemmas own None m false begins opened index arcs new s none live joins at marked =
+    let rows : new.rows ≡ m.rows = ap (λ (x : Marked). x.rows) marked in
+    let marks : new.marks ≡ m.rows ∷ [] = ap (λ (x : Marked). x.marks) marked ∙ ap (λ (marks : List Rows). m.rows ∷ marks) s.back in
+    record {
+      size = ap length rows ∙ s.size;
+      known = rw (rows, append-nil own) s.known;
+      back = (m.rows, marks, s.known);
+      before = s.before;
+      begins_at = record { index = index; is = refl; line = sym at; joined = joins };
+      named = s.named;
+    }
+
+-- some mark is there where a lemma is open
+pub some_mark : (p : Problem) (lines : List Line) (lemmas : List (List Lag)) (own : List Lag) (lemma_open : Option Opened) (m : Marked) (is_dead : Bool) (begins : List ℕ) (opened : Option ℕ) (index : ℕ) →
+    Stands p lines (place lemmas own lemma_open) (kept m is_dead begins opened) → opened ≡ Some index → 0 < length m.marks
+some_mark p lines lemmas own None m is_dead begins opened index s is = absurd (let bad : None ≡ Some index = sym s.begins_at ∙ is in cc)
+some_mark p lines lemmas own (Some lemma) m is_dead begins opened index s is = let one : length m.marks ≡ length (s.back.0 ∷ []) = ap length s.back.1 in omega arith
+
+pub stands_ended : (p : Problem) (lines : List Line) (lemmas : List (List Lag)) (own : List Lag) (lemma_open : Option Opened) (m : Marked) (is_dead : Bool) (begins : List ℕ) (opened : Option ℕ) (index : ℕ) (new : Marked) (now : List ℕ) →
+    Stands p lines (place lemmas own lemma_open) (kept m is_dead begins opened) → opened ≡ Some index → m.marks ≡ new.rows ∷ new.marks → now ≡ begins ++ index ∷ [] →
+    Stands p lines (ended lemmas own lemma_open) (kept new false now None)
+stands_ended p lines lemmas own None m is_dead begins opened index new now s is marks more = absurd (let bad : None ≡ Some index = sym s.begins_at ∙ is in cc)
+stands_ended p lines lemmas own (Some lemma) m is_dead begins opened index new now s is marks more =
+    let at : Some s.begins_at.index ≡ Some index = sym s.begins_at.is ∙ is in
+    let same : s.begins_at.index ≡ index = cc in
+    let one : s.back.0 ∷ [] ≡ new.rows ∷ new.marks = sym s.back.1 ∙ marks in
+    let rows : s.back.0 ≡ new.rows = cc in
+    let none : new.marks ≡ [] = cc in
+    let known : IsMatrixOf (activity_count p) own new.rows = rw rows at s.back.2 in
+    let first : lemma.first ≡ lemma_at lines index = s.begins_at.line ∙ ap (lemma_at lines) same in
+    record {
+      size = known.square.0;
+      known = known;
+      back = none;
+      before = ap (λ (ls : List (List Lag)). ls ++ lemma.first ∷ []) s.before ∙ ap (λ (l : List Lag). lemmas_of lines begins ++ l ∷ []) first ∙ sym (ap (lemmas_of lines) more ∙ map-append (lemma_at lines) begins (index ∷ []));
+      begins_at = refl;
+      named = All-push (All (JoinsActivities p)) lemmas lemma.first s.named s.begins_at.joined;
+    }
+
+-- no lemma is open
+pub stands_own : (p : Problem) (lines : List Line) (lemmas : List (List Lag)) (own : List Lag) (lemma_open : Option Opened) (m : Marked) (is_dead : Bool) (begins : List ℕ) (opened : Option ℕ) →
+    Stands p lines (place lemmas own lemma_open) (kept m is_dead begins opened) → opened ≡ None → Stands p lines (ended lemmas own lemma_open) (kept m is_dead begins opened)
+stands_own p lines lemmas own None m is_dead begins opened s none = s
+stands_own p lines lemmas own (Some lemma) m is_dead begins opened s none = absurd (let bad : Some s.begins_at.index ≡ None = sym s.begins_at.is ∙ none in cc)
+
+-- whether a lemma is open
+pub is_open : (p : Problem) (lines : List Line) (lemmas : List (List Lag)) (own : List Lag) (lemma_open : Option Opened) (m : Marked) (is_dead : Bool) (begins : List ℕ) (opened : Option ℕ) →
+    Stands p lines (place lemmas own lemma_open) (kept m is_dead begins opened) → is_some opened ≡ is_some lemma_open
+is_open p lines lemmas own None m is_dead begins opened s = ap (λ (o : Option ℕ). is_some o) s.begins_at
+is_open p lines lemmas own (Some lemma) m is_dead begins opened s = ap (λ (o : Option ℕ). is_some o) s.begins_at.is

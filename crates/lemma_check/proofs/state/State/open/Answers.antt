@@ -1,0 +1,28 @@
+use Rattle.std.proofs.Common.{◌∙◌, ap, length, pos, take, Some}
+use Rattle.std.proofs.lemmas.List.{take_more}
+use Rattle.network.specs.declared.lag.Lag.{Lag}
+use Rattle.longest_path.specs.Marked.{Marked}
+use Rattle.lemma_check.specs.Lemmas.{first_arcs}
+use Rattle.lemma_check.specs.Places.{Place}
+use Rattle.lemma_check.proofs.Standings.{stands_opened}
+use Rattle.lemma_check.proofs.state.State.open.Goals as goal
+
+pub loop-arc-init : goal.loop-arc-init
+loop-arc-init c =
+    let self = c.args.self.now in
+    record {
+      size = ap (λ (m : Marked). length m.rows) c.in_ok-mark.ensures.ok;
+      so_far = λ p lines at s may first. stands_opened p lines at.lemmas at.own at.opened self.matrix self.is_dead self.begins.items self.opened c.args.index c.args.arcs.now c.mark.new.self s may.none_open may.is_live may.named (ap first_arcs first) c.in_ok-mark.ensures.ok;
+    }
+
+pub loop-arc-preserved : goal.loop-arc-preserved
+loop-arc-preserved c =
+    let d : Lag = record { from = 0; to = 0; weight = pos 0 } in
+    let arcs = c.args.arcs.now in
+    let i = c.loop-arc.arc-index in
+    record {
+      size = c.add.ensures.size ∙ c.loop-arc.invariant.size;
+      so_far = λ p lines at s may first.
+          let here : Place = record { lemmas = at.lemmas; own = at.own; opened = Some (record { first = arcs; arcs = take i arcs }) } in
+          rw (take_more arcs i d c.loop-arc-test.true) (c.in_ok-add.ensures.added p lines here (c.loop-arc.invariant.so_far p lines at s may first));
+    }

@@ -1,0 +1,87 @@
+-- Why no feasible schedule meets all arcs of a block: what walks over them show of each schedule that does.
+use Rattle.std.specs.Prelude.{◌≡◌, ℕ, ◌*◌, ◌<◌, ◌≤◌, ◌⊎◌, ℤ, pos, ◌+ℤ◌, ◌-ℤ◌, ◌≤ℤ◌, ◌<ℤ◌, unsigned_abs, List, [], length, slice_index_or}
+use Rattle.std.specs.List.{All, AllPairs, sum_by}
+use Rattle.std.specs.List.Sorted.{IsStrictlyIncreasing}
+use Rattle.network.specs.declared.lag.Lag.{Lag}
+use Rattle.network.specs.declared.lag.Pair.{Pair}
+use Rattle.network.specs.Forbidden.{IsForbidden}
+use Rattle.network.specs.Problem.{Problem, activities, activity_count, resource_count, duration, demand, capacity}
+use Rattle.network.specs.Walk.{IsWalk, weight, HasPositiveCycle, HasNoPositiveCycle}
+use Rattle.longest_path.specs.Insert.{arc_of}
+use Rattle.rivals.specs.Incompatible.{AreIncompatible}
+use Rattle.lemma_text.specs.declared.reason.Reason.{Reason}
+use Rattle.lemma_text.specs.declared.reason.Reason.TheVariants as reasons
+
+-- the arcs imply this one: some walk between its ends weighs at least as much
+pub record Implies (arcs : List Lag) (e : Lag) : Type 0 where
+  pub walk : List Lag
+  pub goes : IsWalk arcs e.from walk e.to
+  pub weighs : e.weight ≤ℤ weight walk
+
+-- activity i ends after j starts
+abbrev pub EndsAfterStart : Problem → List Lag → ℕ → ℕ → Type 0
+EndsAfterStart p arcs i j = Implies arcs (arc_of j i (pos 1 -ℤ duration p i))
+
+-- an activity that takes time
+pub record TakesTime (p : Problem) (i : ℕ) : Type 0 where
+  pub named : i < activity_count p
+  pub long : pos 0 <ℤ duration p i
+
+-- rising activities that take time
+pub record AreMembers (p : Problem) (members : List ℕ) : Type 0 where
+  pub rising : IsStrictlyIncreasing members
+  pub take_time : All (TakesTime p) members
+
+-- each two of the members overlap, and together they ask for more of the resource than there is
+pub record IsSet (p : Problem) (arcs : List Lag) (resource : ℕ) (members : List ℕ) : Type 0 where
+  pub in_range : resource < resource_count p
+  pub are_members : AreMembers p members
+  pub forbidden : IsForbidden p resource members
+  pub overlap : All (λ i. All (EndsAfterStart p arcs i) members) members
+
+-- activity i runs for m units of the window or more, whenever it starts
+pub record MustRun (p : Problem) (arcs : List Lag) (from to : ℤ) (i m : ℕ) : Type 0 where
+  pub within_activity : pos m ≤ℤ duration p i
+  pub within_window : (from +ℤ pos m) ≤ℤ to
+  pub late : Implies arcs (arc_of 0 i ((from +ℤ pos m) -ℤ duration p i))
+  pub early : Implies arcs (arc_of i 0 (pos m -ℤ to))
+
+-- what must run in the window asks for more of the resource than there is in it
+pub record IsLoad (p : Problem) (arcs : List Lag) (resource : ℕ) (from to : ℤ) : Type 0 where
+  pub in_range : resource < resource_count p
+  pub units : ℕ
+  pub some : 0 < units
+  pub window : to ≡ from +ℤ pos units
+  pub parts : ℕ → ℕ
+  pub each : (i : ℕ) → i < activity_count p → (parts i ≡ 0) ⊎ MustRun p arcs from to i (parts i)
+  pub over : units * capacity p resource < sum_by (λ i. parts i * demand p resource i) (activities p)
+
+abbrev pub pair_of : ℕ → ℕ → Pair
+pair_of i j = record { before = i; after = j }
+
+-- activity i runs within the window, whenever it starts
+pub record RunsWithin (p : Problem) (arcs : List Lag) (from to : ℤ) (i : ℕ) : Type 0 where
+  pub late : Implies arcs (arc_of 0 i from)
+  pub early : Implies arcs (arc_of i 0 (duration p i -ℤ to))
+
+-- the members run one at a time, all within the window, and take longer than it is
+pub record IsClique (p : Problem) (arcs : List Lag) (from to : ℤ) (members : List ℕ) : Type 0 where
+  pub several : 2 ≤ length members
+  pub are_members : AreMembers p members
+  pub rivals : AllPairs (λ i j. AreIncompatible p (pair_of i j)) members
+  pub inside : All (RunsWithin p arcs from to) members
+  pub over : to <ℤ (from +ℤ pos (sum_by (λ i. unsigned_abs (duration p i)) members))
+
+-- the lemma is one of these, and the arcs imply each of its own
+pub record IsUse (lemmas : List (List Lag)) (arcs : List Lag) (lemma : ℕ) : Type 0 where
+  pub before : lemma < length lemmas
+  pub implied : All (Implies arcs) (slice_index_or lemmas lemma [])
+
+-- the reason shows that no feasible schedule which meets all these arcs is left, where none meets all arcs of
+-- one of these lemmas
+abbrev pub Ends : Problem → List (List Lag) → List Lag → Reason → Type 0
+Ends p lemmas arcs reasons.Dead = HasPositiveCycle arcs
+Ends p lemmas arcs (reasons.Set resource members) = HasNoPositiveCycle arcs × IsSet p arcs resource members
+Ends p lemmas arcs (reasons.Load resource from to) = HasNoPositiveCycle arcs × IsLoad p arcs resource from to
+Ends p lemmas arcs (reasons.Clique from to members) = HasNoPositiveCycle arcs × IsClique p arcs from to members
+Ends p lemmas arcs (reasons.Use lemma) = HasNoPositiveCycle arcs × IsUse lemmas arcs lemma

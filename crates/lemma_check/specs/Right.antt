@@ -1,0 +1,69 @@
+-- When a record is right for a project.
+use Rattle.std.specs.Prelude.{◌≡◌, ◌⊎◌, ◌<◌, pos, ◌-ℤ◌, None, List, [], ◌∷◌, ◌++◌}
+use Rattle.std.specs.List.{All}
+use Rattle.network.specs.declared.lag.Lag.{Lag}
+use Rattle.network.specs.declared.lag.Pair.{Pair}
+use Rattle.network.specs.Problem.{Problem, activity_count}
+use Rattle.network.specs.Schedule.{IsFeasible, makespan}
+use Rattle.network.specs.Walk.{HasNoPositiveCycle}
+use Rattle.longest_path.specs.Insert.{arc_of}
+use Rattle.rivals.specs.Incompatible.{AreIncompatible}
+use Rattle.lemma_text.specs.declared.claim.Claim.{Claim}
+use Rattle.lemma_text.specs.declared.claim.Claim.TheVariants as claims
+use Rattle.lemma_text.specs.declared.line.Line.{Line}
+use Rattle.lemma_text.specs.declared.line.Line.TheVariants as kind
+use Rattle.lemma_text.specs.declared.reason.Reason.{Reason}
+use Rattle.lemma_text.specs.LemmaRecord.{LemmaRecordOf}
+use Rattle.lemma_check.specs.Reasons.{Implies, EndsAfterStart, Ends}
+use Rattle.lemma_check.specs.Places.{Place, arcs_at, first_place, Placed, placed}
+
+-- both ends are activities
+abbrev pub JoinsActivities : Problem → Lag → Type 0
+JoinsActivities p e = (e.from < activity_count p) × (e.to < activity_count p)
+
+-- no lemma is open, the record's own arcs close no walk of positive weight, and those of the line join activities
+pub record MayOpen (p : Problem) (at : Place) (arcs : List Lag) : Type 0 where
+  pub none_open : at.opened ≡ None
+  pub is_live : HasNoPositiveCycle at.own
+  pub named : All (JoinsActivities p) arcs
+
+-- the two can't run at the same time, and the second can't come first (immediate selection, after Carlier and
+-- Pinson 1989)
+pub record IsForced (p : Problem) (arcs : List Lag) (pair : Pair) : Type 0 where
+  pub is_live : HasNoPositiveCycle arcs
+  pub incompatible : AreIncompatible p pair
+  pub too_late : EndsAfterStart p arcs pair.after pair.before
+
+-- the arc that is met where this one isn't: times are whole numbers
+abbrev pub reverse_of : Lag → Lag
+reverse_of e = arc_of e.to e.from (pos 1 -ℤ e.weight)
+
+-- the arc is implied already, or the reason ends the block with the reverse added
+pub record IsShown (p : Problem) (lemmas : List (List Lag)) (arcs : List Lag) (e : Lag) (reason : Reason) : Type 0 where
+  pub is_live : HasNoPositiveCycle arcs
+  pub named : JoinsActivities p e
+  pub shown : Implies arcs e ⊎ Ends p lemmas (arcs ++ reverse_of e ∷ []) reason
+
+-- the line is right at its place
+abbrev pub IsRightAt : Problem → Place → Line → Type 0
+IsRightAt p at (kind.Lemma arcs) = MayOpen p at arcs
+IsRightAt p at (kind.Force pair) = IsForced p (arcs_at at) pair
+IsRightAt p at (kind.Add arc reason) = IsShown p at.lemmas (arcs_at at) arc reason
+IsRightAt p at (kind.End reason) = Ends p at.lemmas (arcs_at at) reason
+
+abbrev pub IsRightLine : Problem → Placed → Type 0
+IsRightLine p here = IsRightAt p here.place here.line
+
+-- the starts are a feasible schedule of the makespan that is claimed
+abbrev pub AreRightStarts : Problem → Claim → Type 0
+AreRightStarts p (claims.Optimal length starts) = IsFeasible p starts × (makespan starts ≡ length)
+AreRightStarts p (claims.Bound bound) = Unit {0}
+AreRightStarts p claims.NoSchedule = Unit {0}
+
+-- each line is right at its place, where the first one stands here
+abbrev pub AreRightFrom : Problem → Place → List Line → Type 0
+AreRightFrom p at lines = All (IsRightLine p) (placed p at lines)
+
+pub record IsRight (p : Problem) (r : LemmaRecordOf) : Type 0 where
+  pub starts : AreRightStarts p r.claim
+  pub lines : AreRightFrom p (first_place p r.claim) r.lines

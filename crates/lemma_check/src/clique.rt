@@ -1,0 +1,130 @@
+ghost use Rattle.std.specs.Prelude.{◌≡◌, ◌↔◌, ◌<◌, List, length, unsigned_abs, IsTrue};
+ghost use Rattle.std.specs.List.{All, AllPairs, sum_by};
+ghost use Rattle.network.specs.declared.lag.Lag.{Lag};
+ghost use Rattle.network.specs.Limits.{IsTime};
+ghost use Rattle.network.specs.Problem.{activity_count, duration};
+ghost use Rattle.rivals.specs.Incompatible.{AreIncompatible};
+ghost use Rattle.lemma_check.specs.Reasons.{AreMembers, pair_of, RunsWithin, IsClique};
+ghost use Rattle.lemma_check.specs.Weights.{TellsWhether};
+
+use crate::members::are_members;
+use crate::weights::Weights;
+use network::{Lag, Pair, Project};
+use rivals::are_incompatible;
+
+/// Whether an activity is a rival of each of these.
+fn is_rival_of_all(project: &Project, others: &[usize], activity: usize) -> bool
+    ensures { IsTrue result ↔ All (λ i. AreIncompatible project.now (pair_of i activity)) others.now }
+{
+    for other in others {
+        let pair = Pair {
+            before: *other,
+            after: activity,
+        };
+        if !are_incompatible(project, pair) {
+            return false;
+        }
+    }
+    true
+}
+
+/// Whether each two of the members are rivals.
+fn are_rivals(project: &Project, members: &[usize]) -> bool
+    ensures { IsTrue result ↔ AllPairs (λ i j. AreIncompatible project.now (pair_of i j)) members.now }
+{
+    for place in 0..members.len() {
+        if !is_rival_of_all(project, &members[..place], members[place]) {
+            return false;
+        }
+    }
+    true
+}
+
+/// Whether an activity runs within the window, whenever it starts.
+fn runs_within(project: &Project, weights: &Weights, from: i64, to: i64, activity: usize) -> bool
+    requires size { length weights.now ≡ activity_count project.now }
+    requires activity { activity < activity_count project.now }
+    requires time { IsTime to }
+    ensures { TellsWhether (activity_count project.now) weights.now result
+        (λ arcs. RunsWithin project.now arcs from to activity) }
+{
+    let late = Lag {
+        from: 0,
+        to: activity,
+        weight: from,
+    };
+    if !weights.implies(late) {
+        return false;
+    }
+    let early = Lag {
+        from: activity,
+        to: 0,
+        weight: project.duration(activity) - to,
+    };
+    weights.implies(early)
+}
+
+/// Whether all members run within the window.
+fn all_run_within(
+    project: &Project,
+    weights: &Weights,
+    from: i64,
+    to: i64,
+    members: &[usize],
+) -> bool
+    requires size { length weights.now ≡ activity_count project.now }
+    requires members { AreMembers project.now members.now }
+    requires time { IsTime to }
+    ensures { TellsWhether (activity_count project.now) weights.now result
+        (λ arcs. All (RunsWithin project.now arcs from to) members.now) }
+{
+    for member in members {
+        if !runs_within(project, weights, from, to, *member) {
+            return false;
+        }
+    }
+    true
+}
+
+/// How long the members take together.
+fn total_duration(project: &Project, members: &[usize]) -> u64
+    requires { AreMembers project.now members.now }
+    ensures value { result ≡ sum_by (λ i. unsigned_abs (duration project.now i)) members.now }
+    ensures small { result < 2_000_000_000 }
+{
+    prove!(project.activity_count() >= 2);
+    let mut total = 0;
+    for member in members {
+        total += project.duration(*member).unsigned_abs();
+    }
+    total
+}
+
+/// Whether the members run one at a time, all within the window, and take longer than it is.
+pub(crate) fn is_clique(
+    project: &Project,
+    weights: &Weights,
+    from: i64,
+    to: i64,
+    members: &[usize],
+) -> bool
+    requires size { length weights.now ≡ activity_count project.now }
+    requires from_time { IsTime from }
+    requires to_time { IsTime to }
+    ensures { TellsWhether (activity_count project.now) weights.now result
+        (λ arcs. IsClique project.now arcs from to members.now) }
+{
+    if members.len() < 2 {
+        return false;
+    }
+    if !are_members(project, members) {
+        return false;
+    }
+    if !all_run_within(project, weights, from, to, members) {
+        return false;
+    }
+    if !are_rivals(project, members) {
+        return false;
+    }
+    to < from + total_duration(project, members) as i64
+}

@@ -1,0 +1,37 @@
+ghost use Rattle.std.specs.Prelude.{◌≡◌, ◌↔◌, List, length, IsTrue};
+ghost use Rattle.std.specs.List.{All};
+ghost use Rattle.network.specs.declared.lag.Lag.{Lag};
+ghost use Rattle.network.specs.Problem.{activity_count};
+ghost use Rattle.lemma_text.specs.Text.{IsWritableReason};
+ghost use Rattle.lemma_check.specs.Reasons.{Ends};
+ghost use Rattle.lemma_check.specs.Right.{JoinsActivities};
+ghost use Rattle.lemma_check.specs.Weights.{TellsWhether};
+
+use crate::clique::is_clique;
+use crate::lemmas::{Lemmas, is_use};
+use crate::load::is_load;
+use crate::set::is_set;
+use crate::weights::Weights;
+use lemma_text::Reason;
+use network::Project;
+
+/// Whether the reason ends the block of these weights, whose arcs close no walk of positive weight.
+pub(crate) fn ends(project: &Project, weights: &Weights, lemmas: &Lemmas, reason: &Reason) -> bool
+    requires size { length weights.now ≡ activity_count project.now }
+    requires named { All (All (JoinsActivities project.now)) lemmas.now }
+    requires writable { IsWritableReason reason.now }
+    ensures { TellsWhether (activity_count project.now) weights.now result
+        (λ arcs. Ends project.now lemmas.now arcs reason.now) }
+{
+    match reason {
+        Reason::Dead => false,
+        Reason::Set { resource, members } => {
+            is_set(project, weights, *resource, members.as_slice())
+        }
+        Reason::Load { resource, from, to } => is_load(project, weights, *resource, *from, *to),
+        Reason::Clique { from, to, members } => {
+            is_clique(project, weights, *from, *to, members.as_slice())
+        }
+        Reason::Use { lemma } => is_use(weights, lemmas, *lemma),
+    }
+}

@@ -1,0 +1,10 @@
+ghost use Rattle.lemma_check.specs.Proves.{RightIsTrue};
+ghost use Rattle.lemma_check.specs.Faults.{FaultIsWrong, FirstFaultIsOne};
+
+/// What a right record claims is true, and a record with a first fault is not right and has no other
+/// first fault: laws over the definitions.
+pub fn right_law()
+    ensures holds { RightIsTrue }
+    ensures wrong { FaultIsWrong }
+    ensures one { FirstFaultIsOne }
+{}

@@ -1,0 +1,21 @@
+//! Whether a record of lemmas is right for a project, line by line, so that what it claims is true.
+#![tactic(auto)]
+
+mod clique;
+mod ending;
+mod laws;
+mod lemmas;
+mod lines;
+mod load;
+mod members;
+mod proved;
+mod right;
+mod set;
+mod state;
+mod verification;
+mod weights;
+
+pub use laws::right_law;
+pub use lemma_text::{LemmaFault, LemmaRecord, Why};
+pub use proved::Proved;
+pub use verification::verify;

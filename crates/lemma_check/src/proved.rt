@@ -1,0 +1,10 @@
+/// What a right record proves of its project.
+#[derive(Clone, Copy, PartialEq, Eq, Debug)]
+pub enum Proved {
+    /// The shortest feasible schedule takes this many periods.
+    Optimal { makespan: i64 },
+    /// No feasible schedule takes fewer periods.
+    Bound { bound: i64 },
+    /// There is no feasible schedule.
+    NoSchedule,
+}

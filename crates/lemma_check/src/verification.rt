@@ -1,0 +1,67 @@
+ghost use Rattle.std.specs.Prelude.{◌≡◌, ◌≢◌, ◌↔◌, IsTrue, IfOk, IfErr, OnOk};
+ghost use Rattle.lemma_text.specs.Text.{IsWritableClaim};
+ghost use Rattle.lemma_text.specs.declared.fault.Why.TheVariants.{Memory};
+ghost use Rattle.lemma_check.specs.Right.{AreRightStarts, IsRight};
+ghost use Rattle.lemma_check.specs.Proves.{proved_of, IsTrueOf};
+ghost use Rattle.lemma_check.specs.Faults.{IsFirstFault};
+
+use crate::lines::check_lines;
+use crate::proved::Proved;
+use lemma_text::{Claim, LemmaFault, LemmaRecord, Why};
+use network::Project;
+use schedule_check::violations;
+use std::alloc::{AllocError, Global};
+
+/// What a claim says, apart from the starts.
+fn proved_of(claim: &Claim) -> Proved
+    ensures { result ≡ proved_of claim.now }
+{
+    match claim {
+        Claim::Optimal { makespan, .. } => Proved::Optimal {
+            makespan: *makespan,
+        },
+        Claim::Bound { bound } => Proved::Bound { bound: *bound },
+        Claim::NoSchedule => Proved::NoSchedule,
+    }
+}
+
+/// Whether the starts are a feasible schedule of the makespan that is claimed.
+fn has_right_starts(alloc: Global, project: &Project, claim: &Claim) -> Result<bool, AllocError>
+    requires { IsWritableClaim claim.now }
+    ensures { IfOk result (λ yes. IsTrue yes ↔ AreRightStarts project.now claim.now) }
+{
+    let (makespan, starts) = match claim {
+        Claim::Optimal { makespan, starts } => (*makespan, starts.as_slice()),
+        Claim::Bound { .. } | Claim::NoSchedule => return Ok(true),
+    };
+    let count = project.activity_count();
+    if starts.len() != count || starts[count - 1] != makespan {
+        return Ok(false);
+    }
+    let found = violations(alloc, project, starts)?;
+    Ok(found.is_empty())
+}
+
+/// What a record proves of a project, where it is right; else its first fault: the starts, and then the
+/// first line of the blocks that is not right. [`Why::Memory`] says nothing of the record.
+///
+/// Each line is looked at with the matrix of the greatest weights of walks over its block's arcs. There is one
+/// matrix, which takes each arc that a line adds, and goes back where a lemma ends (the matrix by Floyd 1962
+/// and Warshall 1962). A lemma that has ended takes one number of memory.
+pub fn verify(alloc: Global, project: &Project, shown: &LemmaRecord) -> Result<Proved, LemmaFault>
+    ensures right { OnOk result (IsRight project.now shown.now) }
+    ensures proved { IfOk result (λ proved. proved ≡ proved_of shown.now.claim) }
+    ensures holds { IfOk result (IsTrueOf project.now) }
+    ensures fault { IfErr result (λ fault. fault.why ≢ Memory → IsFirstFault project.now shown.now fault) }
+    ensures only { IsRight project.now shown.now → IfErr result (λ fault. fault.why ≡ Memory) }
+{
+    let claim = shown.claim();
+    if !has_right_starts(alloc, project, claim)? {
+        return Err(LemmaFault {
+            line: 3,
+            why: Why::Start,
+        });
+    }
+    check_lines(alloc, project, claim, shown.lines())?;
+    Ok(proved_of(claim))
+}

@@ -1,0 +1,13 @@
+//! Runs of psprove over devices: what is read of a project and of a record of lemmas, and what is written of them.
+//!
+//! [`run`] reads the project from its second input and then the record from its first, to their ends and within limits. It
+//! writes what the record proves, or says why it proves nothing. The devices are those of `runs`.
+#![tactic(auto)]
+
+mod fault;
+mod reading;
+mod running;
+mod verified;
+
+pub use fault::VerifyFault;
+pub use running::{Ended, run};

@@ -1,0 +1,10 @@
+pub mod WeightReads
+pub mod RowWords
+pub mod LagReads
+pub mod ReasonReads
+pub mod LineReads
+pub mod HeadReads
+pub mod Shapes
+pub mod BlockLines
+pub mod HeadFaults
+pub mod TextLaws

@@ -1,0 +1,6 @@
+pub mod LemmaRecord
+pub mod Blocks
+pub mod Shape
+pub mod Text
+pub mod TextFaults
+pub mod Reading

@@ -1,0 +1,104 @@
+-- The text of a record.
+use Rattle.std.specs.Prelude.{◌≡◌, ℕ, ◌<◌, ◌≤◌, List, [], ◌∷◌, ◌++◌, map, codes, length}
+use Rattle.std.specs.List.{flat_map, AllByRecursion}
+use Rattle.std.specs.Fmt.{signed_decimal}
+use Rattle.network.specs.declared.lag.Lag.{Lag}
+use Rattle.network.specs.declared.limits.TheConstants.{MAX_LAG_WEIGHT}
+use Rattle.network.specs.Limits.{IsWithin, IsAmount}
+use Rattle.record_text.specs.Text.{spaced, spaced_times, ended, IsNumber, IsWritableTime}
+use Rattle.record_text.specs.declared.TheConstants.{MAX_RECORD_BYTES}
+use Rattle.lemma_text.specs.declared.claim.Claim.{Claim}
+use Rattle.lemma_text.specs.declared.claim.Claim.TheVariants as claims
+use Rattle.lemma_text.specs.declared.reason.Reason.{Reason}
+use Rattle.lemma_text.specs.declared.reason.Reason.TheVariants as reasons
+use Rattle.lemma_text.specs.declared.line.Line.{Line}
+use Rattle.lemma_text.specs.declared.line.Line.TheVariants as kind
+use Rattle.lemma_text.specs.Blocks.{Block, lines_of}
+use Rattle.lemma_text.specs.LemmaRecord.{LemmaRecordOf}
+
+-- ---- bytes
+
+-- an arc with a space before each part
+abbrev pub spaced_lag : Lag → List ℕ
+spaced_lag arc = spaced (arc.from ∷ arc.to ∷ []) ++ 32 ∷ signed_decimal arc.weight
+
+abbrev pub reason_text : Reason → List ℕ
+reason_text reasons.Dead = codes "dead"
+reason_text (reasons.Set resource members) = codes "set" ++ spaced (resource ∷ members)
+reason_text (reasons.Load resource from to) = codes "load" ++ spaced (resource ∷ []) ++ spaced_times (from ∷ to ∷ [])
+reason_text (reasons.Clique from to members) = codes "clique" ++ spaced_times (from ∷ to ∷ []) ++ spaced members
+reason_text (reasons.Use lemma) = codes "use" ++ spaced (lemma ∷ [])
+
+-- a line's bytes without the LF at its end
+abbrev pub row_of : Line → List ℕ
+row_of (kind.Lemma arcs) = codes "lemma" ++ flat_map spaced_lag arcs
+row_of (kind.Force pair) = codes "force" ++ spaced (pair.before ∷ pair.after ∷ [])
+row_of (kind.Add arc reason) = codes "add" ++ spaced_lag arc ++ 32 ∷ reason_text reason
+row_of (kind.End reason) = codes "end" ++ 32 ∷ reason_text reason
+
+-- the rows of a claim
+abbrev pub claim_rows : Claim → List (List ℕ)
+claim_rows (claims.Optimal makespan starts) =
+    (codes "optimal" ++ spaced_times (makespan ∷ [])) ∷ (codes "starts" ++ spaced_times starts) ∷ []
+claim_rows (claims.Bound bound) = (codes "bound" ++ spaced_times (bound ∷ [])) ∷ []
+claim_rows claims.NoSchedule = codes "no schedule" ∷ []
+
+-- the rows before those of the blocks
+abbrev pub head_rows : Claim → List (List ℕ)
+head_rows claim = codes "record 2" ∷ claim_rows claim
+
+-- a record's rows: its lines without their LFs
+abbrev pub rows_of : LemmaRecordOf → List (List ℕ)
+rows_of r = head_rows r.claim ++ map row_of r.lines
+
+-- a line's bytes with its LF
+abbrev pub line_text : Line → List ℕ
+line_text line = ended (row_of line)
+
+-- the one text of a record
+abbrev pub record_text : LemmaRecordOf → List ℕ
+record_text r = flat_map ended (rows_of r)
+
+-- ---- what a text can hold
+
+-- an arc between activities of any number, with a weight within the limits of lags
+pub record IsWritableLag (arc : Lag) : Type 0 where
+  pub from : IsNumber arc.from
+  pub to : IsNumber arc.to
+  pub light : IsWithin MAX_LAG_WEIGHT arc.weight
+
+-- one member or more, each a number
+pub record AreMembers (members : List ℕ) : Type 0 where
+  pub some : 0 < length members
+  pub numbers : AllByRecursion IsNumber members
+
+abbrev pub IsWritableReason : Reason → Type 0
+IsWritableReason reasons.Dead = Unit {0}
+IsWritableReason (reasons.Set resource members) = IsNumber resource × AreMembers members
+IsWritableReason (reasons.Load resource from to) = IsNumber resource × IsWritableTime from × IsWritableTime to
+IsWritableReason (reasons.Clique from to members) = IsWritableTime from × IsWritableTime to × AreMembers members
+IsWritableReason (reasons.Use lemma) = IsNumber lemma
+
+abbrev pub IsWritableLine : Line → Type 0
+IsWritableLine (kind.Lemma arcs) = AllByRecursion IsWritableLag arcs
+IsWritableLine (kind.Force pair) = IsNumber pair.before × IsNumber pair.after
+IsWritableLine (kind.Add arc reason) = IsWritableLag arc × IsWritableReason reason
+IsWritableLine (kind.End reason) = IsWritableReason reason
+
+abbrev pub IsWritableClaim : Claim → Type 0
+IsWritableClaim (claims.Optimal makespan starts) =
+    IsAmount makespan × (0 < length starts) × AllByRecursion IsWritableTime starts
+IsWritableClaim (claims.Bound bound) = IsAmount bound
+IsWritableClaim claims.NoSchedule = Unit {0}
+
+-- a claim, and the lines of a block, all of whose numbers a text can hold
+pub record IsRecord (r : LemmaRecordOf) : Type 0 where
+  pub claim : IsWritableClaim r.claim
+  pub lines : AllByRecursion IsWritableLine r.lines
+  pub blocks : (block : Block) × (lines_of block ≡ r.lines)
+
+-- the text is that of a record
+pub record Spells (text : List ℕ) (r : LemmaRecordOf) : Type 0 where
+  pub of_record : IsRecord r
+  pub size : length text ≤ MAX_RECORD_BYTES
+  pub spelled : text ≡ record_text r

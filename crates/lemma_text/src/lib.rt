@@ -1,0 +1,30 @@
+//! The text of a record of lemmas: a claim about a project, and the lines that show it.
+//!
+//! A [`LemmaRecord`] is a claim and the lines of its blocks, and has one text, which
+//! [`LemmaRecord::write`] makes and [`LemmaRecord::read`] takes. Whether a record's lines are right, and so
+//! its claim is true of a project, is no matter of this crate.
+#![tactic(auto)]
+
+mod claim;
+mod fault;
+mod lags;
+mod laws;
+mod line;
+mod read;
+mod read_lags;
+mod read_reason;
+mod reason;
+mod record;
+mod row;
+mod weight;
+mod write;
+
+pub use claim::Claim;
+pub use fault::{LemmaFault, Why};
+pub use lags::Lags;
+pub use laws::{shape_law, text_law};
+pub use line::Line;
+pub use read::first_line;
+pub use reason::Reason;
+pub use record::LemmaRecord;
+pub use record_text::MAX_RECORD_BYTES;

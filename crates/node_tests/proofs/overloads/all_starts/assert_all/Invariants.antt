@@ -1,0 +1,5 @@
+use Rattle.profile.specs.SweepOf.{IsSweepFor}
+use Rattle.node_tests.proofs.overloads.all_starts.assert_all.Given as goal
+
+abbrev pub invariant-loop-list : goal.invariant-loop-list
+invariant-loop-list g l = IsSweepFor l.project l.sweep

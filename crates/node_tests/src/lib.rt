@@ -1,0 +1,17 @@
+//! Tests of what a node is made of: matrices, least starts, overloads, sets, bounds and expansions.
+//!
+//! They stand apart from the crates that they test, through what these have public: a crate with tests is proved twice.
+#![tactic(auto)]
+
+#[cfg(test)]
+mod expansions;
+#[cfg(test)]
+mod least_starts;
+#[cfg(test)]
+mod matrices;
+#[cfg(test)]
+mod overloads;
+#[cfg(test)]
+mod sets;
+#[cfg(test)]
+mod values;

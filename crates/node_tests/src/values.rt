@@ -1,0 +1,283 @@
+ghost use Rattle.std.specs.Prelude.{◌≡◌, ◌<◌, [], ◌∷◌, IsTrue, IfOk};
+ghost use Rattle.longest_path.specs.Insert.{ClosesNone};
+ghost use Rattle.network.specs.Problem.{resource_count, NameActivities, pair_arc};
+ghost use Rattle.bounds.specs.Bound.{IsMatrixFor};
+ghost use Rattle.bounds.specs.Workspace.{IsWorkspaceFor};
+
+use bounds::{Workspace, bound, bound_with, critical, energy};
+use earliest::{heads, tails};
+use longest_path::{Matrix, PathFault, longest};
+use network::{Pair, Project};
+use std::alloc::{AllocError, Global};
+use std::process::Abort;
+use std::test::Fail;
+use test_projects::{
+    backward_lag, lag, one_machine, pair, three_on_two, two_between, with_one_resource,
+};
+
+/// Whether both activities of each pair are there.
+fn are_named(project: &Project, pairs: &[Pair]) -> bool
+    ensures { IsTrue result → NameActivities project.now pairs.now }
+{
+    let count = project.activity_count();
+    pairs
+        .iter()
+        .all(|pair| pair.before < count && pair.after < count)
+}
+
+/// The matrix of a project and pairs.
+fn matrix_of(alloc: Global, project: &Project, pairs: &[Pair]) -> Result<Matrix, PathFault>
+    requires { NameActivities project.now pairs.now }
+    ensures { IfOk result (λ matrix. IsMatrixFor project.now matrix) }
+{
+    prove!(project.activity_count() >= 2);
+    longest(alloc, project, pairs)
+}
+
+/// Whether the arc of a pair closes no walk of positive weight.
+fn closes_none(project: &Project, matrix: &Matrix, pair: Pair) -> bool
+    requires matrix { IsMatrixFor project.now matrix.now }
+    requires named { NameActivities project.now (pair ∷ []) }
+    ensures { IsTrue result → ClosesNone (pair_arc project.now pair) matrix.now }
+{
+    match matrix.get(pair.after, pair.before) {
+        Some(back) => back + project.duration(pair.before) <= 0,
+        None => true,
+    }
+}
+
+/// The work between a and b for a resource, none where no activity lies between.
+fn work_between(
+    project: &Project,
+    resource: usize,
+    heads: &[i64],
+    tails: &[i64],
+    a: i64,
+    b: i64,
+) -> Option<u64>
+    requires { resource < resource_count project.now }
+{
+    let mut sum = None;
+    for activity in 0..project.activity_count() {
+        let starts_late = heads.get(activity).is_some_and(|head| a <= *head);
+        let ends_early = tails.get(activity).is_some_and(|tail| b <= *tail);
+        if starts_late && ends_early {
+            let duration = project.duration(activity).unsigned_abs();
+            let work = duration.saturating_mul(project.demand(resource, activity));
+            sum = Some(work.saturating_add(sum.unwrap_or(0)));
+        }
+    }
+    sum
+}
+
+/// The energy value by plain loops over heads, tails and activities.
+fn plain_energy(project: &Project, heads: &[i64], tails: &[i64]) -> u64 {
+    let mut greatest = 0;
+    for resource in 0..project.resource_count() {
+        let capacity = project.capacity(resource);
+        for a in heads {
+            for b in tails {
+                let work = work_between(project, resource, heads, tails, *a, *b);
+                if let Some(work) = work
+                    && capacity > 0
+                {
+                    let ends = a.saturating_add(*b).unsigned_abs();
+                    greatest = greatest.max(ends.saturating_add(work.div_ceil(capacity)));
+                }
+            }
+        }
+    }
+    greatest
+}
+
+/// The critical weight, the energy value and the bound with pairs, none where a closed walk has positive
+/// weight. The energy value has to be that of the plain loops.
+fn values(
+    rt: &impl Abort,
+    alloc: Global,
+    project: &Project,
+    pairs: &[Pair],
+) -> Result<Option<[i64; 3]>, Fail> {
+    assert!(rt; are_named(project, pairs));
+    let matrix = match matrix_of(alloc, project, pairs) {
+        Ok(matrix) => matrix,
+        Err(PathFault::PositiveCycle { at: _ }) => return Ok(None),
+        Err(PathFault::Memory) => return Err(Fail::from(AllocError)),
+    };
+    let heads = heads(alloc, &matrix)?;
+    let tails = tails(alloc, project, &matrix)?;
+    let energy = energy(alloc, project, &matrix)?;
+    assert_eq!(rt;
+        energy.unsigned_abs(),
+        plain_energy(project, &heads, &tails)
+    );
+    let bound = bound(alloc, project, &matrix)?;
+    Ok(Some([critical(&matrix), energy, bound]))
+}
+
+/// That the bound with the second pair more is found by the matrix with the first pairs, where there are
+/// both matrices, and under a ceiling above it; and else a number between both. The ceiling is given by
+/// how far it is above the bound.
+fn assert_same_with(
+    rt: &impl Abort,
+    alloc: Global,
+    project: &Project,
+    workspace: &mut Workspace,
+    first: Pair,
+    second: Pair,
+    above: Option<i64>,
+) -> Result<(), Fail>
+    requires { IsWorkspaceFor project.now workspace.old }
+    ensures { workspace.new ≡ workspace.old }
+{
+    assert!(rt; are_named(project, &[first]));
+    assert!(rt; are_named(project, &[second]));
+    let Ok(matrix) = matrix_of(alloc, project, &[first]) else {
+        return Ok(());
+    };
+    if closes_none(project, &matrix, second) {
+        let Some(of_both) = values(rt, alloc, project, &[first, second])? else {
+            return Err("there is no matrix".into());
+        };
+        let exact = of_both[2];
+        assert_eq!(rt; bound_with(alloc, project, &matrix, second)?, exact);
+        let ceiling = match above {
+            Some(above) => Some(exact.saturating_add(above)),
+            None => None,
+        };
+        let found = workspace.bound_under(project, &matrix, second, ceiling);
+        let top = ceiling.unwrap_or(i64::MAX);
+        assert_eq!(rt; found.min(top), exact.min(top));
+        assert!(rt; found <= exact);
+    }
+    Ok(())
+}
+
+/// The same for all two pairs and some ceilings, by one workspace.
+fn assert_same_in_one(rt: &impl Abort, alloc: Global, project: &Project) -> Result<(), Fail> {
+    let mut workspace = Workspace::new(alloc, project)?;
+    let pairs = ordered_pairs(alloc, project)?;
+    for first in &pairs {
+        for second in &pairs {
+            for above in [None, Some(-2), Some(0), Some(1)] {
+                let (first, second) = (*first, *second);
+                assert_same_with(rt, alloc, project, &mut workspace, first, second, above)?;
+            }
+        }
+    }
+    Ok(())
+}
+
+/// All ordered pairs of activities.
+fn ordered_pairs(alloc: Global, project: &Project) -> Result<Vec<Pair>, Fail> {
+    let mut pairs = Vec::new(alloc);
+    for before in 0..project.activity_count() {
+        for after in 0..project.activity_count() {
+            if before != after {
+                pairs.push(Pair { before, after })?;
+            }
+        }
+    }
+    Ok(pairs)
+}
+
+#[test]
+fn bounds_of_projects(rt: HostRuntime) -> Result<(), Fail> {
+    let alloc = rt.alloc();
+    // The first pair adds nothing: each activity starts with the start or later.
+    let none = pair(0, 1);
+    for (project, pair, wanted) in [
+        (two_between(alloc)?, none, [12, 16, 16]),
+        (one_machine(alloc, &[])?, none, [4, 7, 7]),
+        (one_machine(alloc, &[])?, pair(1, 2), [7, 7, 7]),
+        (three_on_two(alloc)?, none, [2, 3, 3]),
+        (three_on_two(alloc)?, pair(3, 1), [4, 4, 4]),
+        // Without a capacity there is no work.
+        (
+            with_one_resource(alloc, &[0, 1, 0], &[0, 0, 0], 0, &[])?,
+            none,
+            [1, 0, 1],
+        ),
+    ] {
+        if pair == none {
+            assert_eq!(rt; values(&rt, alloc, &project, &[])?, Some(wanted));
+        }
+        assert_eq!(rt; values(&rt, alloc, &project, &[pair])?, Some(wanted));
+        assert_eq!(rt; values(&rt, alloc, &project, &[none, pair])?, Some(wanted));
+    }
+    Ok(())
+}
+
+/// By all two pairs with one workspace, and by no pair and up to three without: a pair that comes twice
+/// adds nothing.
+#[test]
+fn all_small_lists_of_pairs(rt: HostRuntime) -> Result<(), Fail> {
+    let alloc = rt.alloc();
+    for project in [
+        one_machine(alloc, &[])?,
+        three_on_two(alloc)?,
+        backward_lag(alloc)?,
+        two_between(alloc)?,
+    ] {
+        assert_same_in_one(&rt, alloc, &project)?;
+        values(&rt, alloc, &project, &[])?;
+        let pairs = ordered_pairs(alloc, &project)?;
+        for first in &pairs {
+            for second in &pairs {
+                for third in &pairs {
+                    values(&rt, alloc, &project, &[*first, *second, *third])?;
+                }
+            }
+        }
+    }
+    Ok(())
+}
+
+/// A number below the count of sides that looks thrown, the same in each run.
+fn roll(state: &mut u64, sides: u64) -> i64 {
+    let next = state.wrapping_mul(6_364_136_223_846_793_005);
+    *state = next.wrapping_add(1_442_695_040_888_963_407);
+    i64::try_from(*state / 4_294_967_296 % sides.max(1)).unwrap_or(0)
+}
+
+/// A project of activities before the end, with heads and tails below the count of sides.
+fn project_by_dice(
+    alloc: Global,
+    state: &mut u64,
+    end: usize,
+    capacity: i64,
+    sides: u64,
+) -> Result<Project, Fail> {
+    let mut durations = vec![in alloc; 0]?;
+    let mut demands = vec![in alloc; 0]?;
+    let mut lags = Vec::new(alloc);
+    let mut to_end = Vec::new(alloc);
+    for activity in 1..end {
+        let duration = roll(state, 8);
+        durations.push(duration)?;
+        demands.push(roll(state, capacity.unsigned_abs().saturating_add(1)))?;
+        lags.push(lag(0, activity, roll(state, sides)))?;
+        let weight = duration.saturating_add(roll(state, sides));
+        to_end.push(lag(activity, end, weight))?;
+    }
+    lags.append(&mut to_end)?;
+    durations.push(0)?;
+    demands.push(0)?;
+    with_one_resource(alloc, &durations, &demands, capacity, &lags)
+}
+
+/// A thousand lists of heads and of tails, few or many of which are equal.
+#[test]
+fn a_thousand_lists_are_as_the_plain_loops(rt: HostRuntime) -> Result<(), Fail> {
+    let mut state = 7;
+    for end in 1..21 {
+        for capacity in 1..6 {
+            for _ in 0..10 {
+                let sides = 1 + roll(&mut state, 30).unsigned_abs() % 30;
+                let project = project_by_dice(rt.alloc(), &mut state, end, capacity, sides)?;
+                values(&rt, rt.alloc(), &project, &[])?;
+            }
+        }
+    }
+    Ok(())
+}

@@ -1,0 +1,75 @@
+-- What workers reply, and when a record is part of it.
+use Rattle.std.proofs.Common.{◌≡◌, ◌≢◌, ℕ, Bool, true, false, List, Option, None, Some, refl, sym, ap, ◌∙◌, inl, inr, ◌⊎◌}
+use Rattle.std.specs.Prelude.{IfSome, IsSomeAnd, IsSome, ◌↔◌, Result, Ok, Err, IfOk, IfErr}
+use Rattle.network.specs.Problem.{Problem}
+use Rattle.network.specs.Limits.{IsProject}
+use Rattle.branching.specs.Verdicts.{IsTrueOf}
+use Rattle.branching.specs.declared.outcome.Outcome.{Outcome}
+use Rattle.branching.specs.declared.outcome.Outcome.TheVariants.{Optimal, NoSchedule, Stopped}
+use Rattle.sch_reader.specs.Text.{Spells}
+use Rattle.answers.proofs.OutcomeLaws.{said_is_true}
+use Rattle.answers.specs.Outcomes.{SaysOutcome, IsRightRecord, claim_text}
+use Rattle.runs.specs.declared.job.Job.{Job}
+use Rattle.runs.specs.Jobs.{answers_json, writes_record}
+use Rattle.runs.specs.Outcome.{SpellsOne}
+use Rattle.runs.specs.Runs.{ReplyOf, RecordsWhereAsked}
+use Rattle.parallel_runs.specs.Searches.{IsOutcomeRecord, IsSearchReply, IsTextOf}
+
+-- a record of what is claimed is one of what the answer says
+abbrev Kept : Problem → Bool → ℕ → List ℕ → Option (List ℕ) → Type 0
+Kept p json exit text kept = (IsSome kept ↔ (exit ≡ 0)) × IfSome kept (IsRightRecord p json text)
+
+-- the record of an outcome is there exactly where the search wasn't stopped, and is right
+kept_of : (p : Problem) (outcome : Outcome) (json : Bool) (exit : ℕ) (text : List ℕ) (kept : Option (List ℕ)) →
+    SaysOutcome outcome json exit text → IsOutcomeRecord p outcome kept → Kept p json exit text kept
+kept_of p (Optimal best) json exit text (Some r) said is = (
+  ((λ _. said.0), (λ _. refl)),
+  record {
+    shown = is.shown;
+    right = is.right;
+    claims = said.1 ∙ ap (claim_text json) (sym is.claims);
+    text = is.text;
+  },
+)
+kept_of p (Optimal best) json exit text None said is = absurd is
+kept_of p NoSchedule json exit text (Some r) said is = (
+  ((λ _. said.0), (λ _. refl)),
+  record {
+    shown = is.shown;
+    right = is.right;
+    claims = said.1 ∙ ap (claim_text json) (sym is.claims);
+    text = is.text;
+  },
+)
+kept_of p NoSchedule json exit text None said is = absurd is
+kept_of p (Stopped (Some best) bound) json exit text None said is = (((λ (e : false ≡ true). cc), (λ zero. let three = said.0 in cc)), tt)
+kept_of p (Stopped None bound) json exit text None said is = (((λ (e : false ≡ true). cc), (λ zero. let three = said.0 in cc)), tt)
+kept_of p (Stopped best bound) json exit text (Some r) said is = cc
+
+-- and with one
+pub replies_recorded : (job : Job) (p : Problem) (outcome : Outcome) (reply : ReplyOf) (exit : ℕ) (text : List ℕ) (kept : Option (List ℕ)) →
+    SaysOutcome outcome (answers_json job) exit text → IsTrueOf p outcome → writes_record job ≡ true → IsOutcomeRecord p outcome kept →
+    reply.exit ≡ exit → reply.text ≡ text → reply.recorded ≡ kept → IsSearchReply job p reply
+replies_recorded job p outcome reply exit text kept says is on shows exit_is text_is kept_is =
+    let found = kept_of p outcome (answers_json job) exit text kept says shows in
+    record {
+      said = rw (exit_is, text_is) (said_is_true p outcome false (answers_json job) exit text is (λ (e : false ≡ true). cc) says);
+      records = rw (exit_is, kept_is) ((λ some. (on, found.0.0 some)), (λ asked. found.0.1 asked.1));
+      recorded = rw (text_is, kept_is) found.1;
+    }
+
+-- a record of the project that a text spells
+pub spells_record : (kept : Option (List ℕ)) (text : List ℕ) (p : Problem) (json : Bool) (written : List ℕ) → IsProject p → Spells text p →
+    IfSome kept (IsRightRecord p json written) → IfSome kept (λ r. SpellsOne text (λ p. IsRightRecord p json written r))
+spells_record None text p json written is spells h = tt
+spells_record (Some r) text p json written is spells h = record { project = p; is_project = is; spells = spells; has = h }
+
+-- ---- two clauses of one result
+
+pub ok_both : {T E : Type 0} (r : Result T E) (P Q : T → Type 0) → IfOk r P → IfOk r Q → IfOk r (λ x. P x × Q x)
+ok_both (Ok x) P Q p q = (p, q)
+ok_both (Err e) P Q p q = tt
+
+pub err_both : {T E : Type 0} (r : Result T E) (P Q : E → Type 0) → IfErr r P → IfErr r Q → IfErr r (λ e. P e × Q e)
+err_both (Ok x) P Q p q = tt
+err_both (Err e) P Q p q = (p, q)

@@ -1,0 +1,112 @@
+//! `solve` by workers: what it says of a project, and of starts that are handed in.
+
+ghost use Rattle.std.specs.Prelude.{◌≡◌, ◌≢◌, true, IfOk, IfErr, IfSome};
+ghost use Rattle.std.specs.Arc.{arc_value};
+ghost use Rattle.network.specs.Schedule.{IsFeasible};
+ghost use Rattle.worker.specs.Faults.{IsWithinLimits};
+ghost use Rattle.answers.specs.declared.fault.Fault.TheVariants as faults;
+ghost use Rattle.answers.specs.Answers.{IsStartedText};
+ghost use Rattle.answers.specs.Faults.{exit_of, IsNoDeviceFault, IsSearchFault};
+ghost use Rattle.answers.specs.Outcomes.{IsRightRecord};
+ghost use Rattle.runs.specs.Jobs.{answers_json, IsJob, has_workers};
+ghost use Rattle.runs.specs.Outcome.{GivesStarts, IsFirstStartsFault};
+ghost use Rattle.runs.specs.Runs.{RecordsWhereAsked};
+ghost use Rattle.parallel_runs.specs.Searches.{IsSearchReply};
+
+use crate::recorded::outcome_record;
+use crate::reply::Reply;
+use answers::{Answer, Fault, solved_answer, violations_text};
+use network::{Project, Schedule};
+use runs::{Job, ONE_WORKER};
+use schedule_check::{AcceptFault, accept, read_starts};
+use std::alloc::Global;
+use std::sync::{Arc, Wait};
+use std::thread::Threads;
+use worker::{Gate, SolveFault, search};
+
+/// The fault of a search that may have so many workers and takes.
+fn search_fault(fault: SolveFault) -> Fault
+    requires { IsWithinLimits fault }
+    ensures status { exit_of result ≡ 1 }
+    ensures cause { IsNoDeviceFault result }
+{
+    match fault {
+        SolveFault::Limit => unreachable!(),
+        SolveFault::Memory => Fault::Memory,
+        SolveFault::Thread => Fault::Thread,
+        SolveFault::OtherProject => Fault::OtherProject,
+        SolveFault::Refused(_) => Fault::Refused,
+    }
+}
+
+/// What workers have found of a project, from a schedule of it that may be handed in, and the record of the search,
+/// where the job asks for one and the search wasn't stopped.
+pub(crate) fn searched<G: Gate, R: Threads + Wait + Sync>(
+    rt: &R,
+    alloc: Global,
+    job: Job,
+    project: Arc<Project>,
+    start: Option<Schedule>,
+    gate: &G,
+) -> Result<Reply, Fault>
+    requires job { IsJob job }
+    requires workers { has_workers job ≡ true }
+    ensures found { IfOk result (IsSearchReply job (arc_value project)) }
+    ensures status { IfErr result (λ fault. exit_of fault ≡ 1) }
+    ensures cause { IfErr result IsNoDeviceFault }
+{
+    let Job::Solve {
+        workers,
+        takes,
+        json,
+        recorded,
+        ..
+    } = job
+    else {
+        unreachable!()
+    };
+    let workers = workers.unwrap_or(ONE_WORKER);
+    let (solved, trail) = match search(rt, alloc, project, workers, takes, start, recorded, gate) {
+        Ok(found) => found,
+        Err(fault) => return Err(search_fault(fault)),
+    };
+    let answer = solved_answer(alloc, &solved.outcome, json)?;
+    let Some(trail) = trail else {
+        return Ok(Reply::new(answer, None));
+    };
+    let recorded = outcome_record(alloc, &solved.outcome, &trail)?;
+    Ok(Reply::new(answer, recorded))
+}
+
+/// What the starts in a text violate, where they are no feasible schedule of the project, and then nothing
+/// is searched; else what workers have found from them, and its record.
+pub(crate) fn searched_from<G: Gate, R: Threads + Wait + Sync>(
+    rt: &R,
+    alloc: Global,
+    job: Job,
+    project: Project,
+    text: &[u8],
+    gate: &G,
+) -> Result<Reply, Fault>
+    requires job { IsJob job }
+    requires workers { has_workers job ≡ true }
+    ensures said { IfOk result (λ reply. GivesStarts project text.now
+        (λ starts. IsStartedText project starts (answers_json job) reply.exit reply.text)) }
+    ensures records { IfOk result (RecordsWhereAsked job) }
+    ensures recorded { IfOk result
+        (λ reply. IfSome reply.recorded (IsRightRecord project (answers_json job) reply.text)) }
+    ensures refused { IfErr result (λ fault. exit_of fault ≢ 1 → IsFirstStartsFault project text.now fault) }
+    ensures cause { IfErr result IsNoDeviceFault }
+    ensures searched { IfErr result (λ fault. IsSearchFault fault → GivesStarts project text.now (IsFeasible project)) }
+{
+    let starts = read_starts(alloc, text, project.activity_count())?;
+    let project = Arc::new(alloc, project)?;
+    match accept(alloc, Arc::try_clone(&project)?, starts) {
+        Ok(start) => searched(rt, alloc, job, project, Some(start), gate),
+        Err(AcceptFault::Violated(found)) => {
+            let answer = Answer::of(violations_text(alloc, &found)?, 4);
+            Ok(Reply::new(answer, None))
+        }
+        Err(AcceptFault::Memory) => Err(Fault::Memory),
+    }
+}

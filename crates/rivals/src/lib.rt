@@ -1,0 +1,7 @@
+//! Two activities that can't run at the same time, since together they ask for more of some resource than
+//! there is.
+#![tactic(auto)]
+
+mod pair;
+
+pub use pair::are_incompatible;

@@ -1,0 +1,208 @@
+use crate::gates::{Holds, Watch};
+use answers::Fault;
+use std::alloc::Global;
+use std::process::Abort;
+use std::sync::Wait;
+use std::test::Fail;
+use std::thread::Threads;
+
+mod devices;
+mod row;
+
+use devices::Limits;
+use row::Row;
+
+/// Two activities of 3 and 4 periods that need the same machine.
+const TWO_JOBS: &str =
+    "2 1 0 0\n0 1 0\n1 1 0\n2 1 0\n3 1 0\n0 1 0 0\n1 1 3 1\n2 1 4 1\n3 1 0 0\n1\n";
+
+/// The same, where each has to start before the other ends.
+const CLOSE_LAGS: &str = "2 1 0 0 0 1 0 1 1 1 2 [0] 2 1 1 1 [-2] 3 1 0 \
+    0 1 0 0 1 1 3 1 2 1 4 1 3 1 0 0 1";
+
+/// Three activities of 2 periods that share two machines.
+const THREE_ON_TWO: &str = "3 1 0 0 0 1 0 1 1 0 2 1 0 3 1 0 4 1 0 \
+    0 1 0 0 1 1 2 1 2 1 2 1 3 1 2 1 4 1 0 0 2";
+
+/// Three activities with a lag and a greatest lag, that share three units.
+const BACKWARD_LAG: &str = "3 1 0 0 0 1 0 1 1 1 3 [1] 2 1 0 3 1 1 1 [-3] 4 1 0 \
+    0 1 0 0 1 1 2 2 2 1 3 2 3 1 2 1 4 1 0 0 3";
+
+/// The canonical text of the two jobs.
+const CANONICAL: &str = "2\t1\t0\t0\n0\t1\t0\n1\t1\t0\n2\t1\t0\n3\t1\t0\n\
+    0\t1\t0\t0\n1\t1\t3\t1\n2\t1\t4\t1\n3\t1\t0\t0\n1\n";
+
+/// A shortest schedule of the two jobs, and starts that are none.
+const STARTS: &str = "0 0\n1 0\n2 3\n3 7\n";
+
+const OVERLOADED: &str = "0 0\n1 0\n2 2\n3 6\n";
+
+/// Records of the two jobs, and of those with close lags.
+const RECORD: &str = "record 1\noptimal 7\nstarts 0 4 0 7\nsplit 0 1 2\ncut\nsolved\n";
+
+const DEAD_RECORD: &str = "record 1\nno schedule\nsplit 0 1 2\ndead\ndead\n";
+
+/// The text of a name; any other is a text itself.
+fn text_of(name: &str) -> &str {
+    match name {
+        "two jobs" => TWO_JOBS,
+        "close lags" => CLOSE_LAGS,
+        "three on two" => THREE_ON_TWO,
+        "backward lag" => BACKWARD_LAG,
+        "canonical" => CANONICAL,
+        "starts" => STARTS,
+        "overloaded" => OVERLOADED,
+        "record" => RECORD,
+        "dead record" => DEAD_RECORD,
+        text => text,
+    }
+}
+
+/// Plays the call of each row through devices that don't fail. Behind the arrow stands the beginning of what is to be told,
+/// with a gate that holds workers also what that saw.
+fn plays<R: Threads + Wait + Sync + Abort>(
+    rt: &R,
+    alloc: Global,
+    rows: &[&str],
+    holds: Holds,
+) -> Result<(), Fail> {
+    for text in rows {
+        let (row, gate) = (Row::of(text), Watch::new(holds));
+        let mut told = row.told(rt, alloc, Limits::NONE, &gate)?;
+        if holds != Holds::Nobody {
+            let seen = gate.seen();
+            let (moments, calls, gave_up) = (seen.moments, seen.calls, seen.gave_up);
+            told = format!(in alloc;
+                "{moments} moments, {calls} calls, gave up {gave_up}: {told}"
+            )?;
+        }
+        assert!(rt; told.starts_with(row.wanted), "{text}: {told}");
+    }
+    Ok(())
+}
+
+#[test]
+fn answers_are_those_of_the_texts(rt: HostRuntime) -> Result<(), Fail> {
+    let rows = [
+        "solve --nodes 10 --json; two jobs \
+            -> 0|{\"bound\":7,\"makespan\":7,\"starts\":[0,4,0,7],\"status\":\"optimal\"}\n||",
+        "solve --nodes 10 --json; close lags \
+            -> 0|{\"bound\":null,\"makespan\":null,\"starts\":null,\"status\":\"no schedule\"}\n||",
+        "tidy; canonical -> 0|2\t1\t0\t0\n0\t1\t0\n1\t1\t0\n2\t1\t0\n3\t1\t0\n\
+            0\t1\t0\t0\n1\t1\t3\t1\n2\t1\t4\t1\n3\t1\t0\t0\n1\n||",
+        "verify --project p; dead record; close lags -> 0|proved no schedule\n||",
+        "check --project p; ; 2 1 0 -> 2 ends before word 3|||",
+        "tidy; 2 1 0 -> 2 ends before word 3|||",
+        "verify --project p; record 2\n; two jobs -> 2 line 1: form|||",
+        "verify --project p; record 1\n; two jobs -> 2 line 2: short|||",
+        "verify --project p; record; close lags -> 4 line 3: start|||",
+        "verify --project p; dead record; two jobs -> 4 line 4: leaf|||",
+        "verify --project p; record 2\n; 2 1 0 -> 2 ends before word 3|||",
+    ];
+    plays(&rt, rt.alloc(), &rows, Holds::Nobody)
+}
+
+#[test]
+fn workers_answer_and_record(rt: HostRuntime) -> Result<(), Fail> {
+    let rows = [
+        "solve --workers 1 --nodes 2; two jobs -> 0|optimal 7\n0 0\n1 4\n2 0\n3 7\n||",
+        "solve --workers 1 --nodes 2; backward lag -> 0|optimal 5\n0 0\n1 0\n2 2\n3 1\n4 5\n||",
+        "solve --workers 1 --nodes 2; three on two -> 0|optimal 4\n0 0\n1 0\n2 2\n3 0\n4 4\n||",
+        "solve --workers 1 --nodes 1; two jobs -> 3|unknown bound 7\n||",
+        "solve --workers 64 --nodes 100; three on two -> 0|optimal 4\n",
+        // The project is judged before the starts.
+        "solve --nodes 100 --start s; two jobs; 0 0\n0 0\n -> 2 line 2: repeated|||",
+        "solve --nodes 100 --start s; 2 1; 0 0\n0 0\n -> 2 ends before word 2|||",
+        "solve --nodes 10 --json --record r; two jobs \
+            -> 0|{\"bound\":7,\"makespan\":7,\"starts\":[0,4,0,7],\"status\":\"optimal\"}\n\
+            |record 1\noptimal 7\nstarts 0 4 0 7\nsplit 0 1 2\ncut\nsolved\n|",
+        "solve --nodes 10 --record r; close lags \
+            -> 0|no schedule\n|record 1\nno schedule\nsplit 0 1 2\ndead\ndead\n|",
+        "solve --nodes 1 --record r; two jobs -> 3|unknown bound 7\n||",
+        "solve --nodes 10 --start s --record r; two jobs; overloaded -> 4|overload 2 0 2\n||",
+    ];
+    plays(&rt, rt.alloc(), &rows, Holds::Nobody)
+}
+
+#[test]
+fn gates_see_what_workers_do(rt: HostRuntime) -> Result<(), Fail> {
+    let rows = [
+        // A start that is shortest needs no node, and one that is refused no worker.
+        "solve --nodes 100 --start s; two jobs; starts \
+            -> 1 moments, 0 calls, gave up 0: 0|optimal 7\n0 0\n1 0\n2 3\n3 7\n||",
+        "solve --nodes 100 --start s; two jobs; overloaded \
+            -> 0 moments, 0 calls, gave up 0: 4|overload 2 0 2\n||",
+        "solve --nodes 100 --start s --json; two jobs; overloaded \
+            -> 0 moments, 0 calls, gave up 0: 4|overload 2 0 2\n||",
+        // Two threads take, expand and check in three nodes without the lock, and end.
+        "solve --nodes 100 --workers 2; three on two \
+            -> 8 moments, 3 calls, gave up 0: 0|optimal 4\n",
+    ];
+    plays(&rt, rt.alloc(), &rows, Holds::Second)
+}
+
+#[test]
+fn devices_go_in_pieces_and_fail_at_each_byte(rt: HostRuntime) -> Result<(), Fail> {
+    for text in [
+        "earliest; two jobs -> 0|earliest 4\n0 0\n1 0\n2 0\n3 4\n||",
+        "solve --nodes 10; two jobs -> 0|optimal 7\n0 0\n1 4\n2 0\n3 7\n||",
+        "check --project p; starts; two jobs -> 0|feasible 7\n||",
+        "tidy; two jobs -> 0|2\t1\t0\t0\n0\t1\t0\n1\t1\t0\n2\t1\t0\n3\t1\t0\n\
+            0\t1\t0\t0\n1\t1\t3\t1\n2\t1\t4\t1\n3\t1\t0\t0\n1\n||",
+        "verify --project p; record; two jobs -> 0|proved optimal 7\n||",
+        "solve --nodes 10 --record r; two jobs -> 0|optimal 7\n0 0\n1 4\n2 0\n3 7\n\
+            |record 1\noptimal 7\nstarts 0 4 0 7\nsplit 0 1 2\ncut\nsolved\n|",
+        "solve --nodes 10 --start s --record r; two jobs; starts \
+            -> 0|optimal 7\n0 0\n1 0\n2 3\n3 7\n|record 1\noptimal 7\nstarts 0 0 3 7\ncut\n|",
+    ] {
+        let row = Row::of(text);
+        row.goes_in_pieces(&rt, rt.alloc())?;
+        row.fails_at_each_byte(&rt, rt.alloc())?;
+    }
+    Ok(())
+}
+
+#[test]
+fn words_make_calls(rt: HostRuntime) -> Result<(), Fail> {
+    let rows = [
+        "earliest -> Earliest, second false, record false",
+        "check --project p.sch -> Check, second true, record false",
+        "tidy -> Tidy, second false, record false",
+        "verify --project p.sch -> Verify, second true, record false",
+        "solve --nodes 7 -> Solve { workers: None, takes: 7, start: false, json: false, \
+            recorded: false }, second false, record false",
+        "solve --json -> Solve { workers: None, takes: 1000000, start: false, json: true, \
+            recorded: false }, second false, record false",
+        "solve --workers 64 -> Solve { workers: Some(64), takes: 1000000, start: false, \
+            json: false, recorded: false }, second false, record false",
+        "solve --start s -> Solve { workers: None, takes: 1000000, start: true, json: false, \
+            recorded: false }, second true, record false",
+        "solve --record r -> Solve { workers: None, takes: 1000000, start: false, json: false, \
+            recorded: true }, second false, record true",
+        "solve --nodes 0 -> bad words",
+        "solve --workers 65 -> bad words",
+        "latest -> bad words",
+        "help -> bad words",
+        "--help -> help",
+    ];
+    for row in rows {
+        let (line, wanted) = row.split_once(" -> ").unwrap_or((row, ""));
+        let told = row::call_text(rt.alloc(), line)?;
+        assert_eq!(&rt; told.as_str(), wanted);
+    }
+    Ok(())
+}
+
+/// The texts of faults that no run of the program shows at will; `tests/cases.jsonl` has the others.
+#[test]
+fn faults_have_their_texts(rt: HostRuntime) -> Result<(), Fail> {
+    for (fault, text) in [
+        (Fault::Memory, "out of memory"),
+        (Fault::Thread, "cannot start a thread"),
+        (Fault::OtherProject, "another project"),
+        (Fault::Refused, "search refused"),
+    ] {
+        assert_eq!(&rt; format!(in rt.alloc(); "{fault}")?.as_str(), text);
+    }
+    Ok(())
+}

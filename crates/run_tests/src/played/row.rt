@@ -1,0 +1,159 @@
+//! Calls that are played through devices, and what is told of them.
+
+use crate::gates::{Holds, Watch};
+use crate::played::devices::{Limits, giving, taking};
+use crate::played::text_of;
+use calls::{WordsFault, call_of};
+use parallel_runs::run_parallel;
+use runs::{Ended, Reader, Writer};
+use std::alloc::{AllocError, Global};
+use std::process::Abort;
+use std::sync::Wait;
+use std::test::Fail;
+use std::thread::Threads;
+
+/// The words of a line, with the program's name before them.
+fn words_of(alloc: Global, line: &str) -> Result<Vec<String>, AllocError> {
+    let mut words = Vec::new(alloc);
+    words.push(String::from_str(alloc, "psmax")?)?;
+    for word in line.split(' ') {
+        words.push(String::from_str(alloc, word)?)?;
+    }
+    Ok(words)
+}
+
+/// The call that the words of a line make.
+pub(super) fn call_text(alloc: Global, line: &str) -> Result<String, AllocError> {
+    match call_of(alloc, &words_of(alloc, line)?) {
+        Ok(call) => {
+            let (second, record) = (call.second.is_some(), call.record_file.is_some());
+            format!(in alloc; "{:?}, second {second}, record {record}", call.job)
+        }
+        Err(WordsFault::Help { .. }) => String::from_str(alloc, "help"),
+        Err(WordsFault::Bad { .. }) => String::from_str(alloc, "bad words"),
+        Err(WordsFault::Memory) => Err(AllocError),
+    }
+}
+
+/// The exit status, the fault, if any, the answer and the record, with a bar behind each of these.
+fn ended_text(alloc: Global, ended: Ended, out: &[u8], record: &[u8]) -> Result<String, Fail> {
+    let (out, record) = (str::from_utf8(out)?, str::from_utf8(record)?);
+    let exit = ended.exit;
+    match ended.fault {
+        Some(fault) => Ok(format!(in alloc; "{exit} {fault}|{out}|{record}|")?),
+        None => Ok(format!(in alloc; "{exit}|{out}|{record}|")?),
+    }
+}
+
+/// The beginning of a text.
+fn front(text: &str, length: usize) -> &str {
+    let (front, _) = text.as_bytes().split_at(length.min(text.len()));
+    str::from_utf8(front).unwrap_or("")
+}
+
+/// A call: its words and two texts, and what is to be told of it, of which the answer and the record are parts.
+#[derive(Clone, Copy, Debug)]
+pub(super) struct Row<'a> {
+    line: &'a str,
+    texts: [&'a str; 2],
+    pub(super) wanted: &'a str,
+    answer: &'a str,
+    record: &'a str,
+}
+
+impl<'a> Row<'a> {
+    /// The row of a text: words, two texts or their names behind semicolons, and behind an arrow what is to be told.
+    pub(super) fn of(text: &'a str) -> Row<'a> {
+        let (call, wanted) = text.split_once(" -> ").unwrap_or((text, ""));
+        let (line, texts) = call.split_once("; ").unwrap_or((call, ""));
+        let (first, second) = texts.split_once("; ").unwrap_or((texts, ""));
+        let (_, written) = wanted.split_once('|').unwrap_or((wanted, ""));
+        let (answer, record) = written.split_once('|').unwrap_or((written, ""));
+        Row {
+            line,
+            texts: [text_of(first), text_of(second)],
+            wanted,
+            answer,
+            record: record.strip_suffix('|').unwrap_or(record),
+        }
+    }
+
+    /// What is told of the call.
+    pub(super) fn told<R: Threads + Wait + Sync>(
+        &self,
+        rt: &R,
+        alloc: Global,
+        limits: Limits,
+        gate: &Watch,
+    ) -> Result<String, Fail> {
+        let Ok(call) = call_of(alloc, &words_of(alloc, self.line)?) else {
+            return Err("these words make no call".into());
+        };
+        let [text, second] = self.texts;
+        let mut input = Reader::new(giving(text, limits.input));
+        let mut second = Reader::new(giving(second, limits.second));
+        let mut out = Writer::new(taking(alloc, limits.out, limits));
+        let mut record = Writer::new(taking(alloc, limits.record, limits));
+        let ended = run_parallel(
+            rt,
+            alloc,
+            call.job,
+            &mut input,
+            &mut second,
+            &mut out,
+            &mut record,
+            gate,
+        );
+        let (out, record) = (out.into_inner().taken, record.into_inner().taken);
+        ended_text(alloc, ended, &out, &record)
+    }
+
+    /// Plays the call through outputs that take few bytes at once.
+    pub(super) fn goes_in_pieces<R: Threads + Wait + Sync + Abort>(
+        &self,
+        rt: &R,
+        alloc: Global,
+    ) -> Result<(), Fail> {
+        for chunk in 1..=self.answer.len().max(self.record.len()) {
+            let limits = Limits {
+                chunk,
+                ..Limits::NONE
+            };
+            let told = self.told(rt, alloc, limits, &Watch::new(Holds::Nobody))?;
+            assert_eq!(rt; told.as_str(), self.wanted, "{self:?}: {chunk}");
+        }
+        Ok(())
+    }
+
+    /// What is to be told where one device, by its number, fails at a byte.
+    fn cut_short(&self, alloc: Global, device: usize, room: usize) -> Result<String, AllocError> {
+        let (answer, record) = (self.answer, self.record);
+        match device {
+            0 | 1 => String::from_str(alloc, "1 cannot read|||"),
+            2 => format!(in alloc; "1 cannot write|{}||", front(answer, room)),
+            _ => format!(in alloc; "1 cannot write|{answer}|{}|", front(record, room)),
+        }
+    }
+
+    /// Plays the call through devices of which one fails at each of its bytes: an input, or an output that takes so many bytes
+    /// at once, and that fails or takes nothing.
+    pub(super) fn fails_at_each_byte<R: Threads + Wait + Sync + Abort>(
+        &self,
+        rt: &R,
+        alloc: Global,
+    ) -> Result<(), Fail> {
+        let [text, second] = self.texts;
+        let wholes = [text, second, self.answer, self.record];
+        for (device, whole) in wholes.iter().enumerate() {
+            for room in 0..whole.len() {
+                let wanted = self.cut_short(alloc, device, room)?;
+                for (chunk, silent) in [(1, false), (7, false), (1_000, true)] {
+                    let limits = Limits::of(device, room, chunk, silent);
+                    let told = self.told(rt, alloc, limits, &Watch::new(Holds::Nobody))?;
+                    assert_eq!(rt; told, wanted, "{self:?}: {limits:?}");
+                }
+            }
+        }
+        Ok(())
+    }
+}

@@ -1,0 +1,84 @@
+use crate::gates::Holds;
+use network::{Project, Schedule};
+use schedule_check::accept;
+use std::alloc::Global;
+use std::sync::Arc;
+use std::test::Fail;
+use test_projects::{are_starts, backward_lag, both_orders_dead, lag, one_machine, three_on_two};
+
+/// What the words of a row ask for, with a semicolon between.
+#[derive(Drop)]
+pub(super) struct Asked<'a> {
+    pub(super) project: &'a str,
+    pub(super) workers: usize,
+    pub(super) takes: u64,
+    /// Starts of one machine.
+    pub(super) starts: &'a str,
+    pub(super) recorded: bool,
+    pub(super) holds: Holds,
+    /// A makespan that the best word is told of.
+    pub(super) tells: u64,
+    pub(super) gives_back: bool,
+    /// The ceiling of the first report.
+    pub(super) ceiling: Option<i64>,
+}
+
+/// What a row asks for: one worker, 100 takes and a gate that holds nobody unless it says more.
+pub(super) fn asked_by(row: &str) -> Result<Asked<'_>, Fail> {
+    let (project, rest) = row.split_once("; ").unwrap_or((row, ""));
+    let mut asked = Asked {
+        project,
+        workers: 1,
+        takes: 100,
+        starts: "",
+        recorded: false,
+        holds: Holds::Nobody,
+        tells: u64::MAX,
+        gives_back: false,
+        ceiling: None,
+    };
+    for part in rest.split(';') {
+        let part = part.trim();
+        let (word, value) = part.split_once(' ').unwrap_or((part, ""));
+        match word {
+            "workers" => asked.workers = value.parse::<usize>()?,
+            "takes" => asked.takes = value.parse::<u64>()?,
+            "start" => asked.starts = value,
+            "recorded" => asked.recorded = true,
+            "gate" => asked.holds = Holds::of(value),
+            "tells" => asked.tells = value.parse::<u64>()?,
+            "gives" => asked.gives_back = true,
+            "ceiling" => asked.ceiling = Some(value.parse::<i64>()?),
+            _ => {}
+        }
+    }
+    Ok(asked)
+}
+
+/// The project of a name.
+pub(super) fn project_of(alloc: Global, name: &str) -> Result<Project, Fail> {
+    match name {
+        "three on two" => three_on_two(alloc),
+        "backward lag" => backward_lag(alloc),
+        "both orders dead" => both_orders_dead(alloc),
+        "positive cycle" => one_machine(alloc, &[lag(1, 2, 5), lag(2, 1, -4)]),
+        _ => one_machine(alloc, &[]),
+    }
+}
+
+/// The schedule of one machine of these starts, with blanks between; none without starts.
+pub(super) fn schedule_of(alloc: Global, text: &str) -> Result<Option<Schedule>, Fail> {
+    if text.is_empty() {
+        return Ok(None);
+    }
+    let mut starts = Vec::new(alloc);
+    for start in text.split(' ') {
+        starts.push(start.parse::<i64>()?)?;
+    }
+    let project = one_machine(alloc, &[])?;
+    if !are_starts(&project, &starts) {
+        return Err("these are no starts".into());
+    }
+    let schedule = accept(alloc, Arc::new(alloc, project)?, starts)?;
+    Ok(Some(schedule))
+}

@@ -1,0 +1,107 @@
+//! Searches by threads, and what is told of them.
+
+use crate::gates::{Holds, Seen, Watch};
+use crate::workers::asked::{Asked, asked_by, project_of, schedule_of};
+use book::Counts;
+use branching::Outcome;
+use std::alloc::{AllocError, Global};
+use std::sync::{Arc, Wait};
+use std::test::Fail;
+use std::thread::Threads;
+use worker::{SolveFault, Solved, solve, solve_recorded};
+
+/// How many nodes were opened, checked in, cut and taken, and are open and in hand.
+pub(super) fn numbers(counts: &Counts) -> [u64; 6] {
+    [
+        counts.opened(),
+        counts.checked(),
+        counts.cut(),
+        counts.taken(),
+        counts.waiting(),
+        counts.hand(),
+    ]
+}
+
+/// What was found, and how many entries the trail has.
+type Searched = Result<(Solved, usize), SolveFault>;
+
+/// Searches as a row asks, with a gate.
+fn searched<R: Threads + Wait + Sync>(
+    rt: &R,
+    alloc: Global,
+    asked: &Asked<'_>,
+    gate: &Watch,
+) -> Result<Searched, Fail> {
+    let start = schedule_of(alloc, asked.starts)?;
+    let project = Arc::new(alloc, project_of(alloc, asked.project)?)?;
+    let (workers, takes) = (asked.workers, asked.takes);
+    if asked.recorded {
+        return match solve_recorded(rt, alloc, project, workers, takes, start, gate) {
+            Ok((solved, trail)) => Ok(Ok((solved, trail.entries().len()))),
+            Err(fault) => Ok(Err(fault)),
+        };
+    }
+    match solve(rt, alloc, project, workers, takes, start, gate) {
+        Ok(solved) => Ok(Ok((solved, 0))),
+        Err(fault) => Ok(Err(fault)),
+    }
+}
+
+/// A verdict, and the starts of the best schedule.
+fn outcome_text(alloc: Global, outcome: &Outcome) -> Result<String, AllocError> {
+    match outcome {
+        Outcome::Optimal(best) => {
+            let (makespan, starts) = (best.makespan(), best.starts());
+            format!(in alloc; "optimal {makespan}; starts {starts:?}")
+        }
+        Outcome::NoSchedule => String::from_str(alloc, "no schedule"),
+        Outcome::Stopped { best: None, bound } => format!(in alloc; "unknown bound {bound}"),
+        Outcome::Stopped {
+            best: Some(best),
+            bound,
+        } => {
+            let (makespan, starts) = (best.makespan(), best.starts());
+            format!(in alloc; "feasible {makespan} bound {bound}; starts {starts:?}")
+        }
+    }
+}
+
+/// How many reports of each worker were accepted, the least of these, and whether they are those that the gate saw.
+fn shares_text(alloc: Global, accepted: &[u64], seen: Seen) -> Result<String, AllocError> {
+    let mut all = 0u64;
+    for of_one in accepted {
+        all = all.saturating_add(*of_one);
+    }
+    let is_seen = accepted.first() == Some(&seen.of_first) && all == seen.accepted;
+    let least = accepted.iter().min().copied().unwrap_or(0);
+    let as_seen = if is_seen { "as seen" } else { "not as seen" };
+    format!(in alloc; "accepted {accepted:?}; least {least}; {as_seen}")
+}
+
+/// What is told of the search that a row asks for. Want of memory ends the test unless the gate has none, and so does want
+/// of a thread.
+pub(super) fn told<R: Threads + Wait + Sync>(
+    rt: &R,
+    alloc: Global,
+    row: &str,
+) -> Result<String, Fail> {
+    let asked = asked_by(row)?;
+    let gate = Watch::new(asked.holds);
+    let (solved, trail) = match searched(rt, alloc, &asked, &gate)? {
+        Ok(found) => found,
+        Err(SolveFault::Memory) if asked.holds != Holds::WithoutMemory => {
+            return Err(SolveFault::Memory.into());
+        }
+        Err(SolveFault::Thread) => return Err(SolveFault::Thread.into()),
+        Err(fault) => return Ok(format!(in alloc; "; {fault:?};")?),
+    };
+    let (counts, workers) = (numbers(&solved.counts), solved.per_worker.len());
+    let seen = gate.seen();
+    let outcome = outcome_text(alloc, &solved.outcome)?;
+    let shares = shares_text(alloc, &solved.per_worker, seen)?;
+    let (calls, gave_up, ceiling) = (seen.calls, seen.gave_up, seen.ceiling);
+    Ok(format!(in alloc;
+        "; {outcome}; counts {counts:?}; workers {workers}; {shares}; trail {trail}; calls {calls}; \
+        gave up {gave_up}; third ceiling {ceiling};"
+    )?)
+}

@@ -1,0 +1,99 @@
+-- What jobs answer, and what is read where they don't.
+use Rattle.std.proofs.Common.{◌≡◌, ℕ, Bool, true, false, List, [], Option, None, Some, Err, refl, ap, ◌∙◌, inl, inr, ◌⊎◌, arith}
+use Rattle.std.specs.Prelude.{Result}
+use Rattle.std.specs.Option.{MatchOption}
+use Rattle.runs.specs.declared.job.Job.{Job}
+use Rattle.runs.specs.declared.job.Job.TheVariants as jobs
+use Rattle.answers.specs.declared.fault.Fault.{Fault}
+use Rattle.answers.specs.declared.fault.Fault.TheVariants as faults
+use Rattle.std.proofs.KnownBytes.{Consumes-nil}
+use Rattle.runs.specs.Devices.{Span, span, GaveUpTo}
+use Rattle.runs.specs.Runs.{HasRead, IsNoReply, RecordsWhereAsked}
+use Rattle.answers.specs.Faults.{exit_of, IsSearchFault}
+use Rattle.answers.specs.Answers.{IsSolveText, IsStartedText}
+use Rattle.runs.specs.Jobs.{has_workers, project_is_second, reads_second, writes_record}
+use Rattle.runs.specs.Outcome.{SpellsOne, GivesStarts, HasFault, IsFirstStartsFault, IsAnswer, IsRefusal}
+
+-- a job without workers writes no record
+pub records_none : (job : Job) → has_workers job ≡ false → writes_record job ≡ false
+records_none jobs.Earliest alone = refl
+records_none jobs.Check alone = refl
+records_none jobs.Tidy alone = refl
+records_none jobs.Verify alone = refl
+records_none (jobs.Solve None takes false json recorded) alone = alone
+records_none (jobs.Solve None takes true json recorded) alone = cc
+records_none (jobs.Solve (Some n) takes start json recorded) alone = cc
+
+-- what a search in one thread by itself answers is an answer of a job without workers
+pub answers_alone : (job : Job) (workers : Option ℕ) (takes : ℕ) (start json recorded : Bool) (text more : List ℕ) (exit : ℕ) (written : List ℕ) →
+    job ≡ jobs.Solve workers takes start json recorded → has_workers job ≡ false → SpellsOne text (λ p. IsSolveText p true json exit written) → IsAnswer job text more exit written
+answers_alone job None takes false json false text more exit written is alone h = rw is h
+answers_alone job None takes false json true text more exit written is alone h = let no : true ≡ false = rw is at alone in cc
+answers_alone job None takes true json recorded text more exit written is alone h = let no : true ≡ false = rw is at alone in cc
+answers_alone job (Some n) takes start json recorded text more exit written is alone h = let no : true ≡ false = rw is at alone in cc
+
+-- what workers answer from a start is an answer of a job with a start
+pub answers_started : (job : Job) (workers : Option ℕ) (takes : ℕ) (start json recorded : Bool) (text more : List ℕ) (exit : ℕ) (written : List ℕ) →
+    job ≡ jobs.Solve workers takes start json recorded → start ≡ true → SpellsOne text (λ p. GivesStarts p more (λ starts. IsStartedText p starts json exit written)) → IsAnswer job text more exit written
+answers_started job workers takes true json recorded text more exit written is some h = rw is h
+answers_started job workers takes false json recorded text more exit written is some h = cc
+
+-- a text that gives no starts is refused
+pub refuses_start : (job : Job) (workers : Option ℕ) (takes : ℕ) (start json recorded : Bool) (text more : List ℕ) (fault : Fault) →
+    job ≡ jobs.Solve workers takes start json recorded → start ≡ true → SpellsOne text (λ p. IsFirstStartsFault p more fault) → IsRefusal job text more fault
+refuses_start job workers takes true json recorded text more fault is some h = rw is (inr h)
+refuses_start job workers takes false json recorded text more fault is some h = cc
+
+-- ---- faults
+
+pub write_is_no_search : (fault : Fault) → fault ≡ faults.WriteFailed → ¬ IsSearchFault fault
+write_is_no_search fault is (inl e) = cc
+write_is_no_search fault is (inr (inl e)) = cc
+write_is_no_search fault is (inr (inr e)) = cc
+
+-- no answer, but this fault
+abbrev failed_with : (A : Type 0) → Fault → Result A Fault
+failed_with A fault = Err fault
+
+pub MatchOption-weaker : {T : Type 0} (o : Option T) {P P' : Type 0} {Q Q' : T → Type 0} → MatchOption o P Q → (P → P') → ((x : T) → Q x → Q' x) → MatchOption o P' Q'
+MatchOption-weaker None h p q = p h
+MatchOption-weaker (Some x) h p q = q x h
+
+-- ---- what was read
+
+-- the failure is told in other words
+pub read_where : {I S P Q : Type 0} (job : Job) (first : Span I) (second : Span S) → (P → Q) → (Q → P) → HasRead job P first second → HasRead job Q first second
+read_where job first second to from read = record {
+  inputs = record {
+    within = read.inputs.within;
+    second_within = read.inputs.second_within;
+    failed = record {
+      here = λ q. read.inputs.failed.here (from q);
+      elsewhere = λ no. read.inputs.failed.elsewhere (λ p. no (to p));
+    };
+  };
+  unused = read.unused;
+  project_second = read.project_second;
+  project_first = read.project_first;
+}
+
+-- a failure to read is told as it is
+pub read_is_told : {I S : Type 0} (A : Type 0) (job : Job) (first : Span I) (second : Span S) (fault : Fault) (told : Option Fault) → told ≡ Some fault →
+    HasRead job (failed_with A fault ≡ failed_with A faults.ReadFailed) first second → HasRead job (told ≡ Some faults.ReadFailed) first second
+read_is_told A job first second fault told tells = read_where job first second
+    (λ (e : failed_with A fault ≡ failed_with A faults.ReadFailed). let is : fault ≡ faults.ReadFailed = cc in tells ∙ ap Some is)
+    (λ (e : told ≡ Some faults.ReadFailed). let is : fault ≡ faults.ReadFailed = cc in ap (failed_with A) is)
+
+-- ---- replies
+
+-- a job without workers has no record
+pub records_nothing : (job : Job) (exit : ℕ) (text : List ℕ) → has_workers job ≡ false → RecordsWhereAsked job (record { exit = exit; text = text; recorded = None })
+records_nothing job exit text alone = ((λ (some : false ≡ true). cc), (λ asked. let off = records_none job alone in let on = asked.0 in cc))
+
+-- where an output failed there is a reply, and nothing to be said of a text
+pub write_has_reply : (job : Job) (first second : Option (List ℕ)) (fault : Fault) → fault ≡ faults.WriteFailed → IsNoReply job first second fault
+write_has_reply job first second fault is = record {
+  of_text = λ other. absurd (other (ap exit_of is));
+  of_workers = λ bad. absurd (write_is_no_search fault is bad);
+  of_search = λ bad. absurd (write_is_no_search fault is bad);
+}

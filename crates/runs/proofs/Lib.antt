@@ -1,0 +1,4 @@
+mod DeviceLaws
+mod AnswerLaws
+pub mod TextLaws
+pub mod CallLaws

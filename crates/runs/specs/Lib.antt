@@ -1,0 +1,4 @@
+pub mod Devices
+pub mod Jobs
+pub mod Outcome
+pub mod Runs

@@ -1,0 +1,98 @@
+-- What a job answers to the texts that it reads, and why it has no answer.
+use Rattle.std.specs.Prelude.{◌≡◌, ℕ, List, ℤ, Option, None, Some, true, false, not, is_some, ◌||◌, ◌⊎◌}
+use Rattle.network.specs.Problem.{Problem, activity_count}
+use Rattle.network.specs.Limits.{IsProject}
+use Rattle.network.specs.Schedule.{IsFeasible}
+use Rattle.sch_reader.specs.declared.fault.SchFault.{SchFault}
+use Rattle.sch_reader.specs.Text.{Spells, IsFirstFault}
+use Rattle.schedule_check.specs.declared.fault.StartsFault.{StartsFault}
+use Rattle.schedule_check.specs.Starts.{starts_fault, starts_of}
+use Rattle.record_text.specs.SearchRecord.{SearchRecord}
+use Rattle.record_text.specs.Text as records
+use Rattle.record_text.specs.TextFaults.{IsFirstTextFault}
+use Rattle.record_text.specs.declared.fault.RecordFault.{RecordFault}
+use Rattle.search_record.specs.Faults as wrongs
+use Rattle.runs.specs.declared.job.Job.{Job}
+use Rattle.runs.specs.declared.job.Job.TheVariants as jobs
+use Rattle.answers.specs.declared.fault.Fault.{Fault}
+use Rattle.answers.specs.Answers.{IsEarliestText, IsCheckText, IsSolveText, IsStartedText, IsTidyText, IsProvedText}
+use Rattle.runs.specs.Jobs.{reads_second}
+use Rattle.answers.specs.Faults.{fault_of, starts_fault_of, record_fault_of}
+
+-- the text spells a project, which has this property
+pub record SpellsOne (text : List ℕ) (P : Problem → Type 0) : Type 0 where
+  pub project : Problem
+  pub is_project : IsProject project
+  pub spells : Spells text project
+  pub has : P project
+
+-- the text spells no project
+abbrev pub SpellsNone : List ℕ → Type 0
+SpellsNone text = (p : Problem) → IsProject p → ¬ Spells text p
+
+-- and this is its first fault
+pub record HasFault (text : List ℕ) (fault : Fault) : Type 0 where
+  pub none : SpellsNone text
+  pub cause : SchFault
+  pub first : IsFirstFault text cause
+  pub told : fault ≡ fault_of cause
+
+-- the text gives starts for the project, which have this property
+pub record GivesStarts (p : Problem) (text : List ℕ) (P : List ℤ → Type 0) : Type 0 where
+  pub read : starts_fault (activity_count p) text ≡ None
+  pub has : P (starts_of (activity_count p) text)
+
+-- the text gives no starts for the project, and this is its first fault
+pub record IsFirstStartsFault (p : Problem) (text : List ℕ) (fault : Fault) : Type 0 where
+  pub cause : StartsFault
+  pub first : starts_fault (activity_count p) text ≡ Some cause
+  pub told : fault ≡ starts_fault_of cause
+
+-- the text is that of a record, which has this property
+pub record GivesRecord (text : List ℕ) (P : SearchRecord → Type 0) : Type 0 where
+  pub shown : SearchRecord
+  pub spells : records.Spells text shown
+  pub has : P shown
+
+-- the text is that of no record, and this is its first fault
+pub record IsRecordTextFault (text : List ℕ) (fault : Fault) : Type 0 where
+  pub cause : RecordFault
+  pub first : IsFirstTextFault text cause
+  pub told : fault ≡ record_fault_of cause
+
+-- the record isn't right for the project, and this is its first fault
+pub record IsRecordFault (p : Problem) (shown : SearchRecord) (fault : Fault) : Type 0 where
+  pub cause : RecordFault
+  pub first : wrongs.IsFirstFault p shown cause
+  pub told : fault ≡ record_fault_of cause
+
+-- why a text proves nothing of the project
+abbrev pub IsNoProof : Problem → List ℕ → Fault → Type 0
+IsNoProof p text fault = IsRecordTextFault text fault ⊎ GivesRecord text (λ shown. IsRecordFault p shown fault)
+
+-- what a job writes for its two texts, and the exit status
+abbrev pub IsAnswer : Job → List ℕ → List ℕ → ℕ → List ℕ → Type 0
+IsAnswer jobs.Earliest text second exit written = SpellsOne text (λ p. IsEarliestText p exit written)
+IsAnswer (jobs.Solve workers takes false json recorded) text second exit written = SpellsOne text (λ p. IsSolveText p (not (is_some workers || recorded)) json exit written)
+IsAnswer (jobs.Solve workers takes true json recorded) text second exit written = SpellsOne text (λ p. GivesStarts p second (λ starts. IsStartedText p starts json exit written))
+IsAnswer jobs.Check text second exit written = SpellsOne second (λ p. GivesStarts p text (λ starts. IsCheckText p starts exit written))
+IsAnswer jobs.Tidy text second exit written = SpellsOne text (λ p. IsTidyText p exit written)
+IsAnswer jobs.Verify text second exit written = SpellsOne second (λ p. GivesRecord text (λ shown. IsProvedText p shown exit written))
+
+-- why a job has no answer to its two texts
+abbrev pub IsRefusal : Job → List ℕ → List ℕ → Fault → Type 0
+IsRefusal jobs.Earliest text second fault = HasFault text fault
+IsRefusal (jobs.Solve workers takes false json recorded) text second fault = HasFault text fault
+IsRefusal (jobs.Solve workers takes true json recorded) text second fault = HasFault text fault ⊎ SpellsOne text (λ p. IsFirstStartsFault p second fault)
+IsRefusal jobs.Check text second fault = HasFault second fault ⊎ SpellsOne second (λ p. IsFirstStartsFault p text fault)
+IsRefusal jobs.Tidy text second fault = HasFault text fault
+IsRefusal jobs.Verify text second fault = HasFault second fault ⊎ SpellsOne second (λ p. IsNoProof p text fault)
+
+-- workers have searched: the text spells a project, and starts that were handed in are a feasible
+-- schedule of it
+abbrev pub IsSearched : Job → List ℕ → List ℕ → Type 0
+IsSearched job text second = SpellsOne text (λ p. reads_second job ≡ true → GivesStarts p second (IsFeasible p))
+
+-- where the inputs that a job reads tell their texts, these have this property
+abbrev pub IfTextsTold : Job → Option (List ℕ) → Option (List ℕ) → (List ℕ → List ℕ → Type 0) → Type 0
+IfTextsTold job left second P = (text more : List ℕ) → left ≡ Some text → (reads_second job ≡ true → second ≡ Some more) → P text more

@@ -1,0 +1,81 @@
+//! What each job says of the project and the text that it is given.
+
+ghost use Rattle.std.specs.Prelude.{◌≡◌, ◌≢◌, ◌≤◌, true, IfOk, IfErr};
+ghost use Rattle.branching.specs.declared.search.TheConstants.{MAX_TAKES};
+ghost use Rattle.answers.specs.declared.fault.Fault.{Fault};
+ghost use Rattle.answers.specs.declared.fault.Fault.TheVariants as faults;
+ghost use Rattle.answers.specs.Answers.{IsEarliestText, IsCheckText, IsSolveText, IsTidyText};
+ghost use Rattle.answers.specs.Faults.{exit_of, IsTextFault};
+ghost use Rattle.runs.specs.Outcome.{GivesStarts, IsFirstStartsFault};
+
+use answers::{
+    Answer, Fault, cycle_text, feasible_text, solved_answer, starts_text, violations_text,
+};
+use branching::search_alone;
+use earliest::least_starts;
+use longest_path::{PathFault, longest};
+use network::Project;
+use sch_reader::write_sch;
+use schedule_check::{read_starts, violations};
+use std::alloc::{AllocError, Global};
+use std::sync::Arc;
+
+/// The least schedule of a project, or the least activity that tops a positive cycle.
+pub(crate) fn earliest(alloc: Global, project: &Project) -> Result<Answer, AllocError>
+    ensures { IfOk result (λ a. IsEarliestText project.now a.exit a.text.items) }
+{
+    let text = match longest(alloc, project, &[]) {
+        Ok(matrix) => {
+            let starts = least_starts(alloc, &matrix)?;
+            let makespan = starts[project.activity_count() - 1];
+            starts_text(alloc, "earliest", makespan, &starts)?
+        }
+        Err(PathFault::PositiveCycle { at }) => cycle_text(alloc, at)?,
+        Err(PathFault::Memory) => return Err(AllocError),
+    };
+    Ok(Answer::of(text, 0))
+}
+
+/// The shortest schedule of a project, or what is known where so many nodes were taken before that,
+/// by a search in this thread alone.
+pub(crate) fn solve(
+    alloc: Global,
+    project: Project,
+    takes: u64,
+    json: bool,
+) -> Result<Answer, AllocError>
+    requires some { 1 ≤ takes }
+    requires limit { takes ≤ MAX_TAKES }
+    ensures { IfOk result (λ a. IsSolveText project true json a.exit a.text.items) }
+{
+    let project = Arc::new(alloc, project)?;
+    let outcome = search_alone(alloc, &project, takes)?;
+    solved_answer(alloc, &outcome, json)
+}
+
+/// Whether the starts in a text are a feasible schedule of a project, or every rule that they break.
+pub(crate) fn check(alloc: Global, project: &Project, text: &[u8]) -> Result<Answer, Fault>
+    ensures said { IfOk result
+        (λ a. GivesStarts project.now text.now (λ starts. IsCheckText project.now starts a.exit a.text.items)) }
+    ensures refused { IfErr result (λ fault. exit_of fault ≢ 1 → IsFirstStartsFault project.now text.now fault) }
+    ensures cause { IfErr result IsTextFault }
+{
+    let count = project.activity_count();
+    let starts = read_starts(alloc, text, count)?;
+    let found = violations(alloc, project, &starts)?;
+    if found.is_empty() {
+        let text = feasible_text(alloc, starts[count - 1])?;
+        return Ok(Answer::of(text, 0));
+    }
+    let text = violations_text(alloc, &found)?;
+    Ok(Answer::of(text, 4))
+}
+
+/// The canonical text of a project.
+pub(crate) fn tidy(alloc: Global, project: &Project) -> Result<Answer, Fault>
+    ensures said { IfOk result (λ a. IsTidyText project.now a.exit a.text.items) }
+    ensures memory { IfErr result (λ fault. fault ≡ faults.Memory) }
+{
+    let text = write_sch(alloc, project)?;
+    Ok(Answer { text, exit: 0 })
+}

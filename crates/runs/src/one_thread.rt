@@ -1,0 +1,145 @@
+//! A run over devices.
+
+ghost use Rattle.std.specs.Prelude.{◌≡◌, ◌≢◌, ◌<◌, false, Some, Err, IfOk, IfErr, IfSome, IfNone};
+ghost use Rattle.answers.specs.declared.fault.Fault.{Fault};
+ghost use Rattle.answers.specs.declared.fault.Fault.TheVariants as faults;
+ghost use Rattle.answers.specs.Faults.{exit_of, IsInputFault};
+ghost use Rattle.runs.specs.Devices.{span, FailedWhere, TookAll, TookFront};
+ghost use Rattle.runs.specs.Jobs.{IsJob, has_workers};
+ghost use Rattle.runs.specs.Outcome.{IfTextsTold, IsAnswer, IsRefusal};
+ghost use Rattle.runs.specs.Runs.{HasRead, IsNoReply, Replies};
+
+use crate::device::{Failed, Input, Output, write_all};
+use crate::job::Job;
+use crate::jobs::{check, earliest, solve, tidy};
+use crate::reading::{read_both, read_project};
+use crate::verified::verified;
+use answers::{Answer, Fault};
+use record_text::MAX_RECORD_BYTES;
+use std::alloc::Global;
+use words::MAX_TEXT_BYTES;
+
+/// How a run ended: the exit status, and the fault that is printed, if any.
+#[derive(Clone, Copy, Debug, PartialEq, Eq)]
+pub struct Ended {
+    pub exit: u8,
+    pub fault: Option<Fault>,
+}
+
+impl Ended {
+    ghost use Rattle.std.specs.Prelude.{◌≡◌, Some};
+    ghost use Rattle.answers.specs.Faults.{exit_of};
+
+    /// The end of a run that has no answer.
+    pub fn with(fault: Fault) -> Ended
+        ensures fault { result.fault ≡ Some fault }
+        ensures status { result.exit ≡ exit_of fault }
+    {
+        Ended {
+            exit: fault.exit(),
+            fault: Some(fault),
+        }
+    }
+}
+
+/// The answer of a job without workers to what its inputs hold. A project is read and judged before
+/// starts or a record are read.
+fn job_answer<I: Input, S: Input>(
+    alloc: Global,
+    job: Job,
+    input: &mut I,
+    second: &mut S,
+) -> Result<Answer, Fault>
+    requires job { IsJob job }
+    requires alone { has_workers job ≡ false }
+    requires input { I.failed input.old < u64.MAX }
+    requires second { S.failed second.old < u64.MAX }
+    ensures said { IfOk result (λ a. IfTextsTold job (I.left input.old) (S.left second.old)
+        (λ text more. IsAnswer job text more a.exit a.text.items)) }
+    ensures refused { IfErr result (λ fault. exit_of fault ≢ 1 → IfTextsTold job (I.left input.old) (S.left second.old)
+        (λ text more. IsRefusal job text more fault)) }
+    ensures cause { IfErr result IsInputFault }
+    ensures read { HasRead job (result ≡ Err faults.ReadFailed)
+        (span I.left I.failed input.old input.new) (span S.left S.failed second.old second.new) }
+{
+    match job {
+        Job::Earliest => {
+            let project = read_project(alloc, input)?;
+            Ok(earliest(alloc, &project)?)
+        }
+        Job::Solve { takes, json, .. } => {
+            let project = read_project(alloc, input)?;
+            Ok(solve(alloc, project, takes, json)?)
+        }
+        Job::Check => {
+            let (project, starts) = read_both(alloc, MAX_TEXT_BYTES, input, second)?;
+            check(alloc, &project, &starts)
+        }
+        Job::Tidy => {
+            let project = read_project(alloc, input)?;
+            tidy(alloc, &project)
+        }
+        Job::Verify => {
+            let (project, text) = read_both(alloc, MAX_RECORD_BYTES, input, second)?;
+            verified(alloc, &project, &text)
+        }
+    }
+}
+
+/// Writes an answer.
+pub fn write_answer<O: Output>(out: &mut O, answer: &Answer) -> Ended
+    requires { O.failed out.old < u64.MAX }
+    ensures whole { IfNone result.fault ((result.exit ≡ answer.now.exit)
+        × TookAll (span O.held O.failed out.old out.new) answer.now.text.items) }
+    ensures fault { IfSome result.fault (λ fault. (fault ≡ faults.WriteFailed) × (result.exit ≡ exit_of fault)) }
+    ensures front { TookFront (span O.held O.failed out.old out.new) answer.now.text.items }
+    ensures failed { FailedWhere (result.fault ≡ Some faults.WriteFailed) (span O.held O.failed out.old out.new) }
+{
+    match write_all(out, &answer.text) {
+        Ok(()) => Ended {
+            exit: answer.exit,
+            fault: None,
+        },
+        Err(Failed) => Ended::with(Fault::WriteFailed),
+    }
+}
+
+/// Runs a job without workers: reads what the job needs, and writes its answer and nothing else. An input that
+/// the job doesn't use is handed an empty one. After a failure a device isn't called again.
+pub fn run<I: Input, S: Input, O: Output>(
+    alloc: Global,
+    job: Job,
+    input: &mut I,
+    second: &mut S,
+    out: &mut O,
+) -> Ended
+    requires job { IsJob job }
+    requires alone { has_workers job ≡ false }
+    requires input { I.failed input.old < u64.MAX }
+    requires second { S.failed second.old < u64.MAX }
+    requires out { O.failed out.old < u64.MAX }
+
+    // No fault: the answer was written whole.
+    ensures replied { IfNone result.fault (Replies job (I.left input.old) (S.left second.old)
+        (λ reply. (result.exit ≡ reply.exit) × TookAll (span O.held O.failed out.old out.new) reply.text)) }
+
+    // The output failed: it holds a beginning of the answer.
+    ensures cut_short { result.fault ≡ Some faults.WriteFailed → Replies job (I.left input.old) (S.left second.old)
+        (λ reply. TookFront (span O.held O.failed out.old out.new) reply.text) }
+
+    // Any other fault: there is no answer, and nothing was written.
+    ensures refused { IfSome result.fault (IsNoReply job (I.left input.old) (S.left second.old)) }
+    ensures silent { IfSome result.fault (λ fault. fault ≢ faults.WriteFailed
+        → out.new ≡ out.old) }
+    ensures status { IfSome result.fault (λ fault. result.exit ≡ exit_of fault) }
+
+    // What was read, and the failures of devices.
+    ensures read { HasRead job (result.fault ≡ Some faults.ReadFailed)
+        (span I.left I.failed input.old input.new) (span S.left S.failed second.old second.new) }
+    ensures failed { FailedWhere (result.fault ≡ Some faults.WriteFailed) (span O.held O.failed out.old out.new) }
+{
+    match job_answer(alloc, job, input, second) {
+        Ok(answer) => write_answer(out, &answer),
+        Err(fault) => Ended::with(fault),
+    }
+}

@@ -1,0 +1,131 @@
+ghost use Rattle.std.specs.Prelude.{◌≡◌};
+
+use crate::device::{Failed, Input, Output};
+use std::io::{Read, Write};
+
+/// An input over a reader. It tells what the reader tells: a file nothing, a slice its bytes.
+#[derive(Drop)]
+pub struct Reader<R> {
+    inner: R,
+    pub failures: u64,
+}
+
+impl<R> Reader<R> {
+    /// An input over this reader, which hasn't failed.
+    pub fn new(inner: R) -> Reader<R>
+        ensures inner { result.inner ≡ inner }
+        ensures failures { result.failures ≡ 0 }
+    {
+        Reader { inner, failures: 0 }
+    }
+}
+
+impl<R: Read> Input for Reader<R> {
+    ghost left = { λ device. R.remaining device.inner };
+
+    ghost failed = { λ device. device.failures };
+
+    fn pull(&mut self, buffer: &mut [u8]) -> Result<usize, Failed> {
+        match self.inner.read(buffer) {
+            Ok(n) => Ok(n),
+            Err(_) => {
+                self.failures += 1;
+                Err(Failed)
+            }
+        }
+    }
+
+    fn failures(&self) -> u64 {
+        self.failures
+    }
+}
+
+/// An output over a writer. A write that takes nothing counts as a failure.
+#[derive(Drop)]
+pub struct Writer<W> {
+    inner: W,
+    pub failures: u64,
+}
+
+impl<W> Writer<W> {
+    /// An output over this writer, which hasn't failed.
+    pub fn new(inner: W) -> Writer<W>
+        ensures inner { result.inner ≡ inner }
+        ensures failures { result.failures ≡ 0 }
+    {
+        Writer { inner, failures: 0 }
+    }
+
+    /// The writer.
+    pub fn into_inner(self) -> W
+        ensures { result ≡ self.inner }
+    {
+        self.inner
+    }
+}
+
+impl<W: Write> Output for Writer<W> {
+    ghost held = { λ device. W.contents device.inner };
+
+    ghost failed = { λ device. device.failures };
+
+    fn push(&mut self, bytes: &[u8]) -> Result<usize, Failed> {
+        match self.inner.write(bytes) {
+            Ok(n) if n > 0 => Ok(n),
+            _ => {
+                self.failures += 1;
+                Err(Failed)
+            }
+        }
+    }
+
+    fn failures(&self) -> u64 {
+        self.failures
+    }
+}
+
+/// No input has nothing in it, and never fails.
+impl<I: Input> Input for Option<I> {
+    ghost use Rattle.runs.specs.Devices.{left_of, failed_of};
+
+    ghost left = { left_of I.left };
+
+    ghost failed = { failed_of I.failed };
+
+    fn pull(&mut self, buffer: &mut [u8]) -> Result<usize, Failed> {
+        match self {
+            Some(input) => input.pull(buffer),
+            None => Ok(0),
+        }
+    }
+
+    fn failures(&self) -> u64 {
+        match self {
+            Some(input) => input.failures(),
+            None => 0,
+        }
+    }
+}
+
+/// No output takes all bytes and tells none, and never fails.
+impl<O: Output> Output for Option<O> {
+    ghost use Rattle.runs.specs.Devices.{held_of, failed_of};
+
+    ghost held = { held_of O.held };
+
+    ghost failed = { failed_of O.failed };
+
+    fn push(&mut self, bytes: &[u8]) -> Result<usize, Failed> {
+        match self {
+            Some(output) => output.push(bytes),
+            None => Ok(bytes.len()),
+        }
+    }
+
+    fn failures(&self) -> u64 {
+        match self {
+            Some(output) => output.failures(),
+            None => 0,
+        }
+    }
+}

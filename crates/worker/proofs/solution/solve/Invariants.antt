@@ -1,4 +1,0 @@
-use Rattle.worker.proofs.solution.solve.Given as goal
-
-abbrev pub ghosts-search_with : goal.ghosts-search_with
-ghosts-search_with g a = record { name = a.blank.name; parts = a.blank.parts }

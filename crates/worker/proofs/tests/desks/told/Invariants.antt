@@ -1,4 +1,0 @@
-use Rattle.worker.proofs.tests.desks.told.Given as goal
-
-abbrev pub ghosts-left_by : goal.ghosts-left_by
-ghosts-left_by g a = record { name = a.blank.name; parts = a.blank.parts }
