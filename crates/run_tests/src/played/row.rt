@@ -86,8 +86,10 @@ impl<'a> Row<'a> {
         limits: Limits,
         gate: &Watch,
     ) -> Result<String, Fail> {
-        let Ok(call) = call_of(alloc, &words_of(alloc, self.line)?) else {
-            return Err("these words make no call".into());
+        let call = match call_of(alloc, &words_of(alloc, self.line)?) {
+            Ok(call) => call,
+            Err(WordsFault::Memory) => return Err(AllocError.into()),
+            Err(_) => return Err("these words make no call".into()),
         };
         let [text, second] = self.texts;
         let mut input = Reader::new(giving(text, limits.input));
