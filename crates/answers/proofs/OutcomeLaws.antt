@@ -1,6 +1,6 @@
 -- What is said of an outcome is an answer of `solve`.
 use Rattle.std.proofs.Common.{Some, None, inl, inr}
-use Rattle.branching.specs.declared.outcome.Outcome.TheVariants.{Optimal, NoSchedule, Stopped}
+use Rattle.plain_search.specs.declared.outcome.Outcome.TheVariants.{Optimal, NoSchedule, Stopped}
 use Rattle.answers.specs.Outcomes.{SaidIsTrue}
 
 pub said_is_true : SaidIsTrue

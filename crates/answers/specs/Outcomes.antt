@@ -1,9 +1,9 @@
 -- What is said of an outcome, and what a record beside it claims.
 use Rattle.std.specs.Prelude.{◌≡◌, ℕ, List, Bool, true, Some, None}
 use Rattle.network.specs.Problem.{Problem}
-use Rattle.branching.specs.declared.outcome.Outcome.{Outcome}
-use Rattle.branching.specs.declared.outcome.Outcome.TheVariants.{Optimal, NoSchedule, Stopped}
-use Rattle.branching.specs.Verdicts.{IsTrueOf, StopsBelowBest}
+use Rattle.plain_search.specs.declared.outcome.Outcome.{Outcome}
+use Rattle.plain_search.specs.declared.outcome.Outcome.TheVariants.{Optimal, NoSchedule, Stopped}
+use Rattle.plain_search.specs.Verdicts.{IsTrueOf, StopsBelowBest}
 use Rattle.record_text.specs.declared.line.Claim.{Claim}
 use Rattle.record_text.specs.declared.line.Claim.TheVariants as claims
 use Rattle.record_text.specs.SearchRecord.{SearchRecord}

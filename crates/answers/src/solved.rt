@@ -1,6 +1,6 @@
 //! What `solve` says of the outcome of a search.
 
-ghost use Rattle.std.specs.Prelude.{◌≡◌, ◌++◌, IfOk, OnOk, string_bytes, codes};
+ghost use Rattle.std.specs.Prelude.{◌≡◌, ◌++◌, IfOk, string_bytes, codes};
 ghost use Rattle.network.specs.Schedule.{makespan};
 ghost use Rattle.answers.specs.Answers.{stopped_text, bound_text, optimal_text, no_schedule_text, feasible_text, unknown_text};
 ghost use Rattle.answers.specs.Outcomes.{SaysOutcome};
@@ -8,8 +8,8 @@ ghost use Rattle.answers.specs.Outcomes.{SaysOutcome};
 use crate::answer::Answer;
 use crate::json_text::json_line;
 use crate::texts::{put_starts, starts_text};
-use branching::Outcome;
 use network::Schedule;
+use plain_search::Outcome;
 use std::alloc::{AllocError, Global};
 
 #[tactic(auto, unfolding(json::specs::Print::escape_byte))]

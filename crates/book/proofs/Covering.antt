@@ -14,7 +14,7 @@ use Rattle.branching.specs.Subproblem.{Subproblem}
 use Rattle.branching.specs.Ceiling.{IsBelow, IsUnder, Reaches}
 use Rattle.branching.specs.Covered.{IsNodeOf, IsCovered, IsScheduleFor, ceiling_of}
 use Rattle.branching.specs.Fair.{Expansion, IsFair, IsShorterThan}
-use Rattle.branching.specs.Takes.{IsShorterOf}
+use Rattle.branching.specs.Covered.{IsShorterOf}
 use Rattle.branching.proofs.Lists.{here, there, contains_cases}
 use Rattle.branching.proofs.Covers.{covered_still, expansion_keeps}
 use Rattle.book.specs.State.{Named}

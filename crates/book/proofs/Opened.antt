@@ -12,7 +12,7 @@ use Rattle.network.specs.Walk.{HasPositiveCycle}
 use Rattle.branching.specs.Subproblem.{Subproblem}
 use Rattle.branching.specs.Covered.{IsNodeOf, IsRootOf, IsCovered}
 use Rattle.branching.proofs.Covers.{root_covers}
-use Rattle.branching.proofs.Outcomes.{none_on_cycle}
+use Rattle.branching.proofs.Covers.{none_on_cycle}
 use Rattle.book.specs.State.{Named, in_hand}
 use Rattle.book.specs.Sound.{AreNamedOnce, nodes_of}
 use Rattle.book.specs.Opening.{AreAllowed, AreFirst, new_state, first_entries}

@@ -4,7 +4,7 @@ use Rattle.network.specs.Problem.{Problem, arcs_of}
 use Rattle.network.specs.Walk.{HasPositiveCycle}
 use Rattle.branching.specs.Subproblem.{Subproblem}
 use Rattle.branching.specs.Covered.{IsRootOf}
-use Rattle.branching.specs.declared.search.TheConstants.{MAX_TAKES}
+use Rattle.plain_search.specs.declared.search.TheConstants.{MAX_TAKES}
 use Rattle.book.specs.State.{Named, node_named, BookState}
 use Rattle.book.specs.Trail.{Entry, no_entry}
 use Rattle.book.specs.declared.answers.TheConstants.{MAX_WORKERS}

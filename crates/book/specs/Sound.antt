@@ -4,7 +4,7 @@ use Rattle.std.specs.List.{All, count_by}
 use Rattle.branching.specs.Subproblem.{Subproblem}
 use Rattle.branching.specs.Covered.{IsCovered}
 use Rattle.branching.specs.declared.report.TheConstants.{MAX_KIDS}
-use Rattle.branching.specs.declared.search.TheConstants.{MAX_TAKES}
+use Rattle.plain_search.specs.declared.search.TheConstants.{MAX_TAKES}
 use Rattle.book.specs.State.{Named, BookState, in_hand, live}
 
 abbrev pub nodes_of : List Named → List Subproblem

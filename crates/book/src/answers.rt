@@ -8,7 +8,7 @@ pub const MAX_WORKERS: usize = 64;
 /// Why a book can't be opened.
 #[derive(Clone, Copy, Debug, PartialEq, Eq)]
 pub enum BookFault {
-    /// There are not 1 to [`MAX_WORKERS`] workers, or not 1 to [`MAX_TAKES`](branching::MAX_TAKES) takes.
+    /// There are not 1 to [`MAX_WORKERS`] workers, or not 1 to [`MAX_TAKES`](plain_search::MAX_TAKES) takes.
     Limit,
     /// Memory ran out.
     Memory,

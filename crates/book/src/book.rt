@@ -17,14 +17,15 @@ use crate::answers::{
 use crate::counts::Counts;
 use crate::hands::Hands;
 use crate::least::lesser;
-use crate::limits::{is_below, is_in_time, makespan_of, shorter_found};
+use crate::limits::{is_below, is_in_time, shorter_found};
 use crate::nodes_left::NodesLeft;
 use crate::open_nodes::OpenNodes;
 use crate::recording::{clear_open, open_kids};
 use crate::trail::Trail;
-use branching::{Branches, MAX_TAKES, Report, root};
+use branching::{Branches, Report, root};
 use longest_path::PathFault;
 use network::{Project, Schedule, SharedProject};
+use plain_search::{MAX_TAKES, makespan_of};
 use std::alloc::{AllocError, Global};
 use std::marker::Model;
 use std::sync::Arc;

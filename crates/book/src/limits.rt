@@ -1,23 +1,11 @@
 ghost use Rattle.std.specs.Prelude.{◌≡◌};
 ghost use Rattle.std.specs.Bool.{OnTrue, OnFalse};
 ghost use Rattle.branching.specs.Ceiling.{IsUnder, Reaches};
-ghost use Rattle.branching.specs.Covered.{ceiling_of};
 ghost use Rattle.book.specs.Below.{is_below};
 ghost use Rattle.book.specs.CheckingIn.{IsInTime};
 ghost use Rattle.book.specs.Offering.{IsShorterFound};
 
 use branching::Report;
-use network::Schedule;
-
-/// The makespan of the best schedule.
-pub(crate) fn makespan_of(best: &Option<Schedule>) -> Option<i64>
-    ensures { result ≡ ceiling_of best.now }
-{
-    match best {
-        Some(best) => Some(best.makespan()),
-        None => None,
-    }
-}
 
 /// Whether a number is below the limit, if there is one.
 pub(crate) fn is_below(number: i64, limit: Option<i64>) -> bool

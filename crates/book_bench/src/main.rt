@@ -6,7 +6,8 @@
 
 use anyhow::{Context, bail};
 use book::{Book, Take};
-use branching::{MAX_TAKES, expand, rebuild};
+use branching::{expand, rebuild};
+use plain_search::MAX_TAKES;
 use sch_reader::read_sch;
 use std::env;
 use std::io::Read;

@@ -13,7 +13,7 @@ use Rattle.network.specs.Limits.{IsAmount, IsWithin}
 use Rattle.network.specs.ProjectMatrix.{IsProjectMatrix}
 use Rattle.network.specs.Walk.{Rows, entry, IsMatrixOf, weights_from}
 use Rattle.network.specs.declared.limits.TheConstants.{MAX_AMOUNT}
-use Rattle.bounds.specs.declared.limits.TheConstants.{MAX_FIRST_WITH, MAX_WAY_WITH}
+use Rattle.longest_path.specs.declared.with_arc.TheConstants.{MAX_WAY_WITH}
 use Rattle.network.proofs.Schedules.{arcs_of-push}
 use Rattle.longest_path.specs.Relax.{joined}
 use Rattle.longest_path.specs.Insert.{entry_over, rows_over, ClosesNone, AddsArc}
@@ -59,22 +59,6 @@ difference_small (Some w) d within amount =
     let high : d ≤ℤ MAX_AMOUNT = amount.at_most in
     let up : w ≤ℤ MAX_WAY_WITH = within.at_most in
     let down : neg_ℤ MAX_WAY_WITH ≤ℤ w = within.at_least in
-    omega (arith, ints)
-
-pub way_small : (x y : ℤ) → IsWithin MAX_FIRST_WITH x → IsWithin MAX_FIRST_WITH y → IsWithin MAX_WAY_WITH (x +ℤ y)
-way_small x y p q =
-    let a : x ≤ℤ MAX_FIRST_WITH = p.at_most in
-    let b : neg_ℤ MAX_FIRST_WITH ≤ℤ x = p.at_least in
-    let c : y ≤ℤ MAX_FIRST_WITH = q.at_most in
-    let d : neg_ℤ MAX_FIRST_WITH ≤ℤ y = q.at_least in
-    record { at_most = omega (arith, ints); at_least = omega (arith, ints) }
-
-pub way_fits : (x y : ℤ) → IsWithin MAX_FIRST_WITH x → IsWithin MAX_FIRST_WITH y → FitsSigned w64 (x +ℤ y)
-way_fits x y p q =
-    let a : x ≤ℤ MAX_FIRST_WITH = p.at_most in
-    let b : neg_ℤ MAX_FIRST_WITH ≤ℤ x = p.at_least in
-    let c : y ≤ℤ MAX_FIRST_WITH = q.at_most in
-    let d : neg_ℤ MAX_FIRST_WITH ≤ℤ y = q.at_least in
     omega (arith, ints)
 
 -- ---- the bound with a pair

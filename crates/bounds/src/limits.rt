@@ -1,13 +1,5 @@
 //! The limits of what is added up here, within which no sum overflows.
 
-use network::{MAX_LAG_WEIGHT, MAX_WALK_WEIGHT};
-
-/// What a walk and an arc weigh at most.
-pub(crate) const MAX_FIRST_WITH: i64 = MAX_WALK_WEIGHT + MAX_LAG_WEIGHT;
-
-/// What a way over an arc weighs at most: two walks, and an arc counted twice.
-pub(crate) const MAX_WAY_WITH: i64 = MAX_FIRST_WITH + MAX_FIRST_WITH;
-
 /// The greatest head or tail, in periods: no walk weighs more.
 pub(crate) const MAX_END: u64 = 1_003_000_000;
 

@@ -1,10 +1,8 @@
-ghost use Rattle.std.specs.Prelude.{◌≡◌, [], ◌<◌, ◌∷◌, length, Some, IfSome, IfOk};
+ghost use Rattle.std.specs.Prelude.{◌≡◌, [], ◌<◌, ◌∷◌, length, IfOk};
 ghost use Rattle.network.specs.Problem.{activity_count, NameActivities, pair_arc};
-ghost use Rattle.network.specs.declared.limits.TheConstants.{MAX_LAG_WEIGHT, MAX_WALK_WEIGHT};
+ghost use Rattle.network.specs.declared.limits.TheConstants.{MAX_LAG_WEIGHT};
 ghost use Rattle.network.specs.Limits.{IsWithin};
 ghost use Rattle.network.specs.Walk.{weights_from};
-ghost use Rattle.bounds.specs.declared.limits.TheConstants.{MAX_FIRST_WITH, MAX_WAY_WITH};
-ghost use Rattle.longest_path.specs.Relax.{greater, joined};
 ghost use Rattle.earliest.specs.Tails.{tail_weights};
 ghost use Rattle.longest_path.specs.Insert.{rows_over, ClosesNone};
 ghost use Rattle.bounds.specs.Bound.{IsMatrixFor};
@@ -13,40 +11,9 @@ ghost use Rattle.bounds.specs.With.{IsBoundWith, IsTrueBoundWith, IsBoundUnder};
 
 use crate::task_rooms::TaskRooms;
 use crate::workspace::Workspace;
-use longest_path::Matrix;
+use longest_path::{Matrix, or_way, then_arc};
 use network::{Lag, Pair, Project};
 use std::alloc::{AllocError, Global};
-
-/// The weight of a walk and then an arc.
-fn then_arc(weight: Option<i64>, arc: i64) -> Option<i64>
-    requires weight { IfSome weight (λ x. IsWithin MAX_WALK_WEIGHT x) }
-    requires arc { IsWithin MAX_LAG_WEIGHT arc }
-    ensures sum { result ≡ joined weight (Some arc) }
-    ensures small { IfSome result (λ x. IsWithin MAX_FIRST_WITH x) }
-{
-    match weight {
-        Some(weight) => Some(weight + arc),
-        None => None,
-    }
-}
-
-/// The weight of a walk, or of the way that has these two parts where that is greater.
-fn or_way(weight: Option<i64>, first: Option<i64>, last: Option<i64>) -> Option<i64>
-    requires weight { IfSome weight (λ x. IsWithin MAX_WALK_WEIGHT x) }
-    requires first { IfSome first (λ x. IsWithin MAX_FIRST_WITH x) }
-    requires last { IfSome last (λ x. IsWithin MAX_FIRST_WITH x) }
-    ensures value { result ≡ greater weight (joined first last) }
-    ensures small { IfSome result (λ x. IsWithin MAX_WAY_WITH x) }
-{
-    let (Some(first), Some(last)) = (first, last) else {
-        return weight;
-    };
-    let way = first + last;
-    match weight {
-        Some(weight) if weight >= way => Some(weight),
-        _ => Some(way),
-    }
-}
 
 /// Puts the heads that the matrix would give with the arc in place of others.
 fn take_heads_with(matrix: &Matrix, arc: Lag, heads: &mut [i64])

@@ -8,7 +8,8 @@ use Rattle.std.proofs.lemmas.List.Elements.{All-nil, All-cons, All-contains}
 use Rattle.network.specs.declared.lag.Pair.{Pair}
 use Rattle.network.specs.Problem.{Problem, activity_count, duration, demand}
 use Rattle.network.specs.Schedule.{start, is_running, Keeps, IsFeasible}
-use Rattle.branching.specs.Pairs.{pair_of, ordered_pairs}
+use Rattle.network.specs.Pairs.{pair_of}
+use Rattle.branching.specs.Pairs.{ordered_pairs}
 use Rattle.branching.specs.Right.{IsRightSet}
 use Rattle.branching.proofs.Lists.{here, there}
 use Rattle.rivals.proofs.Rising.{BeginsFrom, rising_sum}

@@ -14,10 +14,10 @@ use Rattle.network.specs.Problem.{Problem, duration}
 use Rattle.network.specs.Walk.{Rows, entry}
 use Rattle.longest_path.specs.Relax.{greater, joined}
 use Rattle.longest_path.proofs.Reach.{same_some}
-use Rattle.branching.specs.Pairs.{pair_of}
+use Rattle.network.specs.Pairs.{pair_of}
 use Rattle.rivals.specs.Incompatible.{AreIncompatible, AllIncompatible}
-use Rattle.branching.specs.IncompatibleRows.{pairs_before, pairs_of, IsRowOf, AreRowsOf}
-use Rattle.branching.specs.declared.incompatible.Incompatible.{Incompatible}
+use Rattle.rivals.specs.IncompatibleRows.{pairs_before, pairs_of, IsRowOf, AreRowsOf}
+use Rattle.rivals.specs.declared.incompatible.Incompatible.{Incompatible}
 use Rattle.branching.specs.Forcing.{IsForcedAt, IsForcedIn, IsForcedWith, IsFirstForced, way_over}
 use Rattle.branching.proofs.Lists.{here, contains_map, any_left, any_right}
 

@@ -11,4 +11,3 @@ pub mod Forcings
 pub mod Fates
 pub mod Together
 pub mod Covers
-pub mod Outcomes

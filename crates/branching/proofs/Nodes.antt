@@ -12,7 +12,7 @@ use Rattle.network.specs.Problem.{Problem, activity_count, end_of, duration, pai
 use Rattle.network.specs.Limits.{IsProject, IsAmount, IsWithin}
 use Rattle.network.specs.ProjectMatrix.{IsProjectMatrix}
 use Rattle.network.specs.declared.limits.TheConstants.{MAX_AMOUNT, MAX_LAG_WEIGHT, MAX_WALK_WEIGHT}
-use Rattle.branching.specs.declared.with_arc.TheConstants.{MAX_WAY_WITH}
+use Rattle.longest_path.specs.declared.with_arc.TheConstants.{MAX_WAY_WITH}
 use Rattle.network.specs.Schedule.{start, IsSchedule, KeepsAll}
 use Rattle.network.specs.Walk.{Rows, weight, entry, IsMatrixOf, IsGreatestWeight, HasPositiveCycle}
 use Rattle.network.proofs.Schedules.{walk_holds, arcs_met, arcs_of-push}

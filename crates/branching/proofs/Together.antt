@@ -17,7 +17,8 @@ use Rattle.network.specs.Schedule.{start, makespan, is_running, running, IsWithi
 use Rattle.forbidden_sets.specs.MinimalSet.{MinimalSet}
 use Rattle.branching.specs.Subproblem.{Subproblem, NodeStandsFor, IsNode}
 use Rattle.branching.specs.declared.report.TheConstants.{MAX_KIDS}
-use Rattle.branching.specs.Pairs.{pair_of, ordered_pairs}
+use Rattle.network.specs.Pairs.{pair_of}
+use Rattle.branching.specs.Pairs.{ordered_pairs}
 use Rattle.branching.specs.Right.{IsRightSet, IsCutUnder}
 use Rattle.branching.specs.Ceiling.{IsBelow, Reaches}
 use Rattle.branching.specs.Fates.{FateOf, AreFates}

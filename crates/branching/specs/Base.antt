@@ -3,8 +3,8 @@ use Rattle.std.specs.Prelude.{List, []}
 use Rattle.network.specs.Problem.{Problem}
 use Rattle.network.specs.ProjectMatrix.{IsProjectMatrix}
 use Rattle.network.specs.Walk.{Rows}
-use Rattle.branching.specs.IncompatibleRows.{AreRowsOf}
-use Rattle.branching.specs.declared.incompatible.Incompatible.{Incompatible}
+use Rattle.rivals.specs.IncompatibleRows.{AreRowsOf}
+use Rattle.rivals.specs.declared.incompatible.Incompatible.{Incompatible}
 
 -- a project, its matrix without pairs, and which of its activities can't run at the same time
 pub record BaseOf : Type 0 where

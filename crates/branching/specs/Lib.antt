@@ -1,7 +1,6 @@
 pub mod Last
 pub mod Subproblem
 pub mod Pairs
-pub mod IncompatibleRows
 pub mod Base
 pub mod BaseView
 pub mod Parent
@@ -16,6 +15,3 @@ pub mod Forcing
 pub mod Fair
 pub mod ReportView
 pub mod Covered
-pub mod Takes
-pub mod Verdicts
-pub mod SearchView

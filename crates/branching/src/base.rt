@@ -2,11 +2,11 @@ ghost use Rattle.std.specs.Prelude.{◌≡◌, [], IfOk};
 ghost use Rattle.std.specs.Arc.{arc_value};
 ghost use Rattle.network.specs.Limits.{IsProject};
 ghost use Rattle.network.specs.ProjectMatrix.{IsProjectMatrix};
-ghost use Rattle.branching.specs.IncompatibleRows.{AreRowsOf};
+ghost use Rattle.rivals.specs.IncompatibleRows.{AreRowsOf};
 
-use crate::incompatible::{Incompatible, incompatible_activities};
 use longest_path::Matrix;
 use network::{Project, SharedProject};
+use rivals::{Incompatible, incompatible_activities};
 use std::alloc::{AllocError, Global};
 use std::marker::Model;
 use std::sync::Arc;

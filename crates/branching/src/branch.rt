@@ -14,7 +14,6 @@ ghost use Rattle.branching.specs.Fate.{IsBranchOf};
 
 use crate::forcing::{Forcing, force, forces_some};
 use crate::lean::Lean;
-use crate::marking::insert_under_mark;
 use bounds::Workspace;
 use longest_path::{MarkedMatrix, Matrix, PathFault};
 use network::Pair;
@@ -31,7 +30,7 @@ pub(crate) enum Branch {
 }
 
 /// Whether the bound is at least the ceiling.
-pub(crate) fn is_over(bound: i64, ceiling: Option<i64>) -> bool
+pub fn is_over(bound: i64, ceiling: Option<i64>) -> bool
     ensures over { OnTrue result ((s : List ℤ) → bound ≤ℤ makespan s → ¬ IsBelow ceiling s) }
     ensures reaches { OnTrue result (Reaches ceiling bound) }
     ensures under { MatchBool result (¬ IsUnder ceiling bound) (IsUnder ceiling bound) }
@@ -134,7 +133,7 @@ fn branch_with_forced(
     ensures bounds { bounds.new ≡ bounds.old }
     ensures branch { IfOk result (IsBranchOf node.now ceiling first) }
 {
-    match insert_under_mark(matrix, node.project().pair_arc(first)) {
+    match matrix.insert_under_mark(node.project().pair_arc(first)) {
         Ok(()) => {}
         Err(PathFault::PositiveCycle { .. }) => return Ok(Branch::Dead(Vec::new(alloc))),
         Err(PathFault::Memory) => return Err(AllocError),

@@ -3,16 +3,14 @@ ghost use Rattle.std.specs.List.{Any};
 ghost use Rattle.network.specs.Limits.{IsWithin};
 ghost use Rattle.network.specs.Problem.{activity_count, pair_arc, NameActivities};
 ghost use Rattle.network.specs.ProjectMatrix.{IsProjectMatrix};
-ghost use Rattle.branching.specs.declared.with_arc.TheConstants.{MAX_WAY_WITH};
-ghost use Rattle.branching.specs.IncompatibleRows.{pairs_of_row, pairs_of, IsRowOf, AreRowsOf};
-ghost use Rattle.branching.specs.Subproblem.{Subproblem};
+ghost use Rattle.longest_path.specs.declared.with_arc.TheConstants.{MAX_WAY_WITH};
+ghost use Rattle.rivals.specs.IncompatibleRows.{pairs_of_row, pairs_of, IsRowOf, AreRowsOf};
 ghost use Rattle.branching.specs.Forcing.{IsForcedAt, IsForcedWith, IsNextForced, IsForcingOf};
 
-use crate::incompatible::Incompatible;
 use crate::lean::Lean;
-use crate::with_arc::{or_way, then_arc};
-use longest_path::{MarkedMatrix, Matrix, PathFault};
+use longest_path::{MarkedMatrix, Matrix, PathFault, or_way, then_arc};
 use network::{Pair, Project};
+use rivals::Incompatible;
 use std::alloc::{AllocError, Global};
 
 /// What the pairs that a kid's first one forces make of the kid.

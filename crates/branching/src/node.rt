@@ -59,7 +59,7 @@ impl Node {
 }
 
 /// The root of a project, which has no pairs and stands for all feasible schedules, and its matrix.
-pub(crate) fn root_and_matrix(
+pub fn root_and_matrix(
     alloc: Global,
     project: Arc<Project>,
 ) -> Result<(Arc<Lean>, Matrix), PathFault>

@@ -10,7 +10,6 @@ ghost use Rattle.branching.specs.Path.{front, IsPairFault, IsShared};
 use crate::branches::Branches;
 use crate::expansion::expand_by;
 use crate::lean::Lean;
-use crate::marking::insert_under_mark;
 use crate::pair_list::PairList;
 use crate::report::Report;
 use crate::workspace::Workspace;
@@ -127,7 +126,7 @@ impl Searcher {
     {
         self.pairs.reserve(1)?;
         let arc = self.project.project().pair_arc(pair);
-        if let Err(fault) = insert_under_mark(&mut self.matrix, arc) {
+        if let Err(fault) = self.matrix.insert_under_mark(arc) {
             return Err(fault);
         }
         self.pairs.push_reserved(pair);

@@ -17,3 +17,4 @@ pub mod Saving
 pub mod Marking
 pub mod RowsOver
 pub mod Parts
+pub mod WithArc

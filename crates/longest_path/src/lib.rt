@@ -14,8 +14,10 @@ mod matrix;
 mod recurrence;
 mod saved_insert;
 mod saves;
+mod with_arc;
 
 pub use fault::PathFault;
 pub use marked::MarkedMatrix;
 pub use matrix::Matrix;
 pub use recurrence::longest;
+pub use with_arc::{MAX_FIRST_WITH, MAX_WAY_WITH, or_way, then_arc};

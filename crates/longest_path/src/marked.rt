@@ -8,6 +8,7 @@ ghost use Rattle.network.specs.Limits.{IsWithin};
 use crate::fault::PathFault;
 use crate::matrix::Matrix;
 use crate::saves::Saves;
+use network::Lag;
 use std::alloc::{AllocError, Global};
 use std::marker::Model;
 
@@ -106,5 +107,23 @@ impl MarkedMatrix {
             return inserted;
         }
         self.matrix.insert_saved(i, j, w, &mut self.saves)
+    }
+
+    /// Makes a mark and adds the arc. A fault leaves all as it was.
+    pub fn insert_under_mark(&mut self, arc: Lag) -> Result<(), PathFault>
+        requires from_activity { arc.from < length self.old.rows }
+        requires to_activity { arc.to < length self.old.rows }
+        requires light { IsWithin MAX_LAG_WEIGHT arc.weight }
+        ensures marks { OnOk result (self.new.marks ≡ self.old.rows ∷ self.old.marks) }
+        ensures ok { OnOk result (AddsArc arc self.old.rows self.new.rows) }
+        ensures fault { IfErr result (IsInsertFault arc self.old.rows) }
+        ensures unchanged { OnErr result (self.new ≡ self.old) }
+    {
+        self.mark()?;
+        if let Err(fault) = self.insert(arc.from, arc.to, arc.weight) {
+            self.go_back();
+            return Err(fault);
+        }
+        Ok(())
     }
 }

@@ -9,3 +9,4 @@ pub mod Parts
 pub mod Faults
 pub mod Equality
 pub mod Numbers
+pub mod Pairs

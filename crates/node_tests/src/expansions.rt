@@ -1,11 +1,9 @@
 use bounds::bound;
-use branching::{
-    Fate, Lean, Outcome, Report, Searcher, expand, insert_under_mark, ordered_pairs, rebuild, root,
-    search_alone,
-};
+use branching::{Fate, Lean, Report, Searcher, expand, ordered_pairs, rebuild, root};
 use earliest::least_starts;
 use longest_path::{MarkedMatrix, Matrix, PathFault, longest};
 use network::{Pair, Project, SharedProject};
+use plain_search::{Outcome, search_alone};
 use rivals::are_incompatible;
 use std::alloc::{AllocError, Global};
 use std::process::Abort;
@@ -333,10 +331,10 @@ fn an_arc_that_closes_a_walk_leaves_no_mark(rt: HostRuntime) -> Result<(), Fail>
     let project = one_machine(rt.alloc(), &[])?;
     let mut marked = MarkedMatrix::new(rt.alloc(), longest(rt.alloc(), &project, &[])?);
     assert_eq!(rt; marked.matrix().activity_count(), 4);
-    assert_eq!(rt; insert_under_mark(&mut marked, lag(1, 2, 3)), Ok(()));
+    assert_eq!(rt; marked.insert_under_mark(lag(1, 2, 3)), Ok(()));
     assert_eq!(rt; marked.matrix().activity_count(), 4);
     let fault = Err(PathFault::PositiveCycle { at: 2 });
-    assert_eq!(rt; insert_under_mark(&mut marked, lag(2, 1, -2)), fault);
+    assert_eq!(rt; marked.insert_under_mark(lag(2, 1, -2)), fault);
     assert_eq!(rt; marked.mark_count(), 1);
     Ok(())
 }

@@ -1,19 +1,19 @@
 -- What workers reply, and when a record is part of it.
-use Rattle.std.proofs.Common.{◌≡◌, ◌≢◌, ℕ, Bool, true, false, List, Option, None, Some, refl, sym, ap, ◌∙◌, inl, inr, ◌⊎◌}
-use Rattle.std.specs.Prelude.{IfSome, IsSomeAnd, IsSome, ◌↔◌, Result, Ok, Err, IfOk, IfErr}
+use Rattle.std.proofs.Common.{◌≡◌, ℕ, Bool, true, false, List, Option, None, Some, refl, sym, ap, ◌∙◌}
+use Rattle.std.specs.Prelude.{IfSome, IsSome, ◌↔◌, Result, Ok, Err, IfOk, IfErr}
 use Rattle.network.specs.Problem.{Problem}
 use Rattle.network.specs.Limits.{IsProject}
-use Rattle.branching.specs.Verdicts.{IsTrueOf}
-use Rattle.branching.specs.declared.outcome.Outcome.{Outcome}
-use Rattle.branching.specs.declared.outcome.Outcome.TheVariants.{Optimal, NoSchedule, Stopped}
+use Rattle.plain_search.specs.Verdicts.{IsTrueOf}
+use Rattle.plain_search.specs.declared.outcome.Outcome.{Outcome}
+use Rattle.plain_search.specs.declared.outcome.Outcome.TheVariants.{Optimal, NoSchedule, Stopped}
 use Rattle.sch_reader.specs.Text.{Spells}
 use Rattle.answers.proofs.OutcomeLaws.{said_is_true}
 use Rattle.answers.specs.Outcomes.{SaysOutcome, IsRightRecord, claim_text}
 use Rattle.runs.specs.declared.job.Job.{Job}
 use Rattle.runs.specs.Jobs.{answers_json, writes_record}
 use Rattle.runs.specs.Outcome.{SpellsOne}
-use Rattle.runs.specs.Runs.{ReplyOf, RecordsWhereAsked}
-use Rattle.parallel_runs.specs.Searches.{IsOutcomeRecord, IsSearchReply, IsTextOf}
+use Rattle.runs.specs.Runs.{ReplyOf}
+use Rattle.parallel_runs.specs.Searches.{IsOutcomeRecord, IsSearchReply}
 
 -- a record of what is claimed is one of what the answer says
 abbrev Kept : Problem → Bool → ℕ → List ℕ → Option (List ℕ) → Type 0

@@ -1,8 +1,8 @@
 -- What a search by workers replies.
 use Rattle.std.specs.Prelude.{◌≡◌, ℕ, List, Option, Some, None, IfSome, IsSomeAnd, false}
 use Rattle.network.specs.Problem.{Problem}
-use Rattle.branching.specs.declared.outcome.Outcome.{Outcome}
-use Rattle.branching.specs.declared.outcome.Outcome.TheVariants.{Optimal, NoSchedule, Stopped}
+use Rattle.plain_search.specs.declared.outcome.Outcome.{Outcome}
+use Rattle.plain_search.specs.declared.outcome.Outcome.TheVariants.{Optimal, NoSchedule, Stopped}
 use Rattle.record_text.specs.declared.line.Claim.{Claim}
 use Rattle.record_text.specs.SearchRecord.{SearchRecord}
 use Rattle.record_text.specs.Text.{record_text}

@@ -8,8 +8,8 @@ ghost use Rattle.worker.specs.Solving.{IsTrailOf, best_of};
 ghost use Rattle.parallel_runs.specs.Searches.{IsOutcomeRecord, IsTextOf};
 
 use book::Trail;
-use branching::Outcome;
 use network::Schedule;
+use plain_search::Outcome;
 use search_record::of_trail;
 use std::alloc::{AllocError, Global};
 

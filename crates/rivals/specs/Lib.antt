@@ -1,1 +1,2 @@
 pub mod Incompatible
+pub mod IncompatibleRows

@@ -2,6 +2,8 @@
 //! there is.
 #![tactic(auto)]
 
+mod incompatible;
 mod pair;
 
+pub use incompatible::{Incompatible, incompatible_activities};
 pub use pair::are_incompatible;

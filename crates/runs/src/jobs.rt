@@ -1,7 +1,7 @@
 //! What each job says of the project and the text that it is given.
 
 ghost use Rattle.std.specs.Prelude.{◌≡◌, ◌≢◌, ◌≤◌, true, IfOk, IfErr};
-ghost use Rattle.branching.specs.declared.search.TheConstants.{MAX_TAKES};
+ghost use Rattle.plain_search.specs.declared.search.TheConstants.{MAX_TAKES};
 ghost use Rattle.answers.specs.declared.fault.Fault.{Fault};
 ghost use Rattle.answers.specs.declared.fault.Fault.TheVariants as faults;
 ghost use Rattle.answers.specs.Answers.{IsEarliestText, IsCheckText, IsSolveText, IsTidyText};
@@ -11,10 +11,10 @@ ghost use Rattle.runs.specs.Outcome.{GivesStarts, IsFirstStartsFault};
 use answers::{
     Answer, Fault, cycle_text, feasible_text, solved_answer, starts_text, violations_text,
 };
-use branching::search_alone;
 use earliest::least_starts;
 use longest_path::{PathFault, longest};
 use network::Project;
+use plain_search::search_alone;
 use sch_reader::write_sch;
 use schedule_check::{read_starts, violations};
 use std::alloc::{AllocError, Global};

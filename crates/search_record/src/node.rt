@@ -7,7 +7,6 @@ ghost use Rattle.search_record.specs.Node.{IsAlongSome, IsRootNode, GoesAlong, S
 ghost use Rattle.search_record.specs.Right.{IsRightLine};
 
 use crate::judge::is_right_by;
-use branching::insert_under_mark;
 use longest_path::{MarkedMatrix, Matrix, PathFault, longest};
 use network::{Pair, Project};
 use record_text::Line;
@@ -53,7 +52,7 @@ fn go_along(
         return Ok(());
     }
     let arc = project.pair_arc(pair);
-    match insert_under_mark(matrix, arc) {
+    match matrix.insert_under_mark(arc) {
         Ok(()) => Ok(()),
         Err(PathFault::PositiveCycle { .. }) => Ok(()),
         Err(PathFault::Memory) => Err(AllocError),

@@ -3,9 +3,9 @@ use Rattle.std.specs.Prelude.{◌≡◌, ◌+◌, ◌<◌, ◌↔◌, ℕ, Optio
 use Rattle.network.specs.Problem.{Problem}
 use Rattle.network.specs.Schedule.{ScheduleOf}
 use Rattle.branching.specs.Covered.{ceiling_of}
-use Rattle.branching.specs.Verdicts.{IsTrueOf}
-use Rattle.branching.specs.declared.outcome.Outcome.{Outcome}
-use Rattle.branching.specs.declared.outcome.Outcome.TheVariants.{Optimal, NoSchedule, Stopped}
+use Rattle.plain_search.specs.Verdicts.{IsTrueOf}
+use Rattle.plain_search.specs.declared.outcome.Outcome.{Outcome}
+use Rattle.plain_search.specs.declared.outcome.Outcome.TheVariants.{Optimal, NoSchedule, Stopped}
 use Rattle.book.specs.Trail.{TrailOf}
 use Rattle.book.specs.RightTrail.{IsWholeTree}
 use Rattle.worker.specs.declared.solution.Solved.{Solved}

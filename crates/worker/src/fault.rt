@@ -4,7 +4,7 @@ use std::alloc::AllocError;
 /// Why a search by workers has no outcome.
 #[derive(Clone, Copy, Debug, PartialEq, Eq)]
 pub enum SolveFault {
-    /// There are not 1 to [`MAX_WORKERS`](book::MAX_WORKERS) workers, or not 1 to [`MAX_TAKES`](branching::MAX_TAKES)
+    /// There are not 1 to [`MAX_WORKERS`](book::MAX_WORKERS) workers, or not 1 to [`MAX_TAKES`](plain_search::MAX_TAKES)
     /// takes.
     Limit,
     /// Memory ran out.

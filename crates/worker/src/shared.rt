@@ -87,7 +87,7 @@ fn gather<L: Ledger>(
 
 impl<L: Ledger> Shared<L> {
     /// A new book of a project under a new lock, and a desk for each worker, in the order of their numbers. The book allows
-    /// 1 to [`MAX_WORKERS`](book::MAX_WORKERS) workers and 1 to [`MAX_TAKES`](branching::MAX_TAKES) takes. The ledger,
+    /// 1 to [`MAX_WORKERS`](book::MAX_WORKERS) workers and 1 to [`MAX_TAKES`](plain_search::MAX_TAKES) takes. The ledger,
     /// which `blank` becomes, has a part for each worker.
     pub fn open(
         alloc: Global,

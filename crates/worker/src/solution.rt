@@ -2,8 +2,7 @@ ghost use Rattle.std.specs.Prelude.{◌≡◌, ◌+◌, ◌<◌, ◌↔◌, IfOk
 ghost use Rattle.std.specs.Arc.{arc_value};
 ghost use Rattle.std.specs.Bool.{OnTrue};
 ghost use Rattle.book.specs.State.{live};
-ghost use Rattle.book.specs.Opening.{AreAllowed};
-ghost use Rattle.branching.specs.Verdicts.{IsTrueOf};
+ghost use Rattle.plain_search.specs.Verdicts.{IsTrueOf};
 ghost use Rattle.worker.specs.Desks.{IsRow};
 ghost use Rattle.worker.specs.Faults.{IsWithinLimits, RefusesLimits};
 ghost use Rattle.worker.specs.Solving.{IsStopped, IsSolution, IsTrailOf};
@@ -14,8 +13,8 @@ use crate::gate::Gate;
 use crate::shared::Shared;
 use crate::threads::run_workers;
 use book::{Book, Counts, NodesLeft, Trail, Verdict, are_allowed, is_same_project};
-use branching::Outcome;
 use network::{Project, Schedule};
+use plain_search::Outcome;
 use std::alloc::{AllocError, Global};
 use std::marker::Brand;
 use std::sync::ledger::{Blank, Ledger};
@@ -150,7 +149,7 @@ fn search_with<L: Ledger + Send + Sync, G: Gate, R: Threads + Wait + Sync>(
 }
 
 /// Searches a project with workers in threads of their own: 1 to [`MAX_WORKERS`](book::MAX_WORKERS) of them, which
-/// take 1 to [`MAX_TAKES`](branching::MAX_TAKES) nodes in all. A schedule that is known is offered before they start.
+/// take 1 to [`MAX_TAKES`](plain_search::MAX_TAKES) nodes in all. A schedule that is known is offered before they start.
 /// A recorded search keeps a trail: what became of each node that was opened. Where it was not stopped, a record of it
 /// can be made of the trail and the shortest schedule.
 ///

@@ -3,7 +3,7 @@
 use crate::gates::{Holds, Seen, Watch};
 use crate::workers::asked::{Asked, asked_by, project_of, schedule_of};
 use book::Counts;
-use branching::Outcome;
+use plain_search::Outcome;
 use std::alloc::{AllocError, Global};
 use std::sync::{Arc, Wait};
 use std::test::Fail;

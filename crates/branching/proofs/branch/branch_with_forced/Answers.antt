@@ -16,5 +16,5 @@ returns-in-Err-PositiveCycle-clause-branch c =
 pub branch_at-branch-requires-clause-matrix : goal.branch_at-branch-requires-clause-matrix
 branch_at-branch-requires-clause-matrix c =
     let arc : c.pair_arc.result ≡ pair_arc c.args.node.now.project c.args.first = rw (c.deref.ensures ∙ c.project.ensures.project) at c.pair_arc.ensures.arc in
-    let adds : AddsArc c.pair_arc.result c.args.matrix.now.rows c.insert_under_mark.new.matrix.rows = c.in-Ok.ensures.ok in
-    matrix_more c.args.node.now.project c.args.node.now.pairs c.args.first c.args.matrix.now.rows c.insert_under_mark.new.matrix.rows c.requires.tied.matrix c.requires.named (rw arc at adds)
+    let adds : AddsArc c.pair_arc.result c.args.matrix.now.rows c.insert_under_mark.new.self.rows = c.in-Ok.ensures.ok in
+    matrix_more c.args.node.now.project c.args.node.now.pairs c.args.first c.args.matrix.now.rows c.insert_under_mark.new.self.rows c.requires.tied.matrix c.requires.named (rw arc at adds)

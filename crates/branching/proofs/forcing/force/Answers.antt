@@ -7,7 +7,7 @@ use Rattle.longest_path.specs.Insert.{AddsArc}
 use Rattle.longest_path.specs.Fault.{IsInsertFault}
 use Rattle.branching.specs.Base.{BaseOf}
 use Rattle.rivals.specs.Incompatible.{AreIncompatible, AllIncompatible}
-use Rattle.branching.specs.IncompatibleRows.{pairs_of, AreRowsOf}
+use Rattle.rivals.specs.IncompatibleRows.{pairs_of, AreRowsOf}
 use Rattle.branching.specs.Forcing.{IsFirstForced}
 use Rattle.branching.proofs.ForcedMatrices.{both_named, one_forced, dead_forced}
 use Rattle.branching.proofs.Forcings.{first_among, first_incompatible, rows_incompatible}

@@ -8,11 +8,11 @@ use Rattle.network.specs.declared.lag.Pair.{Pair}
 use Rattle.network.specs.Problem.{duration, pair_arc}
 use Rattle.network.specs.Walk.{entry}
 use Rattle.longest_path.specs.Relax.{greater, joined}
-use Rattle.branching.specs.declared.incompatible.Incompatible.{Incompatible}
+use Rattle.rivals.specs.declared.incompatible.Incompatible.{Incompatible}
 use Rattle.branching.specs.Forcing.{IsForcedWith, way_over}
 use Rattle.rivals.specs.Incompatible.{AreIncompatible}
-use Rattle.branching.specs.IncompatibleRows.{pairs_before}
-use Rattle.branching.specs.Pairs.{pair_of}
+use Rattle.rivals.specs.IncompatibleRows.{pairs_before}
+use Rattle.network.specs.Pairs.{pair_of}
 use Rattle.branching.proofs.Forcings.{unless, when, both_ways, over_by, by_way, no_way, none_before, none_over, none_from, none_of_all, pair_more, some_of_row, row_at}
 use Rattle.branching.proofs.ForcedMatrices.{both_named}
 use Rattle.branching.proofs.forcing.forces_in_row.Goals as goal

@@ -3,7 +3,7 @@ use Rattle.std.specs.Int.Signed.{le_z}
 use Rattle.std.proofs.lemmas.Int.{to_z-of_z}
 use mir.Val.{SFits}
 use Rattle.network.specs.Limits.{IsWithin}
-use Rattle.branching.specs.declared.with_arc.TheConstants.{MAX_WAY_WITH}
+use Rattle.longest_path.specs.declared.with_arc.TheConstants.{MAX_WAY_WITH}
 use Rattle.branching.proofs.Nodes.{ends_of, way_amount_fits}
 use Rattle.branching.proofs.Forcings.{forced_by}
 use Rattle.branching.proofs.forcing.is_forced_at.Goals as goal

@@ -1,11 +1,11 @@
 use Rattle.std.proofs.Common.{◌≡◌, ℕ, ◌<◌, ◌≤◌, length, get_or}
 use Rattle.std.specs.List.{All}
 use Rattle.std.proofs.lemmas.List.{take_all}
-use Rattle.branching.specs.declared.incompatible.Incompatible.{Incompatible}
+use Rattle.rivals.specs.declared.incompatible.Incompatible.{Incompatible}
 use Rattle.branching.specs.Forcing.{IsForcedIn}
 use Rattle.rivals.specs.Incompatible.{AreIncompatible}
-use Rattle.branching.specs.IncompatibleRows.{pairs_before}
-use Rattle.branching.specs.Pairs.{pair_of}
+use Rattle.rivals.specs.IncompatibleRows.{pairs_before}
+use Rattle.network.specs.Pairs.{pair_of}
 use Rattle.branching.proofs.Forcings.{unless, when, pair_more, first_of_row, row_at}
 use Rattle.branching.proofs.ForcedMatrices.{both_named}
 use Rattle.branching.proofs.forcing.next_in_row.Goals as goal

@@ -21,9 +21,9 @@ insert_under_mark-requires-clause-to_activity c =
 
 pub returns-in-Ok-clause-along : goal.returns-in-Ok-clause-along
 returns-in-Ok-clause-along c = λ pairs count along.
-    let adds : AddsArc (pair_arc c.args.project.now c.args.pair) c.args.matrix.now.rows c.insert_under_mark.new.matrix.rows = rw c.pair_arc-arc.ensures.arc at c.in-Ok.ensures.ok in
+    let adds : AddsArc (pair_arc c.args.project.now c.args.pair) c.args.matrix.now.rows c.insert_under_mark.new.self.rows = rw c.pair_arc-arc.ensures.arc at c.in-Ok.ensures.ok in
     let all : length c.args.matrix.now.marks ≡ length pairs = all_marked c.args.project.now pairs c.args.matrix.now along (omega (arith, c.if-mark_count-depth.false, c.mark_count.ensures, count)) in
-    along_added c.args.project.now pairs c.args.pair c.args.matrix.now c.insert_under_mark.new.matrix along all c.requires.named adds c.in-Ok.ensures.marks
+    along_added c.args.project.now pairs c.args.pair c.args.matrix.now c.insert_under_mark.new.self along all c.requires.named adds c.in-Ok.ensures.marks
 
 pub returns-in-Err-PositiveCycle-clause-along : goal.returns-in-Err-PositiveCycle-clause-along
 returns-in-Err-PositiveCycle-clause-along c = λ pairs count along.

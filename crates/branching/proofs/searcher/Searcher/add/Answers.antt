@@ -16,6 +16,6 @@ invariant_of-self-2 c =
     let pairs : c.push_reserved.new.self.items ≡ c.self.inside.pairs.items ++ c.args.pair ∷ [] = c.push_reserved.ensures.items ∙ ap (λ (l : List Pair). l ++ c.args.pair ∷ []) c.in_ok-reserve.ensures.items in
     let arc : c.pair_arc-arc.result ≡ pair_arc c.self.inside.project c.args.pair = c.pair_arc-arc.ensures.arc ∙ ap (λ (p : Problem). pair_arc p c.args.pair) (c.deref.ensures ∙ c.project.ensures.project) in
     record {
-      path = rw pairs (went_on c.self.inside.project c.self.inside.pairs.items c.args.pair c.self.inside.matrix c.insert_under_mark.new.matrix c.self.invariant.path (rw (ap (λ (n : Path). n.project) c.self.view_is) c.requires) (rw arc at c.in_default.ensures.ok) c.in_default.ensures.marks);
+      path = rw pairs (went_on c.self.inside.project c.self.inside.pairs.items c.args.pair c.self.inside.matrix c.insert_under_mark.new.self c.self.invariant.path (rw (ap (λ (n : Path). n.project) c.self.view_is) c.requires) (rw arc at c.in_default.ensures.ok) c.in_default.ensures.marks);
       room = c.self.invariant.room;
     }

@@ -1,0 +1,102 @@
+-- The takes of a search keep that its nodes cover what is shorter than its best.
+use Rattle.std.proofs.Common.{◌≡◌, sym, ap, ◌∙◌, subst, inl, inr, append_assoc, append-nil, List, [], ◌∷◌, ◌++◌, ◌⊎◌, ⊎_elim, arith, Option, Some, None}
+use Rattle.std.specs.Prelude.{ℤ, ◌≤ℤ◌, IfSome}
+use Rattle.std.specs.List.{All, Any, Contains}
+use Rattle.std.proofs.lemmas.Int.{ints}
+use Rattle.std.proofs.lemmas.List.Quantifiers.{Any-push}
+use Rattle.std.proofs.lemmas.List.Elements.{All-nil, All-cons, All-push, All-contains, All-weaker, Contains-append_cases, Contains-push}
+use Rattle.network.specs.Problem.{Problem}
+use Rattle.network.specs.Schedule.{ScheduleOf}
+use Rattle.branching.specs.Subproblem.{Subproblem}
+use Rattle.branching.specs.Fair.{IsShorterThan}
+use Rattle.branching.specs.Ceiling.{IsBelow, IsUnder}
+use Rattle.branching.specs.Covered.{IsNodeOf, IsCovered, ceiling_of}
+use Rattle.branching.proofs.Lists.{here, any_left}
+use Rattle.branching.proofs.Covers.{all_left, covered_still, expansion_keeps}
+use Rattle.plain_search.specs.States.{SearchState, IsSoundState, IsLeastBound}
+use Rattle.plain_search.specs.Takes.{DropsOver, IsTake}
+
+-- nodes that are not below the best may be left out
+pub drops_keep : (p : Problem) (best : Option ScheduleOf) (old new : List Subproblem) → DropsOver (ceiling_of best) old new → IsCovered p best old → IsCovered p best new
+drops_keep p best old new drops covered =
+    let nodes : All (IsNodeOf p) (new ++ drops.dropped) = rw drops.from_end at covered.of_nodes in
+    covered_still p best old new (all_left (IsNodeOf p) new drops.dropped nodes)
+    (λ node among under.
+    ⊎_elim
+    (λ (kept : Contains new node). kept)
+    (λ (late : Contains drops.dropped node). absurd (All-contains (λ (n : Subproblem). ¬ IsUnder (ceiling_of best) n.bound) drops.dropped node drops.over late under))
+    (Contains-append_cases new drops.dropped node (subst (λ (ns : List Subproblem). Contains ns node) drops.from_end among)))
+    covered
+
+-- the last of the nodes that are left is one of the project
+pub last_is_node : (p : Problem) (ceiling : Option ℤ) (old rest : List Subproblem) (node : Subproblem) → DropsOver ceiling old (rest ++ node ∷ []) → All (IsNodeOf p) old → IsNodeOf p node
+last_is_node p ceiling old rest node drops known =
+    let nodes : All (IsNodeOf p) ((rest ++ node ∷ []) ++ drops.dropped) = rw drops.from_end at known in
+    All-contains (IsNodeOf p) (rest ++ node ∷ []) node (all_left (IsNodeOf p) (rest ++ node ∷ []) drops.dropped nodes) (Contains-push rest node)
+
+-- one node more was dropped
+pub drop_one : (ceiling : Option ℤ) (old new : List Subproblem) (node : Subproblem) → ¬ IsUnder ceiling node.bound → DropsOver ceiling old (new ++ node ∷ []) → DropsOver ceiling old new
+drop_one ceiling old new node over drops = record {
+  dropped = node ∷ drops.dropped;
+  from_end = drops.from_end ∙ append_assoc new (node ∷ []) drops.dropped;
+  over = All-cons (λ (n : Subproblem). ¬ IsUnder ceiling n.bound) node drops.dropped over drops.over;
+}
+
+pub drop_none : (ceiling : Option ℤ) (nodes : List Subproblem) → DropsOver ceiling nodes nodes
+drop_none ceiling nodes = record { dropped = []; from_end = simp append-nil; over = All-nil (λ (n : Subproblem). ¬ IsUnder ceiling n.bound) }
+
+below_from_shorter : (best : Option ScheduleOf) (ceiling : Option ℤ) (s : List ℤ) → ceiling ≡ ceiling_of best → IsShorterThan best s → IsBelow ceiling s
+below_from_shorter None ceiling s e shorter = rw e tt
+below_from_shorter (Some best) ceiling s e shorter = rw e shorter
+
+-- a take keeps the search sound
+pub take_keeps : (old new : SearchState) → IsTake old new → IsSoundState old → IsSoundState new
+take_keeps old new take sound =
+    let reached : IsCovered old.project old.best (take.rest ++ take.node ∷ []) = drops_keep old.project old.best old.nodes (take.rest ++ take.node ∷ []) take.pops.0 sound in
+    let node : IsNodeOf old.project take.node = All-contains (IsNodeOf old.project) (take.rest ++ take.node ∷ []) take.node reached.of_nodes (Contains-push take.rest take.node) in
+    rw (take.project, take.nodes)
+    (expansion_keeps old.project old.best new.best take.rest take.node take.report take.is_report.fair
+    (ap (λ (n : Subproblem). n.project) take.expanded.node_is ∙ node.project)
+    (ap (λ (n : Subproblem). n.pairs) (sym take.expanded.node_is))
+    (λ s shorter. below_from_shorter old.best take.report.ceiling s take.expanded.ceiling_is shorter)
+    take.best reached)
+
+-- ---- the least bound of the nodes
+
+least_of_one : (bound : ℤ) (node : Subproblem) → bound ≡ node.bound → IsLeastBound (node ∷ []) bound
+least_of_one bound node same =
+    let first = here node [] in
+    record {
+      of_some = (first.0, node, first.1, first.2, sym same);
+      least = All-cons (λ (n : Subproblem). bound ≤ℤ n.bound) node [] (omega (arith, ints)) (All-nil (λ (n : Subproblem). bound ≤ℤ n.bound));
+    }
+
+-- the lesser of the least so far and the bound of one node more
+least_of_more : (least lower : ℤ) (nodes : List Subproblem) (node : Subproblem) → IsLeastBound nodes least → lower ≤ℤ least → lower ≤ℤ node.bound → (lower ≡ node.bound) ⊎ (lower ≡ least) → IsLeastBound (nodes ++ node ∷ []) lower
+least_of_more least lower nodes node so_far than_least than_bound from = record {
+  of_some =
+      ⊎_elim
+      (λ (new : lower ≡ node.bound). Any-push (λ (n : Subproblem). n.bound ≡ lower) nodes node (sym new))
+      (λ (old : lower ≡ least). any_left (λ (n : Subproblem). n.bound ≡ lower) nodes (node ∷ []) (rw old so_far.of_some))
+      from;
+  least = All-push (λ (n : Subproblem). lower ≤ℤ n.bound) nodes node (All-weaker (λ (n : Subproblem). least ≤ℤ n.bound) (λ (n : Subproblem). lower ≤ℤ n.bound) (λ n h. omega (arith, ints)) nodes so_far.least) than_bound;
+}
+
+-- what is known of the least bound so far
+abbrev pub LeastSoFar : List Subproblem → Option ℤ → Type 0
+LeastSoFar nodes None = nodes ≡ []
+LeastSoFar nodes (Some least) = IsLeastBound nodes least
+
+pub lower_all : (least : Option ℤ) (lower bound : ℤ) (nodes : List Subproblem) (node : Subproblem) → LeastSoFar nodes least → IfSome least (λ least. lower ≤ℤ least) → lower ≤ℤ bound → (lower ≡ bound) ⊎ (Some lower ≡ least) → bound ≡ node.bound → IsLeastBound (nodes ++ node ∷ []) lower
+lower_all None lower bound nodes node none than_least than_bound from same =
+    rw none
+    (⊎_elim
+    (λ (new : lower ≡ bound). least_of_one lower node (new ∙ same))
+    (λ (old : Some lower ≡ None). absurd cc)
+    from)
+lower_all (Some least) lower bound nodes node so_far than_least than_bound from same =
+    least_of_more least lower nodes node so_far than_least (rw same at than_bound)
+    (⊎_elim
+    (λ (new : lower ≡ bound). inl (new ∙ same))
+    (λ (old : Some lower ≡ Some least). inr cc)
+    from)

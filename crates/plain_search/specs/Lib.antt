@@ -1,0 +1,4 @@
+pub mod States
+pub mod Takes
+pub mod Verdicts
+pub mod SearchView

@@ -1,0 +1,70 @@
+-- How a search in one thread goes: take by take, depth first.
+use Rattle.std.specs.Prelude.{◌≡◌, ℕ, suc, ℤ, Option, None, Some, List, [], ◌∷◌, ◌++◌}
+use Rattle.std.specs.List.{All}
+use Rattle.network.specs.Problem.{Problem}
+use Rattle.branching.specs.Subproblem.{Subproblem}
+use Rattle.branching.specs.Ceiling.{IsUnder}
+use Rattle.branching.specs.Fair.{Expansion, IsReport, IsReportOn}
+use Rattle.branching.specs.Covered.{IsRootOf, IsShorterOf, ceiling_of}
+use Rattle.plain_search.specs.States.{SearchState, IsLeastBound}
+use Rattle.plain_search.specs.declared.outcome.Outcome.{Outcome}
+use Rattle.plain_search.specs.declared.outcome.Outcome.TheVariants.{Optimal, NoSchedule, Stopped}
+
+-- nodes were dropped from the end alone, and none of them is below the ceiling
+pub record DropsOver (ceiling : Option ℤ) (old new : List Subproblem) : Type 0 where
+  pub dropped : List Subproblem
+  pub from_end : old ≡ new ++ dropped
+  pub over : All (λ node. ¬ IsUnder ceiling node.bound) dropped
+
+-- the last node below the ceiling goes off a stack, and so do those after it; where none is below it, all go
+abbrev pub PopsUnder : Option ℤ → List Subproblem → Option Subproblem → List Subproblem → Type 0
+PopsUnder ceiling old None new = DropsOver ceiling old [] × (new ≡ [])
+PopsUnder ceiling old (Some node) new = DropsOver ceiling old (new ++ node ∷ []) × IsUnder ceiling node.bound
+
+-- one take: the last node below the best is expanded under the best, and its kids are put in its place
+pub record IsTake (old new : SearchState) : Type 0 where
+  pub rest : List Subproblem
+  pub node : Subproblem
+  pub report : Expansion
+  pub pops : PopsUnder (ceiling_of old.best) old.nodes (Some node) rest
+  pub expanded : IsReportOn node (ceiling_of old.best) report
+  pub is_report : IsReport report
+  pub project : new.project ≡ old.project
+  pub best : IsShorterOf old.best report.found new.best
+  pub nodes : new.nodes ≡ rest ++ report.kids
+
+-- so many takes lead from one state to another
+pub data Takes : ℕ → SearchState → SearchState → Type 0 where
+  no_take : (state : SearchState) → Takes 0 state state
+  one_more : (n : ℕ) (first between last : SearchState) → Takes n first between → IsTake between last →
+      Takes (suc n) first last
+
+-- a search begins with no schedule, and with the root alone
+abbrev pub first_state : Problem → Subproblem → SearchState
+first_state p root = record { project = p; best = None; nodes = root ∷ [] }
+
+-- what is left where a search is stopped: nodes of which some are below the best, with this least bound
+pub record IsLeft (state : SearchState) (bound : ℤ) : Type 0 where
+  pub least : IsLeastBound state.nodes bound
+  pub under : IsUnder (ceiling_of state.best) bound
+
+-- the outcome that a state of a search has
+abbrev pub IsOutcomeOf : SearchState → Outcome → Type 0
+IsOutcomeOf state (Optimal best) =
+    (state.best ≡ Some best) × All (λ node. ¬ IsUnder (ceiling_of state.best) node.bound) state.nodes
+IsOutcomeOf state NoSchedule = (state.best ≡ None) × (state.nodes ≡ [])
+IsOutcomeOf state (Stopped best bound) = (state.best ≡ best) × IsLeft state bound
+
+-- a search of the project that was stopped after so many takes
+pub record IsStoppedAfter (p : Problem) (takes : ℕ) (outcome : Outcome) : Type 0 where
+  pub root : Subproblem
+  pub is_root : IsRootOf p root
+  pub last : SearchState
+  pub taken : Takes takes (first_state p root) last
+  pub outcome_of : IsOutcomeOf last outcome
+
+-- a search is stopped only after so many takes
+abbrev pub StopsOnlyAfter : Problem → ℕ → Outcome → Type 0
+StopsOnlyAfter p takes (Optimal best) = Unit {0}
+StopsOnlyAfter p takes NoSchedule = Unit {0}
+StopsOnlyAfter p takes (Stopped best bound) = IsStoppedAfter p takes (Stopped best bound)

@@ -1,0 +1,223 @@
+ghost use Rattle.std.specs.Prelude.{◌≡◌, ◌<◌, ◌≤◌, ◌≤ℤ◌, ◌⊎◌, [], Some, map, option_map, IfOk, IfSome, IfNone, IsTrue, ◌↔◌};
+ghost use Rattle.std.specs.Arc.{arc_value};
+ghost use Rattle.branching.specs.Covered.{IsRootOf, IsShorterOf, ceiling_of};
+ghost use Rattle.plain_search.specs.States.{IsLeastBound};
+ghost use Rattle.plain_search.specs.Takes.{PopsUnder, IsTake, IsOutcomeOf, StopsOnlyAfter, first_state};
+ghost use Rattle.plain_search.specs.Verdicts.{IsTrueOf, StopsBelowBest};
+
+use crate::outcome::Outcome;
+use branching::{Lean, Searcher, is_over, root_and_matrix};
+use longest_path::PathFault;
+use network::{Project, Schedule};
+use std::alloc::{AllocError, Global};
+use std::marker::Model;
+use std::sync::Arc;
+
+/// The most nodes that a search may be asked to take.
+pub const MAX_TAKES: u64 = 1_000_000_000;
+
+/// The best schedule so far, and a stack of nodes that stand for every shorter one.
+#[derive(Drop)]
+struct Search {
+    project: Arc<Project>,
+    best: Option<Schedule>,
+    stack: Vec<Arc<Lean>>,
+}
+
+impl Model for Search {
+    ghost use Rattle.plain_search.specs.States.{SearchState, IsSoundState};
+
+    ghost Value = { SearchState };
+
+    ghost use Rattle.plain_search.specs.SearchView.{state_of};
+
+    ghost view = { state_of };
+
+    ghost invariant = { λ s. IsSoundState (state_of s) };
+}
+
+/// The ceiling that the best schedule gives: its makespan, in periods.
+pub fn makespan_of(best: &Option<Schedule>) -> Option<i64>
+    ensures { result ≡ ceiling_of best.now }
+{
+    match best {
+        Some(best) => Some(best.makespan()),
+        None => None,
+    }
+}
+
+/// The shorter of the best and what was found, the best where both are as long.
+fn shorter_of(best: Option<Schedule>, found: Option<Schedule>) -> Option<Schedule>
+    ensures { IsShorterOf best found result }
+{
+    match (best, found) {
+        (Some(best), Some(found)) => {
+            if found.makespan() < best.makespan() {
+                Some(found)
+            } else {
+                Some(best)
+            }
+        }
+        (None, found) => found,
+        (best, None) => best,
+    }
+}
+
+/// Takes the last node below the ceiling off the stack, and drops those after it.
+fn next_node(ceiling: Option<i64>, stack: &mut Vec<Arc<Lean>>) -> Option<Arc<Lean>>
+    ensures { PopsUnder ceiling
+        (map arc_value stack.old.items) (option_map arc_value result) (map arc_value stack.new.items) }
+{
+    while let Some(node) = stack.pop() {
+        if !is_over(node.bound(), ceiling) {
+            return Some(node);
+        }
+    }
+    None
+}
+
+/// The lesser of two bounds, the second where the first isn't there.
+fn lesser(least: Option<i64>, bound: i64) -> i64
+    ensures least { IfSome least (λ least. result ≤ℤ least) }
+    ensures bound { result ≤ℤ bound }
+    ensures from { (result ≡ bound) ⊎ (Some result ≡ least) }
+{
+    match least {
+        Some(least) => least.min(bound),
+        None => bound,
+    }
+}
+
+/// The least bound of the nodes, if there are some.
+fn least_bound(nodes: &[Arc<Lean>]) -> Option<i64>
+    ensures none { IfNone result (map arc_value nodes.now ≡ []) }
+    ensures least { IfSome result (IsLeastBound (map arc_value nodes.now)) }
+{
+    let mut least = None;
+    for node in nodes {
+        least = Some(lesser(least, node.bound()));
+    }
+    least
+}
+
+impl Search {
+    ghost use Rattle.plain_search.specs.States.{SearchState};
+
+    /// A search at its start: no schedule was found, and the root stands for all.
+    fn new(alloc: Global, project: Arc<Project>, root: Arc<Lean>) -> Result<Search, AllocError>
+        requires { IsRootOf (arc_value project) (arc_value root) }
+        ensures { IfOk result (λ search. search ≡ first_state (arc_value project) (arc_value root)) }
+    {
+        let mut stack = Vec::new(alloc);
+        stack.push(root)?;
+        Ok(Search {
+            project,
+            best: None,
+            stack,
+        })
+    }
+
+    /// Whether no node is left.
+    fn is_done(&self) -> bool
+        ensures { IsTrue result ↔ (self.now.nodes ≡ []) }
+    {
+        self.stack.is_empty()
+    }
+
+    /// Takes the last node below the best and puts its kids in its place, so that the last of them is
+    /// taken first. Where no node is below the best, none is left.
+    fn take(self, alloc: Global, searcher: &mut Searcher) -> Result<Search, AllocError>
+        requires { searcher.old.project ≡ self.project }
+        ensures searcher { searcher.new.project ≡ searcher.old.project }
+        ensures project { IfOk result (λ search. search.project ≡ self.project) }
+        ensures taken { IfOk result (λ search. (search.nodes ≡ []) ⊎ IsTake self search) }
+    {
+        let Search {
+            project,
+            best,
+            mut stack,
+        } = self;
+        let ceiling = makespan_of(&best);
+        let node = match next_node(ceiling, &mut stack) {
+            Some(node) => node,
+            None => {
+                return Ok(Search {
+                    project,
+                    best,
+                    stack,
+                });
+            }
+        };
+        let report = searcher.expand(alloc, &node, ceiling)?;
+        let (found, mut made) = report.into_parts();
+        stack.append(&mut made.kids)?;
+        searcher.reuse(made);
+        let best = shorter_of(best, found);
+        Ok(Search {
+            project,
+            best,
+            stack,
+        })
+    }
+
+    /// What is known at the end: where a node below the best is left, the least bound, else the verdict.
+    fn into_outcome(self) -> Outcome
+        ensures outcome { IsOutcomeOf self result }
+        ensures true_of { IsTrueOf self.project result }
+    {
+        let Search {
+            project: _,
+            best,
+            stack,
+        } = self;
+        let least = least_bound(stack.as_slice());
+        match (best, least) {
+            (Some(best), Some(bound)) => {
+                if bound < best.makespan() {
+                    Outcome::Stopped {
+                        best: Some(best),
+                        bound,
+                    }
+                } else {
+                    Outcome::Optimal(best)
+                }
+            }
+            (None, Some(bound)) => Outcome::Stopped { best: None, bound },
+            (Some(best), None) => Outcome::Optimal(best),
+            (None, None) => Outcome::NoSchedule,
+        }
+    }
+}
+
+/// Searches for a shortest schedule in one thread, depth first, with at most `takes` nodes expanded.
+///
+/// The last node on a stack is taken; one whose bound is at least the best makespan is dropped and isn't
+/// counted; any other is expanded under the best makespan, and its kids are put on in order.
+/// [`Outcome::Stopped`] comes only where the takes are used up while a node with a bound below the best
+/// makespan is left; its bound is the least on the stack, and below the best makespan.
+pub fn search_alone(
+    alloc: Global,
+    project: &Arc<Project>,
+    takes: u64,
+) -> Result<Outcome, AllocError>
+    requires some { 0 < takes }
+    requires limit { takes ≤ MAX_TAKES }
+    ensures true_of { IfOk result (IsTrueOf (arc_value project.now)) }
+    ensures below_best { IfOk result StopsBelowBest }
+    ensures takes { IfOk result (StopsOnlyAfter (arc_value project.now) takes) }
+{
+    let (root, matrix) = match root_and_matrix(alloc, Arc::try_clone(project)?) {
+        Ok(opened) => opened,
+        Err(PathFault::PositiveCycle { .. }) => return Ok(Outcome::NoSchedule),
+        Err(PathFault::Memory) => return Err(AllocError),
+    };
+    let mut searcher = Searcher::new(alloc, Arc::try_clone(project)?, matrix)?;
+    let mut search = Search::new(alloc, Arc::try_clone(project)?, root)?;
+    for _ in 0..takes {
+        if search.is_done() {
+            break;
+        }
+        search = search.take(alloc, &mut searcher)?;
+    }
+    Ok(search.into_outcome())
+}
