@@ -21,10 +21,20 @@ import time
 from refusing import Refusing, library, one, two
 
 ROOT = pathlib.Path(__file__).resolve().parent.parent
-WANT = rb"(?:AllocError|AllocFailed \{ \.\. \}|Memory|Thread|RecordFault \{ line: 0, why: Memory \}|\"no memory\")"
+# What a run is told to have answered where memory ran out: its status and fault and nothing on either output, or, since an
+# output of the tests is memory too, a beginning of what it writes.
+TOLD = (
+    rb"(?:\d+ moments, \d+ calls, gave up \d+: )?"
+    rb"1 (?:(?:out of memory|cannot start a thread)\|\|\||cannot write\|(?:.*\n)*.*\|)"
+)
+WANT = (
+    rb"(?:AllocError|AllocFailed \{ \.\. \}|Memory|Thread|RecordFault \{ line: 0, why: Memory \}|\"no memory\"|\""
+    + TOLD + rb"\")"
+)
 ENDS = re.compile(
     rb"error: " + WANT + rb"\nthe test failed: its result gives status 1\n"
     rb"|assertion `left == right` failed(?:.*\n)*  left: (?:Some\(|Err\()?" + WANT + rb"\)?\n right: (?:.*\n)*"
+    rb"|(?:.*\n)*.* -> (?:.*\n)*.*: " + TOLD + rb"\n"
 )
 # The crates whose tests hold so.
 CRATES = ("words", "best_word", "node_tests", "run_tests")
