@@ -38,11 +38,15 @@ fn search_within<R: Clock + Eprint>(
             _ => break,
         };
         let left = asked.conflicts.saturating_sub(search.counts().conflicts);
-        if left == 0 || search.advance(alloc, left.min(CONFLICTS_A_LOOK))? != State::Going {
+        if left == 0 {
             break;
         }
+        let state = search.advance(alloc, left.min(CONFLICTS_A_LOOK))?;
         if asked.progress {
             told.tell(rt, search, seconds);
+        }
+        if state != State::Going {
+            break;
         }
     }
     Ok(())
