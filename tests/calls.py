@@ -112,4 +112,8 @@ PROOFS = [
     Call(VERIFY, WORKED_RECORD.replace(b"use 0", b"use 1"), WORKED, exit=4, fault=b"psprove: line 6: add\n"),
     Call(VERIFY, WORKED_RECORD[:-1], WORKED, exit=2, fault=b"psprove: line 8: form\n"),
     Call(VERIFY, WORKED_RECORD, WORKED[:20], exit=2, fault=b"psprove: ends before word 10\n"),
+    Call(SOLVE, DEAD, out=b"no schedule\n"),
+    Call(SOLVE, CYCLE, out=b"no schedule\n"),
+    Call(START, TWO, STARTS, out=b"optimal 7\n" + STARTS),
+    Call(START, TWO, OVERLOADED, exit=4, out=b"overload 2 0 2\n"),
 ]

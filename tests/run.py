@@ -6,9 +6,9 @@ prints each failure, and last 'N passed, M failed'.
 
 A case is one line of JSON: name, args, exit, and, where they matter: stdin, stdin_pieces (standard input is then a
 pipe that holds at most so many bytes at once), files (made before the run), stdout, stdout_first (its first line
-alone), stderr, stdout_to (a device in place of a pipe), stdout_limit (standard output is then a file that may have so
+alone), stdout_json (members of the line of JSON that it is), stderr, stdout_to (a device in place of a pipe), stdout_limit (standard output is then a file that may have so
 many bytes), out_files (files as they are after the run), verified (a project, and the name of a file with a record, which
-`verify` and tests/verify.py must accept with the verdict that was printed). What is wanted of stdout, stderr and files
+`verify` and the checker in Python of its kind must accept with the verdict that was printed). What is wanted of stdout, stderr and files
 is a text or an input. A word that is not UTF-8 has its bytes as
 Python's os.fsdecode gives them. An input is one of
   {"text": TEXT}            this text
@@ -67,10 +67,15 @@ def make(path, spec, inputs):
 
 
 def verified(program, folder, inputs, project, record, out):
-    """What is wrong with a record: psmax and a checker that shares nothing with it must accept it with the verdict."""
+    """What is wrong with a record: the program and a checker that shares nothing with it must accept it with the verdict, which
+    for a search that was stopped is its bound."""
+    if not (folder / record).exists():
+        return [f"no {record}"]
     (folder / ".project").write_bytes(content(project, inputs))
-    want = b"proved " + out.split(b"\n")[0] + b"\n"
-    checker = [sys.executable, TOP / "tests" / "verify.py", ".project", record]
+    answer = out.split(b"\n")[0]
+    want = b"proved " + answer[max(answer.find(b"bound "), 0):] + b"\n"
+    is_of_lemmas = (folder / record).read_bytes().startswith(b"record 2\n")
+    checker = [sys.executable, TOP / "tests" / ("verify_lemmas.py" if is_of_lemmas else "verify.py"), ".project", record]
     bad = []
     for words in ([program, "verify", "--project", ".project"], checker):
         with open(folder / record, "rb") as shown:
@@ -78,6 +83,15 @@ def verified(program, folder, inputs, project, record, out):
         if (ran.returncode, ran.stdout, ran.stderr) != (0, want, b""):
             bad.append(f"{words[1]}: exit {ran.returncode}, {ran.stdout!r}, {ran.stderr!r}, not {want!r}")
     return bad
+
+
+def other_members(out, members):
+    """The members that a line of JSON has otherwise; all of them where it is no line of JSON."""
+    try:
+        found = json.loads(out)
+    except ValueError:
+        return members
+    return {name: found.get(name, "missing") for name, value in members.items() if found.get(name, "missing") != value}
 
 
 def failures(program, case, inputs):
@@ -128,6 +142,8 @@ def failures(program, case, inputs):
             bad.append(f"{name} {got[:300]!r}, not {wanted(case[name], inputs)[:300]!r}")
     if "stdout_first" in case and (out or b"").split(b"\n")[0] != case["stdout_first"].encode():
         bad.append(f"first line {(out or b'')[:100]!r}, not {case['stdout_first']!r}")
+    if other := other_members(out or b"", case.get("stdout_json", {})):
+        bad.append(f"members {other}, not {case['stdout_json']}")
     return bad
 
 

@@ -37,7 +37,7 @@ impl From<AllocError> for WordsFault {
 }
 
 /// The fault of an error of `clap`.
-fn words_fault(alloc: Global, error: &clap::Error) -> WordsFault {
+pub fn words_fault(alloc: Global, error: &clap::Error) -> WordsFault {
     if error.kind() == ErrorKind::OutOfMemory {
         return WordsFault::Memory;
     }
@@ -152,7 +152,7 @@ fn earliest_call() -> Call
 }
 
 /// The name of a file that an option gives.
-fn file_name(
+pub fn file_name(
     alloc: Global,
     matches: &ArgMatches<'_>,
     option: &str,

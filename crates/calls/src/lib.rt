@@ -7,5 +7,5 @@ mod files;
 mod help;
 
 pub use call::Call;
-pub use command_line::{WordsFault, call_of};
+pub use command_line::{WordsFault, call_of, file_name, words_fault};
 pub use files::{FileFault, Opened, Opener};

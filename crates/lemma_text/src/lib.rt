@@ -26,5 +26,5 @@ pub use laws::{shape_law, text_law};
 pub use line::Line;
 pub use read::first_line;
 pub use reason::Reason;
-pub use record::LemmaRecord;
+pub use record::{LemmaRecord, text_of};
 pub use record_text::MAX_RECORD_BYTES;

@@ -20,6 +20,16 @@ fn is_too_long(text: &[u8]) -> bool
     text.len() > MAX_RECORD_BYTES
 }
 
+/// The text of a claim and of lines, whatever they are. It is read as a record exactly where they are one's.
+pub fn text_of(alloc: Global, claim: &Claim, lines: &[Line]) -> Result<Vec<u8>, AllocError>
+    ensures { IfOk result (λ text. text.items ≡ record_text (record { claim = claim.now; lines = lines.now })) }
+{
+    let mut out = String::new(alloc);
+    put_claim(&mut out, claim)?;
+    put_lines(&mut out, lines)?;
+    Ok(out.into_bytes())
+}
+
 /// A claim, and the lines that show it, in order. Numbers are below 10,000,000,000, a makespan and a bound
 /// at most 1,000,000, weights of arcs within 1,000,000, and starts and windows at least 0.
 #[derive(Drop, Debug)]
@@ -69,10 +79,7 @@ impl LemmaRecord {
         ensures text { IfOk result (λ text. text.items ≡ record_text self.now) }
         ensures record { OnOk result (IsRecord self.now) }
     {
-        let mut out = String::new(alloc);
-        put_claim(&mut out, &self.claim)?;
-        put_lines(&mut out, &self.lines)?;
-        Ok(out.into_bytes())
+        text_of(alloc, &self.claim, &self.lines)
     }
 
     /// The record of this text, or its first fault.

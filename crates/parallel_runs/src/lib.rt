@@ -3,8 +3,6 @@
 
 mod parallel;
 mod recorded;
-mod reply;
 mod workers;
 
 pub use parallel::run_parallel;
-pub use reply::{Reply, write_reply};

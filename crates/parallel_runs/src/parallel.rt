@@ -8,10 +8,9 @@ ghost use Rattle.runs.specs.Jobs.{IsJob, has_workers};
 ghost use Rattle.runs.specs.Outcome.{IfTextsTold};
 ghost use Rattle.runs.specs.Runs.{HasRead, IsCutShort, IsNoReply, IsReply, IsWritten, RecordsWhereAsked, Replies};
 
-use crate::reply::{Reply, write_reply};
 use crate::workers::{searched, searched_from};
 use answers::Fault;
-use runs::{Ended, Input, Job, Output, read_project, read_text, run};
+use runs::{Ended, Input, Job, Output, Reply, read_project, read_text, run, write_reply};
 use std::alloc::Global;
 use std::sync::{Arc, Wait};
 use std::thread::Threads;

@@ -14,10 +14,9 @@ ghost use Rattle.runs.specs.Runs.{RecordsWhereAsked};
 ghost use Rattle.parallel_runs.specs.Searches.{IsSearchReply};
 
 use crate::recorded::outcome_record;
-use crate::reply::Reply;
 use answers::{Answer, Fault, solved_answer, violations_text};
 use network::{Project, Schedule};
-use runs::{Job, ONE_WORKER};
+use runs::{Job, ONE_WORKER, Reply};
 use schedule_check::{AcceptFault, accept, read_starts};
 use std::alloc::Global;
 use std::sync::{Arc, Wait};

@@ -1,40 +1,38 @@
 //! The words of the command line, by `clap`.
 
 use crate::help;
-use clap::error::ErrorKind;
-use clap::{Arg, ArgAction, ArgMatches, Command};
+use calls::{Call, WordsFault, file_name, words_fault};
+use clap::{Arg, ArgAction, ArgMatches, Command, value_parser};
+use solve_runs::Asked;
 use std::alloc::{AllocError, Global};
 
-/// Why words name no project. The texts are those of `clap`, and are printed as they are.
+/// For how many seconds is searched where nothing else is said.
+const DEFAULT_SECONDS: &str = "60";
+
+/// How many MiB lemmas and their proofs take at most where nothing else is said.
+const DEFAULT_MEMORY: &str = "512";
+
+/// How many MiB can be asked for at most: 1 TiB.
+const MAX_MEMORY: i64 = 1_048_576;
+
+/// How many conflicts, and how many seconds, can be asked for at most.
+const MAX_LIMIT: i64 = 1_000_000_000;
+
+/// What words ask for.
 #[derive(Debug, Drop)]
-pub(crate) enum WordsFault {
-    /// The help that was asked for: to standard output, exit status 0.
-    Help { text: String },
-    /// Words that the program doesn't know: to standard error, exit status 2.
-    Bad { text: String },
-    /// Memory ran out.
-    Memory,
+pub(crate) enum Work {
+    /// To check a record against the project in a file.
+    Verify { project: String },
+    /// To search, with the files of starts and of the record.
+    Solve { asked: Asked, call: Call },
 }
 
-impl From<AllocError> for WordsFault {
-    fn from(_error: AllocError) -> WordsFault {
-        WordsFault::Memory
-    }
-}
-
-/// The fault of an error of `clap`.
-fn words_fault(alloc: Global, error: &clap::Error) -> WordsFault {
-    if error.kind() == ErrorKind::OutOfMemory {
-        return WordsFault::Memory;
-    }
-    let Ok(text) = error.to_string(alloc) else {
-        return WordsFault::Memory;
-    };
-    if error.exit_code() == 0 {
-        WordsFault::Help { text }
-    } else {
-        WordsFault::Bad { text }
-    }
+/// A subcommand with its help: what it does in a line, and what stands below its options.
+fn subcommand<'a>(alloc: Global, name: &'a str, about: &'a str, more: &'a str) -> Command<'a> {
+    Command::new(alloc, name)
+        .before_help(help::HEADING)
+        .about(about)
+        .after_help(more)
 }
 
 fn verify_command<'a>(alloc: Global) -> Result<Command<'a>, AllocError> {
@@ -44,43 +42,129 @@ fn verify_command<'a>(alloc: Global) -> Result<Command<'a>, AllocError> {
         .help("The project that the record is checked against")
         .action(ArgAction::Set)
         .required(true);
-    Command::new(alloc, "verify")
-        .before_help(help::HEADING)
-        .about("Check a record of lemmas against a project in a file")
-        .after_help(help::VERIFY)
-        .arg(project)
+    let about = "Check a record of lemmas against a project in a file";
+    subcommand(alloc, "verify", about, help::VERIFY).arg(project)
+}
+
+/// An option that takes a number from this one on.
+fn number<'a>(
+    alloc: Global,
+    name: &'a str,
+    value: &'a str,
+    about: &'a str,
+    least: i64,
+    most: i64,
+) -> Arg<'a> {
+    Arg::new(alloc, name)
+        .long(name)
+        .value_name(value)
+        .help(about)
+        .value_parser(value_parser!(u64).range(least..=most))
+}
+
+/// The options that say how far a search goes.
+fn with_limits<'a>(alloc: Global, command: Command<'a>) -> Result<Command<'a>, AllocError> {
+    let seconds = "Stop once S seconds have passed";
+    let conflicts = "Stop once there were N conflicts";
+    let seed = "Break ties from K";
+    let memory = "Lemmas and their proofs may take so many MiB";
+    command
+        .arg(number(alloc, "seconds", "S", seconds, 0, MAX_LIMIT).default_value(DEFAULT_SECONDS))?
+        .arg(number(alloc, "conflicts", "N", conflicts, 0, MAX_LIMIT))?
+        .arg(number(alloc, "seed", "K", seed, 0, MAX_LIMIT))?
+        .arg(number(alloc, "memory", "MIB", memory, 1, MAX_MEMORY).default_value(DEFAULT_MEMORY))
+}
+
+/// An option that is there or not.
+fn flag<'a>(alloc: Global, name: &'a str, about: &'a str) -> Arg<'a> {
+    Arg::new(alloc, name)
+        .long(name)
+        .help(about)
+        .action(ArgAction::SetTrue)
+}
+
+fn solve_command<'a>(alloc: Global) -> Result<Command<'a>, AllocError> {
+    let start = Arg::new(alloc, "start")
+        .long("start")
+        .value_name("FILE")
+        .help("Starts of a feasible schedule, from which is searched")
+        .action(ArgAction::Set);
+    let record = Arg::new(alloc, "record")
+        .long("record")
+        .value_name("FILE")
+        .help("Write the record that proves the answer into FILE")
+        .action(ArgAction::Set);
+    let about = "Print a shortest schedule of a project, proved by a record of lemmas";
+    with_limits(alloc, subcommand(alloc, "solve", about, help::SOLVE))?
+        .arg(start)?
+        .arg(flag(alloc, "json", "Print the answer as one line of JSON"))?
+        .arg(record)?
+        .arg(flag(
+            alloc,
+            "progress",
+            "Tell each shorter schedule and greater bound on standard error",
+        ))
 }
 
 fn command<'a>(alloc: Global) -> Result<Command<'a>, AllocError> {
     Command::new(alloc, "psprove")
         .bin_name("psprove")?
         .before_help(help::HEADING)
-        .about("Check what is claimed of projects with resources and time lags")
+        .about("Solve projects with resources and time lags, and check what is claimed of them")
         .after_help(help::PROGRAM)
         .subcommand_required(true)
         .disable_help_subcommand(true)
+        .subcommand(solve_command(alloc)?)?
         .subcommand(verify_command(alloc)?)
 }
 
-/// The name of the project's file; none where `clap` lets words pass that name none, which it doesn't.
-fn found_name(alloc: Global, matches: &ArgMatches<'_>) -> Result<Option<String>, AllocError> {
-    let Some(("verify", found)) = matches.subcommand() else {
-        return Ok(None);
-    };
-    match found.get_str("project") {
-        Some(name) => Ok(Some(String::from_str(alloc, name)?)),
-        None => Ok(None),
+/// What is asked of a search.
+fn asked(matches: &ArgMatches<'_>, start: bool) -> Asked {
+    let memory = matches.get_one::<u64>("memory").unwrap_or(1);
+    Asked {
+        conflicts: matches.get_one::<u64>("conflicts").unwrap_or(u64::MAX),
+        seconds: matches.get_one::<u64>("seconds").unwrap_or(0),
+        seed: matches.get_one::<u64>("seed").unwrap_or(0),
+        memory: memory.saturating_mul(1 << 20),
+        start,
+        json: matches.get_flag("json"),
+        progress: matches.get_flag("progress"),
     }
 }
 
-/// The name of the file with the project that words name; the first word is the program's name.
-pub(crate) fn project_file(alloc: Global, words: &[String]) -> Result<String, WordsFault> {
+/// A search, and the files that it uses.
+fn solve_work(alloc: Global, matches: &ArgMatches<'_>) -> Result<Work, AllocError> {
+    let second = file_name(alloc, matches, "start")?;
+    let record_file = file_name(alloc, matches, "record")?;
+    let asked = asked(matches, second.is_some());
+    let call = Call {
+        job: asked.job(),
+        second,
+        record_file,
+    };
+    Ok(Work::Solve { asked, call })
+}
+
+/// What the matches ask for; none where `clap` lets words pass that ask for nothing, which it doesn't.
+fn found_work(alloc: Global, matches: &ArgMatches<'_>) -> Result<Option<Work>, AllocError> {
+    match matches.subcommand() {
+        Some(("solve", found)) => Ok(Some(solve_work(alloc, found)?)),
+        Some(("verify", found)) => match file_name(alloc, found, "project")? {
+            Some(project) => Ok(Some(Work::Verify { project })),
+            None => Ok(None),
+        },
+        _ => Ok(None),
+    }
+}
+
+/// What words ask for; the first word is the program's name.
+pub(crate) fn work_of(alloc: Global, words: &[String]) -> Result<Work, WordsFault> {
     let matches = match command(alloc)?.try_get_matches_from(words) {
         Ok(matches) => matches,
         Err(error) => return Err(words_fault(alloc, &error)),
     };
-    match found_name(alloc, &matches)? {
-        Some(name) => Ok(name),
+    match found_work(alloc, &matches)? {
+        Some(work) => Ok(work),
         None => Err(WordsFault::Bad {
             text: String::new(alloc),
         }),

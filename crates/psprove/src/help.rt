@@ -4,11 +4,38 @@
 pub(crate) const HEADING: &str = "psprove 0.9.0";
 
 pub(crate) const PROGRAM: &str = "\
-Projects and records are texts; docs/FORMAT.md and docs/LEMMAS.md describe them, and
-'man psprove' in short. 'psprove verify --help' says what it reads and answers, with an example.
+Projects, starts, answers and records are texts; docs/FORMAT.md and docs/LEMMAS.md describe them,
+and 'man psprove' in short. 'psprove COMMAND --help' says what the command reads and answers, with
+an example.
 
-Exit status: 0 proved; 1 memory ran out, or a device failed; 2 the words or a text are not what
-they should be; 4 the record is not right. A fault is one line on standard error.";
+Exit status: 0 proved; 1 memory ran out, a device failed, or the search was refused; 2 the words
+or a text are not what they should be; 3 the search was stopped at a limit; 4 the starts are no
+feasible schedule, or the record is not right. A fault is one line on standard error.";
+
+pub(crate) const SOLVE: &str = "\
+Reads a project on standard input, and searches by lemmas that it learns. Nothing that the search
+says is trusted: its record is checked as 'psprove verify' checks one, and the answer is what the
+record proves. It is one of these, the first and the third with a line 'activity start' for each
+activity:
+  optimal C           no feasible schedule is shorter
+  no schedule         there is none at all
+  feasible C bound B  stopped at a limit: no feasible schedule is shorter than B
+  unknown bound B     the same, and no schedule was found
+The clock is looked at every 64 conflicts. The same seed and --conflicts give the same answer and
+record where neither the clock nor the memory stops the search first.
+Reads the starts of --start after the project. Where they are no feasible schedule it answers as
+'psmax check' does, and searches nothing. With --record the file is made empty first, and once
+the answer is printed, also that of a stopped search, its record is written into it.
+Where the record is not right, 'search refused' is told on standard error, and nothing is answered.
+
+Examples:
+  psprove solve < project.sch
+  psprove solve --seconds 600 --progress --record project.rec < project.sch
+  psprove solve --conflicts 10000 --json --start plan.starts < project.sch
+
+Exit status: 0 answered; 1 memory ran out, a device failed, or the search was refused; 2 the
+words or a text are not what they should be; 3 the search was stopped at a limit; 4 the starts of
+--start are no feasible schedule.";
 
 pub(crate) const VERIFY: &str = "\
 Reads the project in FILE, and then a record of lemmas on standard input: what is claimed of the

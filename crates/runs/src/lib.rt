@@ -9,6 +9,7 @@ mod job;
 mod jobs;
 mod one_thread;
 mod reading;
+mod reply;
 mod standard;
 mod verified;
 
@@ -16,4 +17,5 @@ pub use device::{Failed, Input, Output, write_all};
 pub use job::{Job, ONE_WORKER};
 pub use one_thread::{Ended, run, write_answer};
 pub use reading::{read_project, read_text};
+pub use reply::{Reply, write_reply};
 pub use standard::{Reader, Writer};

@@ -6,8 +6,9 @@ ghost use Rattle.answers.specs.Faults.{exit_of};
 ghost use Rattle.runs.specs.Devices.{span, OneFailedWhere};
 ghost use Rattle.runs.specs.Runs.{IsCutShort, IsWritten};
 
+use crate::device::{Failed, Output, write_all};
+use crate::one_thread::{Ended, write_answer};
 use answers::{Answer, Fault};
-use runs::{Ended, Failed, Output, write_all, write_answer};
 use std::marker::Model;
 
 /// An answer, and the text of the record that is written after it, if any.

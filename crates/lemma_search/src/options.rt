@@ -1,0 +1,62 @@
+/// Which parts of the search are on.
+#[derive(Clone, Copy, PartialEq, Eq, Debug)]
+pub struct Parts {
+    /// Restarts after so many conflicts as Luby, Sinclair and Zuckerman (1993) say.
+    pub restarts: bool,
+    /// Literals of a lemma as weak as its proof needs.
+    pub lifting: bool,
+    /// The time table: loads, and windows that they narrow.
+    pub time_table: bool,
+    /// Loads between a head and a latest end.
+    pub energy: bool,
+    /// Cliques of rivals over all resources.
+    pub cliques: bool,
+    /// Decisions on starts, besides those on pairs of rivals.
+    pub starts: bool,
+    /// Dives for the bound: a deadline below the best schedule as the first decision.
+    pub dives: bool,
+}
+
+impl Parts {
+    /// All parts.
+    pub const ALL: Parts = Parts {
+        restarts: true,
+        lifting: true,
+        time_table: true,
+        energy: true,
+        cliques: true,
+        starts: true,
+        dives: true,
+    };
+}
+
+/// How a search goes. The same options give the same record.
+#[derive(Clone, Copy, PartialEq, Eq, Debug)]
+pub struct Options {
+    /// From where ties are broken.
+    pub seed: u64,
+    /// How many bytes lemmas and their proofs may take.
+    pub memory: u64,
+    pub parts: Parts,
+}
+
+/// Where a search stands.
+#[derive(Clone, Copy, PartialEq, Eq, Debug)]
+pub enum State {
+    /// It can go on.
+    Going,
+    /// No schedule shorter than the best is left.
+    Ended,
+    /// It stopped at a limit, and doesn't go on: lemmas and proofs that can't be given up fill the memory, or a makespan is
+    /// above 1,000,000.
+    Full,
+}
+
+/// How much was done.
+#[derive(Clone, Copy, PartialEq, Eq, Debug)]
+pub struct Counts {
+    pub conflicts: u64,
+    pub decisions: u64,
+    /// Lemmas that were learnt.
+    pub lemmas: u64,
+}

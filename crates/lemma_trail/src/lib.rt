@@ -1,0 +1,17 @@
+//! What a search for schedules supposes and what follows: a trail of literals with their causes, and lemmas that are watched.
+#![tactic(auto)]
+
+mod cause;
+mod explain;
+mod lemmas;
+mod rules;
+mod stop;
+mod trail;
+mod watching;
+
+pub use cause::{Cause, Part};
+pub use lag_history::{History, Literal, NO_LITERAL, is_there};
+pub use lemmas::{Lemma, Lemmas};
+pub use rules::Rules;
+pub use stop::{Conflict, Stop};
+pub use trail::Trail;

@@ -1,0 +1,2 @@
+mod ShownLaws
+mod StoryLaws

@@ -1,0 +1,58 @@
+use Rattle.std.proofs.Common.{◌≡◌, ◌∙◌, true, false, Some, refl, rules}
+use Rattle.std.proofs.lemmas.Result.{MatchResult-weaker}
+use Rattle.network.specs.Schedule.{IsFeasible}
+use Rattle.runs.proofs.CallLaws.{refuses_start}
+use Rattle.runs.proofs.TextLaws.{starts_whole, starts_fault_whole}
+use Rattle.solve_runs.specs.Asking.{job_of}
+use Rattle.solve_runs.specs.Story.{IsStartedReply}
+use Rattle.solve_runs.proofs.StoryLaws.{err_both, replies_alone, replies_started}
+use Rattle.solve_runs.proofs.running.solve_reply.Goals as goal
+
+pub returns-then-not-start-clause-said : goal.returns-then-not-start-clause-said
+returns-then-not-start-clause-said g c =
+    let of_project = c.in_ok-project.ensures.project in
+    let off : c.args.asked.start ≡ false = search rules in
+    MatchResult-weaker c.solved.result c.solved.ensures.shown
+    (λ reply shown text more told told_more. replies_alone c.args.asked.start c.args.asked.json reply text more off (record {
+      project = c.in_ok-project.project;
+      is_project = of_project.0;
+      spells = of_project.1 text told;
+      has = rw c.in_ok-project-2.ensures.ok at shown;
+    }))
+    (λ _ _. tt)
+
+pub returns-clause-said : goal.returns-clause-said
+returns-clause-said g c =
+    let p = c.in_ok-project.project in
+    let of_project = c.in_ok-project.ensures.project in
+    let on : c.args.asked.start ≡ true = search rules in
+    MatchResult-weaker c.solved_from.result c.solved_from.ensures.said
+    (λ reply found text more told told_more. replies_started c.args.asked.start c.args.asked.json reply text more on (record {
+      project = p;
+      is_project = of_project.0;
+      spells = of_project.1 text told;
+      has = starts_whole p c.deref.result.now more (IsStartedReply p c.args.asked.json reply) (c.deref.ensures.value ∙ c.in_ok-starts.ensures.told more (told_more on)) found;
+    }))
+    (λ _ _. tt)
+
+pub returns-clause-refused : goal.returns-clause-refused
+returns-clause-refused g c =
+    let p = c.in_ok-project.project in
+    let of_project = c.in_ok-project.ensures.project in
+    let on : c.args.asked.start ≡ true = search rules in
+    MatchResult-weaker c.solved_from.result (err_both c.solved_from.result _ _ c.solved_from.ensures.refused c.solved_from.ensures.searched) (λ _ _. tt)
+    (λ fault found. record {
+      of_text = λ other text more told told_more. refuses_start (job_of c.args.asked) (Some 1) 1 c.args.asked.start c.args.asked.json true text more fault refl on (record {
+        project = p;
+        is_project = of_project.0;
+        spells = of_project.1 text told;
+        has = starts_fault_whole p c.deref.result.now more fault (c.deref.ensures.value ∙ c.in_ok-starts.ensures.told more (told_more on)) (found.0 other);
+      });
+      of_workers = λ _. refl;
+      of_search = λ bad text more told told_more. record {
+        project = p;
+        is_project = of_project.0;
+        spells = of_project.1 text told;
+        has = λ _. starts_whole p c.deref.result.now more (IsFeasible p) (c.deref.ensures.value ∙ c.in_ok-starts.ensures.told more (told_more on)) (found.1 bad);
+      };
+    })

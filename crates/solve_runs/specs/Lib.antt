@@ -1,0 +1,4 @@
+pub mod Asking
+pub mod Figures
+pub mod Shown
+pub mod Story

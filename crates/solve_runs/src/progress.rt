@@ -1,0 +1,59 @@
+//! The clock of a search, and what is told while it goes on.
+
+use lemma_search::Search;
+use std::time::{Clock, Instant};
+
+/// A clock that was looked at when the search began.
+#[derive(Clone, Copy)]
+pub(crate) struct Watch {
+    since: Option<Instant>,
+}
+
+impl Watch {
+    /// A watch that begins now.
+    pub(crate) fn start<R: Clock>(clock: &R) -> Watch {
+        Watch {
+            since: Instant::now(clock).ok(),
+        }
+    }
+
+    /// The whole seconds since then; none where the clock can't be read.
+    pub(crate) fn seconds<R: Clock>(&self, clock: &R) -> Option<u64> {
+        let spent = self.since?.elapsed(clock).ok()?;
+        Some(spent.as_secs())
+    }
+}
+
+/// What was told last, in periods.
+#[derive(Clone, Copy)]
+pub(crate) struct Told {
+    makespan: Option<i64>,
+    bound: i64,
+}
+
+impl Told {
+    /// Nothing was told yet.
+    pub(crate) const NOTHING: Told = Told {
+        makespan: None,
+        bound: 0,
+    };
+
+    /// Tells the makespan of a shorter schedule, and a greater bound, on standard error.
+    pub(crate) fn tell<R: Eprint>(&mut self, rt: &R, search: &Search, seconds: u64) {
+        let makespan = match search.best() {
+            Some(starts) => starts.last().copied(),
+            None => None,
+        };
+        if makespan != self.makespan {
+            self.makespan = makespan;
+            if let Some(makespan) = makespan {
+                let _ = eprintln!(rt; "{seconds} s: schedule {makespan}");
+            }
+        }
+        let bound = search.bound();
+        if bound > self.bound {
+            self.bound = bound;
+            let _ = eprintln!(rt; "{seconds} s: bound {bound}");
+        }
+    }
+}

@@ -1,0 +1,96 @@
+//! A run over devices.
+
+ghost use Rattle.std.specs.Prelude.{◌≡◌, ◌≢◌, ◌<◌, Some, Err, IfOk, IfErr, IfSome, IfNone};
+ghost use Rattle.answers.specs.declared.fault.Fault.TheVariants as faults;
+ghost use Rattle.answers.specs.Faults.{exit_of};
+ghost use Rattle.runs.specs.Devices.{span, OneFailedWhere};
+ghost use Rattle.runs.specs.Outcome.{IfTextsTold};
+ghost use Rattle.runs.specs.Runs.{HasRead, IsCutShort, IsNoReply, IsWritten};
+ghost use Rattle.solve_runs.specs.Asking.{job_of};
+ghost use Rattle.solve_runs.specs.Story.{IsReply, Replies};
+
+use crate::asked::Asked;
+use crate::solving::{solved, solved_from};
+use answers::Fault;
+use runs::{Ended, Input, Output, Reply, read_project, read_text, write_reply};
+use std::alloc::Global;
+use std::sync::Arc;
+use std::time::Clock;
+use words::MAX_TEXT_BYTES;
+
+/// The reply of a search to what its inputs hold. The project is read and judged before the starts, and these before anything is
+/// searched.
+fn solve_reply<I: Input, S: Input, R: Clock + Eprint>(
+    rt: &R,
+    alloc: Global,
+    asked: Asked,
+    input: &mut I,
+    second: &mut S,
+) -> Result<Reply, Fault>
+    requires input { I.failed input.old < u64.MAX }
+    requires second { S.failed second.old < u64.MAX }
+    ensures said { IfOk result
+        (λ reply. IfTextsTold (job_of asked) (I.left input.old) (S.left second.old) (IsReply asked reply)) }
+    ensures refused { IfErr result (IsNoReply (job_of asked) (I.left input.old) (S.left second.old)) }
+    ensures unwritten { IfErr result (λ fault. fault ≢ faults.WriteFailed) }
+    ensures read { HasRead (job_of asked) (result ≡ Err faults.ReadFailed)
+        (span I.left I.failed input.old input.new) (span S.left S.failed second.old second.new) }
+{
+    let project = read_project(alloc, input)?;
+    if !asked.start {
+        let project = Arc::new(alloc, project)?;
+        return solved(rt, alloc, asked, &project, None);
+    }
+    let starts = read_text(alloc, MAX_TEXT_BYTES, second)?;
+    solved_from(rt, alloc, asked, project, &starts)
+}
+
+/// Searches for a shortest schedule of the project on the first input, from the starts on the second where that is asked for.
+/// Writes the answer and then the record that shows it, and nothing else. A second input that isn't asked for, and an output for
+/// a record that nobody wants, is handed one that is missing. After a failure a device isn't called again.
+///
+/// The answer is `optimal C` with starts or `no schedule`, exit status 0, or where a limit stopped the search `feasible C bound B`
+/// with starts or `unknown bound B`, exit status 3; of starts that are no feasible schedule all that they violate, exit status 4,
+/// and no record. What the search says goes to the checker first, as the text of its record: [`Fault::Refused`] comes where that
+/// isn't right, or the best schedule of a stopped search is none.
+pub fn solve<I: Input, S: Input, O: Output, D: Output, R: Clock + Eprint>(
+    rt: &R,
+    alloc: Global,
+    asked: Asked,
+    input: &mut I,
+    second: &mut S,
+    out: &mut O,
+    record_out: &mut D,
+) -> Ended
+    requires input { I.failed input.old < u64.MAX }
+    requires second { S.failed second.old < u64.MAX }
+    requires out { O.failed out.old < u64.MAX }
+    requires record_out { D.failed record_out.old < u64.MAX }
+
+    // No fault: the reply was written whole, the answer and the record that shows it.
+    ensures replied { IfNone result.fault (Replies asked (I.left input.old) (S.left second.old)
+        (λ reply. (result.exit ≡ reply.exit) × IsWritten reply
+        (span O.held O.failed out.old out.new) (span D.held D.failed record_out.old record_out.new))) }
+
+    // An output failed: the outputs hold a beginning of the reply.
+    ensures cut_short { result.fault ≡ Some faults.WriteFailed → Replies asked (I.left input.old) (S.left second.old)
+        (λ reply. IsCutShort reply
+        (span O.held O.failed out.old out.new) (span D.held D.failed record_out.old record_out.new)) }
+
+    // Any other fault: there is no reply, and nothing was written.
+    ensures refused { IfSome result.fault (IsNoReply (job_of asked) (I.left input.old) (S.left second.old)) }
+    ensures silent { IfSome result.fault (λ fault. fault ≢ faults.WriteFailed
+        → (out.new ≡ out.old) × (record_out.new ≡ record_out.old)) }
+    ensures status { IfSome result.fault (λ fault. result.exit ≡ exit_of fault) }
+
+    // What was read, and the failures of devices.
+    ensures read { HasRead (job_of asked) (result.fault ≡ Some faults.ReadFailed)
+        (span I.left I.failed input.old input.new) (span S.left S.failed second.old second.new) }
+    ensures failed { OneFailedWhere (result.fault ≡ Some faults.WriteFailed)
+        (span O.held O.failed out.old out.new) (span D.held D.failed record_out.old record_out.new) }
+{
+    match solve_reply(rt, alloc, asked, input, second) {
+        Ok(reply) => write_reply(out, record_out, &reply),
+        Err(fault) => Ended::with(fault),
+    }
+}

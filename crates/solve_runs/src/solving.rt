@@ -1,0 +1,88 @@
+//! What a search replies of a project, and of starts that are handed in.
+
+ghost use Rattle.std.specs.Prelude.{◌≡◌, ◌≢◌, IfOk, IfErr};
+ghost use Rattle.std.specs.Arc.{arc_value};
+ghost use Rattle.network.specs.Schedule.{IsFeasible};
+ghost use Rattle.answers.specs.Faults.{exit_of, IsNoDeviceFault, IsSearchFault};
+ghost use Rattle.runs.specs.Outcome.{GivesStarts, IsFirstStartsFault};
+ghost use Rattle.solve_runs.specs.Story.{IsShownReply, IsStartedReply};
+
+use crate::asked::Asked;
+use crate::figures::{Figures, answer_of};
+use crate::judging::{outcome_of, record_of};
+use crate::searching::{Found, searched};
+use answers::{Answer, Fault, violations_text};
+use network::{Project, Schedule};
+use runs::Reply;
+use schedule_check::{AcceptFault, accept, read_starts};
+use std::alloc::Global;
+use std::sync::Arc;
+use std::time::Clock;
+
+/// What the record of a search shows of the project.
+fn shown_reply(
+    alloc: Global,
+    project: &Arc<Project>,
+    json: bool,
+    found: Found,
+) -> Result<Reply, Fault>
+    ensures shown { IfOk result (IsShownReply (arc_value project.now) json) }
+    ensures status { IfErr result (λ fault. exit_of fault ≡ 1) }
+    ensures cause { IfErr result IsNoDeviceFault }
+{
+    let shown = record_of(alloc, &found.text)?;
+    let outcome = outcome_of(alloc, project, &shown, found.best.as_deref())?;
+    let figures = Figures {
+        conflicts: found.counts.conflicts,
+        decisions: found.counts.decisions,
+        lines: shown.lines().len(),
+        record_bytes: found.text.len(),
+        seconds: found.seconds,
+    };
+    let answer = answer_of(alloc, &outcome, json, &figures)?;
+    Ok(Reply::new(answer, Some(found.text)))
+}
+
+/// What a search has found of a project, from a schedule of it that may be handed in, as its record shows.
+pub(crate) fn solved<R: Clock + Eprint>(
+    rt: &R,
+    alloc: Global,
+    asked: Asked,
+    project: &Arc<Project>,
+    start: Option<&Schedule>,
+) -> Result<Reply, Fault>
+    ensures shown { IfOk result (IsShownReply (arc_value project.now) asked.json) }
+    ensures status { IfErr result (λ fault. exit_of fault ≡ 1) }
+    ensures cause { IfErr result IsNoDeviceFault }
+{
+    let Some(found) = searched(rt, alloc, asked, project, start)? else {
+        return Err(Fault::Refused);
+    };
+    shown_reply(alloc, project, asked.json, found)
+}
+
+/// What the starts in a text violate, where they are no feasible schedule of the project, and then nothing is searched; else
+/// what a search has found from them.
+pub(crate) fn solved_from<R: Clock + Eprint>(
+    rt: &R,
+    alloc: Global,
+    asked: Asked,
+    project: Project,
+    text: &[u8],
+) -> Result<Reply, Fault>
+    ensures said { IfOk result (λ reply. GivesStarts project text.now (IsStartedReply project asked.json reply)) }
+    ensures refused { IfErr result (λ fault. exit_of fault ≢ 1 → IsFirstStartsFault project text.now fault) }
+    ensures cause { IfErr result IsNoDeviceFault }
+    ensures searched { IfErr result (λ fault. IsSearchFault fault → GivesStarts project text.now (IsFeasible project)) }
+{
+    let starts = read_starts(alloc, text, project.activity_count())?;
+    let project = Arc::new(alloc, project)?;
+    match accept(alloc, Arc::try_clone(&project)?, starts) {
+        Ok(start) => solved(rt, alloc, asked, &project, Some(&start)),
+        Err(AcceptFault::Violated(found)) => {
+            let answer = Answer::of(violations_text(alloc, &found)?, 4);
+            Ok(Reply::new(answer, None))
+        }
+        Err(AcceptFault::Memory) => Err(Fault::Memory),
+    }
+}

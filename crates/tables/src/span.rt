@@ -1,0 +1,23 @@
+/// Places of a table: from `from` on, up to `to`.
+#[derive(Clone, Copy, PartialEq, Eq, Debug)]
+pub struct Span {
+    pub from: u32,
+    pub to: u32,
+}
+
+/// No places.
+pub const NO_SPAN: Span = Span { from: 0, to: 0 };
+
+impl Span {
+    /// How many places there are.
+    #[inline(always)]
+    pub fn count(self) -> u32 {
+        self.to.saturating_sub(self.from)
+    }
+}
+
+/// The low 32 bits of a place.
+#[inline(always)]
+pub fn narrow(place: usize) -> u32 {
+    (place & 0xffff_ffff) as u32
+}

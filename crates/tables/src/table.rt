@@ -1,0 +1,128 @@
+use crate::span::{Span, narrow};
+use std::alloc::{AllocError, Global};
+
+/// A list that answers at each place: past its end it holds `rest`, and takes nothing.
+#[derive(Drop)]
+pub struct Table<T: Copy> {
+    items: Vec<T>,
+    rest: T,
+}
+
+impl<T: Copy> Table<T> {
+    /// An empty table.
+    pub fn new(alloc: Global, rest: T) -> Table<T> {
+        Table {
+            items: Vec::new(alloc),
+            rest,
+        }
+    }
+
+    /// So many places, all of one value.
+    pub fn filled(alloc: Global, count: usize, value: T, rest: T) -> Result<Table<T>, AllocError> {
+        let mut items = Vec::with_capacity(alloc, count)?;
+        for _ in 0..count {
+            items.push(value)?;
+        }
+        Ok(Table { items, rest })
+    }
+
+    /// How many places there are.
+    #[inline(always)]
+    pub fn len(&self) -> usize {
+        self.items.len()
+    }
+
+    /// How many places there are, in 32 bits.
+    #[inline(always)]
+    pub fn count(&self) -> u32 {
+        narrow(self.items.len())
+    }
+
+    /// Whether there are none.
+    #[inline(always)]
+    pub fn is_empty(&self) -> bool {
+        self.items.is_empty()
+    }
+
+    /// What a place holds.
+    #[inline(always)]
+    pub fn get(&self, at: usize) -> T {
+        if at < self.items.len() {
+            self.items[at]
+        } else {
+            self.rest
+        }
+    }
+
+    /// Writes a place.
+    #[inline(always)]
+    pub fn set(&mut self, at: usize, value: T) {
+        if at < self.items.len() {
+            self.items[at] = value;
+        }
+    }
+
+    /// One more place.
+    #[inline(always)]
+    pub fn push(&mut self, value: T) -> Result<(), AllocError> {
+        self.items.push(value)?;
+        Ok(())
+    }
+
+    /// Takes the last place away.
+    #[inline(always)]
+    pub fn pop(&mut self) -> Option<T> {
+        self.items.pop()
+    }
+
+    /// Leaves the first places.
+    pub fn truncate(&mut self, count: usize) {
+        self.items.truncate(count);
+    }
+
+    /// No place is left.
+    pub fn clear(&mut self) {
+        self.items.clear();
+    }
+
+    /// The places from `from` up to `to`, none where these are no places.
+    #[inline(always)]
+    pub fn range(&self, from: usize, to: usize) -> &[T] {
+        let items = self.items.as_slice();
+        if from <= to && to <= items.len() {
+            &items[from..to]
+        } else {
+            &items[..0]
+        }
+    }
+
+    /// The places of a span.
+    #[inline(always)]
+    pub fn part(&self, span: Span) -> &[T] {
+        self.range(span.from as usize, span.to as usize)
+    }
+
+    /// All places.
+    pub fn all(&self) -> &[T] {
+        self.items.as_slice()
+    }
+
+    /// All places, to be changed.
+    pub fn all_mut(&mut self) -> &mut [T] {
+        self.items.as_mut_slice()
+    }
+
+    /// All places hold one value.
+    pub fn fill(&mut self, value: T) {
+        for place in self.items.iter_mut() {
+            *place = value;
+        }
+    }
+
+    /// Two places change what they hold.
+    pub fn swap(&mut self, x: usize, y: usize) {
+        let (first, second) = (self.get(x), self.get(y));
+        self.set(x, second);
+        self.set(y, first);
+    }
+}
