@@ -1,0 +1,123 @@
+use crate::agenda::{Agenda, find_alone, follow_head, follow_latest, follow_rivals};
+use crate::cliques::Cliques;
+use crate::energy::Energy;
+use crate::time_table::TimeTable;
+use lemma_trail::{Lemmas, Rules, Stop, Trail};
+use std::alloc::{AllocError, Global};
+
+/// Which propagators are on, besides rivals and lemmas.
+#[derive(Clone, Copy, PartialEq, Eq, Debug)]
+pub struct Chosen {
+    pub time_table: bool,
+    pub energy: bool,
+    pub cliques: bool,
+}
+
+/// All propagators.
+#[derive(Drop)]
+pub struct Propagators {
+    agenda: Agenda,
+    time_table: TimeTable,
+    energy: Energy,
+    cliques: Cliques,
+    chosen: Chosen,
+}
+
+impl Propagators {
+    /// The propagators of a project.
+    pub fn new(alloc: Global, rules: &Rules, chosen: Chosen) -> Result<Propagators, AllocError> {
+        Ok(Propagators {
+            agenda: Agenda::new(alloc),
+            time_table: TimeTable::new(alloc, rules)?,
+            energy: Energy::new(alloc, rules)?,
+            cliques: Cliques::new(alloc, rules)?,
+            chosen,
+        })
+    }
+
+    /// The trail went back to where all was looked at.
+    pub fn skip(&mut self, trail: &Trail) {
+        self.agenda.skip(trail);
+    }
+
+    /// The window of an activity moved.
+    fn touch(&mut self, rules: &Rules, activity: u32) {
+        self.time_table.users.touch(rules, activity);
+        self.energy.users.touch(rules, activity);
+        self.cliques.touch(activity);
+    }
+
+    /// What follows for rivals from heads that moved.
+    fn follow_heads(&mut self, rules: &Rules, trail: &mut Trail) -> Result<(), Stop> {
+        for _ in 0..u64::MAX {
+            let Some(b) = self.agenda.next_head() else {
+                break;
+            };
+            self.touch(rules, b);
+            follow_head(rules, trail, b)?;
+        }
+        Ok(())
+    }
+
+    /// What follows for rivals from latest starts that moved.
+    fn follow_ends(&mut self, rules: &Rules, trail: &mut Trail) -> Result<(), Stop> {
+        for _ in 0..u64::MAX {
+            let Some(a) = self.agenda.next_latest() else {
+                break;
+            };
+            self.touch(rules, a);
+            follow_latest(rules, trail, a)?;
+        }
+        Ok(())
+    }
+
+    /// What follows from windows, until something changes.
+    fn follow_windows(&mut self, rules: &Rules, trail: &mut Trail) -> Result<(), Stop> {
+        self.follow_heads(rules, trail)?;
+        self.follow_ends(rules, trail)?;
+        if !self.agenda.is_behind(trail) && self.chosen.time_table {
+            self.time_table.propagate(rules, trail)?;
+        }
+        if !self.agenda.is_behind(trail) && self.chosen.energy {
+            self.energy.propagate(rules, trail)?;
+        }
+        if !self.agenda.is_behind(trail) && self.chosen.cliques {
+            self.cliques.propagate(rules, trail)?;
+        }
+        Ok(())
+    }
+
+    /// Forces literals until nothing more follows. Windows are looked at once there is a deadline.
+    pub fn propagate(
+        &mut self,
+        rules: &Rules,
+        trail: &mut Trail,
+        lemmas: &mut Lemmas,
+        has_deadline: bool,
+    ) -> Result<(), Stop> {
+        for _ in 0..u64::MAX {
+            self.agenda.follow_changes(rules, trail, lemmas)?;
+            if has_deadline {
+                self.follow_windows(rules, trail)?;
+            } else {
+                self.agenda.skip(trail);
+            }
+            if !self.agenda.is_behind(trail) {
+                break;
+            }
+        }
+        Ok(())
+    }
+
+    /// Looks at all rivals anew, and at activities that need too much alone.
+    pub fn rescan(&mut self, rules: &Rules, trail: &mut Trail) -> Result<(), Stop> {
+        self.time_table.users.touch_all();
+        self.energy.users.touch_all();
+        self.cliques.touch_all();
+        for a in 0..rules.activity_count() {
+            follow_rivals(rules, trail, a)?;
+            find_alone(rules, trail, a)?;
+        }
+        Ok(())
+    }
+}
