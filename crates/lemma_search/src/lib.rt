@@ -1,10 +1,17 @@
 //! The search of psprove: it learns lemmas from conflicts, and shows what it found by a record of lemmas.
 //!
 //! Nothing here needs to be trusted. What a search says is shown by [`Search::into_record`], and whoever asks has that checked.
+//!
+//! It branches over orders of rivals and over starts, in lazy clause generation of Ohrimenko, Stuckey and Codish (2009) as
+//! Schutt, Feydy, Stuckey and Wallace (2013) have it for time lags; but its literals are arcs between any two activities.
 #![tactic(auto)]
 
+mod engine;
+mod learning;
 mod options;
 mod search;
+mod showing;
 
 pub use options::{Counts, Options, Parts, State};
-pub use search::{Search, Shown};
+pub use search::Search;
+pub use showing::Shown;

@@ -35,7 +35,7 @@ impl Parts {
 pub struct Options {
     /// From where ties are broken.
     pub seed: u64,
-    /// How many bytes lemmas and their proofs may take.
+    /// How many bytes lemmas, their proofs and the changes of the matrix may take.
     pub memory: u64,
     pub parts: Parts,
 }
@@ -47,7 +47,7 @@ pub enum State {
     Going,
     /// No schedule shorter than the best is left.
     Ended,
-    /// It stopped at a limit, and doesn't go on: lemmas and proofs that can't be given up fill the memory, or a makespan is
+    /// It stopped at a limit, and doesn't go on: what can't be given up fills the memory, or a makespan is
     /// above 1,000,000.
     Full,
 }

@@ -1,88 +1,112 @@
+use crate::engine::{Engine, Next};
 use crate::options::{Counts, Options, State};
-use lemma_text::{Claim, Line, Reason};
+use crate::showing::{Shown, periods};
+use decisions::MAX_MAKESPAN;
+use longest_path::{PathFault, longest};
 use network::Project;
 use std::alloc::{AllocError, Global};
 
-/// A search for a shortest schedule of a project.
+/// How many decisions a call makes at most, for each conflict that it may meet.
+const DECISIONS_A_CONFLICT: u64 = 16;
+
+/// A search for a shortest schedule of a project. Where the project's arcs close a walk of positive weight there is nothing
+/// to search.
 #[derive(Drop)]
 pub struct Search {
-    best: Vec<i64>,
-    counts: Counts,
-    options: Options,
-}
-
-/// A claim, and the lines of a record that show it.
-#[derive(Drop, Debug)]
-pub struct Shown {
-    pub claim: Claim,
-    pub lines: Vec<Line>,
+    engine: Option<Engine>,
 }
 
 impl Search {
-    /// A search that has done nothing yet.
+    /// A search that has done nothing yet. Some 30 bytes for each two activities are taken at once.
     pub fn new(alloc: Global, project: &Project, options: Options) -> Result<Search, AllocError> {
-        let _ = project.activity_count();
+        let matrix = match longest(alloc, project, &[]) {
+            Ok(matrix) => matrix,
+            Err(PathFault::Memory) => return Err(AllocError),
+            Err(_) => return Ok(Search { engine: None }),
+        };
+        let mut engine = Engine::new(alloc, project, &matrix, options)?;
+        if engine.root_bound() as i64 > MAX_MAKESPAN {
+            engine.state = State::Full;
+        }
         Ok(Search {
-            best: Vec::new(alloc),
-            counts: Counts {
-                conflicts: 0,
-                decisions: 0,
-                lemmas: 0,
-            },
-            options,
+            engine: Some(engine),
         })
     }
 
-    /// Searches until it ends, or for so many conflicts. Where memory runs out, the search can't go on.
+    /// Searches until it ends, or for so many conflicts; for fewer, where few of many decisions meet one. Where memory runs
+    /// out, the search can't go on.
     pub fn advance(&mut self, alloc: Global, conflicts: u64) -> Result<State, AllocError> {
-        self.counts.conflicts = self.counts.conflicts.wrapping_add(conflicts);
-        let _unused: Vec<i64> = Vec::with_capacity(alloc, 1)?;
-        Ok(State::Full)
+        let Some(engine) = &mut self.engine else {
+            return Ok(State::Ended);
+        };
+        let decisions = conflicts.saturating_mul(DECISIONS_A_CONFLICT);
+        if engine.advance(alloc, conflicts, decisions).is_err() {
+            engine.state = State::Full;
+            return Err(AllocError);
+        }
+        Ok(engine.state)
     }
 
-    /// Takes a feasible schedule by its starts in periods, from another search say; one that isn't shorter than the best is
-    /// left.
+    /// Takes a feasible schedule by its starts in periods, from another search say. One that isn't shorter than the best, or
+    /// whose makespan is above 1,000,000, is left; and each, once the search ended.
     pub fn lower_ceiling(
         &mut self,
         alloc: Global,
         starts: &[i64],
         makespan: i64,
     ) -> Result<(), AllocError> {
-        if self.best.is_empty() && makespan >= 0 {
-            self.best = Vec::from_slice(alloc, starts)?;
+        let Some(engine) = &mut self.engine else {
+            return Ok(());
+        };
+        let is_writable = makespan >= 0 && makespan <= MAX_MAKESPAN;
+        if engine.state == State::Ended || !is_writable {
+            return Ok(());
+        }
+        if makespan < engine.incumbent.ceiling as i64 {
+            let starts = Vec::from_slice(alloc, starts)?;
+            engine.incumbent.take(starts, periods(makespan));
+            engine.next = Next::Rescan;
         }
         Ok(())
     }
 
     /// The starts of the shortest schedule known, in periods.
     pub fn best(&self) -> Option<&[i64]> {
-        if self.best.is_empty() {
-            None
-        } else {
-            Some(self.best.as_slice())
+        match &self.engine {
+            Some(engine) if engine.incumbent.is_known() => {
+                Some(engine.incumbent.starts.as_slice())
+            }
+            _ => None,
         }
     }
 
-    /// No feasible schedule is shorter than so many periods.
+    /// No feasible schedule is shorter than so many periods, at most 1,000,000. Where there is no schedule this says
+    /// nothing.
     pub fn bound(&self) -> i64 {
-        0
+        match &self.engine {
+            Some(engine) => engine.bound(),
+            None => 0,
+        }
     }
 
     /// How much was done.
     pub fn counts(&self) -> Counts {
-        self.counts
+        match &self.engine {
+            Some(engine) => engine.counts,
+            None => Counts {
+                conflicts: 0,
+                decisions: 0,
+                lemmas: 0,
+            },
+        }
     }
 
     /// A claim and the lines that show it. After [`State::Ended`] the best schedule is a shortest one, or there is none; else
-    /// no schedule is shorter than the bound. None where numbers of the record are too large.
+    /// no schedule is shorter than the bound. None where a number is larger than a record may have.
     pub fn into_record(self, alloc: Global) -> Result<Option<Shown>, AllocError> {
-        let mut lines = Vec::new(alloc);
-        lines.push(Line::End {
-            reason: Reason::Dead,
-        })?;
-        Ok(Some(Shown {
-            claim: Claim::Bound { bound: 0 },
-            lines,
-        }))
+        match self.engine {
+            Some(mut engine) => engine.show(alloc),
+            None => Ok(Some(Shown::dead(alloc)?)),
+        }
     }
 }

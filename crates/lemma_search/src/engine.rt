@@ -1,0 +1,351 @@
+use crate::learning::Learner;
+use crate::options::{Counts, Options, State};
+use decisions::{Brancher, Choice, Incumbent, MAX_MAKESPAN, Starts};
+use lemma_proofs::Proofs;
+use lemma_trail::{Cause, Conflict, History, Lemmas, Literal, Rules, Stop, Trail};
+use longest_path::Matrix;
+use network::Project;
+use propagators::{Chosen, Propagators};
+use std::alloc::{AllocError, Global};
+use tables::Table;
+
+/// How many conflicts the first restarts are apart.
+const LUBY_UNIT: u64 = 100;
+
+/// How many lemmas are watched at most, at first.
+const FIRST_LEMMAS: u32 = 5_000;
+
+/// After how many conflicts dives begin: they raise bounds, and slow proofs down.
+const FIRST_DIVE: u64 = 10_000;
+
+/// What the search does next.
+#[derive(Clone, Copy)]
+pub(crate) enum Next {
+    /// It looks at all rivals anew, at the root: another schedule is the best.
+    Rescan,
+    /// It learns from a conflict.
+    Learn(Conflict),
+    /// It propagates and decides.
+    Decide,
+}
+
+/// When the search begins anew at the root, and how many lemmas it keeps.
+#[derive(Clone, Copy)]
+struct Pace {
+    restarts: u64,
+    since_restart: u64,
+    lemmas: u32,
+}
+
+/// The state of a search.
+#[derive(Drop)]
+pub(crate) struct Engine {
+    pub(crate) rules: Rules,
+    pub(crate) trail: Trail,
+    pub(crate) lemmas: Lemmas,
+    pub(crate) proofs: Proofs,
+    propagators: Propagators,
+    learner: Learner,
+    brancher: Brancher,
+    pub(crate) incumbent: Incumbent,
+    pub(crate) next: Next,
+    pub(crate) counts: Counts,
+    pub(crate) state: State,
+    /// The proof that no schedule is below the ceiling.
+    pub(crate) last_proof: Option<u32>,
+    pace: Pace,
+    options: Options,
+}
+
+/// The numbers 1 1 2 1 1 2 4 .. of Luby, Sinclair and Zuckerman (1993).
+fn luby(place: u64) -> u64 {
+    let mut i = place;
+    for _ in 0..64 {
+        let mut power = 1u64;
+        for _ in 0..63 {
+            if power > i {
+                break;
+            }
+            power = power.wrapping_mul(2);
+        }
+        if i.wrapping_add(1) == power {
+            return power / 2;
+        }
+        i = i.wrapping_sub((power / 2).wrapping_sub(1));
+    }
+    1
+}
+
+impl Engine {
+    pub(crate) fn new(
+        alloc: Global,
+        project: &Project,
+        matrix: &Matrix,
+        options: Options,
+    ) -> Result<Engine, AllocError> {
+        let rules = Rules::new(alloc, project)?;
+        let history = History::new(alloc, matrix, options.parts.lifting)?;
+        let count = history.activity_count();
+        let chosen = Chosen {
+            time_table: options.parts.time_table,
+            energy: options.parts.energy,
+            cliques: options.parts.cliques,
+        };
+        let propagators = Propagators::new(alloc, &rules, chosen)?;
+        Ok(Engine {
+            rules,
+            trail: Trail::new(alloc, history),
+            lemmas: Lemmas::new(alloc, count)?,
+            proofs: Proofs::new(alloc),
+            propagators,
+            learner: Learner::new(alloc),
+            brancher: Brancher::new(alloc, count, options.seed)?,
+            incumbent: Incumbent::new(alloc),
+            next: Next::Rescan,
+            counts: Counts {
+                conflicts: 0,
+                decisions: 0,
+                lemmas: 0,
+            },
+            state: State::Going,
+            last_proof: None,
+            pace: Pace {
+                restarts: 0,
+                since_restart: 0,
+                lemmas: FIRST_LEMMAS,
+            },
+            options,
+        })
+    }
+
+    /// What is proved of the makespan at the root, in periods.
+    pub(crate) fn root_bound(&self) -> i32 {
+        let (_steps, changes) = self.trail.root();
+        self.trail.history.value_at(0, self.rules.end(), changes)
+    }
+
+    /// Goes back to a level, where all was looked at.
+    pub(crate) fn go_back(&mut self, level: u32) {
+        self.trail.go_back(level);
+        self.propagators.skip(&self.trail);
+    }
+
+    /// Goes back to the root and looks at all anew.
+    fn rescan(&mut self) -> Result<(), Stop> {
+        self.next = Next::Decide;
+        self.go_back(0);
+        if self.incumbent.is_known() {
+            let deadline = Literal::at_most(
+                self.rules.end(),
+                self.incumbent.ceiling.wrapping_sub(1),
+            );
+            self.trail.force(deadline, Cause::Deadline)?;
+        }
+        self.propagators.rescan(&self.rules, &mut self.trail)
+    }
+
+    /// Takes the least schedule as the best one.
+    fn improve(&mut self, alloc: Global) -> Result<(), AllocError> {
+        let makespan = self.trail.history.head(self.rules.end());
+        if makespan as i64 > MAX_MAKESPAN {
+            self.state = State::Full;
+            return Ok(());
+        }
+        let mut starts = Vec::new(alloc);
+        for i in 0..self.rules.activity_count() {
+            starts.push(self.trail.history.head(i) as i64)?;
+        }
+        self.incumbent.take(starts, makespan);
+        self.pace.since_restart = 0;
+        self.next = Next::Rescan;
+        Ok(())
+    }
+
+    /// Goes back to the root where it is time for that.
+    fn restart(&mut self) {
+        let most = luby(self.pace.restarts.wrapping_add(1)).wrapping_mul(LUBY_UNIT);
+        if self.options.parts.restarts
+            && self.pace.since_restart >= most
+            && self.trail.level() > 0
+        {
+            self.pace.since_restart = 0;
+            self.pace.restarts = self.pace.restarts.wrapping_add(1);
+            self.go_back(0);
+        }
+    }
+
+    /// The way starts are branched on, in turn by restarts.
+    fn starts(&self) -> Starts {
+        if !self.options.parts.starts {
+            Starts::Never
+        } else if self.pace.restarts % 2 == 0 {
+            Starts::ByWeight
+        } else {
+            Starts::Last
+        }
+    }
+
+    /// The deadline to try first at the root: that of the least makespan that isn't refuted.
+    fn dive(&self) -> Option<Literal> {
+        let least = self.trail.history.head(self.rules.end());
+        let is_time = self.counts.conflicts >= FIRST_DIVE && self.pace.restarts % 2 == 1;
+        let has_room = least.wrapping_add(1) < self.incumbent.ceiling;
+        if self.options.parts.dives && is_time && has_room && self.trail.level() == 0 {
+            Some(Literal::at_most(self.rules.end(), least))
+        } else {
+            None
+        }
+    }
+
+    /// One decision, after all that follows.
+    fn decide(&mut self, alloc: Global) -> Result<(), Stop> {
+        let has_deadline = self.incumbent.is_known();
+        self.propagators.propagate(&self.rules, &mut self.trail, &mut self.lemmas, has_deadline)?;
+        self.restart();
+        let starts = self.starts();
+        let dive = self.dive();
+        let choice = self.brancher.choose(
+            &self.rules,
+            &mut self.trail,
+            &self.incumbent,
+            starts,
+            dive,
+        )?;
+        match choice {
+            Choice::Try(literal) => {
+                self.counts.decisions = self.counts.decisions.wrapping_add(1);
+                self.trail.decide(literal)?;
+            }
+            Choice::Forced => {}
+            Choice::Feasible => self.improve(alloc)?,
+        }
+        Ok(())
+    }
+
+    /// Keeps the lemma of a conflict with its proof. Gives its number.
+    fn keep_lemma(&mut self, end: Option<Cause>) -> Result<u32, AllocError> {
+        let number = self
+            .proofs
+            .push(&self.trail, self.learner.chain.all(), end)?;
+        let is_watched = self.learner.literals.len() > 1;
+        self.lemmas.push(self.learner.literals.all(), is_watched)?;
+        self.counts.lemmas = self.counts.lemmas.wrapping_add(1);
+        Ok(number)
+    }
+
+    /// Learns from a conflict and goes back.
+    fn learn(&mut self, alloc: Global, conflict: Conflict) -> Result<(), Stop> {
+        self.next = Next::Decide;
+        self.counts.conflicts = self.counts.conflicts.wrapping_add(1);
+        self.pace.since_restart = self.pace.since_restart.wrapping_add(1);
+        let end = self.learner.analyse(
+            &self.rules,
+            &mut self.trail,
+            &mut self.lemmas,
+            &mut self.brancher.weights,
+            conflict,
+        )?;
+        let lemma = self.keep_lemma(end)?;
+        if self.learner.literals.is_empty() {
+            self.last_proof = Some(lemma);
+            self.state = State::Ended;
+            return Ok(());
+        }
+        let back = self.learner.back();
+        self.go_back(back);
+        let first = self.learner.literals.get(0);
+        self.trail.force(first.reverse(), Cause::Use { lemma })?;
+        self.reduce(alloc)?;
+        Ok(())
+    }
+
+    /// Watches fewer lemmas, where there are too many.
+    fn reduce(&mut self, alloc: Global) -> Result<(), AllocError> {
+        if self.lemmas.watched() > self.pace.lemmas {
+            self.lemmas.reduce(alloc)?;
+            self.pace.lemmas = self.pace.lemmas.wrapping_add(self.pace.lemmas / 10);
+        }
+        Ok(())
+    }
+
+    /// How many bytes lemmas and proofs take, and the changes of the matrix, which can't be given up.
+    fn bytes(&self) -> u64 {
+        let changes = (self.trail.history.now() as u64).wrapping_mul(16);
+        self.lemmas
+            .bytes()
+            .wrapping_add(self.proofs.bytes())
+            .wrapping_add(changes)
+    }
+
+    /// Gives up the lemmas that are neither watched nor causes, nor needed by the proofs of those.
+    fn give_up(&mut self, alloc: Global) -> Result<(), AllocError> {
+        let count = self.lemmas.count();
+        let mut is_needed = Table::filled(alloc, count as usize, false, false)?;
+        for lemma in 0..count {
+            is_needed.set(lemma as usize, self.lemmas.lemma(lemma).is_watched);
+        }
+        for step in 0..self.trail.history.step_count() {
+            if let Cause::Use { lemma } = self.trail.cause_of(step) {
+                is_needed.set(lemma as usize, true);
+            }
+        }
+        self.proofs.note_all_uses(&mut is_needed);
+        self.proofs.give_up(&is_needed);
+        self.lemmas.give_up(&is_needed);
+        Ok(())
+    }
+
+    /// Makes room where lemmas and proofs take too much, and stops where that doesn't help.
+    fn make_room(&mut self, alloc: Global) -> Result<(), AllocError> {
+        if self.bytes() <= self.options.memory {
+            return Ok(());
+        }
+        let enough = (self.options.memory / 4).wrapping_mul(3);
+        self.give_up(alloc)?;
+        if self.bytes() > enough {
+            self.lemmas.reduce(alloc)?;
+            self.give_up(alloc)?;
+        }
+        if self.bytes() > enough {
+            self.state = State::Full;
+        }
+        Ok(())
+    }
+
+    /// One step of the search.
+    fn step(&mut self, alloc: Global) -> Result<(), Stop> {
+        match self.next {
+            Next::Rescan => self.rescan(),
+            Next::Learn(conflict) => self.learn(alloc, conflict),
+            Next::Decide => {
+                self.make_room(alloc)?;
+                self.decide(alloc)
+            }
+        }
+    }
+
+    /// Searches until it ends, or for so many conflicts or decisions.
+    pub(crate) fn advance(
+        &mut self,
+        alloc: Global,
+        conflicts: u64,
+        decisions: u64,
+    ) -> Result<(), AllocError> {
+        let last_conflict = self.counts.conflicts.saturating_add(conflicts);
+        let last_decision = self.counts.decisions.saturating_add(decisions);
+        for _ in 0..u64::MAX {
+            if self.state != State::Going
+                || self.counts.conflicts >= last_conflict
+                || self.counts.decisions >= last_decision
+            {
+                break;
+            }
+            match self.step(alloc) {
+                Ok(()) => {}
+                Err(Stop::Conflict(conflict)) => self.next = Next::Learn(conflict),
+                Err(Stop::Memory) => return Err(AllocError),
+            }
+        }
+        Ok(())
+    }
+}

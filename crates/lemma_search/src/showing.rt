@@ -1,0 +1,117 @@
+use crate::engine::Engine;
+use crate::options::State;
+use decisions::MAX_MAKESPAN;
+use lemma_proofs::{blocks_of, lines_of, outline};
+use lemma_text::{Claim, Line, Reason};
+use lemma_trail::Literal;
+use record_text::Starts;
+use std::alloc::{AllocError, Global};
+
+/// A claim, and the lines of a record that show it.
+#[derive(Drop, Debug)]
+pub struct Shown {
+    pub claim: Claim,
+    pub lines: Vec<Line>,
+}
+
+impl Shown {
+    /// There is no schedule, since the arcs of the project close a walk of positive weight.
+    pub(crate) fn dead(alloc: Global) -> Result<Shown, AllocError> {
+        let mut lines = Vec::new(alloc);
+        lines.push(Line::End {
+            reason: Reason::Dead,
+        })?;
+        Ok(Shown {
+            claim: Claim::NoSchedule,
+            lines,
+        })
+    }
+}
+
+/// A makespan or a bound in 32 bits.
+pub(crate) fn periods(x: i64) -> i32 {
+    x.clamp(0, 1_000_000) as i32
+}
+
+impl Engine {
+    /// No feasible schedule is shorter than so many periods. Where the search ended, that is the best makespan.
+    pub(crate) fn bound(&self) -> i64 {
+        if self.state == State::Ended && self.incumbent.is_known() {
+            self.incumbent.ceiling as i64
+        } else {
+            (self.root_bound() as i64).clamp(0, MAX_MAKESPAN)
+        }
+    }
+
+    /// The claim that can be shown.
+    fn claim(&self, alloc: Global) -> Result<Claim, AllocError> {
+        if self.state != State::Ended {
+            let bound = self.bound();
+            Ok(Claim::Bound { bound })
+        } else if self.incumbent.is_known() {
+            Ok(Claim::Optimal {
+                makespan: self.incumbent.ceiling as i64,
+                starts: Starts::new(self.incumbent.copy(alloc)?),
+            })
+        } else {
+            Ok(Claim::NoSchedule)
+        }
+    }
+
+    /// The proof of the claim; of a bound it is that of a walk over the root's steps.
+    fn proof_of_claim(&mut self) -> Result<u32, AllocError> {
+        if let Some(last) = self.last_proof {
+            return Ok(last);
+        }
+        let least = periods(self.bound());
+        let now = self.trail.history.now();
+        self.trail.history.unmark();
+        let end = self.rules.end();
+        self.trail.history.explain(0, end, least, now)?;
+        self.proofs.push(&self.trail, &[], None)
+    }
+
+    /// The lines that show the claim; none where a number is larger than a record may have.
+    fn lines(&mut self, alloc: Global, claim: &Claim) -> Result<Option<Vec<Line>>, AllocError> {
+        self.go_back(0);
+        let last = self.proof_of_claim()?;
+        let events = outline(
+            alloc,
+            &self.rules,
+            &mut self.trail,
+            &self.lemmas,
+            &mut self.proofs,
+            last,
+        )?;
+        let history = &mut self.trail.history;
+        history.go_back(0, 0);
+        let ceiling = match claim {
+            Claim::Optimal { makespan, .. } => Some(periods(*makespan)),
+            Claim::Bound { bound } => Some(periods(*bound)),
+            Claim::NoSchedule => None,
+        };
+        let mut is_dead = false;
+        if let Some(ceiling) = ceiling {
+            let deadline = Literal::at_most(self.rules.end(), ceiling.wrapping_sub(1));
+            is_dead = !history.try_insert(deadline)?;
+        }
+        let blocks = blocks_of(
+            alloc,
+            history,
+            &self.lemmas,
+            &self.proofs,
+            events.all(),
+            is_dead,
+        )?;
+        lines_of(alloc, &self.lemmas, &self.proofs, &blocks)
+    }
+
+    /// The claim that can be shown, and the lines that show it.
+    pub(crate) fn show(&mut self, alloc: Global) -> Result<Option<Shown>, AllocError> {
+        let claim = self.claim(alloc)?;
+        match self.lines(alloc, &claim)? {
+            Some(lines) => Ok(Some(Shown { claim, lines })),
+            None => Ok(None),
+        }
+    }
+}
