@@ -12,10 +12,10 @@ ghost use Rattle.answers.specs.Faults.{exit_of, IsNoDeviceFault};
 ghost use Rattle.solve_runs.specs.Shown.{IsShown};
 
 use answers::Fault;
-use plain_search::Outcome;
 use lemma_check::verify;
 use lemma_text::{Claim, LemmaFault, LemmaRecord, Why};
 use network::{MAX_START, Project, Schedule};
+use plain_search::Outcome;
 use schedule_check::{AcceptFault, accept};
 use std::alloc::Global;
 use std::sync::Arc;
