@@ -1,2 +1,1 @@
-mod ShownLaws
 mod StoryLaws

@@ -1,13 +1,9 @@
--- What is replied with starts, and without.
+-- What is replied with starts.
 use Rattle.std.proofs.Common.{◌≡◌, ℕ, Bool, true, false, List}
 use Rattle.std.specs.Prelude.{Result, Ok, Err, IfErr}
 use Rattle.runs.specs.Outcome.{GivesStarts, SpellsOne}
 use Rattle.runs.specs.Runs.{ReplyOf}
-use Rattle.solve_runs.specs.Story.{IsShownReply, IsStartedReply, ReplyTo}
-
-pub replies_alone : (start json : Bool) (reply : ReplyOf) (text more : List ℕ) → start ≡ false → SpellsOne text (λ p. IsShownReply p json reply) → ReplyTo start json reply text more
-replies_alone false json reply text more off h = h
-replies_alone true json reply text more off h = cc
+use Rattle.solve_runs.specs.Story.{IsStartedReply, ReplyTo}
 
 pub replies_started : (start json : Bool) (reply : ReplyOf) (text more : List ℕ) → start ≡ true → SpellsOne text (λ p. GivesStarts p more (IsStartedReply p json reply)) → ReplyTo start json reply text more
 replies_started true json reply text more on h = h

@@ -1,25 +1,12 @@
-use Rattle.std.proofs.Common.{◌≡◌, ◌∙◌, true, false, Some, refl, rules}
+use Rattle.std.proofs.Common.{◌≡◌, ◌∙◌, true, Some, refl, rules}
 use Rattle.std.proofs.lemmas.Result.{MatchResult-weaker}
 use Rattle.network.specs.Schedule.{IsFeasible}
 use Rattle.runs.proofs.CallLaws.{refuses_start}
 use Rattle.runs.proofs.TextLaws.{starts_whole, starts_fault_whole}
 use Rattle.solve_runs.specs.Asking.{job_of}
 use Rattle.solve_runs.specs.Story.{IsStartedReply}
-use Rattle.solve_runs.proofs.StoryLaws.{err_both, replies_alone, replies_started}
+use Rattle.solve_runs.proofs.StoryLaws.{err_both, replies_started}
 use Rattle.solve_runs.proofs.running.solve_reply.Goals as goal
-
-pub returns-then-not-start-clause-said : goal.returns-then-not-start-clause-said
-returns-then-not-start-clause-said g c =
-    let of_project = c.in_ok-project.ensures.project in
-    let off : c.args.asked.start ≡ false = search rules in
-    MatchResult-weaker c.solved.result c.solved.ensures.shown
-    (λ reply shown text more told told_more. replies_alone c.args.asked.start c.args.asked.json reply text more off (record {
-      project = c.in_ok-project.project;
-      is_project = of_project.0;
-      spells = of_project.1 text told;
-      has = rw c.in_ok-project-2.ensures.ok at shown;
-    }))
-    (λ _ _. tt)
 
 pub returns-clause-said : goal.returns-clause-said
 returns-clause-said g c =
