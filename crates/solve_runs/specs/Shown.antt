@@ -1,5 +1,5 @@
 -- An outcome that a record of lemmas shows.
-use Rattle.std.specs.Prelude.{◌≡◌, ℕ, List, Bool}
+use Rattle.std.specs.Prelude.{◌≡◌}
 use Rattle.network.specs.Problem.{Problem}
 use Rattle.network.specs.Schedule.{makespan}
 use Rattle.plain_search.specs.declared.outcome.Outcome.{Outcome}
