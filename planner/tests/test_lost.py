@@ -136,6 +136,12 @@ class Results(InFolder):
         self.refused(plan("solve", self.file("p.sch", "x"), "--out", self.file("best", STARTS)), 2, "p.sch: word 0")
 
 
+def heed_all() -> None:
+    """Has a child end at each of the signals, also where the tests run under nohup, which ignores one."""
+    for number in ENDS:
+        signal.signal(number, signal.SIG_DFL)
+
+
 class Ends(InFolder):
     """Ctrl-C, a request to end and a terminal that closes end every command alike."""
 
@@ -158,7 +164,8 @@ class Ends(InFolder):
         words = [sys.executable, str(PLAN), "gantt", str(INPUTS / "two-jobs.sch"), str(self.file("starts", STARTS))]
         for sent in ENDS:
             with self.subTest(sent):
-                child = subprocess.Popen(words, stderr=subprocess.PIPE, text=True, env={**os.environ, "PSMAX": str(slow)})
+                child = subprocess.Popen(words, stderr=subprocess.PIPE, text=True, env={**os.environ, "PSMAX": str(slow)},
+                                         preexec_fn=heed_all)
                 while not begun.exists():
                     time.sleep(0.02)
                 begun.unlink()
