@@ -1,8 +1,10 @@
 use crate::learning::Learner;
 use crate::options::{Counts, Options, State};
+use crate::probing::Probe;
+use crate::showing::periods;
 use decisions::{Brancher, Choice, Incumbent, MAX_MAKESPAN, Starts};
 use lemma_proofs::Proofs;
-use lemma_trail::{Cause, Conflict, History, Lemmas, Literal, Rules, Stop, Trail};
+use lemma_trail::{Cause, Conflict, History, Lemmas, Literal, Rules, Stop, Trail, is_there};
 use longest_path::Matrix;
 use network::Project;
 use propagators::{Chosen, Propagators};
@@ -14,6 +16,9 @@ const LUBY_UNIT: u64 = 100;
 
 /// How many lemmas are watched at most, at first.
 const FIRST_LEMMAS: u32 = 5_000;
+
+/// How often watched lemmas are halved at most where memory is short.
+const MAX_HALVINGS: u64 = 6;
 
 /// After how many conflicts dives begin: they raise bounds, and slow proofs down.
 const FIRST_DIVE: u64 = 10_000;
@@ -54,6 +59,7 @@ pub(crate) struct Engine {
     /// The proof that no schedule is below the ceiling.
     pub(crate) last_proof: Option<u32>,
     pace: Pace,
+    probe: Probe,
     options: Options,
 }
 
@@ -74,6 +80,15 @@ fn luby(place: u64) -> u64 {
         i = i.wrapping_sub((power / 2).wrapping_sub(1));
     }
     1
+}
+
+/// What is probed at the root.
+fn first_probe(options: Options) -> Probe {
+    if options.parts.probes {
+        Probe::FIRST
+    } else {
+        Probe::NONE
+    }
 }
 
 impl Engine {
@@ -114,6 +129,7 @@ impl Engine {
                 since_restart: 0,
                 lemmas: FIRST_LEMMAS,
             },
+            probe: first_probe(options),
             options,
         })
     }
@@ -148,7 +164,7 @@ impl Engine {
     fn improve(&mut self, alloc: Global) -> Result<(), AllocError> {
         let makespan = self.trail.history.head(self.rules.end());
         if makespan as i64 > MAX_MAKESPAN {
-            self.state = State::Full;
+            self.state = State::TooLong;
             return Ok(());
         }
         let mut starts = Vec::new(alloc);
@@ -170,6 +186,7 @@ impl Engine {
         {
             self.pace.since_restart = 0;
             self.pace.restarts = self.pace.restarts.wrapping_add(1);
+            self.probe = first_probe(self.options);
             self.go_back(0);
         }
     }
@@ -197,11 +214,39 @@ impl Engine {
         }
     }
 
+    /// The deadline to probe at the root, of which is seen at once what follows.
+    fn probe(&mut self) -> Option<Literal> {
+        if self.trail.level() > 0 {
+            return None;
+        }
+        let least = self.trail.history.head(self.rules.end());
+        let known = if self.incumbent.is_known() {
+            self.incumbent.ceiling.wrapping_sub(1)
+        } else {
+            periods(MAX_MAKESPAN)
+        };
+        let deadline = self.probe.next(least, known)?;
+        Some(Literal::at_most(self.rules.end(), deadline))
+    }
+
     /// One decision, after all that follows.
     fn decide(&mut self, alloc: Global) -> Result<(), Stop> {
-        let has_deadline = self.incumbent.is_known();
+        let has_deadline = is_there(self.trail.history.get(self.rules.end(), 0));
         self.propagators.propagate(&self.rules, &mut self.trail, &mut self.lemmas, has_deadline)?;
+        if self.probe.is_on() {
+            self.probe.leave();
+            self.go_back(0);
+        }
         self.restart();
+        if let Some(deadline) = self.probe() {
+            self.trail.decide(deadline)?;
+            return Ok(());
+        }
+        self.choose(alloc)
+    }
+
+    /// Tries what the weights say.
+    fn choose(&mut self, alloc: Global) -> Result<(), Stop> {
         let starts = self.starts();
         let dive = self.dive();
         let choice = self.brancher.choose(
@@ -236,6 +281,7 @@ impl Engine {
     /// Learns from a conflict and goes back.
     fn learn(&mut self, alloc: Global, conflict: Conflict) -> Result<(), Stop> {
         self.next = Next::Decide;
+        self.probe.refute();
         self.counts.conflicts = self.counts.conflicts.wrapping_add(1);
         self.pace.since_restart = self.pace.since_restart.wrapping_add(1);
         let end = self.learner.analyse(
@@ -295,14 +341,18 @@ impl Engine {
         Ok(())
     }
 
-    /// Makes room where lemmas and proofs take too much, and stops where that doesn't help.
+    /// Makes room where lemmas and proofs take too much: gives up idle ones, and then half of the watched ones, some times.
+    /// Stops where that doesn't help.
     fn make_room(&mut self, alloc: Global) -> Result<(), AllocError> {
         if self.bytes() <= self.options.memory {
             return Ok(());
         }
         let enough = (self.options.memory / 4).wrapping_mul(3);
         self.give_up(alloc)?;
-        if self.bytes() > enough {
+        for _ in 0..MAX_HALVINGS {
+            if self.bytes() <= enough {
+                break;
+            }
             self.lemmas.reduce(alloc)?;
             self.give_up(alloc)?;
         }

@@ -9,6 +9,7 @@
 mod engine;
 mod learning;
 mod options;
+mod probing;
 mod search;
 mod showing;
 

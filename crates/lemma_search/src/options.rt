@@ -13,6 +13,8 @@ pub struct Parts {
     pub cliques: bool,
     /// Decisions on starts, besides those on pairs of rivals.
     pub starts: bool,
+    /// Probes for the bound: a deadline that propagation alone refutes.
+    pub probes: bool,
     /// Dives for the bound: a deadline below the best schedule as the first decision.
     pub dives: bool,
 }
@@ -26,6 +28,7 @@ impl Parts {
         energy: true,
         cliques: true,
         starts: true,
+        probes: true,
         dives: true,
     };
 }
@@ -47,9 +50,10 @@ pub enum State {
     Going,
     /// No schedule shorter than the best is left.
     Ended,
-    /// It stopped at a limit, and doesn't go on: what can't be given up fills the memory, or a makespan is
-    /// above 1,000,000.
+    /// It doesn't go on: what can't be given up fills the memory.
     Full,
+    /// It doesn't go on: a makespan is above 1,000,000.
+    TooLong,
 }
 
 /// How much was done.

@@ -26,7 +26,7 @@ impl Search {
         };
         let mut engine = Engine::new(alloc, project, &matrix, options)?;
         if engine.root_bound() as i64 > MAX_MAKESPAN {
-            engine.state = State::Full;
+            engine.state = State::TooLong;
         }
         Ok(Search {
             engine: Some(engine),
@@ -36,15 +36,14 @@ impl Search {
     /// Searches until it ends, or for so many conflicts; for fewer, where few of many decisions meet one. Where memory runs
     /// out, the search can't go on.
     pub fn advance(&mut self, alloc: Global, conflicts: u64) -> Result<State, AllocError> {
-        let Some(engine) = &mut self.engine else {
-            return Ok(State::Ended);
-        };
-        let decisions = conflicts.saturating_mul(DECISIONS_A_CONFLICT);
-        if engine.advance(alloc, conflicts, decisions).is_err() {
-            engine.state = State::Full;
-            return Err(AllocError);
+        if let Some(engine) = &mut self.engine {
+            let decisions = conflicts.saturating_mul(DECISIONS_A_CONFLICT);
+            if engine.advance(alloc, conflicts, decisions).is_err() {
+                engine.state = State::Full;
+                return Err(AllocError);
+            }
         }
-        Ok(engine.state)
+        Ok(self.state())
     }
 
     /// Takes a feasible schedule by its starts in periods, from another search say. One that isn't shorter than the best, or
@@ -86,6 +85,14 @@ impl Search {
         match &self.engine {
             Some(engine) => engine.bound(),
             None => 0,
+        }
+    }
+
+    /// Where it stands.
+    pub fn state(&self) -> State {
+        match &self.engine {
+            Some(engine) => engine.state,
+            None => State::Ended,
         }
     }
 
