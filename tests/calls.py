@@ -55,11 +55,13 @@ class Call:
         return ended == self.usual and record == self.record
 
     def is_want(self, ended, record):
-        """Whether a call ended for want of memory, or of a thread where it has workers."""
+        """Whether a call ended for want of memory, or of a thread where it has workers or jobs."""
         status, out, fault = ended
         wants = [b"psmax: out of memory\n", b"psprove: out of memory\n"]
         if {"--workers", "--start", "--record"} & set(self.words):
             wants.append(b"psmax: cannot start a thread\n")
+        if "--jobs" in self.words:
+            wants.append(b"psprove: cannot start a thread\n")
         return status == 1 and out == b"" and fault in wants and record == b""
 
 
@@ -116,4 +118,6 @@ PROOFS = [
     Call(SOLVE, CYCLE, out=b"no schedule\n"),
     Call(START, TWO, STARTS, out=b"optimal 7\n" + STARTS),
     Call(START, TWO, OVERLOADED, exit=4, out=b"overload 2 0 2\n"),
+    Call([*START, "--jobs", "2"], TWO, STARTS, out=b"optimal 7\n" + STARTS),
+    Call([*SOLVE, "--jobs", "3"], DEAD, out=b"no schedule\n"),
 ]

@@ -3,11 +3,14 @@
 use crate::help;
 use calls::{Call, WordsFault, file_name, words_fault};
 use clap::{Arg, ArgAction, ArgMatches, Command, value_parser};
-use solve_runs::Asked;
+use solve_runs::{Asked, MAX_JOBS};
 use std::alloc::{AllocError, Global};
 
 /// For how many seconds is searched where nothing else is said.
 const DEFAULT_SECONDS: &str = "60";
+
+/// How many searches go on side by side where nothing else is said.
+const DEFAULT_JOBS: &str = "1";
 
 /// How many MiB lemmas and their proofs take at most where nothing else is said.
 const DEFAULT_MEMORY: &str = "512";
@@ -65,12 +68,14 @@ fn number<'a>(
 /// The options that say how far a search goes.
 fn with_limits<'a>(alloc: Global, command: Command<'a>) -> Result<Command<'a>, AllocError> {
     let seconds = "Stop once S seconds have passed";
-    let conflicts = "Stop once there were N conflicts";
+    let conflicts = "Stop each search once it had N conflicts";
+    let jobs = "Search in N ways side by side, each in a thread of its own";
     let seed = "Break ties from K";
-    let memory = "Lemmas and their proofs may take so many MiB";
+    let memory = "Lemmas of each search and their proofs may take so many MiB";
     command
         .arg(number(alloc, "seconds", "S", seconds, 0, MAX_LIMIT).default_value(DEFAULT_SECONDS))?
         .arg(number(alloc, "conflicts", "N", conflicts, 0, MAX_LIMIT))?
+        .arg(number(alloc, "jobs", "N", jobs, 1, MAX_JOBS as i64).default_value(DEFAULT_JOBS))?
         .arg(number(alloc, "seed", "K", seed, 0, MAX_LIMIT))?
         .arg(number(alloc, "memory", "MIB", memory, 1, MAX_MEMORY).default_value(DEFAULT_MEMORY))
 }
@@ -109,6 +114,7 @@ fn solve_command<'a>(alloc: Global) -> Result<Command<'a>, AllocError> {
 fn command<'a>(alloc: Global) -> Result<Command<'a>, AllocError> {
     Command::new(alloc, "psprove")
         .bin_name("psprove")?
+        .version(help::VERSION)
         .before_help(help::HEADING)
         .about("Solve projects with resources and time lags, and check what is claimed of them")
         .after_help(help::PROGRAM)
@@ -122,6 +128,7 @@ fn command<'a>(alloc: Global) -> Result<Command<'a>, AllocError> {
 fn asked(matches: &ArgMatches<'_>, start: bool) -> Asked {
     let memory = matches.get_one::<u64>("memory").unwrap_or(1);
     Asked {
+        jobs: matches.get_one::<u64>("jobs").unwrap_or(1),
         conflicts: matches.get_one::<u64>("conflicts").unwrap_or(u64::MAX),
         seconds: matches.get_one::<u64>("seconds").unwrap_or(0),
         seed: matches.get_one::<u64>("seed").unwrap_or(0),

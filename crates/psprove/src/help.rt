@@ -1,5 +1,8 @@
 //! What help says besides the usage and the options that `clap` lists.
 
+/// The version of the program.
+pub(crate) const VERSION: &str = "0.9.0";
+
 /// The heading of every help.
 pub(crate) const HEADING: &str = "psprove 0.9.0";
 
@@ -8,9 +11,10 @@ Projects, starts, answers and records are texts; docs/FORMAT.md and docs/LEMMAS.
 and 'man psprove' in short. 'psprove COMMAND --help' says what the command reads and answers, with
 an example.
 
-Exit status: 0 proved; 1 memory ran out, a device failed, or the search was refused; 2 the words
-or a text are not what they should be; 3 the search was stopped at a limit; 4 the starts are no
-feasible schedule, or the record is not right. A fault is one line on standard error.";
+Exit status: 0 proved; 1 memory ran out, a thread could not be started, a device failed, or the
+search was refused; 2 the words or a text are not what they should be; 3 the search was stopped at
+a limit; 4 the starts are no feasible schedule, or the record is not right. A fault is one line on
+standard error.";
 
 pub(crate) const SOLVE: &str = "\
 Reads a project on standard input, and searches by lemmas that it learns. Nothing that the search
@@ -22,7 +26,10 @@ activity:
   feasible C bound B  stopped at a limit: no feasible schedule is shorter than B
   unknown bound B     the same, and no schedule was found
 The clock is looked at every 64 conflicts. The same seed and --conflicts give the same answer and
-record where neither the clock nor the memory stops the search first.
+record where neither the clock nor the memory stops the search first, and --jobs is 1. With --jobs N
+the searches differ in seeds and in parts that are switched off; a schedule that one finds is a
+ceiling for all, and the first that ends gives the record. Where lemmas fill the memory, or a
+makespan is above 1,000,000, standard error says that the search stopped for that.
 Reads the starts of --start after the project. Where they are no feasible schedule it answers as
 'psmax check' does, and searches nothing. With --record the file is made empty first, and once
 the answer is printed, also that of a stopped search, its record is written into it.
@@ -32,10 +39,11 @@ Examples:
   psprove solve < project.sch
   psprove solve --seconds 600 --progress --record project.rec < project.sch
   psprove solve --conflicts 10000 --json --start plan.starts < project.sch
+  psprove solve --jobs 4 --seconds 600 < project.sch
 
-Exit status: 0 answered; 1 memory ran out, a device failed, or the search was refused; 2 the
-words or a text are not what they should be; 3 the search was stopped at a limit; 4 the starts of
---start are no feasible schedule.";
+Exit status: 0 answered; 1 memory ran out, a thread could not be started, a device failed, or the
+search was refused; 2 the words or a text are not what they should be; 3 the search was stopped at
+a limit; 4 the starts of --start are no feasible schedule.";
 
 pub(crate) const VERIFY: &str = "\
 Reads the project in FILE, and then a record of lemmas on standard input: what is claimed of the

@@ -15,6 +15,8 @@ use std::alloc::Global;
 use std::io::ErrorKind;
 use std::process::ExitCode;
 use std::rt::Runtime;
+use std::sync::Wait;
+use std::thread::Threads;
 use std::{env, fs, io};
 
 /// Prints how a run ended, where it has no answer.
@@ -75,7 +77,12 @@ fn verify<R: Runtime>(rt: &R, alloc: Global, name: &String) -> ExitCode {
 }
 
 /// Opens the files that the call names, and searches for the project on standard input.
-fn search<R: Runtime>(rt: &R, alloc: Global, asked: Asked, call: &Call) -> ExitCode {
+fn search<R: Runtime + Threads + Wait + Sync>(
+    rt: &R,
+    alloc: Global,
+    asked: Asked,
+    call: &Call,
+) -> ExitCode {
     let mut files = match Opener::new(rt).open(call) {
         Ok(files) => files,
         Err(FileFault::LosesProject) => return refuse_loss(rt, "standard input"),
@@ -105,7 +112,11 @@ fn search<R: Runtime>(rt: &R, alloc: Global, asked: Asked, call: &Call) -> ExitC
 const FOLDER: &str = "/";
 
 /// Does the work once no standard device is closed: a file that is opened in the place of one would be taken for it.
-fn perform_apart<R: Runtime>(rt: &R, alloc: Global, work: &Work) -> ExitCode {
+fn perform_apart<R: Runtime + Threads + Wait + Sync>(
+    rt: &R,
+    alloc: Global,
+    work: &Work,
+) -> ExitCode {
     let _input = fs::open(rt, FOLDER);
     let _output = fs::open(rt, FOLDER);
     let _faults = fs::open(rt, FOLDER);

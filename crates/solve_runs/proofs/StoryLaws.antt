@@ -1,8 +1,15 @@
--- What is replied with starts.
-use Rattle.std.proofs.Common.{◌≡◌, ℕ, Bool, true, false, List}
+-- What is replied with starts, and what is read without.
+use Rattle.std.proofs.Common.{◌≡◌, ℕ, ◌+◌, Bool, true, false, List, [], Option, arith}
 use Rattle.std.specs.Prelude.{Result, Ok, Err, IfErr}
+use Rattle.std.proofs.KnownBytes.{Consumes-nil}
+use Rattle.words.specs.declared.TheConstants.{MAX_TEXT_BYTES}
+use Rattle.answers.specs.declared.fault.Fault.{Fault}
+use Rattle.answers.specs.declared.fault.Fault.TheVariants as faults
+use Rattle.answers.specs.Faults.{IsNoDeviceFault}
+use Rattle.runs.specs.declared.job.Job.TheVariants as jobs
+use Rattle.runs.specs.Devices.{Span, GaveUpTo, IsUntouched, NeverFailed}
 use Rattle.runs.specs.Outcome.{GivesStarts, SpellsOne}
-use Rattle.runs.specs.Runs.{ReplyOf}
+use Rattle.runs.specs.Runs.{HasRead, ReplyOf}
 use Rattle.solve_runs.specs.Story.{IsStartedReply, ReplyTo}
 
 pub replies_started : (start json : Bool) (reply : ReplyOf) (text more : List ℕ) → start ≡ true → SpellsOne text (λ p. GivesStarts p more (IsStartedReply p json reply)) → ReplyTo start json reply text more
@@ -13,3 +20,30 @@ replies_started false json reply text more on h = cc
 pub err_both : {T E : Type 0} (r : Result T E) (P Q : E → Type 0) → IfErr r P → IfErr r Q → IfErr r (λ e. P e × Q e)
 err_both (Ok x) P Q p q = tt
 err_both (Err e) P Q p q = (p, q)
+
+-- what is no fault of a device is no failure to read
+pub no_failed_read : {A : Type 0} (r : Result A Fault) → IfErr r IsNoDeviceFault → ¬ (r ≡ Err faults.ReadFailed)
+no_failed_read (Ok x) cause bad = cc
+no_failed_read (Err fault) cause bad = let is : fault ≡ faults.ReadFailed = cc in cause.0 is
+
+-- a search without starts reads its project, and leaves the second input alone
+pub reads_alone : {I S Failed : Type 0} (workers : Option ℕ) (takes : ℕ) (start json recorded : Bool) (first : Span I) (second : Span S) → start ≡ false →
+    GaveUpTo (MAX_TEXT_BYTES + 1) first → NeverFailed first → IsUntouched second → second.told_after ≡ second.told → NeverFailed second → ¬ Failed →
+    HasRead (jobs.Solve workers takes start json recorded) Failed first second
+reads_alone workers takes start json recorded first second alone within never untouched told second_never other = record {
+  inputs = record {
+    within = within;
+    second_within = record {
+      front = [];
+      given = rw told (Consumes-nil second.told);
+      within = omega arith;
+    };
+    failed = record {
+      here = λ bad. absurd (other bad);
+      elsewhere = λ _. (never, second_never);
+    };
+  };
+  unused = λ _. untouched;
+  project_second = λ (bad : false ≡ true). cc;
+  project_first = λ _ _. untouched;
+}

@@ -12,7 +12,7 @@ figures_text f =
     ++ (codes ",\"decisions\":" ++ (decimal f.decisions
     ++ (codes ",\"lines\":" ++ (decimal f.lines
     ++ (codes ",\"record_bytes\":" ++ (decimal f.record_bytes
-    ++ (codes ",\"seconds\":" ++ (decimal f.seconds ++ codes ",")))))))))
+    ++ (codes ",\"seconds\":" ++ (decimal f.seconds ++ codes ",\"version\":\"0.9.0\",")))))))))
 
 -- the line of JSON: the figures, and then the members of psmax's line, which begins with a bracket
 abbrev pub with_figures : Figures → List ℕ → List ℕ

@@ -4,16 +4,21 @@ ghost use Rattle.solve_runs.specs.Asking.{job_of};
 use lemma_search::{Options, Parts};
 use runs::{Job, ONE_WORKER};
 
+/// How many searches can go on side by side.
+pub const MAX_JOBS: u64 = 64;
+
 /// What a run is to do, and how far its search may go.
 #[derive(Clone, Copy, PartialEq, Eq, Debug)]
 pub struct Asked {
-    /// After how many conflicts the search is stopped.
+    /// How many searches go on side by side: 1 to [`MAX_JOBS`].
+    pub jobs: u64,
+    /// After how many conflicts each search is stopped.
     pub conflicts: u64,
-    /// After how many seconds by the clock it is stopped, which is looked at every 64 conflicts.
+    /// After how many seconds by the clock all are stopped, which is looked at every 64 conflicts.
     pub seconds: u64,
-    /// From where the search breaks ties.
+    /// From where the first search breaks ties. Each further one begins at the next number.
     pub seed: u64,
-    /// How many bytes the lemmas of the search and their proofs may take.
+    /// How many bytes the lemmas of a search and their proofs may take.
     pub memory: u64,
     /// Whether starts are read from the second input.
     pub start: bool,
@@ -37,12 +42,17 @@ impl Asked {
         }
     }
 
-    /// The options of the search.
-    pub(crate) fn options(self) -> Options {
+    /// The options of a search. Of those side by side every second leaves dives out, which slow proofs down, and two of four
+    /// leave energy out, which seldom tells more than the time table.
+    pub(crate) fn options(self, job: u64) -> Options {
         Options {
-            seed: self.seed,
+            seed: self.seed.wrapping_add(job),
             memory: self.memory,
-            parts: Parts::ALL,
+            parts: Parts {
+                dives: job % 2 == 0,
+                energy: job % 4 < 2,
+                ..Parts::ALL
+            },
         }
     }
 }

@@ -27,7 +27,7 @@ fn figures_text(alloc: Global, figures: &Figures) -> Result<String, AllocError>
     let mut out = String::new(alloc);
     write!(
         out,
-        "{{\"conflicts\":{},\"decisions\":{},\"lines\":{},\"record_bytes\":{},\"seconds\":{},",
+        "{{\"conflicts\":{},\"decisions\":{},\"lines\":{},\"record_bytes\":{},\"seconds\":{},\"version\":\"0.9.0\",",
         figures.conflicts, figures.decisions, figures.lines, figures.record_bytes, figures.seconds
     )?;
     Ok(out)

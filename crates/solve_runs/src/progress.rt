@@ -1,6 +1,5 @@
 //! The clock of a search, and what is told while it goes on.
 
-use lemma_search::Search;
 use std::time::{Clock, Instant};
 
 /// A clock that was looked at when the search began.
@@ -38,19 +37,20 @@ impl Told {
         bound: 0,
     };
 
-    /// Tells the makespan of a shorter schedule, and a greater bound, on standard error.
-    pub(crate) fn tell<R: Eprint>(&mut self, rt: &R, search: &Search, seconds: u64) {
-        let makespan = match search.best() {
-            Some(starts) => starts.last().copied(),
-            None => None,
-        };
+    /// Tells another makespan, and a greater bound, on standard error.
+    pub(crate) fn tell<R: Eprint>(
+        &mut self,
+        rt: &R,
+        makespan: Option<i64>,
+        bound: i64,
+        seconds: u64,
+    ) {
         if makespan != self.makespan {
             self.makespan = makespan;
             if let Some(makespan) = makespan {
                 let _ = eprintln!(rt; "{seconds} s: schedule {makespan}");
             }
         }
-        let bound = search.bound();
         if bound > self.bound {
             self.bound = bound;
             let _ = eprintln!(rt; "{seconds} s: bound {bound}");

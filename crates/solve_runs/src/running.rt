@@ -14,13 +14,14 @@ use crate::solving::{solved, solved_from};
 use answers::Fault;
 use runs::{Ended, Input, Output, Reply, read_project, read_text, write_reply};
 use std::alloc::Global;
-use std::sync::Arc;
+use std::sync::{Arc, Wait};
+use std::thread::Threads;
 use std::time::Clock;
 use words::MAX_TEXT_BYTES;
 
 /// The reply of a search to what its inputs hold. The project is read and judged before the starts, and these before anything is
 /// searched.
-fn solve_reply<I: Input, S: Input, R: Clock + Eprint>(
+fn solve_reply<I: Input, S: Input, R: Clock + Eprint + Threads + Wait + Sync>(
     rt: &R,
     alloc: Global,
     asked: Asked,
@@ -53,7 +54,7 @@ fn solve_reply<I: Input, S: Input, R: Clock + Eprint>(
 /// with starts or `unknown bound B`, exit status 3; of starts that are no feasible schedule all that they violate, exit status 4,
 /// and no record. What the search says goes to the checker first, as the text of its record: [`Fault::Refused`] comes where that
 /// isn't right, or the best schedule of a stopped search is none.
-pub fn solve<I: Input, S: Input, O: Output, D: Output, R: Clock + Eprint>(
+pub fn solve<I: Input, S: Input, O: Output, D: Output, R: Clock + Eprint + Threads + Wait + Sync>(
     rt: &R,
     alloc: Global,
     asked: Asked,

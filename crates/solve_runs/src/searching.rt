@@ -1,89 +1,77 @@
 //! A search within limits. Nothing is promised of it: what it says is for the checker to judge.
 
 use crate::asked::Asked;
-use crate::progress::{Told, Watch};
-use lemma_search::{Counts, Search, State};
-use lemma_text::text_of;
-use network::{Project, Schedule};
+use crate::board::Board;
+use crate::progress::Watch;
+use lemma_search::{Search, State};
+use network::Project;
 use std::alloc::{AllocError, Global};
+use std::sync::{Mutex, Wait};
 use std::time::Clock;
 
-/// After how many conflicts the clock is looked at.
+/// After how many conflicts a search looks at the clock and at the board.
 const CONFLICTS_A_LOOK: u64 = 64;
 
-/// What a search says that it found.
-#[derive(Drop)]
-pub(crate) struct Found {
-    /// The starts of the shortest schedule known, in periods.
-    pub(crate) best: Option<Vec<i64>>,
-    pub(crate) counts: Counts,
-    /// Whole seconds by the clock.
-    pub(crate) seconds: u64,
-    /// The text of the record.
-    pub(crate) text: Vec<u8>,
-}
-
-/// Searches until the search ends, or as far as the limits let it.
-fn search_within<R: Clock + Eprint>(
+/// Searches until the search ends, or another has ended, or as far as the limits let it.
+fn search_within<R: Clock + Eprint + Wait>(
     rt: &R,
     alloc: Global,
     asked: Asked,
     watch: Watch,
+    board: &Mutex<Board>,
     search: &mut Search,
 ) -> Result<(), AllocError> {
-    let mut told = Told::NOTHING;
     for _ in 0..u64::MAX {
-        let seconds = match watch.seconds(rt) {
-            Some(seconds) if seconds < asked.seconds => seconds,
-            _ => break,
-        };
+        let seconds = watch.seconds(rt).unwrap_or(u64::MAX);
         let left = asked.conflicts.saturating_sub(search.counts().conflicts);
-        if left == 0 {
+        if seconds >= asked.seconds || left == 0 {
             break;
         }
         let state = search.advance(alloc, left.min(CONFLICTS_A_LOOK))?;
+        let mut board = board.lock(rt);
+        board.exchange(alloc, search)?;
         if asked.progress {
-            told.tell(rt, search, seconds);
+            board.tell(rt, watch, search.bound());
         }
-        if state != State::Going {
+        if state == State::Ended {
+            board.is_over = true;
+        }
+        if state != State::Going || board.is_over {
             break;
         }
     }
     Ok(())
 }
 
-/// What a search within limits finds, from a schedule of the project that may be handed in; none where it has no record.
-pub(crate) fn searched<R: Clock + Eprint>(
+/// A search within limits, from the schedule that the board knows.
+fn search<R: Clock + Eprint + Wait>(
     rt: &R,
     alloc: Global,
     asked: Asked,
+    watch: Watch,
     project: &Project,
-    start: Option<&Schedule>,
-) -> Result<Option<Found>, AllocError> {
-    let watch = Watch::start(rt);
-    let mut search = Search::new(alloc, project, asked.options())?;
-    if let Some(start) = start {
-        search.lower_ceiling(alloc, start.starts(), start.makespan())?;
+    job: u64,
+    board: &Mutex<Board>,
+) -> Result<Search, AllocError> {
+    let mut search = Search::new(alloc, project, asked.options(job))?;
+    board.lock(rt).exchange(alloc, &mut search)?;
+    search_within(rt, alloc, asked, watch, board, &mut search)?;
+    Ok(search)
+}
+
+/// A search within limits, one of several side by side: where memory runs out, the others stop too.
+pub(crate) fn search_beside<R: Clock + Eprint + Wait>(
+    rt: &R,
+    alloc: Global,
+    asked: Asked,
+    watch: Watch,
+    project: &Project,
+    job: u64,
+    board: &Mutex<Board>,
+) -> Result<Search, AllocError> {
+    let found = search(rt, alloc, asked, watch, project, job, board);
+    if found.is_err() {
+        board.lock(rt).is_over = true;
     }
-    search_within(rt, alloc, asked, watch, &mut search)?;
-    let counts = search.counts();
-    let seconds = watch.seconds(rt).unwrap_or(0);
-    let known = match (search.best(), start) {
-        (None, Some(start)) => Some(start.starts()),
-        (best, _) => best,
-    };
-    let best = match known {
-        Some(starts) => Some(Vec::from_slice(alloc, starts)?),
-        None => None,
-    };
-    let Some(shown) = search.into_record(alloc)? else {
-        return Ok(None);
-    };
-    let text = text_of(alloc, &shown.claim, &shown.lines)?;
-    Ok(Some(Found {
-        best,
-        counts,
-        seconds,
-        text,
-    }))
+    found
 }

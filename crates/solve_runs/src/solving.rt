@@ -9,15 +9,28 @@ ghost use Rattle.solve_runs.specs.Story.{IsShownReply, IsStartedReply};
 
 use crate::asked::Asked;
 use crate::figures::{Figures, answer_of};
+use crate::jobs::{Found, SearchFault, searched};
 use crate::judging::{outcome_of, record_of};
-use crate::searching::{Found, searched};
 use answers::{Answer, Fault, violations_text};
 use network::{Project, Schedule};
 use runs::Reply;
 use schedule_check::{AcceptFault, accept, read_starts};
 use std::alloc::Global;
-use std::sync::Arc;
+use std::sync::{Arc, Wait};
+use std::thread::Threads;
 use std::time::Clock;
+
+/// The fault of searches that found nothing.
+fn search_fault(fault: SearchFault) -> Fault
+    ensures status { exit_of result ≡ 1 }
+    ensures cause { IsNoDeviceFault result }
+{
+    match fault {
+        SearchFault::Memory => Fault::Memory,
+        SearchFault::Thread => Fault::Thread,
+        SearchFault::NoRecord => Fault::Refused,
+    }
+}
 
 /// What the record of a search shows of the project.
 fn shown_reply(
@@ -33,8 +46,8 @@ fn shown_reply(
     let shown = record_of(alloc, &found.text)?;
     let outcome = outcome_of(alloc, project, &shown, found.best.as_deref())?;
     let figures = Figures {
-        conflicts: found.counts.conflicts,
-        decisions: found.counts.decisions,
+        conflicts: found.conflicts,
+        decisions: found.decisions,
         lines: shown.lines().len(),
         record_bytes: found.text.len(),
         seconds: found.seconds,
@@ -44,7 +57,7 @@ fn shown_reply(
 }
 
 /// What a search has found of a project, from a schedule of it that may be handed in, as its record shows.
-pub(crate) fn solved<R: Clock + Eprint>(
+pub(crate) fn solved<R: Clock + Eprint + Threads + Wait + Sync>(
     rt: &R,
     alloc: Global,
     asked: Asked,
@@ -55,15 +68,19 @@ pub(crate) fn solved<R: Clock + Eprint>(
     ensures status { IfErr result (λ fault. exit_of fault ≡ 1) }
     ensures cause { IfErr result IsNoDeviceFault }
 {
-    let Some(found) = searched(rt, alloc, asked, project, start)? else {
-        return Err(Fault::Refused);
+    let start = match start {
+        Some(start) => Some(start.starts()),
+        None => None,
     };
-    shown_reply(alloc, project, asked.json, found)
+    match searched(rt, alloc, asked, project, start) {
+        Ok(found) => shown_reply(alloc, project, asked.json, found),
+        Err(fault) => Err(search_fault(fault)),
+    }
 }
 
 /// What the starts in a text violate, where they are no feasible schedule of the project, and then nothing is searched; else
 /// what a search has found from them.
-pub(crate) fn solved_from<R: Clock + Eprint>(
+pub(crate) fn solved_from<R: Clock + Eprint + Threads + Wait + Sync>(
     rt: &R,
     alloc: Global,
     asked: Asked,

@@ -1,11 +1,12 @@
-use Rattle.std.proofs.Common.{◌≡◌, ◌∙◌, true, Some, refl, rules}
+use Rattle.std.proofs.Common.{◌≡◌, ◌∙◌, true, false, Some, Err, refl, rules}
+use Rattle.answers.specs.declared.fault.Fault.TheVariants as faults
 use Rattle.std.proofs.lemmas.Result.{MatchResult-weaker}
 use Rattle.network.specs.Schedule.{IsFeasible}
 use Rattle.runs.proofs.CallLaws.{refuses_start}
 use Rattle.runs.proofs.TextLaws.{starts_whole, starts_fault_whole}
 use Rattle.solve_runs.specs.Asking.{job_of}
 use Rattle.solve_runs.specs.Story.{IsStartedReply}
-use Rattle.solve_runs.proofs.StoryLaws.{err_both, replies_started}
+use Rattle.solve_runs.proofs.StoryLaws.{err_both, no_failed_read, reads_alone, replies_started}
 use Rattle.solve_runs.proofs.running.solve_reply.Goals as goal
 
 pub returns-clause-said : goal.returns-clause-said
@@ -43,3 +44,9 @@ returns-clause-refused g c =
         has = λ _. starts_whole p c.deref.result.now more (IsFeasible p) (c.deref.ensures.value ∙ c.in_ok-starts.ensures.told more (told_more on)) (found.1 bad);
       };
     })
+
+pub returns-then-not-asked-clause-read : goal.returns-then-not-asked-clause-read
+returns-then-not-asked-clause-read g c =
+    let alone : c.args.asked.start ≡ false = search rules in
+    let never : ¬ (c.read_project.result ≡ Err faults.ReadFailed) = search rules in
+    reads_alone (Some 1) 1 c.args.asked.start c.args.asked.json true _ _ alone c.read_project.ensures.within (c.read_project.ensures.failed.elsewhere never) refl refl refl (no_failed_read c.solved.result c.solved.ensures.cause)
