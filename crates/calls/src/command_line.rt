@@ -129,6 +129,7 @@ fn tidy_command<'a>(alloc: Global) -> Command<'a> {
 fn command<'a>(alloc: Global) -> Result<Command<'a>, AllocError> {
     Command::new(alloc, "psmax")
         .bin_name("psmax")?
+        .version(help::VERSION)
         .before_help(help::HEADING)
         .about("Solve projects with resources and time lags, with every answer proved")
         .after_help(help::PROGRAM)
