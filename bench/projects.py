@@ -1,17 +1,18 @@
 #!/usr/bin/env python3
-"""bench/projects.py N SEED [--resources K] [--tight T] [--busy P] > PROJECT.sch
+"""bench/projects.py N SEED [--resources K] [--tight T] [--busy P] [--reach R] [--wide] > PROJECT.sch
 
 Writes a project of N activities with least and greatest lags, the same for the same numbers.
 
-Each activity has one to three followers among the next eight, with a least lag of its duration or less,
+Each activity has one to three followers among the next eight (--reach), with a least lag of its duration or less,
 and now and then a greatest lag back, which leaves the earliest starts of the least lags feasible, so that
 no lags contradict each other. An activity uses a resource with probability P, and then about T of these fit at
-once."""
+once. With --wide the resources have capacities of 12 to 24, an activity uses most of them, each by an eighth to a third of
+its capacity, and one in twelve uses more than half of one: few are rivals."""
 import argparse
 import random
 
 
-def project(n, seed, resources=5, tight=3, busy=0.5):
+def project(n, seed, resources=5, tight=3, busy=0.5, reach=8):
     rng = random.Random(1_000_003 * n + seed)
     durations = [0] + [rng.randint(1, 10) for _ in range(n)] + [0]
     capacities = [rng.randint(6, 10) for _ in range(resources)]
@@ -22,7 +23,8 @@ def project(n, seed, resources=5, tight=3, busy=0.5):
     demands = [[min(d, c) for d, c in zip(row, capacities)] for row in demands]
     arcs = []
     for i in range(1, n):
-        for j in sorted(rng.sample(range(i + 1, min(n, i + 8) + 1), min(rng.randint(1, 3), min(n, i + 8) - i))):
+        last = min(n, i + reach)
+        for j in sorted(rng.sample(range(i + 1, last + 1), min(rng.randint(1, 3), last - i))):
             arcs.append((i, j, rng.choice((durations[i], rng.randint(0, durations[i])))))
     starts = [0] * (n + 2)
     for i, j, lag in arcs:
@@ -31,6 +33,21 @@ def project(n, seed, resources=5, tight=3, busy=0.5):
         if rng.random() < 0.15:
             arcs.append((j, i, -(starts[j] - starts[i] + rng.randint(2, 15))))
     return durations, demands, capacities, arcs
+
+
+def wide(n, seed, resources=3):
+    """A project in whose resources few activities are rivals. A follower may be any later activity."""
+    durations, _, _, arcs = project(n, seed, 0, reach=n)
+    rng = random.Random(1_000_003 * n + 7 * seed + 1)
+    capacities = [rng.randint(12, 24) for _ in range(resources)]
+    demands = [[0] * resources]
+    for _ in range(n):
+        row = [rng.randint(c // 8, c // 3) if rng.random() < 0.8 else 0 for c in capacities]
+        if rng.random() < 1 / 12:
+            place = rng.randrange(resources)
+            row[place] = rng.randint(capacities[place] // 2 + 1, capacities[place])
+        demands.append(row)
+    return durations, [*demands, [0] * resources], capacities, arcs
 
 
 def job_shop(jobs, machines, seed):
@@ -70,8 +87,11 @@ def main():
     parser.add_argument("--resources", type=int, default=5)
     parser.add_argument("--tight", type=int, default=3)
     parser.add_argument("--busy", type=float, default=0.5)
+    parser.add_argument("--reach", type=int, default=8)
+    parser.add_argument("--wide", action="store_true")
     o = parser.parse_args()
-    print(text(*project(o.n, o.seed, o.resources, o.tight, o.busy)), end="")
+    made = wide(o.n, o.seed, o.resources) if o.wide else project(o.n, o.seed, o.resources, o.tight, o.busy, o.reach)
+    print(text(*made), end="")
 
 
 if __name__ == "__main__":
