@@ -6,6 +6,7 @@ Checks the documents against the repository and against the programs in FOLDER, 
 - each relative link leads to a file, and to a heading if it names one; a link from a definition's name leads to a file with that name;
 - each file of the repository that a document names is there;
 - each command of psmax, psprove, plan, make or a script that a document names is there, with its options;
+- each definition in a ```antt block stands so in a file of specs, and docs/ARCHITECTURE.md names each crate of crates.txt;
 - each command of the documents of SHOWN is run as a user runs it, and prints what stands below it.
 
 A command to run stands after `$ ` in a ```console block (in a manual page between .EX and .EE), with further lines after `> `. All
@@ -45,7 +46,7 @@ class Counts:
         self.passed = self.failed = 0
 
     def add(self, document, is_right, fault):
-        self.passed, self.failed = self.passed + is_right, self.failed + (not is_right)
+        self.passed, self.failed = self.passed + bool(is_right), self.failed + (not is_right)
         if not is_right:
             print(f"FAILED {document}: {fault}")
 
@@ -129,6 +130,21 @@ def check_files(document, prose, counts):
         else:
             continue
         counts.add(document.relative_to(TOP), is_right, f"no file {span}")
+
+
+def check_definitions(document, blocks, counts):
+    texts = [path.read_text() for path in files() if path.suffix == ".antt"]
+    for kind, text in blocks:
+        for definition in text.strip().split("\n\n") if kind == "antt" else []:
+            counts.add(document.relative_to(TOP), any(definition in one for one in texts), f"no definition\n{definition}")
+
+
+def check_crates(counts):
+    document = TOP / "docs" / "ARCHITECTURE.md"
+    for line in (TOP / "crates.txt").read_text().splitlines():
+        crate = re.match(r"\w+", line)
+        if crate:
+            counts.add(document.relative_to(TOP), re.search(rf"\b{crate[0]}\b", document.read_text()), f"no crate {crate[0]}")
 
 
 def commands_in(line):
@@ -216,9 +232,11 @@ def main():
         prose, blocks = parts_of(document)
         check_links(document, prose, counts)
         check_files(document, prose, counts)
+        check_definitions(document, blocks, counts)
         check_commands(document, prose, blocks, programs, counts)
         if str(document.relative_to(TOP)) in SHOWN:
             check_shown(document, blocks, programs, counts)
+    check_crates(counts)
     print(f"{counts.passed} passed, {counts.failed} failed")
     return counts.failed > 0
 
