@@ -26,8 +26,9 @@ import sys
 import tempfile
 
 TOP = pathlib.Path(__file__).resolve().parent.parent
-SHOWN = ["README.md", *(f"docs/{name}" for name in (
-    "FORMAT.md", "RECORD.md", "WORKERS.md", "PLANNER.md", "LEMMAS.md", "BUILDING-SITE.md", "psmax.1", "plan.1"))]
+SHOWN = {"README.md", "docs/FORMAT.md", "docs/RECORD.md", "docs/WORKERS.md", "docs/PLANNER.md", "docs/LEMMAS.md",
+         "docs/BUILDING-SITE.md", "docs/psmax.1", "docs/plan.1",
+         "examples/building-site.md", "examples/plant-shutdown.md", "examples/test-bench.md"}
 PARTS = ("examples", "planner", "tests")  # what a clone has and a command may read, besides the programs
 SKIPPED = {".git", "out", "build", "__pycache__"}
 LINK = re.compile(r"\[((?:[^\[\]]|\[[^\]]*\])*)\]\(([^)\s]+)\)")
