@@ -94,8 +94,8 @@ class Programs:
         if name == "make" and re.fullmatch(r"[a-z]+", "".join(words[1:2])):
             return fault_of_target(words[1])
         if name.endswith(".py"):
-            script = next((path for path in files() if path.name == name), None)
-            return missing_options(words, script and script.read_text())
+            texts = [path.read_text() for path in files() if f"/{path.relative_to(TOP)}".endswith(f"/{words[0]}")]
+            return missing_options(words, "".join(texts) or None)
         if name in self.paths and re.fullmatch(r"-*[a-z-]+", "".join(words[1:2])):
             told = self.help(name) if words[1].startswith("-") else self.help(name, words[1])
             return missing_options(words, told)
