@@ -49,8 +49,8 @@ install:
 	install -d $(addprefix $(DESTDIR)$(PREFIX)/share/,man/man1 doc/psmax/docs doc/psmax/examples)
 	install -m 644 docs/psmax.1 docs/psprove.1 docs/plan.1 $(DESTDIR)$(PREFIX)/share/man/man1
 	install -m 644 README.md $(DESTDIR)$(PREFIX)/share/doc/psmax
-	install -m 644 docs/*.md $(DESTDIR)$(PREFIX)/share/doc/psmax/docs
-	install -m 644 examples/*.md examples/*.sch examples/*.starts $(DESTDIR)$(PREFIX)/share/doc/psmax/examples
+	install -m 644 docs/*.md docs/*.svg $(DESTDIR)$(PREFIX)/share/doc/psmax/docs
+	install -m 644 examples/*.md examples/*.sch examples/*.starts examples/hall* $(DESTDIR)$(PREFIX)/share/doc/psmax/examples
 
 clean:
 	rm -rf build crates/*/out

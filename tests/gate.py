@@ -107,6 +107,7 @@ def scripts(folder, with_tests):
         yield "events", ["tests/events.py", book_events, "--refused", "0"]
     yield "devices", ["tests/devices.py", psmax]
     yield "plan", ["planner/tests/run.py"]
+    yield "documents", ["tests/documents.py", str(folder)]
 
 
 def test(parts, folder, with_tests=False):

@@ -1,16 +1,24 @@
 #!/usr/bin/env python3
 """tests/run.py PROGRAM [--only WORD] [--cases FILE ..]
 
-Runs the program on every case of the files, tests/cases.jsonl and examples/cases.jsonl if not said, each in a new folder,
-prints each failure, and last 'N passed, M failed'.
+Runs the program on every case of the files, each in a new folder. FILE is tests/cases.jsonl and examples/cases.jsonl
+if not said. Prints each failure, and last 'N passed, M failed'.
 
-A case is one line of JSON: name, args, exit, and, where they matter: stdin, stdin_pieces (standard input is then a
-pipe that holds at most so many bytes at once), files (made before the run), stdout, stdout_first (its first line
-alone), stdout_json (members of the line of JSON that it is), stderr, stdout_to (a device in place of a pipe), stdout_limit (standard output is then a file that may have so
-many bytes), out_files (files as they are after the run), verified (a project, and the name of a file with a record, which
-`verify` and the checker in Python of its kind must accept with the verdict that was printed). What is wanted of stdout, stderr and files
-is a text or an input. A word that is not UTF-8 has its bytes as
-Python's os.fsdecode gives them. An input is one of
+A case is one line of JSON with a name, args and exit, and with those of the following that matter:
+  stdin         an input
+  stdin_pieces  standard input is a pipe that holds at most so many bytes at once
+  files         the files that are made before the run
+  stdout        the whole of standard output
+  stdout_first  its first line alone
+  stdout_json   members of the line of JSON that it is
+  stdout_to     a device in place of a pipe
+  stdout_limit  standard output is a file that may have so many bytes
+  stderr        the whole of standard error
+  out_files     files as they are after the run
+  verified      a project, and the name of a file with a record. `verify` and the checker in Python of that kind of
+                record must accept the record with the verdict that was printed
+What is wanted of stdout, stderr and files is a text or an input. A word that is not UTF-8 has its bytes as Python's
+os.fsdecode gives them. An input is one of
   {"text": TEXT}            this text
   {"file": NAME}            a file of inputs/ beside the cases, with "cut": its first so many bytes,
                             with "append": and then this text

@@ -1,0 +1,275 @@
+#!/usr/bin/env python3
+"""tests/documents.py [FOLDER]
+
+Checks the documents against the repository and against the programs in FOLDER. Without FOLDER these are the programs
+that `./psmax` and `./psprove` start.
+
+- Each relative link leads to a file, and to a heading if it names one. If the link's text is the name of a
+  definition, the file has that name.
+- Each file of the repository that a document names is there.
+- Each command of psmax, psprove, plan, make or a script that a document names is there, with its options.
+- Each definition in a ```antt block stands so in a file of specs.
+- The picture of docs/ARCHITECTURE.md has each crate of crates.txt.
+- Each command of a document of SHOWN is run as a user runs it, and prints what stands below it.
+
+A command to run stands after `$ ` in a ```console block, in a manual page between .EX and .EE; further lines of it
+stand after `> `. All blocks of a document run in turn in one folder, which has what a clone has. Two kinds of blocks
+save a file: a ```sh block that begins with `cat > NAME`, and `$ cat NAME` if there is no such file yet. All other
+blocks are only read. Lines of progress, which begin with seconds, are not compared.
+
+Prints each failure, and last 'N passed, M failed'."""
+import functools
+import os
+import pathlib
+import re
+import shlex
+import shutil
+import subprocess
+import sys
+import tempfile
+
+TOP = pathlib.Path(__file__).resolve().parent.parent
+SHOWN = {"README.md", "docs/FORMAT.md", "docs/RECORD.md", "docs/WORKERS.md", "docs/PLANNER.md", "docs/LEMMAS.md",
+         "docs/BUILDING-SITE.md", "docs/psmax.1", "docs/plan.1",
+         "examples/building-site.md", "examples/plant-shutdown.md", "examples/test-bench.md"}
+PARTS = ("examples", "planner", "tests")  # what a command may read, besides the programs
+SKIPPED = {".git", "out", "build", "__pycache__"}
+SECONDS = "60"
+
+LINK = re.compile(r"\[((?:[^\[\]]|\[[^\]]*\])*)\]\(([^)\s]+)\)")
+SPAN = re.compile(r"`([^`\n]+)`")
+FENCE = re.compile(r"^```(\w*)\n(.*?)^```$", re.M | re.S)
+EXAMPLE = re.compile(r"^\.EX\n(.*?)^\.EE$", re.M | re.S)
+COMMAND = re.compile(r"^\$ (.*\n(?:> .*\n)*)", re.M)
+PROGRESS = re.compile(r"^ *\d+\.\d\d s  .*\n", re.M)
+OPTION = re.compile(r"(?<![\w-])--[a-z][a-z-]*")
+SOURCE = re.compile(r"[\w-]+\.(?:py|c|jsonl|antt|rt|toml)")
+
+
+class Counts:
+    def __init__(self):
+        self.passed = self.failed = 0
+
+    def add(self, document, is_right, fault):
+        self.passed, self.failed = self.passed + bool(is_right), self.failed + (not is_right)
+        if not is_right:
+            print(f"FAILED {document.relative_to(TOP)}: {fault}")
+
+
+@functools.cache
+def files():
+    return [path for path in TOP.rglob("*") if path.is_file() and not SKIPPED & set(path.relative_to(TOP).parts)]
+
+
+class Programs:
+    """The programs, and what their help says."""
+
+    def __init__(self, folder):
+        self.paths = {name: str(folder / name) for name in ("psmax", "psprove")}
+        self.paths["plan"] = str(TOP / "planner" / "plan")
+
+    @functools.cache
+    def help(self, *words):
+        """The help of a program or of one of its commands; none if there is no such command."""
+        start = [sys.executable] if words[0] == "plan" else []
+        ran = subprocess.run([*start, self.paths[words[0]], *words[1:], "--help"], stdin=subprocess.DEVNULL,
+                             capture_output=True, text=True)
+        return ran.stdout if ran.returncode == 0 else None
+
+    @functools.cache
+    def options(self):
+        """The options of all commands and scripts."""
+        texts = [path.read_text() for path in files() if path.suffix in (".py", ".rt")]
+        commands = re.findall(r"^ {2,4}([a-z]+)  ", "".join(map(self.help, self.paths)), re.M)
+        texts += [self.help(name, command) or "" for name in self.paths for command in commands]
+        return {"--help", *OPTION.findall("".join(texts))}
+
+    def fault_of(self, words):
+        """What is wrong with a command, as its words; empty if nothing is, and none if it is not of this project."""
+        if not words:
+            return None
+        name = pathlib.PurePath(words[0]).name
+        if name == "python3":
+            return self.fault_of(words[1:])
+        if name == "make" and re.fullmatch(r"[a-z]+", "".join(words[1:2])):
+            return fault_of_target(words[1])
+        if name.endswith(".py"):
+            texts = [path.read_text() for path in files() if f"/{path.relative_to(TOP)}".endswith(f"/{words[0]}")]
+            return missing_options(words, "".join(texts) or None)
+        if name in self.paths and re.fullmatch(r"-*[a-z-]+", "".join(words[1:2])):
+            told = self.help(name) if words[1].startswith("-") else self.help(name, words[1])
+            return missing_options(words, told)
+        return None
+
+
+def fault_of_target(name):
+    is_there = re.search(rf"^(?:[\w/]+ )*{name}(?: [\w/]+)*:", (TOP / "Makefile").read_text(), re.M)
+    return "" if is_there else "no such target"
+
+
+def missing_options(words, text):
+    """What is wrong with the options of a command that this text describes; with none there is no such command."""
+    missing = sorted(set(OPTION.findall(" ".join(words))) - {"--help", *OPTION.findall(text or "")})
+    return "no such command" if text is None else f"no option {', '.join(missing)}" if missing else ""
+
+
+@functools.cache
+def anchors(path):
+    """The anchors of a document's headings."""
+    heads = re.findall(r"^#+ (.*)$", FENCE.sub("", path.read_text()), re.M)
+    return {re.sub(r"[^\w\- ]", "", head.lower()).replace(" ", "-") for head in heads}
+
+
+def is_link(document, text, target):
+    name, _, anchor = target.partition("#")
+    path = document.parent / name if name else document
+    if not path.exists() or anchor and anchor not in anchors(path.resolve()):
+        return False
+    named = re.fullmatch(r"`(\w+)`", text) if path.suffix == ".antt" else None
+    return not named or re.search(rf"\b{named[1]}\b", path.read_text())
+
+
+def check_links(document, prose, counts):
+    for text, target in LINK.findall(prose):
+        if not re.match(r"\w+:", target):
+            counts.add(document, is_link(document, text, target), f"link [{text}]({target})")
+
+
+def is_file(span):
+    """Whether the file is there that a span names; none if it names none. NAME in a path stands for any name."""
+    if SOURCE.fullmatch(span):
+        return any(path.name == span for path in files())
+    path = span.removeprefix("./").strip("/")
+    first, *rest = path.split("/")
+    bases = [base for base in (TOP, TOP / "crates") if (base / first).is_dir()]
+    if not re.fullmatch(r"[\w.*/-]+", span) or not rest or not bases or SKIPPED & {first, *rest}:
+        return None
+    return any(next(base.glob(path.replace("NAME", "*")), None) for base in bases)
+
+
+def check_files(document, prose, counts):
+    for span in sorted(set(SPAN.findall(prose))):
+        if (is_there := is_file(span)) is not None:
+            counts.add(document, is_there, f"no file {span}")
+
+
+def check_definitions(document, blocks, counts):
+    texts = [path.read_text() for path in files() if path.suffix == ".antt"]
+    for definition in "\n\n".join(text.strip() for kind, text in blocks if kind == "antt").split("\n\n"):
+        counts.add(document, any(definition in text for text in texts), f"no definition\n{definition}")
+
+
+def check_crates(counts):
+    document = TOP / "docs" / "ARCHITECTURE.md"
+    picture = FENCE.search(document.read_text())[2]
+    for crate in re.findall(r"^\w+", (TOP / "crates.txt").read_text(), re.M):
+        counts.add(document, re.search(rf"\b{crate}\b", picture), f"the picture has no {crate}")
+
+
+def commands_in(line):
+    """The commands of a line of a shell, each as its words."""
+    try:
+        words = shlex.split(line, comments=True)
+    except ValueError:
+        words = line.split()
+    ends = [place for place, word in enumerate(words) if word in ("|", "&&", "||")]
+    return [words[start:end] for start, end in zip([0, *(end + 1 for end in ends)], [*ends, len(words)])]
+
+
+def fault_of_line(line, programs):
+    """What is wrong with a line; empty if nothing is, and none if it names neither commands nor options."""
+    if line.startswith("--"):
+        return ", ".join(sorted(set(OPTION.findall(line)) - programs.options()))
+    faults = [fault for words in commands_in(line) if (fault := programs.fault_of(words)) is not None]
+    return ", ".join(filter(None, faults)) if faults else None
+
+
+def check_commands(document, prose, blocks, programs, counts):
+    shells = "".join(text for kind, text in blocks if kind in ("sh", "console"))
+    options = OPTION.findall(prose) if document.suffix == ".1" else []
+    lines = {*SPAN.findall(prose), *shells.splitlines(), *COMMAND.findall(shells), *options}
+    for line in sorted(lines):
+        if (fault := fault_of_line(line, programs)) is not None:
+            counts.add(document, not fault, f"{line}: {fault}")
+
+
+class Clone:
+    """A folder with what a clone has, and the installed programs on the PATH."""
+
+    def __init__(self, folder, programs):
+        self.folder = pathlib.Path(folder)
+        for name in PARTS:
+            shutil.copytree(TOP / name, self.folder / name, ignore=shutil.ignore_patterns("__pycache__"))
+        bin_folder = self.folder / ".bin"
+        bin_folder.mkdir()
+        (bin_folder / "plan").symlink_to("../planner/plan")
+        for name in ("psmax", "psprove"):
+            (self.folder / name).symlink_to(programs.paths[name])
+            (bin_folder / name).symlink_to(programs.paths[name])
+        self.environment = {name: value for name, value in os.environ.items() if name != "PSMAX"}
+        self.environment["PATH"] = f"{bin_folder}:{pathlib.Path(sys.executable).parent}:/usr/bin:/bin"
+
+    def save(self, command, text):
+        """Saves a file that the document shows, and that is not there yet."""
+        named = re.fullmatch(r"cat ([\w.-]+)\n", command)
+        if named and not (self.folder / named[1]).exists():
+            (self.folder / named[1]).write_text(text)
+
+    def run(self, command):
+        """All that a command prints."""
+        ran = subprocess.run(["timeout", SECONDS, "sh", "-c", command], cwd=self.folder, env=self.environment,
+                             stdin=subprocess.DEVNULL, stdout=subprocess.PIPE, stderr=subprocess.STDOUT)
+        return ran.stdout.decode()
+
+
+def shown_in(blocks):
+    """The commands that blocks show, each with what it prints."""
+    for kind, text in blocks:
+        parts = COMMAND.split(text)[1:] if kind == "console" else []
+        if kind == "sh" and text.startswith("cat > "):
+            parts = [text, ""]
+        yield from zip(parts[::2], parts[1::2])
+
+
+def check_shown(document, blocks, programs, counts):
+    with tempfile.TemporaryDirectory() as folder:
+        clone = Clone(folder, programs)
+        for command, wanted in shown_in(blocks):
+            clone.save(command, wanted)
+            printed = clone.run(command.replace("\n> ", "\n"))
+            is_right = PROGRESS.sub("", printed) == PROGRESS.sub("", wanted)
+            counts.add(document, is_right, f"$ {command}printed\n{printed}and not\n{wanted}")
+
+
+def parts_of(document):
+    """A document's prose, and its blocks, each with its kind."""
+    text = document.read_text()
+    if document.suffix == ".md":
+        return FENCE.sub("", text), FENCE.findall(text)
+    text = text.replace("\\-", "-").replace("\\e", "\\")
+    return EXAMPLE.sub("", text), [("console", example) for example in EXAMPLE.findall(text)]
+
+
+def check(document, programs, counts):
+    prose, blocks = parts_of(document)
+    check_links(document, prose, counts)
+    check_files(document, prose, counts)
+    check_commands(document, prose, blocks, programs, counts)
+    if any(kind == "antt" for kind, _ in blocks):
+        check_definitions(document, blocks, counts)
+    if str(document.relative_to(TOP)) in SHOWN:
+        check_shown(document, blocks, programs, counts)
+
+
+def main(folder):
+    programs, counts = Programs(folder), Counts()
+    for document in sorted(path for path in files() if path.suffix in (".md", ".1")):
+        check(document, programs, counts)
+    check_crates(counts)
+    print(f"{counts.passed} passed, {counts.failed} failed")
+    return counts.failed > 0
+
+
+if len(sys.argv) > 2 or sys.argv[1:2] == ["--help"]:
+    sys.exit(__doc__)
+sys.exit(main(pathlib.Path(sys.argv[1]).resolve() if len(sys.argv) == 2 else TOP))
