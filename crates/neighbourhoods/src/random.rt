@@ -1,0 +1,28 @@
+/// A row of numbers that look random, the linear one of Knuth's MMIX. The same seed gives the same row.
+#[derive(Clone, Copy, Debug)]
+pub(crate) struct Random {
+    number: u64,
+}
+
+impl Random {
+    pub(crate) fn new(seed: u64) -> Random {
+        let mut random = Random { number: seed };
+        random.step();
+        random
+    }
+
+    /// The next number of the row.
+    fn step(&mut self) {
+        self.number = self
+            .number
+            .wrapping_mul(6_364_136_223_846_793_005)
+            .wrapping_add(1_442_695_040_888_963_407);
+    }
+
+    /// A number below another one, 0 where that is 0.
+    pub(crate) fn below(&mut self, count: u32) -> u32 {
+        self.step();
+        let high = self.number.wrapping_shr(33);
+        ((high % u64::from(count.max(1))) & 0xffff_ffff) as u32
+    }
+}

@@ -1,0 +1,286 @@
+use crate::pairs::{Pairs, order_literal};
+use start_trail::{Conflict, Literal, NO_LITERAL, Nogoods, Reason, Rules, Trail};
+use std::alloc::{AllocError, Global};
+use tables::Table;
+
+/// What a literal or a conflict follows from is asked for as of the first so many events.
+#[derive(Clone, Copy)]
+pub struct Asked {
+    pub literal: Literal,
+    pub reason: Reason,
+    pub time: u32,
+}
+
+/// Who is to be found running at a time, beside one activity that may be left out, and above how much.
+#[derive(Clone, Copy)]
+struct Crowd {
+    resource: u32,
+    time: i32,
+    but: Option<u32>,
+    room: i32,
+    before: u32,
+}
+
+/// An activity that must run at a time: the event that made it so, none of the root, and minus its demand.
+#[derive(Clone, Copy, PartialEq, Eq, PartialOrd, Ord)]
+struct Member {
+    age: u32,
+    falling: i32,
+    activity: u32,
+}
+
+/// Finds the literals that an event or a conflict follows from.
+#[derive(Drop)]
+pub struct Explainer {
+    pub literals: Table<Literal>,
+    members: Vec<Member>,
+}
+
+impl Explainer {
+    pub fn new(alloc: Global) -> Explainer {
+        Explainer {
+            literals: Table::new(alloc, NO_LITERAL),
+            members: Vec::new(alloc),
+        }
+    }
+
+    /// Finds those that must run at a time.
+    fn find_members(
+        &mut self,
+        rules: &Rules,
+        trail: &Trail,
+        crowd: Crowd,
+    ) -> Result<(), AllocError> {
+        self.members.clear();
+        let root = trail.root();
+        for user in rules.users_of(crowd.resource) {
+            let activity = user.activity;
+            let (started, runs) = running(rules, activity, crowd.time);
+            if Some(activity) != crowd.but && trail.holds(started) && trail.holds(runs) {
+                let age = trail.event_of(started).max(trail.event_of(runs));
+                if age <= crowd.before {
+                    self.members.push(Member {
+                        age: if age <= root { 0 } else { age },
+                        falling: user.demand.wrapping_neg(),
+                        activity,
+                    })?;
+                }
+            }
+        }
+        self.members.sort_unstable();
+        Ok(())
+    }
+
+    /// How many of the members, the oldest first, need too much; and how much that is.
+    fn count_needed(&self, room: i32) -> (usize, i32) {
+        let mut sum = 0i32;
+        let mut count = 0usize;
+        for member in &self.members {
+            if sum > room {
+                break;
+            }
+            sum = sum.wrapping_sub(member.falling);
+            count = count.wrapping_add(1);
+        }
+        (count, sum)
+    }
+
+    /// Members that need more of a resource at a time than there is room, and of which none can be spared.
+    fn explain_crowd(
+        &mut self,
+        rules: &Rules,
+        trail: &Trail,
+        crowd: Crowd,
+    ) -> Result<(), AllocError> {
+        self.find_members(rules, trail, crowd)?;
+        let (count, mut sum) = self.count_needed(crowd.room);
+        for x in (0..count).rev() {
+            if x < self.members.len() {
+                let member = self.members[x];
+                let without = sum.wrapping_add(member.falling);
+                if without > crowd.room {
+                    sum = without;
+                } else {
+                    let (started, runs) = running(rules, member.activity, crowd.time);
+                    self.literals.push(started)?;
+                    self.literals.push(runs)?;
+                }
+            }
+        }
+        Ok(())
+    }
+
+    /// The literals of a nogood, but the one that was refuted.
+    fn explain_use(
+        &mut self,
+        nogoods: &Nogoods,
+        literal: Literal,
+        nogood: u32,
+    ) -> Result<(), AllocError> {
+        let refuted = literal.reverse();
+        for other in nogoods.literals_of(nogood) {
+            if other.slot != refuted.slot || other.value > refuted.value {
+                self.literals.push(*other)?;
+            }
+        }
+        Ok(())
+    }
+
+    /// Why an activity has no room at a time.
+    fn explain_full(
+        &mut self,
+        rules: &Rules,
+        trail: &Trail,
+        asked: Asked,
+        resource: u32,
+        time: i32,
+    ) -> Result<(), AllocError> {
+        let slot = asked.literal.slot;
+        let activity = slot / 2;
+        let value = if slot % 2 == 0 {
+            time.wrapping_add(1).wrapping_sub(rules.duration(activity))
+        } else {
+            time.wrapping_neg()
+        };
+        self.literals.push(Literal { slot, value })?;
+        let demand = rules.demand(resource, activity);
+        let crowd = Crowd {
+            resource,
+            time,
+            but: Some(activity),
+            room: rules.capacity(resource).wrapping_sub(demand),
+            before: asked.time,
+        };
+        self.explain_crowd(rules, trail, crowd)
+    }
+
+    /// Why a pair runs in an order that moves a slot.
+    fn explain_order(
+        &mut self,
+        rules: &Rules,
+        pairs: &Pairs,
+        literal: Literal,
+        slot: u32,
+    ) -> Result<(), AllocError> {
+        let order = pairs.order_of(slot);
+        let value = literal.value.wrapping_sub(rules.duration(order.a));
+        let from = if literal.slot % 2 == 0 {
+            order.a
+        } else {
+            order.b
+        };
+        let from = from.wrapping_mul(2).wrapping_add(literal.slot % 2);
+        self.literals.push(order_literal(slot))?;
+        self.literals.push(Literal { slot: from, value })
+    }
+
+    /// Why the other order of a pair doesn't fit: its first activity ends after the greatest start of the second.
+    fn explain_lost(
+        &mut self,
+        rules: &Rules,
+        pairs: &Pairs,
+        trail: &Trail,
+        asked: Asked,
+    ) -> Result<(), AllocError> {
+        let order = pairs.order_of(asked.literal.slot ^ 1);
+        let earliest = Literal::at_least(order.a, 0);
+        let value = trail.value_at(earliest.slot, asked.time);
+        let end = value.wrapping_add(rules.duration(order.a));
+        self.literals.push(Literal { value, ..earliest })?;
+        self.literals
+            .push(Literal::at_most(order.b, end.wrapping_sub(1)))
+    }
+
+    /// The literals that a literal follows from, after those that were found before.
+    pub fn explain(
+        &mut self,
+        rules: &Rules,
+        pairs: &Pairs,
+        trail: &Trail,
+        nogoods: &mut Nogoods,
+        asked: Asked,
+    ) -> Result<(), AllocError> {
+        match asked.reason {
+            Reason::Given | Reason::Decision => Ok(()),
+            Reason::Arc { from, weight } => self.literals.push(Literal {
+                slot: from,
+                value: asked.literal.value.wrapping_sub(weight),
+            }),
+            Reason::Order { slot } => self.explain_order(rules, pairs, asked.literal, slot),
+            Reason::Lost => self.explain_lost(rules, pairs, trail, asked),
+            Reason::Use { nogood } => {
+                nogoods.raise(nogood);
+                self.explain_use(nogoods, asked.literal, nogood)
+            }
+            Reason::Full { resource, time } => self.explain_full(
+                rules, trail, asked, resource, time,
+            ),
+        }
+    }
+
+    /// The literals that a forced literal follows from, and one that contradicts it; both as weak as is needed.
+    fn explain_forced(
+        &mut self,
+        rules: &Rules,
+        pairs: &Pairs,
+        trail: &Trail,
+        nogoods: &mut Nogoods,
+        forced: Asked,
+    ) -> Result<(), AllocError> {
+        let slot = forced.literal.slot;
+        let enough = 1i32.wrapping_sub(trail.value(slot ^ 1));
+        let literal = Literal {
+            slot,
+            value: forced.literal.value.min(enough),
+        };
+        self.literals.push(literal.reverse())?;
+        self.explain(rules, pairs, trail, nogoods, Asked { literal, ..forced })
+    }
+
+    /// The literals that contradict each other in a conflict.
+    pub fn explain_conflict(
+        &mut self,
+        rules: &Rules,
+        pairs: &Pairs,
+        trail: &Trail,
+        nogoods: &mut Nogoods,
+        conflict: Conflict,
+    ) -> Result<(), AllocError> {
+        let time = trail.now();
+        self.literals.clear();
+        match conflict {
+            Conflict::Forced { literal, reason } => {
+                let forced = Asked {
+                    literal,
+                    reason,
+                    time,
+                };
+                self.explain_forced(rules, pairs, trail, nogoods, forced)
+            }
+            Conflict::Overload { resource, time: at } => {
+                let crowd = Crowd {
+                    resource,
+                    time: at,
+                    but: None,
+                    room: rules.capacity(resource),
+                    before: time,
+                };
+                self.explain_crowd(rules, trail, crowd)
+            }
+            Conflict::Nogood { nogood } => {
+                nogoods.raise(nogood);
+                for literal in nogoods.literals_of(nogood) {
+                    self.literals.push(*literal)?;
+                }
+                Ok(())
+            }
+        }
+    }
+}
+
+/// The literals that an activity has started by a time, and still runs then.
+fn running(rules: &Rules, activity: u32, time: i32) -> (Literal, Literal) {
+    let least = time.wrapping_add(1).wrapping_sub(rules.duration(activity));
+    let started = Literal::at_least(activity, least);
+    (started, Literal::at_most(activity, time))
+}

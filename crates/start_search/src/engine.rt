@@ -1,0 +1,377 @@
+use crate::branching::Brancher;
+use crate::incumbent::Incumbent;
+use crate::learning::Learner;
+use crate::options::{Counts, Limits, State};
+use start_propagators::{Pair, Propagators};
+use start_trail::{Arcs, Conflict, Literal, Nogoods, Reason, Rules, Stop, Trail};
+use std::alloc::{AllocError, Global};
+use tables::Table;
+
+/// How many conflicts the first restarts are apart.
+const LUBY_UNIT: u64 = 100;
+
+/// How many nogoods are kept at most, at first.
+const FIRST_NOGOODS: u32 = 6_000;
+
+/// What the search does next.
+#[derive(Clone, Copy)]
+enum Next {
+    /// It looks at all, at the root.
+    Begin,
+    /// It learns from a conflict.
+    Learn(Conflict),
+    /// It propagates and decides.
+    Decide,
+}
+
+/// When the search begins anew at the root, how many nogoods it keeps, and how many bytes it may take.
+#[derive(Clone, Copy)]
+struct Pace {
+    since_restart: u64,
+    nogoods: u32,
+    memory: u64,
+}
+
+/// The state of a search. The rules of its project stand beside it, since many searches share them.
+#[derive(Drop)]
+pub struct Engine {
+    trail: Trail,
+    nogoods: Nogoods,
+    propagators: Propagators,
+    learner: Learner,
+    brancher: Brancher,
+    pub incumbent: Incumbent,
+    next: Next,
+    pub counts: Counts,
+    pub state: State,
+    pace: Pace,
+}
+
+/// The numbers 1 1 2 1 1 2 4 .. of Luby, Sinclair and Zuckerman (1993).
+fn luby(place: u64) -> u64 {
+    let mut i = place;
+    for _ in 0..64 {
+        let power = 1u64.wrapping_shl(63u32.wrapping_sub(i.leading_zeros()));
+        if i.wrapping_add(1) == power.wrapping_mul(2) {
+            return power;
+        }
+        i = i.wrapping_sub(power.wrapping_sub(1));
+    }
+    1
+}
+
+/// The values of all slots, where a schedule is to end before a ceiling and so many pairs have no order yet.
+fn first_values(
+    alloc: Global,
+    rules: &Rules,
+    ceiling: i32,
+    pairs: usize,
+) -> Result<Table<i32>, AllocError> {
+    let mut values = Table::new(alloc, 0);
+    for activity in 0..rules.activity_count() {
+        let duration = rules.duration(activity);
+        let latest = ceiling.wrapping_sub(1).wrapping_sub(duration);
+        values.push(rules.least_start(activity))?;
+        values.push(latest.wrapping_neg())?;
+    }
+    values.set(1, 0);
+    push_orders(&mut values, pairs)?;
+    Ok(values)
+}
+
+/// The values of the slots of so many pairs that have no order yet.
+fn push_orders(values: &mut Table<i32>, pairs: usize) -> Result<(), AllocError> {
+    for _ in 0..pairs {
+        values.push(0)?;
+        values.push(-1)?;
+    }
+    Ok(())
+}
+
+/// Whether each variable has a value.
+fn have_room(rules: &Rules, trail: &Trail) -> bool {
+    for activity in 0..rules.activity_count() {
+        if trail.least(activity) > trail.greatest(activity) {
+            return false;
+        }
+    }
+    rules.may_have_schedule()
+}
+
+impl Engine {
+    /// A search for schedules that end before a ceiling and meet more arcs, which are laid out. The orders of the
+    /// pairs, which are rivals, are variables. It may take so many bytes.
+    pub fn new(
+        alloc: Global,
+        rules: &Rules,
+        ceiling: i32,
+        arcs: Arcs,
+        pairs: &[Pair],
+        memory: u64,
+    ) -> Result<Engine, AllocError> {
+        let values = first_values(alloc, rules, ceiling, pairs.len())?;
+        let slots = values.len();
+        let trail = Trail::new(alloc, values)?;
+        let state = if have_room(rules, &trail) {
+            State::Going
+        } else {
+            State::Ended
+        };
+        let propagators = Propagators::new(alloc, rules, arcs, pairs, ceiling)?;
+        let count = propagators.pairs.count();
+        Ok(Engine {
+            trail,
+            nogoods: Nogoods::new(alloc, slots)?,
+            propagators,
+            learner: Learner::new(alloc, slots)?,
+            brancher: Brancher::new(alloc, rules.activity_count(), count)?,
+            incumbent: Incumbent::new(alloc, rules.unit(), ceiling),
+            next: Next::Begin,
+            counts: Counts::NOTHING,
+            state,
+            pace: Pace {
+                since_restart: 0,
+                nogoods: FIRST_NOGOODS,
+                memory,
+            },
+        })
+    }
+
+    /// Whether an activity can end before another one starts.
+    fn fits(&self, rules: &Rules, a: u32, b: u32) -> bool {
+        let end = self.trail.least(a).wrapping_add(rules.duration(a));
+        end <= self.trail.greatest(b)
+    }
+
+    /// Whether two activities are rivals that can run in either order.
+    pub fn is_open(&self, rules: &Rules, a: u32, b: u32) -> bool {
+        rules.are_rivals(a, b) && self.fits(rules, a, b) && self.fits(rules, b, a)
+    }
+
+    /// What is known of the least start of an activity at the root.
+    pub fn root_start(&self, activity: u32) -> i32 {
+        let slot = activity.wrapping_mul(2);
+        self.trail.value_at(slot, self.trail.root())
+    }
+
+    /// The variables of events that are taken back are open again.
+    fn release(&mut self, level: u32) -> Result<(), AllocError> {
+        for number in (self.trail.before_level(level)..self.trail.now()).rev() {
+            self.brancher.release(&self.trail, number.wrapping_add(1))?;
+        }
+        Ok(())
+    }
+
+    /// Goes back to a level, where all was looked at.
+    fn go_back(&mut self, rules: &Rules, level: u32) -> Result<(), AllocError> {
+        if level >= self.trail.level() {
+            return Ok(());
+        }
+        self.release(level)?;
+        self.trail.go_back(level);
+        self.propagators.go_back(rules, &self.trail, level)
+    }
+
+    /// A schedule is to end before the ceiling: that is looked at next, from the root.
+    fn lower_deadline(&mut self, rules: &Rules) -> Result<(), AllocError> {
+        self.go_back(rules, 0)?;
+        let last = self.incumbent.ceiling().wrapping_sub(1);
+        let deadline = Literal::at_most(rules.end(), last);
+        match self.trail.force(deadline, Reason::Given) {
+            Ok(()) => {}
+            Err(Stop::Conflict(_)) => self.state = State::Ended,
+            Err(Stop::Memory) => return Err(AllocError),
+        }
+        Ok(())
+    }
+
+    /// Takes a schedule that may be from elsewhere. One that isn't shorter than the best is left.
+    pub fn lower_ceiling(
+        &mut self,
+        rules: &Rules,
+        starts: &[i64],
+        makespan: i64,
+    ) -> Result<(), AllocError> {
+        if self.state != State::Going || !self.incumbent.take(starts, makespan)? {
+            return Ok(());
+        }
+        self.lower_deadline(rules)?;
+        if self.state == State::Going && !matches!(self.next, Next::Begin) {
+            self.next = Next::Decide;
+        }
+        Ok(())
+    }
+
+    /// Takes the least starts, which are a schedule, as the best one.
+    fn improve(&mut self, alloc: Global, rules: &Rules) -> Result<(), AllocError> {
+        let mut starts = Vec::new(alloc);
+        for activity in 0..rules.activity_count() {
+            let start = self.incumbent.periods(self.trail.least(activity));
+            starts.push(start)?;
+        }
+        let makespan = self.incumbent.periods(self.trail.least(rules.end()));
+        self.incumbent.take(&starts, makespan)?;
+        self.counts.schedules = self.counts.schedules.wrapping_add(1);
+        self.pace.since_restart = 0;
+        self.lower_deadline(rules)
+    }
+
+    /// Whether it is time to begin anew.
+    fn is_restart_due(&self) -> bool {
+        let most = luby(self.counts.restarts.wrapping_add(1)).wrapping_mul(LUBY_UNIT);
+        self.pace.since_restart >= most
+    }
+
+    /// Begins anew at the root, with fewer nogoods where there are too many.
+    fn restart(&mut self, alloc: Global, rules: &Rules) -> Result<(), AllocError> {
+        self.pace.since_restart = 0;
+        self.counts.restarts = self.counts.restarts.wrapping_add(1);
+        self.go_back(rules, 0)?;
+        if self.nogoods.count() > self.pace.nogoods {
+            self.nogoods.reduce(alloc)?;
+            self.pace.nogoods = self.pace.nogoods.wrapping_add(self.pace.nogoods / 10);
+        }
+        Ok(())
+    }
+
+    /// Tries a literal.
+    fn decide(&mut self, literal: Literal) -> Result<(), AllocError> {
+        self.counts.decisions = self.counts.decisions.wrapping_add(1);
+        self.propagators.begin_level()?;
+        self.trail.decide(literal)
+    }
+
+    /// All that follows, and then a decision.
+    fn go_on(&mut self, alloc: Global, rules: &Rules) -> Result<(), Stop> {
+        self.propagators
+            .propagate(rules, &mut self.trail, &mut self.nogoods)?;
+        if self.is_restart_due() {
+            self.restart(alloc, rules)?;
+            return Ok(());
+        }
+        let by_time = self.counts.restarts % 2 == 0;
+        let choice = self.brancher.choose(
+            rules,
+            &self.trail,
+            &self.propagators.pairs,
+            &self.incumbent,
+            by_time,
+        );
+        match choice {
+            Some(literal) => self.decide(literal)?,
+            None => self.improve(alloc, rules)?,
+        }
+        Ok(())
+    }
+
+    /// Learns from a conflict and goes back.
+    fn learn(&mut self, rules: &Rules, conflict: Conflict) -> Result<(), Stop> {
+        self.next = Next::Decide;
+        self.counts.conflicts = self.counts.conflicts.wrapping_add(1);
+        self.pace.since_restart = self.pace.since_restart.wrapping_add(1);
+        self.learner.analyse(
+            rules,
+            &self.propagators.pairs,
+            &self.trail,
+            &mut self.nogoods,
+            &mut self.brancher.weights,
+            conflict,
+        )?;
+        if self.learner.literals.is_empty() {
+            self.state = State::Ended;
+            return Ok(());
+        }
+        let back = self.learner.back;
+        self.go_back(rules, back)?;
+        let first = self.learner.literals.get(0);
+        let mut reason = Reason::Given;
+        if self.learner.literals.len() > 1 {
+            let nogood = self
+                .nogoods
+                .push(self.learner.literals.all(), self.learner.glue)?;
+            reason = Reason::Use { nogood };
+        }
+        self.trail.force(first.reverse(), reason)
+    }
+
+    /// How many bytes the search takes.
+    pub fn bytes(&self) -> u64 {
+        self.trail
+            .bytes()
+            .wrapping_add(self.nogoods.bytes())
+            .wrapping_add(self.propagators.bytes())
+    }
+
+    /// Makes room where the search takes too much, and stops where that doesn't help.
+    fn make_room(&mut self, alloc: Global, rules: &Rules) -> Result<(), AllocError> {
+        if self.bytes() <= self.pace.memory {
+            return Ok(());
+        }
+        self.go_back(rules, 0)?;
+        self.nogoods.reduce(alloc)?;
+        if self.bytes() > (self.pace.memory / 4).wrapping_mul(3) {
+            self.state = State::Full;
+        }
+        Ok(())
+    }
+
+    /// One step of the search.
+    fn step(&mut self, alloc: Global, rules: &Rules) -> Result<(), Stop> {
+        match self.next {
+            Next::Begin => {
+                self.next = Next::Decide;
+                self.propagators
+                    .begin(rules, &mut self.trail, &mut self.nogoods)
+            }
+            Next::Learn(conflict) => self.learn(rules, conflict),
+            Next::Decide => {
+                self.make_room(alloc, rules)?;
+                self.go_on(alloc, rules)
+            }
+        }
+    }
+
+    /// Whether one of the limits is reached.
+    fn is_at(&self, limits: Limits) -> bool {
+        self.state != State::Going
+            || self.counts.conflicts >= limits.conflicts
+            || self.counts.decisions >= limits.decisions
+    }
+
+    /// Searches until it ends, or for so many conflicts or decisions. Where memory runs out, it can't go on.
+    pub fn advance(&mut self, alloc: Global, rules: &Rules, limits: Limits) -> State {
+        let last = Limits {
+            conflicts: self.counts.conflicts.saturating_add(limits.conflicts),
+            decisions: self.counts.decisions.saturating_add(limits.decisions),
+            ..limits
+        };
+        let schedules = self.counts.schedules;
+        for _ in 0..u64::MAX {
+            if self.is_at(last)
+                || (limits.stops_at_schedule && self.counts.schedules != schedules)
+            {
+                break;
+            }
+            match self.step(alloc, rules) {
+                Ok(()) => {}
+                Err(Stop::Conflict(conflict)) => self.next = Next::Learn(conflict),
+                Err(Stop::Memory) => self.state = State::Full,
+            }
+        }
+        self.state
+    }
+
+    /// What follows at the root, before anything is tried.
+    pub fn begin(&mut self, rules: &Rules) -> State {
+        if self.state == State::Going {
+            self.next = Next::Decide;
+            let trail = &mut self.trail;
+            match self.propagators.begin(rules, trail, &mut self.nogoods) {
+                Ok(()) => {}
+                Err(Stop::Conflict(_)) => self.state = State::Ended,
+                Err(Stop::Memory) => self.state = State::Full,
+            }
+        }
+        self.state
+    }
+}

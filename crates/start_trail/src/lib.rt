@@ -1,0 +1,22 @@
+//! Starts of activities between bounds, with the events that moved these bounds, and nogoods that are watched.
+//!
+//! There is no matrix of all pairs, so a step costs what it changes. Each variable has two slots: the least value of an
+//! activity's start, and minus the greatest one. So each event makes the value of a slot greater. After the activities
+//! come the orders of pairs, which are 0 or 1.
+#![tactic(auto)]
+
+mod arcs;
+mod literal;
+mod making;
+mod nogoods;
+mod reason;
+mod rules;
+mod trail;
+mod watching;
+
+pub use arcs::{Arcs, Edge};
+pub use literal::{Literal, NO_LITERAL, greatest_slot, least_slot, variable_of};
+pub use nogoods::{Nogood, Nogoods};
+pub use reason::{Conflict, Reason, Stop};
+pub use rules::{MAX_HORIZON, Rules, Use};
+pub use trail::{Event, Trail};
