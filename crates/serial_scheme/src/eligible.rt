@@ -4,9 +4,6 @@ use crate::precedence::Precedence;
 use std::alloc::{AllocError, Global};
 use tables::{Table, narrow};
 
-/// The start of an activity that isn't placed.
-pub(crate) const NOT_PLACED: i64 = -1;
-
 /// The activities that can be placed next, since those before them are placed; and the priority of each.
 #[derive(Drop)]
 pub(crate) struct Eligible {
@@ -72,11 +69,11 @@ impl Eligible {
         }
     }
 
-    /// Finds those that are eligible, by the starts.
+    /// Finds those that are eligible; a start below 0 is none.
     pub(crate) fn collect(&mut self, starts: &[i64]) -> Result<(), AllocError> {
         self.list.clear();
         for activity in 0..starts.len() {
-            if starts[activity] == NOT_PLACED && self.waits.get(activity) == 0 {
+            if starts[activity] < 0 && self.waits.get(activity) == 0 {
                 self.list.push(narrow(activity))?;
             }
         }

@@ -1,10 +1,9 @@
 use crate::chance::Chance;
-use crate::eligible::{Eligible, NOT_PLACED};
+use crate::eligible::Eligible;
 use crate::profile::Profile;
 use crate::rules::Rules;
 use crate::windows::{FAR, Windows};
 use std::alloc::{AllocError, Global};
-use tables::Table;
 
 /// How far a pass goes.
 #[derive(Clone, Copy)]
@@ -18,47 +17,43 @@ pub(crate) struct Limits {
 /// A partial schedule: some activities are placed, and the others follow by priority.
 #[derive(Drop)]
 pub(crate) struct Partial {
-    starts: Table<i64>,
-    placed: usize,
     windows: Windows,
     profile: Profile,
     eligible: Eligible,
+    /// How many activities are placed.
+    placed: usize,
 }
 
 impl Partial {
     pub(crate) fn new(alloc: Global, rules: &Rules) -> Result<Partial, AllocError> {
         let count = rules.paths.activity_count();
         Ok(Partial {
-            starts: Table::filled(alloc, count, NOT_PLACED, NOT_PLACED)?,
-            placed: 0,
             windows: Windows::new(alloc, count)?,
             profile: Profile::new(alloc, rules.needs.resource_count()),
             eligible: Eligible::new(alloc, count)?,
+            placed: 0,
         })
     }
 
-    /// The start of each activity.
+    /// The start of each activity, below 0 where it isn't placed.
     pub(crate) fn starts(&self) -> &[i64] {
-        self.starts.all()
+        self.windows.starts()
     }
 
     /// Only the start is placed.
     fn begin(&mut self, rules: &Rules) -> Result<(), AllocError> {
-        self.starts.fill(NOT_PLACED);
-        self.starts.set(0, 0);
         self.placed = 1;
-        self.windows.begin(&rules.paths);
+        self.windows.begin();
         self.profile.clear()?;
         self.eligible.begin(&rules.precedence);
         self.eligible.note_placed(&rules.precedence, 0)?;
-        self.eligible.collect(self.starts.all())
+        self.eligible.collect(self.windows.starts())
     }
 
     /// Places an activity at a time.
     fn place(&mut self, rules: &Rules, activity: usize, time: i64) -> Result<(), AllocError> {
-        self.starts.set(activity, time);
         self.placed = self.placed.wrapping_add(1);
-        self.windows.place(&rules.paths, activity, time);
+        self.windows.place(activity, time);
         let end = time.wrapping_add(rules.needs.duration(activity));
         self.profile.take(rules.needs.of(activity), time, end)?;
         self.eligible.note_placed(&rules.precedence, activity)
@@ -69,33 +64,39 @@ impl Partial {
         let walks = rules.paths.from(activity);
         let mut first = FAR;
         for other in 1..walks.len() {
-            let start = self.starts.get(other);
             let least = time.wrapping_add(walks[other]);
-            if start != NOT_PLACED && start < least {
-                first = first.min(start);
-                self.windows.raise_floor(&rules.paths, other, least);
+            if let Some(start) = self.windows.start(other) {
+                if start < least {
+                    first = first.min(start);
+                    self.windows.raise_floor(&rules.paths, other, least);
+                }
             }
         }
         first
     }
 
-    /// Takes out what is placed at a time or later.
-    fn remove_from(&mut self, rules: &Rules, time: i64) {
-        for activity in 1..self.starts.len() {
-            if self.starts.get(activity) >= time {
-                self.starts.set(activity, NOT_PLACED);
-                self.placed = self.placed.wrapping_sub(1);
-                self.eligible.note_removed(&rules.precedence, activity);
+    /// Takes out what is placed at a time or later. Gives whether the rest can stay there.
+    fn remove_from(&mut self, rules: &Rules, time: i64) -> bool {
+        let mut can_stay = true;
+        for activity in 1..self.windows.starts().len() {
+            if let Some(start) = self.windows.start(activity) {
+                if start >= time {
+                    self.placed = self.placed.wrapping_sub(1);
+                    self.windows.remove(activity);
+                    self.eligible.note_removed(&rules.precedence, activity);
+                } else if start < self.windows.floor(activity) {
+                    can_stay = false;
+                }
             }
         }
+        can_stay
     }
 
-    /// Places again what is left, all of which starts before a time.
-    fn place_again(&mut self, rules: &Rules, time: i64) -> Result<(), AllocError> {
-        for activity in 1..self.starts.len() {
-            let start = self.starts.get(activity);
-            if start != NOT_PLACED {
-                self.windows.place(&rules.paths, activity, start);
+    /// The profile has only what is placed; all of it starts before a time.
+    fn restore_profile(&mut self, rules: &Rules, time: i64) -> Result<(), AllocError> {
+        self.profile.cut(time)?;
+        for activity in 1..self.windows.starts().len() {
+            if let Some(start) = self.windows.start(activity) {
                 let end = start.wrapping_add(rules.needs.duration(activity));
                 if end > time {
                     self.profile.take(rules.needs.of(activity), time, end)?;
@@ -103,17 +104,6 @@ impl Partial {
             }
         }
         Ok(())
-    }
-
-    /// Whether nothing that is placed has to go later.
-    fn is_late_enough(&self) -> bool {
-        for activity in 1..self.starts.len() {
-            let start = self.starts.get(activity);
-            if start != NOT_PLACED && self.windows.head(activity) > start {
-                return false;
-            }
-        }
-        true
     }
 
     /// Unschedules what is too early for an activity that starts at a time, and all that starts no earlier. Whether the rest
@@ -125,12 +115,12 @@ impl Partial {
         time: i64,
     ) -> Result<bool, AllocError> {
         let first = self.raise_floors(rules, activity, time);
-        self.remove_from(rules, first);
-        self.eligible.collect(self.starts.all())?;
-        self.windows.remove_all();
-        self.profile.cut(first)?;
-        self.place_again(rules, first)?;
-        Ok(self.is_late_enough())
+        if !self.remove_from(rules, first) {
+            return Ok(false);
+        }
+        self.restore_profile(rules, first)?;
+        self.eligible.collect(self.windows.starts())?;
+        Ok(true)
     }
 
     /// Tries to place an activity. False where the pass is to end.
@@ -140,18 +130,19 @@ impl Partial {
         activity: usize,
         limits: &mut Limits,
     ) -> Result<bool, AllocError> {
-        let needs = rules.needs.of(activity);
-        let head = self.windows.head(activity);
+        let head = self.windows.head(&rules.paths, activity);
         let duration = rules.needs.duration(activity);
-        let time = self.profile.first_room(needs, head, duration);
+        let time = self
+            .profile
+            .first_room(rules.needs.of(activity), head, duration);
         if time.wrapping_add(rules.paths.tail(activity)) >= limits.ceiling {
             return Ok(false);
         }
-        if time <= self.windows.latest(activity) {
+        if time <= self.windows.latest(&rules.paths, activity) {
             self.place(rules, activity, time)?;
             return Ok(true);
         }
-        if limits.repairs == 0 || self.windows.deadline(activity) < time {
+        if limits.repairs == 0 || rules.paths.deadline(activity) < time {
             return Ok(false);
         }
         limits.repairs = limits.repairs.wrapping_sub(1);

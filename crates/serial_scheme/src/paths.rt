@@ -83,6 +83,11 @@ impl Paths {
         self.weight(activity, self.end())
     }
 
+    /// The latest start of an activity by the lags alone, far off where there is none.
+    pub(crate) fn deadline(&self, activity: usize) -> i64 {
+        self.weight(activity, 0).wrapping_neg()
+    }
+
     /// How long a schedule takes at least by the lags alone.
     pub(crate) fn critical(&self) -> i64 {
         self.tail(0)

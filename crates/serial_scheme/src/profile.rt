@@ -110,16 +110,24 @@ impl Profile {
         self.begun_by(time).saturating_sub(1)
     }
 
+    /// One more piece at a place.
+    fn insert(&mut self, at: usize, piece: Piece) -> Result<(), AllocError> {
+        if at <= self.pieces.len() {
+            self.pieces.insert(at, piece)?;
+        }
+        Ok(())
+    }
+
     /// Makes a piece begin at a time from 0 on; gives its place.
     fn split(&mut self, time: i64) -> Result<usize, AllocError> {
         let at = self.piece_at(time);
         let piece = self.piece(at);
-        let next = at.wrapping_add(1);
-        if piece.from >= time || next > self.pieces.len() {
+        if piece.from >= time {
             return Ok(at);
         }
+        let next = at.wrapping_add(1);
         let row = self.copy_row(piece.row)?;
-        self.pieces.insert(next, Piece { from: time, row })?;
+        self.insert(next, Piece { from: time, row })?;
         Ok(next)
     }
 
