@@ -12,6 +12,8 @@ pub(crate) struct Limits {
     pub(crate) ceiling: i64,
     /// How often activities are unscheduled at most.
     pub(crate) repairs: u64,
+    /// How often an activity is tried to be placed at most.
+    pub(crate) steps: u64,
 }
 
 /// A partial schedule: some activities are placed, and the others follow by priority.
@@ -160,7 +162,7 @@ impl Partial {
         let mut limits = limits;
         self.eligible.draw_keys(&rules.paths, chance, noise);
         self.begin(rules)?;
-        for _ in 0..u64::MAX {
+        for _ in 0..limits.steps {
             let Some(activity) = self.eligible.take() else {
                 break;
             };

@@ -9,12 +9,17 @@ use std::alloc::{AllocError, Global};
 /// The noise of a pass after the first one, in thousandths of the longest path.
 const NOISES: [i64; 5] = [20, 50, 100, 200, 400];
 
+/// How often a pass tries to place an activity at most, for each activity. Passes that succeed need far fewer tries, and a pass
+/// of 1,000 activities takes a second at most.
+const STEPS: u64 = 200;
+
 /// Whether more passes help.
 #[derive(Clone, Copy, PartialEq, Eq, Debug)]
 pub enum State {
     /// They may.
     Going,
-    /// They don't: the best schedule takes as long as the longest path, or the rules contradict each other.
+    /// They don't: the best schedule takes as long as the longest path, or the rules contradict each other: the arcs close a
+    /// walk of positive weight, or an activity needs more than there is.
     Ended,
 }
 
@@ -30,7 +35,7 @@ struct Engine {
     ceiling: i64,
 }
 
-/// A serial scheme for a project. Where no activity, or no schedule, can meet the project's rules, it finds nothing.
+/// A serial scheme for a project. Where the rules contradict each other there is nothing to find.
 #[derive(Drop)]
 pub struct Scheme {
     engine: Option<Engine>,
@@ -69,6 +74,7 @@ impl Engine {
         Limits {
             ceiling: self.ceiling,
             repairs,
+            steps: count.wrapping_mul(STEPS),
         }
     }
 
