@@ -1,0 +1,222 @@
+#!/usr/bin/env python3
+"""bench/large.py [--seconds S] [--psmax FILE] [--plan FILE] [--gecode FILE] [--z3 FILE] [--only WORD]
+
+Prints a table of what programs find for generated projects of 100 to 1,000 activities: twelve of bench/networks.py, and two of
+bench/shutdown.py. `--only` takes those alone whose name has the word.
+
+A program is the one that is named, else that of the PATH; it is left out where there is none: `psmax solve`, `plan solve`,
+Gecode's `fzn-gecode` and `z3`. Each gets S seconds of processor time a project, 60 if not said, one project after the other.
+A cell says the makespan of the best schedule, the bound if the program tells one, the seconds of processor time up to the
+first schedule, in hundredths, and the peak memory in MiB. Each best schedule is checked here.
+
+psmax answers only when it ends, so it runs with more nodes each time, up to some that take about S seconds; its first
+schedule is that of the first run that has one. plan calls the psmax that it finds by itself. z3 is asked for one shorter
+schedule after the other, of at most 300 activities."""
+import argparse
+import pathlib
+import re
+import shutil
+import sys
+import tempfile
+
+import models
+import networks
+import projects
+import shutdown
+import watching
+
+SIZES = 100, 200, 500, 1000
+# Resource strengths, and for how many activities in a hundred a greatest lag leads back: fewer where hardly two run at once.
+STRENGTHS = (0, 1), (0.05, 5), (0.15, 5)
+SHUTDOWNS = 300, 1000
+
+MOST_NODES = 1_000_000_000
+GROWTH = 10  # a run of psmax gets so many times the nodes of the one before, at most
+ENOUGH = 0.8  # of the seconds, which the last one takes at least
+MOST_FOR_Z3 = 300
+ENDLESS = "1000000"  # seconds, for plan, which is asked to end
+
+
+class Found:
+    """What is known of a project: the starts, the bound, the seconds up to the first schedule, and the memory in MiB."""
+
+    def __init__(self):
+        self.starts = self.bound = self.first = None
+        self.none, self.memory = False, 0.0
+
+    def begin(self, seconds):
+        if self.first is None:
+            self.first = seconds
+
+    def cell(self):
+        if self.none:
+            return f"no schedule, {self.memory:.0f} MiB"
+        told = ["?" if self.starts is None else str(self.starts[-1])]
+        if self.bound is not None:
+            told.append("optimal" if self.starts and self.bound == self.starts[-1] else f"bound {self.bound}")
+        if self.first is not None:
+            told.append(f"{self.first:.2f} s")
+        return ", ".join([*told, f"{self.memory:.0f} MiB"])
+
+
+def take_answer(found, lines):
+    """Takes an answer in the words of psmax."""
+    starts = []
+    for line in lines:
+        words = line.split()
+        if line == "no schedule":
+            found.none = True
+        elif words[:1] == ["optimal"]:
+            found.bound = int(words[1])
+        elif words[:1] in (["feasible"], ["unknown"]):
+            found.bound = int(words[-1])
+        elif re.fullmatch(r"\d+ \d+", line):
+            starts.append(int(words[1]))
+    found.starts = starts or None
+
+
+def psmax(program, source, project, seconds):
+    found, nodes = Found(), 1
+    while True:
+        ran = watching.watch([program, "solve", "--nodes", str(nodes)], source, 2 * seconds)
+        found.memory = max(found.memory, ran.memory)
+        if ran.stopped:
+            return found
+        take_answer(found, [line for _, line in ran.lines])
+        if found.starts:
+            found.begin(ran.seconds)
+        settled = found.none or (found.starts and found.bound == found.starts[-1])
+        if settled or ran.seconds >= ENOUGH * seconds or nodes == MOST_NODES:
+            return found
+        nodes = min(MOST_NODES, int(nodes * min(GROWTH, seconds / max(ran.seconds, 0.01))) + 1)
+
+
+def plan(program, source, project, seconds):
+    found = Found()
+    ran = watching.watch([program, "solve", source, "--seconds", ENDLESS], source, seconds)
+    found.memory = ran.memory
+    for when, line in ran.lines:
+        if re.search(r"\d s +\d+ by check: ", line):
+            found.begin(when)
+    take_answer(found, [line for _, line in ran.lines])
+    return found
+
+
+def gecode(program, source, project, seconds):
+    found = Found()
+    with tempfile.NamedTemporaryFile("w", suffix=".fzn") as model:
+        model.write(models.flatzinc(*project))
+        model.flush()
+        ran = watching.watch([program, "-a", model.name], source, seconds)
+    found.memory = ran.memory
+    for when, line in ran.lines:
+        if line.startswith("starts = "):
+            found.begin(when)
+            found.starts = list(map(int, re.search(r"\[(.*)\]", line)[1].split(",")))
+        elif line == "=" * 10:
+            found.bound = found.starts[-1]
+        elif line == "=====UNSATISFIABLE=====":
+            found.none = True
+    return found
+
+
+def z3(program, source, project, seconds):
+    found = Found()
+    names = [f"s{i}" for i in range(len(project[0]))]
+    if len(names) - 2 > MOST_FOR_Z3:
+        return None
+
+    def reply(line):
+        if line == "sat":
+            return f"(get-value ({' '.join(names)}))(echo \"told\")\n".encode()
+        if line == "told":
+            values = " ".join(told)
+            told.clear()
+            found.starts = [int(value) for value in re.findall(r"\(s\d+ (\d+)\)", values)]
+            return f"(assert (< {names[-1]} {found.starts[-1]}))(check-sat)\n".encode()
+        told.append(line)
+        return None if line in ("unsat", "unknown") else b""
+
+    told = []
+    with tempfile.NamedTemporaryFile("w", suffix=".smt2") as model:
+        model.write(models.smt(*project))
+        model.flush()
+        ran = watching.watch([program, "-in", "-smt2"], model.name, seconds, reply)
+    found.memory = ran.memory
+    for when, line in ran.lines:
+        if line == "sat":
+            found.begin(when)
+        elif line == "unsat":
+            found.none = found.starts is None
+            found.bound = found.starts and found.starts[-1]
+    return found
+
+
+PROGRAMS = (
+    ("psmax", "psmax solve", psmax, "psmax"),
+    ("plan", "plan solve", plan, "plan"),
+    ("gecode", "Gecode", gecode, "fzn-gecode"),
+    ("z3", "z3", z3, "z3"),
+)
+
+
+def fault(project, starts):
+    """What a schedule breaks, none if it is feasible."""
+    durations, demands, capacities, arcs = project
+    if len(starts) != len(durations) or starts[0]:
+        return "not the starts of the project"
+    for i, j, lag in models.all_arcs(durations, arcs):
+        if starts[j] < starts[i] + lag:
+            return f"lag {i} {j} {lag}"
+    for time in set(starts):
+        running = [i for i, start in enumerate(starts) if start <= time < start + durations[i]]
+        for k, capacity in enumerate(capacities):
+            if sum(demands[i][k] for i in running) > capacity:
+                return f"overload {time} {k}"
+    return None
+
+
+def chosen_projects():
+    for n in SIZES:
+        for strength, loops in STRENGTHS:
+            yield f"network {n}, strength {strength}", networks.project(n, 1, strength, loops=loops)
+    for n in SHUTDOWNS:
+        yield f"shutdown {n}", shutdown.project(n, 1)
+
+
+def row(name, project, programs, seconds):
+    durations, _, _, arcs = project
+    cells = [name]
+    with tempfile.NamedTemporaryFile("w", suffix=".sch") as source:
+        source.write(projects.text(*project))
+        source.flush()
+        for title, run, program in programs:
+            found = run(program, source.name, project, seconds)
+            wrong = found and found.starts and fault(project, found.starts)
+            if wrong:
+                sys.exit(f"{title} has no schedule of {name}: {wrong}")
+            cells.append(found.cell() if found else "")
+    print("| " + " | ".join(cells) + " |", flush=True)
+
+
+def main():
+    parser = argparse.ArgumentParser(description=__doc__, formatter_class=argparse.RawDescriptionHelpFormatter)
+    parser.add_argument("--seconds", type=float, default=60.0)
+    parser.add_argument("--only", default="")
+    for option, title, _, name in PROGRAMS:
+        parser.add_argument(f"--{option}", default=shutil.which(name), help=f"the program of the column {title}")
+    o = parser.parse_args()
+    programs = []
+    for option, title, run, _ in PROGRAMS:
+        named = getattr(o, option)
+        if named:
+            programs.append((title, run, str(pathlib.Path(named).resolve())))
+    print("| Project | " + " | ".join(title for title, _, _ in programs) + " |")
+    print("|---" * (1 + len(programs)) + "|", flush=True)
+    for name, project in chosen_projects():
+        if o.only in name:
+            row(name, project, programs, o.seconds)
+
+
+if __name__ == "__main__":
+    main()
