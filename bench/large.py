@@ -1,17 +1,18 @@
 #!/usr/bin/env python3
 """bench/large.py [--seconds S] [--psmax FILE] [--plan FILE] [--gecode FILE] [--z3 FILE] [--only WORD]
 
-Prints a table of what programs find for generated projects of 100 to 1,000 activities: twelve of bench/networks.py, and two of
-bench/shutdown.py. `--only` takes those alone whose name has the word.
+Prints a table of what programs find for generated projects of 100 to 1,000 activities: twelve of bench/networks.py,
+and two of bench/shutdown.py. `--only` takes those alone whose name has the word.
 
-A program is the one that is named, else that of the PATH; it is left out where there is none: `psmax solve`, `plan solve`,
-Gecode's `fzn-gecode` and `z3`. Each gets S seconds of processor time a project, 60 if not said, one project after the other.
-A cell says the makespan of the best schedule, the bound if the program tells one, the seconds of processor time up to the
-first schedule, in hundredths, and the peak memory in MiB. Each best schedule is checked here.
+A program is the one that is named, else that of the PATH; it is left out where there is none: `psmax solve`, `plan
+solve`, Gecode's `fzn-gecode` and `z3`. Each gets S seconds of processor time a project, 60 if not said, one project
+after the other. A cell says the makespan of the best schedule, the bound if the program tells one, the seconds of
+processor time up to the first schedule, in hundredths, and the peak memory in MiB. Each best schedule is checked
+here.
 
-psmax answers only when it ends, so it runs with more nodes each time, up to some that take about S seconds; its first
-schedule is that of the first run that has one. plan calls the psmax that it finds by itself. z3 is asked for one shorter
-schedule after the other, of at most 300 activities."""
+psmax answers only when it ends, so it runs with more nodes each time, up to some that take about S seconds; its
+first schedule is that of the first run that has one. plan calls the psmax that it finds by itself. z3 is asked for
+one shorter schedule after the other, of at most 300 activities."""
 import argparse
 import pathlib
 import re
@@ -26,7 +27,7 @@ import shutdown
 import watching
 
 SIZES = 100, 200, 500, 1000
-# Resource strengths, and for how many activities in a hundred a greatest lag leads back: fewer where hardly two run at once.
+# Resource strengths, and for how many activities in a hundred a greatest lag leads back.
 STRENGTHS = (0, 1), (0.05, 5), (0.15, 5)
 SHUTDOWNS = 300, 1000
 
@@ -38,7 +39,7 @@ ENDLESS = "1000000"  # seconds, for plan, which is asked to end
 
 
 class Found:
-    """What is known of a project: the starts, the bound, the seconds up to the first schedule, and the memory in MiB."""
+    """What is known: the starts, the bound, the seconds up to the first schedule, and the memory in MiB."""
 
     def __init__(self):
         self.starts = self.bound = self.first = None

@@ -25,8 +25,8 @@ def flatzinc(durations, demands, capacities, arcs):
     """The least start first, at its least value."""
     names = [f"s{i}" for i in range(len(durations))]
     most = horizon(durations, arcs)
-    out = ["predicate cumulatives(array [int] of var int: s, array [int] of var int: d, array [int] of var int: r, var int: b);",
-           "var 0..0: s0;"]
+    lists = ", ".join(f"array [int] of var int: {name}" for name in "sdr")
+    out = [f"predicate cumulatives({lists}, var int: b);", "var 0..0: s0;"]
     out += [f"var 0..{most}: {name};" for name in names[1:]]
     out.append(f"array [1..{len(names)}] of var int: starts :: output_array([1..{len(names)}]) = [{', '.join(names)}];")
     out += [f"constraint int_lin_le([1,-1],[{names[i]},{names[j]}],{-lag});" for i, j, lag in all_arcs(durations, arcs)]

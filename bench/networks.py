@@ -3,13 +3,13 @@
 
 Writes a project of N activities in the manner of ProGen/max (Schwindt 1998), the same for the same numbers.
 
-An activity takes 1 to 10 periods and needs 1 to 10 units of about half of the 5 resources. One to three arcs lead from it to
-some of the next W activities, N / 8 if not said; a least lag is half to one and a half of its duration. For L activities in a
-hundred, 10 if not said, a greatest lag leads back over a few of these arcs. The earliest starts of the least lags keep it, so
-that no lags contradict each other.
+An activity takes 1 to 10 periods and needs 1 to 10 units of about half of the 5 resources. One to three arcs lead
+from it to some of the next W activities, N / 8 if not said; a least lag is half to one and a half of its duration.
+For L activities in a hundred, 10 if not said, a greatest lag leads back over a few of these arcs. The earliest
+starts of the least lags keep it, so that no lags contradict each other.
 
-The resource strength S, from 0 to 1, sets the capacities: with 0 a resource serves the activity alone that needs the most
-of it, with 1 it serves all at their earliest starts."""
+The resource strength S, from 0 to 1, sets the capacities: with 0 a resource serves the activity alone that needs
+the most of it, with 1 it serves all at their earliest starts."""
 import argparse
 import random
 import sys

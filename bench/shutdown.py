@@ -3,10 +3,11 @@
 
 Writes a project of N activities like the shutdown of a plant, in hours, the same for the same numbers.
 
-A plant has areas, and an area has items: vessels, exchangers, columns, pumps and valves. An area is drained first, and is
-tested and started once all its items are closed. Each kind of item has its row of jobs, which crews of nine trades do: it is
-opened, cleaned, inspected, perhaps repaired, and closed. Three rules are greatest lags: an item stands open no longer than
-its kind allows, a scaffold is struck in time, and an item is closed before its inspection is too old."""
+A plant has areas, and an area has items: vessels, exchangers, columns, pumps and valves. An area is drained first,
+and is tested and started once all its items are closed. Each kind of item has its row of jobs, which crews of nine
+trades do: it is opened, cleaned, inspected, perhaps repaired, and closed. Three rules are greatest lags: an item
+stands open no longer than its kind allows, a scaffold is struck in time, and an item is closed before its
+inspection is too old."""
 import argparse
 import random
 import sys

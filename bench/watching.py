@@ -63,8 +63,8 @@ def feed(stream, texts):
 
 
 def watch(command, source, seconds, reply=None):
-    """Runs a command on a file as its input. After so many seconds of processor time it is asked to end. `reply` gives for each
-    line what is written to the program then, and none to end its input; without it the file is all."""
+    """Runs a command on a file as its input. After so many seconds of processor time it is asked to end. `reply` gives
+    for each line what is written to the program then, and none to end its input; without it the file is all."""
     with open(source, "rb") as given:
         child = subprocess.Popen(command, stdin=subprocess.PIPE if reply else given, stdout=subprocess.PIPE,
                                  stderr=subprocess.STDOUT, start_new_session=True)

@@ -108,8 +108,8 @@ impl Partial {
         Ok(())
     }
 
-    /// Unschedules what is too early for an activity that starts at a time, and all that starts no earlier. Whether the rest
-    /// can stay.
+    /// Unschedules what is too early for an activity that starts at a time, and all that starts no earlier. Whether
+    /// the rest can stay.
     fn unschedule(
         &mut self,
         rules: &Rules,

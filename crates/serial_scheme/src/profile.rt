@@ -9,8 +9,8 @@ struct Piece {
     row: u32,
 }
 
-/// The use of the resources over time, by pieces in which nothing begins or ends. The last piece, which has no end, uses
-/// nothing.
+/// The use of the resources over time, by pieces in which nothing begins or ends. The last piece, which has no end,
+/// uses nothing.
 #[derive(Drop)]
 pub(crate) struct Profile {
     /// How many resources there are.

@@ -9,8 +9,8 @@ use std::alloc::{AllocError, Global};
 /// The noise of a pass after the first one, in thousandths of the longest path.
 const NOISES: [i64; 5] = [20, 50, 100, 200, 400];
 
-/// How often a pass tries to place an activity at most, for each activity. Passes that succeed need far fewer tries, and a pass
-/// of 1,000 activities takes a second at most.
+/// How often a pass tries to place an activity at most, for each activity of the project, so that it doesn't go on for
+/// long.
 const STEPS: u64 = 200;
 
 /// Whether more passes help.
@@ -18,8 +18,8 @@ const STEPS: u64 = 200;
 pub enum State {
     /// They may.
     Going,
-    /// They don't: the best schedule takes as long as the longest path, or the rules contradict each other: the arcs close a
-    /// walk of positive weight, or an activity needs more than there is.
+    /// They don't: the best schedule takes as long as the longest path, or the rules contradict each other: the arcs
+    /// close a walk of positive weight, or an activity needs more than there is.
     Ended,
 }
 
@@ -139,8 +139,8 @@ impl Scheme {
         Ok(engine.state())
     }
 
-    /// Takes a feasible schedule by its starts in periods, from another search say. One that isn't shorter than the best is
-    /// left.
+    /// Takes a feasible schedule by its starts in periods, from another search say. One that isn't shorter than the
+    /// best is left.
     pub fn lower_ceiling(
         &mut self,
         alloc: Global,
