@@ -1,14 +1,16 @@
 #!/usr/bin/env python3
-"""bench/large.py [--seconds S] [--psmax FILE] [--plan FILE] [--gecode FILE] [--z3 FILE] [--only WORD]
+"""bench/large.py [--seconds S] [--psprove FILE] [--psmax FILE] [--plan FILE] [--gecode FILE] [--z3 FILE] [--only WORD]
 
 Prints a table of what programs find for generated projects of 100 to 1,000 activities: twelve of bench/networks.py,
 and two of bench/shutdown.py. `--only` takes those alone whose name has the word.
 
-A program is the one that is named, else that of the PATH; it is left out where there is none: `psmax solve`, `plan
-solve`, Gecode's `fzn-gecode` and `z3`. Each gets S seconds of processor time a project, 60 if not said, one project
+A program is the one that is named, else that of the PATH; it is left out where there is none: `psprove solve`, `psmax
+solve`, `plan solve`, Gecode's `fzn-gecode` and `z3`. Each gets S seconds of processor time a project, 60 if not said, one project
 after the other. A cell says the makespan of the best schedule, the bound if the program tells one, the seconds of
 processor time up to the first schedule, in hundredths, and the peak memory in MiB. Each best schedule is checked
 here.
+
+psprove takes seconds by the clock, so nothing else should run beside it.
 
 psmax answers only when it ends, so it runs with more nodes each time, up to some that take about S seconds; its
 first schedule is that of the first run that has one. plan calls the psmax that it finds by itself. z3 is asked for
@@ -92,6 +94,18 @@ def psmax(program, source, project, seconds):
         nodes = min(MOST_NODES, int(nodes * min(GROWTH, seconds / max(ran.seconds, 0.01))) + 1)
 
 
+def psprove(program, source, project, seconds):
+    found = Found()
+    words = [program, "solve", "--progress", "--seconds", str(round(seconds))]
+    ran = watching.watch(words, source, 2 * seconds)
+    found.memory = ran.memory
+    for when, line in ran.lines:
+        if re.fullmatch(r"\d+ s: schedule \d+", line):
+            found.begin(when)
+    take_answer(found, [line for _, line in ran.lines])
+    return found
+
+
 def plan(program, source, project, seconds):
     found = Found()
     ran = watching.watch([program, "solve", source, "--seconds", ENDLESS], source, seconds)
@@ -154,6 +168,7 @@ def z3(program, source, project, seconds):
 
 
 PROGRAMS = (
+    ("psprove", "psprove solve", psprove, "psprove"),
     ("psmax", "psmax solve", psmax, "psmax"),
     ("plan", "plan solve", plan, "plan"),
     ("gecode", "Gecode", gecode, "fzn-gecode"),

@@ -143,6 +143,23 @@ impl Proofs {
         Ok(number)
     }
 
+    /// One more proof that needs no step of the root: of links from the first to the last, and the end. Gives its number.
+    pub fn push_links(&mut self, links: &[Link], end: Why) -> Result<u32, AllocError> {
+        let from = self.links.count();
+        for link in links {
+            self.links.push(*link)?;
+        }
+        let to = self.links.count();
+        let number = self.list.count();
+        self.list.push(Proof {
+            links: Span { from, to },
+            end,
+            base: NO_SPAN,
+            root_steps: 0,
+        })?;
+        Ok(number)
+    }
+
     /// Notes the lemmas that a proof uses.
     pub(crate) fn note_uses(&self, proof: Proof, is_needed: &mut Table<bool>) {
         if let Some(lemma) = proof.end.lemma() {

@@ -13,6 +13,6 @@ mod probing;
 mod search;
 mod showing;
 
+pub use lemma_proofs::Shown;
 pub use options::{Counts, Options, Parts, State};
 pub use search::Search;
-pub use showing::Shown;

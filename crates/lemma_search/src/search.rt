@@ -1,7 +1,8 @@
 use crate::engine::{Engine, Next};
 use crate::options::{Counts, Options, State};
-use crate::showing::{Shown, periods};
+use crate::showing::periods;
 use decisions::MAX_MAKESPAN;
+use lemma_proofs::Shown;
 use longest_path::{PathFault, longest};
 use network::Project;
 use std::alloc::{AllocError, Global};
@@ -47,7 +48,7 @@ impl Search {
     }
 
     /// Takes a feasible schedule by its starts in periods, from another search say. One that isn't shorter than the best, or
-    /// whose makespan is above 1,000,000, is left; and each, once the search ended.
+    /// whose makespan is above 1,000,000, is left; and each, once the search ended. It ends where the bound is reached.
     pub fn lower_ceiling(
         &mut self,
         alloc: Global,
@@ -65,6 +66,9 @@ impl Search {
             let starts = Vec::from_slice(alloc, starts)?;
             engine.incumbent.take(starts, periods(makespan));
             engine.next = Next::Rescan;
+            if makespan <= i64::from(engine.root_bound()) {
+                engine.state = State::Ended;
+            }
         }
         Ok(())
     }

@@ -1,32 +1,11 @@
 use crate::engine::Engine;
 use crate::options::State;
 use decisions::MAX_MAKESPAN;
-use lemma_proofs::{blocks_of, lines_of, outline};
-use lemma_text::{Claim, Line, Reason};
+use lemma_proofs::{Shown, blocks_of, lines_of, outline};
+use lemma_text::{Claim, Line};
 use lemma_trail::Literal;
 use record_text::Starts;
 use std::alloc::{AllocError, Global};
-
-/// A claim, and the lines of a record that show it.
-#[derive(Drop, Debug)]
-pub struct Shown {
-    pub claim: Claim,
-    pub lines: Vec<Line>,
-}
-
-impl Shown {
-    /// There is no schedule, since the arcs of the project close a walk of positive weight.
-    pub(crate) fn dead(alloc: Global) -> Result<Shown, AllocError> {
-        let mut lines = Vec::new(alloc);
-        lines.push(Line::End {
-            reason: Reason::Dead,
-        })?;
-        Ok(Shown {
-            claim: Claim::NoSchedule,
-            lines,
-        })
-    }
-}
 
 /// A makespan or a bound in 32 bits.
 pub(crate) fn periods(x: i64) -> i32 {

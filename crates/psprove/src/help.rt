@@ -25,10 +25,11 @@ activity:
   no schedule         there is none at all
   feasible C bound B  stopped at a limit: no feasible schedule is shorter than B
   unknown bound B     the same, and no schedule was found
-The clock is looked at every 64 conflicts. The same seed and --conflicts give the same answer and
-record where neither the clock nor the memory stops the search first, and --jobs is 1. With --jobs N
-the searches differ in seeds and in parts that are switched off; a schedule that one finds is a
-ceiling for all, and the first that ends gives the record. Where lemmas fill the memory, or a
+From 61 activities on, searches for large projects get half of the time, above 200 nearly all. The
+clock is looked at after each turn. The same seed and --conflicts give the same answer and record
+where neither the clock nor the memory stops the search first, and --jobs is 1. With --jobs N the
+searches differ in seeds and in parts that are switched off; a schedule that one finds is a ceiling
+for all, and the first that ends gives the record. Where lemmas fill the memory, or a
 makespan is above 1,000,000, standard error says that the search stopped for that.
 Reads the starts of --start after the project. Where they are no feasible schedule it answers as
 'psmax check' does, and searches nothing. With --record the file is made empty first, and once

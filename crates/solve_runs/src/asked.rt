@@ -14,7 +14,7 @@ pub struct Asked {
     pub jobs: u64,
     /// After how many conflicts each search is stopped.
     pub conflicts: u64,
-    /// After how many seconds by the clock all are stopped, which is looked at every 64 conflicts.
+    /// After how many seconds by the clock all are stopped, which is looked at after each turn of a search.
     pub seconds: u64,
     /// From where the first search breaks ties. Each further one begins at the next number.
     pub seed: u64,

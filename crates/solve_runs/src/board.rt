@@ -1,7 +1,6 @@
 //! What searches side by side tell each other.
 
 use crate::progress::{Told, Watch};
-use lemma_search::Search;
 use std::alloc::{AllocError, Global};
 use std::time::Clock;
 
@@ -15,14 +14,6 @@ pub(crate) struct Board {
     pub(crate) is_over: bool,
 }
 
-/// A copy of the starts of a schedule, where there is one.
-fn copied(alloc: Global, starts: Option<&[i64]>) -> Result<Option<Vec<i64>>, AllocError> {
-    match starts {
-        Some(starts) => Ok(Some(Vec::from_slice(alloc, starts)?)),
-        None => Ok(None),
-    }
-}
-
 /// The makespan of starts, in periods; none where there is no schedule.
 fn makespan_of(starts: Option<&[i64]>) -> Option<i64> {
     starts?.last().copied()
@@ -31,30 +22,36 @@ fn makespan_of(starts: Option<&[i64]>) -> Option<i64> {
 impl Board {
     /// A board that knows the starts of a schedule which may be handed in.
     pub(crate) fn new(alloc: Global, start: Option<&[i64]>) -> Result<Board, AllocError> {
-        Ok(Board {
-            best: copied(alloc, start)?,
+        let mut board = Board {
+            best: None,
             told: Told::NOTHING,
             is_over: false,
-        })
+        };
+        board.offer(alloc, start)?;
+        Ok(board)
+    }
+
+    /// The starts of the shortest schedule, in periods.
+    pub(crate) fn best(&self) -> Option<&[i64]> {
+        self.best.as_deref()
     }
 
     /// The makespan of the shortest schedule, in periods.
     pub(crate) fn makespan(&self) -> Option<i64> {
-        makespan_of(self.best.as_deref())
+        makespan_of(self.best())
     }
 
-    /// Takes the schedule of a search where that is shorter, and else lowers the search's ceiling.
-    pub(crate) fn exchange(
+    /// Takes a schedule that a search may have, where it is shorter.
+    pub(crate) fn offer(
         &mut self,
         alloc: Global,
-        search: &mut Search,
+        starts: Option<&[i64]>,
     ) -> Result<(), AllocError> {
-        let ceiling = self.makespan().unwrap_or(i64::MAX);
-        let makespan = makespan_of(search.best()).unwrap_or(i64::MAX);
-        if makespan < ceiling {
-            self.best = copied(alloc, search.best())?;
-        } else if let Some(starts) = &self.best {
-            search.lower_ceiling(alloc, starts, ceiling)?;
+        let known = self.makespan().unwrap_or(i64::MAX);
+        if let Some(starts) = starts {
+            if makespan_of(Some(starts)).unwrap_or(i64::MAX) < known {
+                self.best = Some(Vec::from_slice(alloc, starts)?);
+            }
         }
         Ok(())
     }

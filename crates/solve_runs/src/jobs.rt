@@ -4,7 +4,8 @@ use crate::asked::Asked;
 use crate::board::Board;
 use crate::progress::Watch;
 use crate::searching::search_beside;
-use lemma_search::{Search, State};
+use crate::team::Team;
+use lemma_search::State;
 use lemma_text::text_of;
 use network::Project;
 use std::alloc::{AllocError, Global};
@@ -47,7 +48,7 @@ impl From<AllocError> for SearchFault {
 #[derive(Drop)]
 struct Joined {
     /// The one whose record is shown: one that ended, or else one with the greatest bound.
-    search: Option<Search>,
+    team: Option<Team>,
     conflicts: u64,
     decisions: u64,
     is_short_of_memory: bool,
@@ -57,7 +58,7 @@ impl Joined {
     /// No search has come back.
     fn new() -> Joined {
         Joined {
-            search: None,
+            team: None,
             conflicts: 0,
             decisions: 0,
             is_short_of_memory: false,
@@ -65,34 +66,32 @@ impl Joined {
     }
 
     /// Whether the record of a search shows more than that which was to be shown.
-    fn is_better(&self, search: &Search) -> bool {
-        match &self.search {
+    fn is_better(&self, team: &Team) -> bool {
+        match &self.team {
             Some(known) if known.state() == State::Ended => false,
-            Some(known) => search.state() == State::Ended || search.bound() > known.bound(),
+            Some(known) => team.state() == State::Ended || team.bound() > known.bound(),
             None => true,
         }
     }
 
     /// A search comes back.
-    fn join(&mut self, found: Result<Search, AllocError>) {
-        let Ok(search) = found else {
+    fn join(&mut self, found: Result<Team, AllocError>) {
+        let Ok(team) = found else {
             self.is_short_of_memory = true;
             return;
         };
-        let counts = search.counts();
+        let counts = team.counts();
         self.conflicts = self.conflicts.saturating_add(counts.conflicts);
         self.decisions = self.decisions.saturating_add(counts.decisions);
-        if self.is_better(&search) {
-            self.search = Some(search);
+        if self.is_better(&team) {
+            self.team = Some(team);
         }
     }
 
     /// The search whose record is shown. Where memory ran out in one, another must have ended.
-    fn into_search(self) -> Result<Search, AllocError> {
-        match self.search {
-            Some(search) if search.state() == State::Ended || !self.is_short_of_memory => {
-                Ok(search)
-            }
+    fn into_team(self) -> Result<Team, AllocError> {
+        match self.team {
+            Some(team) if team.state() == State::Ended || !self.is_short_of_memory => Ok(team),
             _ => Err(AllocError),
         }
     }
@@ -111,7 +110,7 @@ fn search_all<R: Clock + Eprint + Threads + Wait + Sync>(
         thread::scope_env(),
         rt,
         move |scope| -> Result<Joined, SearchFault> {
-            let mut running: Vec<JoinHandle<Result<Search, AllocError>>> = Vec::new(alloc);
+            let mut running: Vec<JoinHandle<Result<Team, AllocError>>> = Vec::new(alloc);
             for job in 1..asked.jobs {
                 let beside = move || search_beside(rt, alloc, asked, watch, project, job, board);
                 let Ok(handle) = scope.spawn(beside) else {
@@ -134,8 +133,8 @@ fn search_all<R: Clock + Eprint + Threads + Wait + Sync>(
 }
 
 /// Tells on standard error why a search stopped, where no limit of time or conflicts stopped it.
-fn tell_stop<R: Eprint>(rt: &R, search: &Search) {
-    let why = match search.state() {
+fn tell_stop<R: Eprint>(rt: &R, team: &Team) {
+    let why = match team.state() {
         State::Full => "its lemmas fill the memory that they may take",
         State::TooLong => "a makespan is above 1,000,000",
         State::Going | State::Ended => return,
@@ -155,15 +154,12 @@ pub(crate) fn searched<R: Clock + Eprint + Threads + Wait + Sync>(
     let board = Mutex::new(Board::new(alloc, start)?);
     let joined = search_all(rt, alloc, asked, watch, project, &board)?;
     let (conflicts, decisions) = (joined.conflicts, joined.decisions);
-    let mut search = joined.into_search()?;
+    let mut team = joined.into_team()?;
     let mut board = board.into_inner();
-    board.exchange(alloc, &mut search)?;
-    if board.makespan() == Some(search.bound()) {
-        search.advance(alloc, 1)?;
-    }
-    tell_stop(rt, &search);
+    team.exchange(alloc, &mut board)?;
+    tell_stop(rt, &team);
     let seconds = watch.seconds(rt).unwrap_or(0);
-    let Some(shown) = search.into_record(alloc)? else {
+    let Some(shown) = team.into_record(alloc, project)? else {
         return Err(SearchFault::NoRecord);
     };
     Ok(Found {

@@ -14,6 +14,8 @@ mod progress;
 mod running;
 mod searching;
 mod solving;
+mod team;
+mod turns;
 
 pub use asked::{Asked, MAX_JOBS};
 pub use running::solve;

@@ -3,14 +3,12 @@
 use crate::asked::Asked;
 use crate::board::Board;
 use crate::progress::Watch;
-use lemma_search::{Search, State};
+use crate::team::Team;
+use lemma_search::State;
 use network::Project;
 use std::alloc::{AllocError, Global};
 use std::sync::{Mutex, Wait};
 use std::time::Clock;
-
-/// After how many conflicts a search looks at the clock and at the board.
-const CONFLICTS_A_LOOK: u64 = 64;
 
 /// Searches until the search ends, or another has ended, or as far as the limits let it.
 fn search_within<R: Clock + Eprint + Wait>(
@@ -18,25 +16,26 @@ fn search_within<R: Clock + Eprint + Wait>(
     alloc: Global,
     asked: Asked,
     watch: Watch,
+    project: &Project,
     board: &Mutex<Board>,
-    search: &mut Search,
+    team: &mut Team,
 ) -> Result<(), AllocError> {
     for _ in 0..u64::MAX {
         let seconds = watch.seconds(rt).unwrap_or(u64::MAX);
-        let left = asked.conflicts.saturating_sub(search.counts().conflicts);
-        if seconds >= asked.seconds || left == 0 {
+        let left = asked.conflicts.saturating_sub(team.counts().conflicts);
+        if seconds >= asked.seconds || left == 0 || team.state() != State::Going {
             break;
         }
-        let state = search.advance(alloc, left.min(CONFLICTS_A_LOOK))?;
+        team.advance(alloc, project, left)?;
         let mut board = board.lock(rt);
-        board.exchange(alloc, search)?;
+        team.exchange(alloc, &mut board)?;
         if asked.progress {
-            board.tell(rt, watch, search.bound());
+            board.tell(rt, watch, team.bound());
         }
-        if state == State::Ended {
+        if team.state() == State::Ended {
             board.is_over = true;
         }
-        if state != State::Going || board.is_over {
+        if board.is_over {
             break;
         }
     }
@@ -52,11 +51,11 @@ fn search<R: Clock + Eprint + Wait>(
     project: &Project,
     job: u64,
     board: &Mutex<Board>,
-) -> Result<Search, AllocError> {
-    let mut search = Search::new(alloc, project, asked.options(job))?;
-    board.lock(rt).exchange(alloc, &mut search)?;
-    search_within(rt, alloc, asked, watch, board, &mut search)?;
-    Ok(search)
+) -> Result<Team, AllocError> {
+    let mut team = Team::new(alloc, asked, project, job)?;
+    team.exchange(alloc, &mut board.lock(rt))?;
+    search_within(rt, alloc, asked, watch, project, board, &mut team)?;
+    Ok(team)
 }
 
 /// A search within limits, one of several side by side: where memory runs out, the others stop too.
@@ -68,7 +67,7 @@ pub(crate) fn search_beside<R: Clock + Eprint + Wait>(
     project: &Project,
     job: u64,
     board: &Mutex<Board>,
-) -> Result<Search, AllocError> {
+) -> Result<Team, AllocError> {
     let found = search(rt, alloc, asked, watch, project, job, board);
     if found.is_err() {
         board.lock(rt).is_over = true;

@@ -14,8 +14,7 @@ pub(crate) struct Break {
     pub(crate) after: u32,
 }
 
-/// A greatest use, and the last time of the stretch that has it. Of all its times that one asks the least of greatest
-/// starts, which decisions lower.
+/// A greatest use, and the first time that has it.
 #[derive(Clone, Copy)]
 pub(crate) struct Peak {
     pub(crate) need: i32,
@@ -232,7 +231,7 @@ impl Breaks {
             let need = found.need.wrapping_add(amount);
             self.list.set(name as usize, Break { need, ..found });
             if need > peak.need {
-                let time = self.end(found).wrapping_sub(1);
+                let time = found.time;
                 peak = Peak { need, time };
             }
             name = found.after;

@@ -227,12 +227,7 @@ impl Explainer {
         nogoods: &mut Nogoods,
         forced: Asked,
     ) -> Result<(), AllocError> {
-        let slot = forced.literal.slot;
-        let enough = 1i32.wrapping_sub(trail.value(slot ^ 1));
-        let literal = Literal {
-            slot,
-            value: forced.literal.value.min(enough),
-        };
+        let literal = enough_of(trail, forced.literal);
         self.literals.push(literal.reverse())?;
         self.explain(rules, pairs, trail, nogoods, Asked { literal, ..forced })
     }
@@ -275,6 +270,15 @@ impl Explainer {
                 Ok(())
             }
         }
+    }
+}
+
+/// As much of a literal as contradicts what holds.
+pub fn enough_of(trail: &Trail, literal: Literal) -> Literal {
+    let enough = 1i32.wrapping_sub(trail.value(literal.slot ^ 1));
+    Literal {
+        value: literal.value.min(enough),
+        ..literal
     }
 }
 

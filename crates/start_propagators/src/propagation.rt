@@ -74,11 +74,16 @@ impl Propagators {
         Ok(())
     }
 
-    /// What follows from all arcs, from all pairs, and from what must run at once.
-    fn look_at_all(&mut self, rules: &Rules, trail: &mut Trail) -> Result<(), Stop> {
+    /// What follows from all arcs.
+    fn follow_all_slots(&self, rules: &Rules, trail: &mut Trail) -> Result<(), Stop> {
         for slot in 0..rules.activity_count().wrapping_mul(2) {
             self.follow_slot(rules, trail, slot)?;
         }
+        Ok(())
+    }
+
+    /// What follows from all pairs.
+    fn follow_all_pairs(&self, rules: &Rules, trail: &mut Trail) -> Result<(), Stop> {
         let first = self.pairs.first_variable();
         for x in 0..self.pairs.count() {
             self.pairs.follow(rules, trail, first.wrapping_add(x))?;
@@ -114,7 +119,8 @@ impl Propagators {
         trail: &mut Trail,
         nogoods: &mut Nogoods,
     ) -> Result<(), Stop> {
-        self.look_at_all(rules, trail)?;
+        self.follow_all_slots(rules, trail)?;
+        self.follow_all_pairs(rules, trail)?;
         self.table_all(rules, trail)?;
         self.propagate(rules, trail, nogoods)
     }

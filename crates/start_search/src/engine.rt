@@ -2,6 +2,7 @@ use crate::branching::Brancher;
 use crate::incumbent::Incumbent;
 use crate::learning::Learner;
 use crate::options::{Counts, Limits, State};
+use crate::trace::Trace;
 use start_propagators::{Pair, Propagators};
 use start_trail::{Arcs, Conflict, Literal, Nogoods, Reason, Rules, Stop, Trail};
 use std::alloc::{AllocError, Global};
@@ -45,6 +46,8 @@ pub struct Engine {
     pub counts: Counts,
     pub state: State,
     pace: Pace,
+    /// What a record needs, where the search keeps it.
+    pub(crate) trace: Option<Trace>,
 }
 
 /// The numbers 1 1 2 1 1 2 4 .. of Luby, Sinclair and Zuckerman (1993).
@@ -134,6 +137,7 @@ impl Engine {
                 nogoods: FIRST_NOGOODS,
                 memory,
             },
+            trace: None,
         })
     }
 
@@ -179,10 +183,31 @@ impl Engine {
         let deadline = Literal::at_most(rules.end(), last);
         match self.trail.force(deadline, Reason::Given) {
             Ok(()) => {}
-            Err(Stop::Conflict(_)) => self.state = State::Ended,
+            Err(Stop::Conflict(conflict)) => {
+                self.state = State::Ended;
+                self.learner.clear(&self.trail)?;
+                self.keep_proof(conflict)?;
+            }
             Err(Stop::Memory) => return Err(AllocError),
         }
         Ok(())
+    }
+
+    /// Keeps the proof of the nogood that was learnt, where the search keeps proofs. Gives its number.
+    fn keep_proof(&mut self, conflict: Conflict) -> Result<u32, AllocError> {
+        let (nogood, chain) = (self.learner.literals.all(), self.learner.chain.all());
+        match &mut self.trace {
+            Some(trace) => trace.push(&self.trail, &self.nogoods, nogood, chain, conflict),
+            None => Ok(0),
+        }
+    }
+
+    /// Forgets nogoods, whose numbers are then others.
+    fn reduce(&mut self, alloc: Global) -> Result<(), AllocError> {
+        if let Some(trace) = &mut self.trace {
+            trace.note_root(&self.trail, &self.nogoods)?;
+        }
+        self.nogoods.reduce(alloc)
     }
 
     /// Takes a schedule that may be from elsewhere. One that isn't shorter than the best is left.
@@ -228,7 +253,7 @@ impl Engine {
         self.counts.restarts = self.counts.restarts.wrapping_add(1);
         self.go_back(rules, 0)?;
         if self.nogoods.count() > self.pace.nogoods {
-            self.nogoods.reduce(alloc)?;
+            self.reduce(alloc)?;
             self.pace.nogoods = self.pace.nogoods.wrapping_add(self.pace.nogoods / 10);
         }
         Ok(())
@@ -277,6 +302,7 @@ impl Engine {
             &mut self.brancher.weights,
             conflict,
         )?;
+        let proof = self.keep_proof(conflict)?;
         if self.learner.literals.is_empty() {
             self.state = State::Ended;
             return Ok(());
@@ -286,10 +312,11 @@ impl Engine {
         let first = self.learner.literals.get(0);
         let mut reason = Reason::Given;
         if self.learner.literals.len() > 1 {
-            let nogood = self
-                .nogoods
-                .push(self.learner.literals.all(), self.learner.glue)?;
+            let glue = self.learner.glue;
+            let nogood = self.nogoods.push(self.learner.literals.all(), glue, proof)?;
             reason = Reason::Use { nogood };
+        } else if let Some(trace) = &mut self.trace {
+            trace.note_unit(first.reverse(), proof)?;
         }
         self.trail.force(first.reverse(), reason)
     }
@@ -302,13 +329,23 @@ impl Engine {
             .wrapping_add(self.propagators.bytes())
     }
 
+    /// Gives the proofs up where they take too much.
+    fn drop_trace(&mut self) {
+        if let Some(trace) = &self.trace {
+            if trace.bytes() > self.pace.memory {
+                self.trace = None;
+            }
+        }
+    }
+
     /// Makes room where the search takes too much, and stops where that doesn't help.
     fn make_room(&mut self, alloc: Global, rules: &Rules) -> Result<(), AllocError> {
+        self.drop_trace();
         if self.bytes() <= self.pace.memory {
             return Ok(());
         }
         self.go_back(rules, 0)?;
-        self.nogoods.reduce(alloc)?;
+        self.reduce(alloc)?;
         if self.bytes() > (self.pace.memory / 4).wrapping_mul(3) {
             self.state = State::Full;
         }

@@ -1,11 +1,18 @@
 use crate::weights::Weights;
-use start_propagators::{Asked, Explainer, Pairs};
+use start_propagators::{Asked, Explainer, Pairs, enough_of};
 use start_trail::{Conflict, Literal, NO_LITERAL, Nogoods, Reason, Rules, Trail};
 use std::alloc::{AllocError, Global};
 use tables::Table;
 
 /// The value of an event that a conflict doesn't need.
 const NOT_NEEDED: i32 = i32::MIN;
+
+/// Nothing that was asked for.
+const NOT_ASKED: Asked = Asked {
+    literal: NO_LITERAL,
+    reason: Reason::Given,
+    time: 0,
+};
 
 /// The highest level of a conflict, and how many needed events of it are left.
 #[derive(Clone, Copy)]
@@ -23,6 +30,8 @@ pub(crate) struct Learner {
     /// The events that are needed.
     needed: Vec<u32>,
     top: Top,
+    /// What was replaced by what it follows from, from the last to the first.
+    pub(crate) chain: Table<Asked>,
     /// The literals of the nogood, from the last event to the first.
     pub(crate) literals: Table<Literal>,
     /// Whether a literal of the nogood is of a slot.
@@ -39,6 +48,7 @@ impl Learner {
             needs: Table::new(alloc, NOT_NEEDED),
             needed: Vec::new(alloc),
             top: Top { level: 0, left: 0 },
+            chain: Table::new(alloc, NOT_ASKED),
             literals: Table::new(alloc, NO_LITERAL),
             has_slot: Table::filled(alloc, slots, false, false)?,
             back: 0,
@@ -47,7 +57,8 @@ impl Learner {
     }
 
     /// Nothing is needed, and there is a place for each event.
-    fn clear(&mut self, trail: &Trail) -> Result<(), AllocError> {
+    pub(crate) fn clear(&mut self, trail: &Trail) -> Result<(), AllocError> {
+        self.chain.clear();
         self.literals.clear();
         self.back = 0;
         self.glue = 0;
@@ -95,20 +106,24 @@ impl Learner {
         }
     }
 
-    /// Finds what an event follows from, as much as is needed of it.
+    /// What is asked for of an event: as much as is needed of it.
+    fn asked_of(&self, trail: &Trail, number: u32) -> Asked {
+        Asked {
+            literal: self.literal_of(trail, number),
+            reason: trail.event(number).reason,
+            time: number.wrapping_sub(1),
+        }
+    }
+
+    /// Finds what an event follows from.
     fn explain(
         &mut self,
         rules: &Rules,
         pairs: &Pairs,
         trail: &Trail,
         nogoods: &mut Nogoods,
-        number: u32,
+        asked: Asked,
     ) -> Result<(), AllocError> {
-        let asked = Asked {
-            literal: self.literal_of(trail, number),
-            reason: trail.event(number).reason,
-            time: number.wrapping_sub(1),
-        };
         self.explainer.literals.clear();
         self.explainer.explain(rules, pairs, trail, nogoods, asked)
     }
@@ -130,7 +145,9 @@ impl Learner {
                     return self.keep(trail, number);
                 }
                 self.top.left = self.top.left.wrapping_sub(1);
-                self.explain(rules, pairs, trail, nogoods, number)?;
+                let asked = self.asked_of(trail, number);
+                self.chain.push(asked)?;
+                self.explain(rules, pairs, trail, nogoods, asked)?;
                 self.need_found(trail)?;
             }
         }
@@ -192,9 +209,12 @@ impl Learner {
             let event = trail.event(number);
             if event.level < self.top.level {
                 weights.raise(event.slot / 2);
-                self.explain(rules, pairs, trail, nogoods, number)?;
+                let asked = self.asked_of(trail, number);
+                self.explain(rules, pairs, trail, nogoods, asked)?;
                 if event.reason == Reason::Decision || !self.is_covered(trail) {
                     self.keep(trail, number)?;
+                } else {
+                    self.chain.push(asked)?;
                 }
             }
         }
@@ -212,6 +232,18 @@ impl Learner {
         }
     }
 
+    /// A forced literal whose reverse holds is the first to be replaced.
+    fn push_forced(&mut self, trail: &Trail, conflict: Conflict) -> Result<(), AllocError> {
+        if let Conflict::Forced { literal, reason } = conflict {
+            self.chain.push(Asked {
+                literal: enough_of(trail, literal),
+                reason,
+                time: trail.now(),
+            })?;
+        }
+        Ok(())
+    }
+
     /// Finds the nogood of a conflict: one literal of the highest level, first, and others below it. It has none where
     /// the root alone is at fault.
     pub(crate) fn analyse(
@@ -224,6 +256,7 @@ impl Learner {
         conflict: Conflict,
     ) -> Result<(), AllocError> {
         self.clear(trail)?;
+        self.push_forced(trail, conflict)?;
         self.explainer
             .explain_conflict(rules, pairs, trail, nogoods, conflict)?;
         self.need_found(trail)?;

@@ -11,6 +11,7 @@ mod incumbent;
 mod learning;
 mod options;
 mod search;
+mod trace;
 mod weights;
 
 pub use engine::Engine;
@@ -18,4 +19,5 @@ pub use incumbent::Incumbent;
 pub use options::{Counts, Limits, Options, State};
 pub use search::Search;
 pub use start_propagators::Pair;
-pub use start_trail::{Arcs, Rules};
+pub use start_trail::{Arcs, Literal, Rules};
+pub use trace::{Ground, Link, Proof, Trace};

@@ -1,5 +1,6 @@
 use crate::engine::Engine;
 use crate::options::{Counts, Limits, Options, State};
+use crate::trace::Trace;
 use network::Project;
 use start_propagators::Pair;
 use start_trail::{Arcs, Rules};
@@ -62,6 +63,8 @@ impl Search {
             engine.begin(&rules);
             let pairs = open_pairs(alloc, &rules, &engine, options.pairs)?;
             engine = Engine::new(alloc, &rules, ceiling, Arcs::new(alloc), &pairs, memory)?;
+        } else if rules.unit() == 1 {
+            engine.trace = Some(Trace::new(alloc));
         }
         Ok(Search { rules, engine })
     }
@@ -100,6 +103,16 @@ impl Search {
             incumbent.periods(incumbent.ceiling())
         } else {
             incumbent.periods(self.engine.root_start(self.rules.end()))
+        }
+    }
+
+    /// The proof that the best schedule is a shortest one: the last of the trace. None where the search hasn't ended, or
+    /// keeps no proofs: times are counted in units of several periods, orders of pairs are variables, or there was no room.
+    pub fn trace(&self) -> Option<&Trace> {
+        if self.engine.state == State::Ended && self.engine.incumbent.is_known() {
+            self.engine.trace.as_ref()
+        } else {
+            None
         }
     }
 

@@ -10,6 +10,8 @@ pub struct Nogood {
     pub literals: Span,
     /// How many levels they were of when it was learnt.
     pub glue: u32,
+    /// The number of its proof, for whoever keeps proofs.
+    pub proof: u32,
     /// How much it was needed of late.
     pub activity: u64,
 }
@@ -46,6 +48,7 @@ impl Nogoods {
         let no_nogood = Nogood {
             literals: NO_SPAN,
             glue: 0,
+            proof: 0,
             activity: 0,
         };
         Ok(Nogoods {
@@ -64,7 +67,7 @@ impl Nogoods {
     /// How many bytes nogoods take.
     pub fn bytes(&self) -> u64 {
         let literals = (self.literals.len() as u64).wrapping_mul(8);
-        let list = (self.list.len() as u64).wrapping_mul(24);
+        let list = (self.list.len() as u64).wrapping_mul(32);
         literals
             .wrapping_add(list)
             .wrapping_add(self.watches.bytes())
@@ -82,7 +85,7 @@ impl Nogoods {
     }
 
     /// A nogood of two literals or more. Gives its number.
-    pub fn push(&mut self, literals: &[Literal], glue: u32) -> Result<u32, AllocError> {
+    pub fn push(&mut self, literals: &[Literal], glue: u32, proof: u32) -> Result<u32, AllocError> {
         let number = self.list.count();
         let from = self.literals.count();
         for literal in literals {
@@ -92,6 +95,7 @@ impl Nogoods {
         self.list.push(Nogood {
             literals: Span { from, to },
             glue,
+            proof,
             activity: self.bump,
         })?;
         self.watch_first_two(number)?;

@@ -1,0 +1,134 @@
+use crate::incumbent::Incumbent;
+use lemma_proofs::Shown;
+use neighbourhoods::{Neighbourhoods, State};
+use network::Project;
+use serial_scheme::Scheme;
+use start_records::record_of;
+use start_search::{Options, Search};
+use std::alloc::{AllocError, Global};
+
+/// How many conflicts the search on bounds meets in a turn.
+const CONFLICTS: u64 = 512;
+
+/// How many neighbourhoods are searched in a turn.
+const ROUNDS: u64 = 16;
+
+/// How many passes the serial scheme makes in a turn.
+const PASSES: u64 = 4;
+
+/// Searches that take turns for a short schedule of a project.
+#[derive(Drop)]
+pub struct Portfolio {
+    search: Search,
+    /// It is there from its first turn on.
+    scheme: Option<Scheme>,
+    neighbourhoods: Neighbourhoods,
+    incumbent: Incumbent,
+    seed: u64,
+    is_over: bool,
+}
+
+impl Portfolio {
+    /// A portfolio that has done nothing yet. The search on bounds, its proofs, and the search of a neighbourhood may take so
+    /// many bytes each.
+    pub fn new(
+        alloc: Global,
+        project: &Project,
+        seed: u64,
+        memory: u64,
+    ) -> Result<Portfolio, AllocError> {
+        let options = Options { memory, pairs: 0 };
+        Ok(Portfolio {
+            search: Search::new(alloc, project, options)?,
+            scheme: None,
+            neighbourhoods: Neighbourhoods::new(alloc, project, seed, memory)?,
+            incumbent: Incumbent::new(alloc),
+            seed,
+            is_over: false,
+        })
+    }
+
+    /// A turn of the search on bounds.
+    fn search_bounds(&mut self, alloc: Global) -> Result<State, AllocError> {
+        self.incumbent.tell_search(&mut self.search)?;
+        let state = self.search.advance(alloc, CONFLICTS);
+        self.incumbent.take(alloc, self.search.best())?;
+        Ok(state)
+    }
+
+    /// A turn of the serial scheme.
+    fn pass(&mut self, alloc: Global, project: &Project) -> Result<(), AllocError> {
+        let mut scheme = match self.scheme.take() {
+            Some(scheme) => scheme,
+            None => Scheme::new(alloc, project, self.seed)?,
+        };
+        scheme.advance(alloc, PASSES)?;
+        self.incumbent.take(alloc, scheme.best())?;
+        self.scheme = Some(scheme);
+        Ok(())
+    }
+
+    /// A turn of neighbourhoods.
+    fn search_neighbourhoods(&mut self, alloc: Global) -> Result<State, AllocError> {
+        self.incumbent
+            .tell_neighbourhoods(&mut self.neighbourhoods)?;
+        let state = self.neighbourhoods.advance(alloc, ROUNDS);
+        self.incumbent.take(alloc, self.neighbourhoods.best())?;
+        Ok(state)
+    }
+
+    /// One turn of all that are of use. The serial scheme is of use until a schedule is known.
+    pub fn advance(&mut self, alloc: Global, project: &Project) -> Result<(), AllocError> {
+        let of_bounds = self.search_bounds(alloc)?;
+        if of_bounds != State::Ended && self.best().is_none() {
+            self.pass(alloc, project)?;
+        }
+        let of_neighbourhoods = self.search_neighbourhoods(alloc)?;
+        self.is_over = match (of_bounds, of_neighbourhoods) {
+            (State::Ended, _) | (_, State::Ended) => true,
+            (State::Full, State::Full) => true,
+            _ => false,
+        };
+        Ok(())
+    }
+
+    /// Takes a feasible schedule by its starts in periods, which another search may have, if it is shorter.
+    pub fn take(&mut self, alloc: Global, starts: Option<&[i64]>) -> Result<(), AllocError> {
+        self.incumbent.take(alloc, starts)
+    }
+
+    /// The starts of the shortest schedule known, in periods.
+    pub fn best(&self) -> Option<&[i64]> {
+        self.incumbent.starts()
+    }
+
+    /// Whether there is a proof that the best schedule is a shortest one.
+    pub fn is_proved(&self) -> bool {
+        self.search.trace().is_some()
+    }
+
+    /// The record of that proof. None where there is no proof, or a number is larger than a record may have.
+    pub fn record(&self, alloc: Global, project: &Project) -> Result<Option<Shown>, AllocError> {
+        record_of(alloc, project, &self.search)
+    }
+
+    /// Whether more turns don't help.
+    pub fn is_over(&self) -> bool {
+        self.is_over
+    }
+
+    /// How many conflicts were met, and neighbourhoods searched.
+    pub fn conflicts(&self) -> u64 {
+        let improving = self.neighbourhoods.counts();
+        self.search
+            .counts()
+            .conflicts
+            .saturating_add(improving.conflicts)
+            .saturating_add(improving.rounds)
+    }
+
+    /// How many decisions the search on bounds made.
+    pub fn decisions(&self) -> u64 {
+        self.search.counts().decisions
+    }
+}

@@ -1,0 +1,123 @@
+use crate::needs::needs_of;
+use crate::writer::Writer;
+use lag_history::{History, Literal};
+use lemma_proofs::{Event, Shown, blocks_of, lines_of};
+use lemma_text::Claim;
+use longest_path::{PathFault, longest};
+use network::Project;
+use record_text::Starts;
+use start_search::{Search, Trace};
+use std::alloc::{AllocError, Global};
+use tables::{Table, narrow};
+
+/// No schedule of a makespan above this has a record.
+const MAX_MAKESPAN: i64 = 1_000_000;
+
+/// Tells links of the root between two places, the last first.
+fn tell_roots(
+    events: &mut Table<Event>,
+    trace: &Trace,
+    writer: &Writer,
+    from: u32,
+    to: u32,
+) -> Result<(), AllocError> {
+    for at in (from..to).rev() {
+        events.push(writer.root(trace.root(at)))?;
+    }
+    Ok(())
+}
+
+/// What a record tells for the last proof, from the last to the first.
+fn told(
+    alloc: Global,
+    trace: &Trace,
+    writer: &Writer,
+    is_needed: &Table<bool>,
+) -> Result<Table<Event>, AllocError> {
+    let last = trace.count().wrapping_sub(1);
+    let mut to = trace.proof(last).roots;
+    let mut events = Table::new(alloc, writer.last(last));
+    events.push(writer.last(last))?;
+    for number in (0..last).rev() {
+        let roots = trace.proof(number).roots;
+        tell_roots(&mut events, trace, writer, roots, to)?;
+        to = roots.min(to);
+        if is_needed.get(number as usize) {
+            events.push(writer.lemma(number))?;
+        }
+    }
+    tell_roots(&mut events, trace, writer, 0, to)?;
+    Ok(events)
+}
+
+/// Writes the nogoods that are needed, with their proofs.
+fn written(
+    alloc: Global,
+    activities: usize,
+    trace: &Trace,
+    is_needed: &Table<bool>,
+) -> Result<Writer, AllocError> {
+    let mut writer = Writer::new(alloc, activities, trace.count())?;
+    for number in 0..trace.count() {
+        if is_needed.get(number as usize) {
+            writer.write(alloc, trace, number)?;
+        }
+    }
+    Ok(writer)
+}
+
+/// The record that a trace makes of a project, under the deadline of a claim.
+fn lines(
+    alloc: Global,
+    trace: &Trace,
+    history: &mut History,
+    deadline: Literal,
+    claim: Claim,
+) -> Result<Option<Shown>, AllocError> {
+    let is_needed = needs_of(alloc, trace)?;
+    let writer = written(alloc, history.activity_count(), trace, &is_needed)?;
+    let events = told(alloc, trace, &writer, &is_needed)?;
+    let is_dead = !history.try_insert(deadline)?;
+    let blocks = blocks_of(
+        alloc,
+        history,
+        &writer.lemmas,
+        &writer.proofs,
+        events.all(),
+        is_dead,
+    )?;
+    match lines_of(alloc, &writer.lemmas, &writer.proofs, &blocks)? {
+        Some(lines) => Ok(Some(Shown { claim, lines })),
+        None => Ok(None),
+    }
+}
+
+/// The record that shows that the best schedule of a search is a shortest one. None where the search hasn't ended with
+/// one, keeps no proofs, or has a number that is larger than a record may have.
+pub fn record_of(
+    alloc: Global,
+    project: &Project,
+    search: &Search,
+) -> Result<Option<Shown>, AllocError> {
+    let (Some(trace), Some(starts)) = (search.trace(), search.best()) else {
+        return Ok(None);
+    };
+    let makespan = starts.last().copied().unwrap_or(0);
+    if trace.count() == 0 || makespan < 0 || makespan > MAX_MAKESPAN {
+        return Ok(None);
+    }
+    let matrix = match longest(alloc, project, &[]) {
+        Ok(matrix) => matrix,
+        Err(PathFault::Memory) => return Err(AllocError),
+        Err(_) => return Ok(None),
+    };
+    let mut history = History::new(alloc, &matrix, false)?;
+    let end = narrow(starts.len()).wrapping_sub(1);
+    let last = makespan.clamp(0, MAX_MAKESPAN) as i32;
+    let deadline = Literal::at_most(end, last.wrapping_sub(1));
+    let claim = Claim::Optimal {
+        makespan,
+        starts: Starts::new(Vec::from_slice(alloc, starts)?),
+    };
+    lines(alloc, trace, &mut history, deadline, claim)
+}
