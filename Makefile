@@ -6,7 +6,7 @@
 # make bench    measure the program, and with OTHER=PROGRAM that program in turn with it
 PREFIX ?= /usr/local
 JOBS ?= $(shell nproc)
-MODULES := $(filter-out planner/measure.py,$(wildcard planner/*.py))
+MODULES := $(wildcard planner/*.py)
 SOURCES := crates.txt HANDLES $(shell find crates -path '*/out' -prune -o \( -name '*.rt' -o -name '*.antt' \) -print)
 AT_HAND := $(shell if [ build/psmax -nt release/psmax ]; then echo build; else echo release; fi)
 

@@ -1,59 +1,55 @@
-"""What is known of a project: every number here was confirmed by psmax. Each is told when it becomes known."""
-from collections.abc import Callable
+"""What is known of a project: the shortest schedule that was judged feasible, and the greatest bound with its record."""
+from collections.abc import Callable, Sequence
 
-from .clock import tell
+from .clock import Clock, tell
 from .errors import Failed
-from .psmax import Psmax, starts_text
+from .psmax import starts_text
+from .psprove import Solved
 
 
 class Known:
-    """The shortest schedule that `check` found feasible, and the greatest bound that psmax proved. Where the project that is
-    searched is made of another, schedules are ones of that as well."""
-
-    def __init__(self, psmax: Psmax, project: bytes, whole: bytes | None = None) -> None:
-        self.psmax = psmax
-        self.texts = [project] if whole is None or whole == project else [project, whole]
+    def __init__(self, clock: Clock, quiet: bool = False) -> None:
+        self.clock = clock
+        self.quiet = quiet  # says nothing of what becomes known
         self.better: Callable[[], None] = lambda: None  # what is done each time the schedule gets shorter
         self.bound = 0  # no feasible schedule is shorter
         self.makespan: int | None = None
         self.starts: tuple[int, ...] | None = None
         self.none = False  # there is no schedule at all
+        self.record = b""  # that proves the bound, or that there is no schedule
+        self.conflicts = 0  # of all searches
 
     @property
     def settled(self) -> bool:
         return self.none or self.makespan == self.bound
 
-    def no_schedule(self, by: str) -> None:
-        if self.makespan is not None:
-            raise Failed(f"psmax contradicts itself: a schedule of {self.makespan}, and no schedule by {by}")
-        self.none = True
-        tell(self.psmax.clock, f"no schedule: {by}")
+    def learn(self, answer: Solved, by: str) -> None:
+        """Takes what psprove has proved."""
+        self.conflicts += answer.conflicts
+        least = self.bound if answer.bound is None else answer.bound
+        most = answer.makespan if answer.makespan is not None else self.makespan
+        if most is not None and (answer.none or max(least, self.bound) > most):
+            raise Failed(f"psprove contradicts itself: a schedule of {most}, and {'none' if answer.none else least}, by {by}")
+        if answer.none or least > self.bound or answer.makespan == answer.bound:
+            self.record = answer.record
+        self.none, self.bound = answer.none, max(least, self.bound)
+        if answer.starts is not None:
+            self.take(answer.starts)
+        self.tell(f"{self.first_line()}, proved: {by}")
 
-    def at_least(self, bound: int, by: str) -> bool:
-        """Takes a bound that psmax proved; says whether it is greater than all before."""
-        if bound <= self.bound:
-            return False
-        if self.makespan is not None and bound > self.makespan:
-            raise Failed(f"psmax contradicts itself: a schedule of {self.makespan}, and at least {bound} by {by}")
-        self.bound = bound
-        tell(self.psmax.clock, f"at least {bound}: {by}")
-        return True
+    def offer(self, starts: Sequence[int], by: str) -> None:
+        """Takes starts that are a feasible schedule, by what is said of them."""
+        self.tell(f"schedule {starts[-1]}: {by}")
+        self.take(tuple(starts))
 
-    def offer(self, starts: tuple[int, ...], by: str) -> bool:
-        """Has `check` judge starts that are shorter than the best; says whether they are the best now."""
-        if self.makespan is not None and starts[-1] >= self.makespan:
-            return False
-        for text in self.texts:
-            judged = self.psmax.check(text, starts_text(starts))
-            if judged.makespan is None:
-                tell(self.psmax.clock, f"passed over, since check found {judged.violations[0]}: {by}")
-                return False
-        if starts[-1] < self.bound:
-            raise Failed(f"psmax contradicts itself: at least {self.bound}, and a schedule of {starts[-1]} by {by}")
-        self.makespan, self.starts = starts[-1], starts
-        tell(self.psmax.clock, f"{self.makespan} by check: {by}")
-        self.better()
-        return True
+    def tell(self, line: str) -> None:
+        if not self.quiet:
+            tell(self.clock, line)
+
+    def take(self, starts: tuple[int, ...]) -> None:
+        if self.makespan is None or starts[-1] < self.makespan:
+            self.makespan, self.starts = starts[-1], starts
+            self.better()
 
     def status(self) -> str:
         if self.none:

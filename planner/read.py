@@ -14,7 +14,7 @@ from .letters import printable
 from .names import MADE, page, read_page
 from .opened import page_of
 from .project import Project, too_needy
-from .psmax import SECONDS, Earliest, Psmax
+from .psmax import Earliest, Psmax
 from .table import read_table
 from .wording import Words
 
@@ -49,7 +49,7 @@ def read_activities(path: str, out: str | None, wanted: Wanted) -> int:
     must_be_ours(target, named, names.source, there, out is not None)
     names.settings = settings(there, wanted, named, names.unit)
     text = project.text()
-    answer = Psmax(Clock(SECONDS), path).earliest(text)
+    answer = Psmax(Clock(), path).earliest(text)
     write_whole(target, text)
     write_whole(named, page(printable(pathlib.Path(target).stem), project, names).encode())
     sizes = f"{project.end - 1} activities, {len(project.capacities)} resources, {len(project.arcs)} lags"
@@ -94,7 +94,7 @@ def read_sch(path: str, out: str | None) -> int:
         raise BadInput(f"{path}: {OTHER_SET}")
     clean = data.removeprefix(MARK).rstrip(b" \t\r\n" + CTRL_Z) + b"\n"
     try:
-        Psmax(Clock(SECONDS), path).earliest(clean)
+        Psmax(Clock(), path).earliest(clean)
     except BadInput as fault:
         raise BadInput(f"{fault}{MODES if is_other_modes(fault) else ''}") from None
     if out is not None:
