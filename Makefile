@@ -44,7 +44,7 @@ install:
 	install -m 755 $(AT_HAND)/psmax $(AT_HAND)/psprove $(DESTDIR)$(PREFIX)/bin
 	install -D -m 755 planner/plan $(DESTDIR)$(PREFIX)/bin/plan
 	install -d $(DESTDIR)$(PREFIX)/share/psmax/planner
-	install -m 644 $(MODULES) $(DESTDIR)$(PREFIX)/share/psmax/planner
+	install -m 644 $(MODULES) planner/report.html $(DESTDIR)$(PREFIX)/share/psmax/planner
 	install -m 755 tests/verify.py tests/verify_lemmas.py $(DESTDIR)$(PREFIX)/share/psmax
 	install -d $(addprefix $(DESTDIR)$(PREFIX)/share/,man/man1 doc/psmax/docs doc/psmax/examples)
 	install -m 644 docs/psmax.1 docs/psprove.1 docs/plan.1 $(DESTDIR)$(PREFIX)/share/man/man1

@@ -1,5 +1,7 @@
 """`plan compare`: what has moved from one schedule to another."""
-from . import dates
+from dataclasses import dataclass
+
+from . import dates, why
 from .answer import same_names
 from .dates import Calendar, Wanted
 from .errors import BadInput
@@ -9,15 +11,27 @@ from .names import Names, read_page
 from .opened import ProjectFile
 
 
-def compare(old: str, new: str, wanted: Wanted, page: str | None) -> int:
+@dataclass(frozen=True)
+class Why:
+    """The project of which is asked why the new schedule is later, and how long."""
+
+    project: str
+    seconds: int
+    jobs: int
+
+
+def compare(old: str, new: str, wanted: Wanted, page: str | None, asked: Why | None) -> int:
     names = read_page(read_bytes(page)) if page is not None else Names()
     calendar = dates.chosen(wanted, ProjectFile(old, b"", names, page or old))
     was, now = read_answer(old), read_answer(new)
     for given in (was, now):
         if given.instead:
             raise BadInput(f"{given.called}: {given.instead}")
-    print(*differences(Side(was, names), Side(now, names), calendar), sep="\n")
-    return 0
+    before, after = Side(was, names), Side(now, names)
+    print(*differences(before, after, calendar), sep="\n")
+    if asked is None or after.makespan <= before.makespan:
+        return 0
+    return why.why(asked.project, before.makespan, asked.seconds, asked.jobs, None)
 
 
 class Side:

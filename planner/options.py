@@ -5,7 +5,7 @@ import re
 from collections.abc import Callable
 from typing import NoReturn
 
-from . import batch, check, compare, floats, gantt, read, solve, verify, whatif, where, why, write
+from . import batch, check, compare, floats, gantt, read, report, solve, verify, whatif, where, why, write
 from .csv_text import SEPARATORS
 from .dates import MINUTES, Wanted
 from .errors import BadInput
@@ -162,6 +162,15 @@ def add_gantt(one: argparse.ArgumentParser) -> None:
     one.set_defaults(run=lambda o: gantt.gantt(o.project, o.answer, o.names, wanted(o), gantt.Chart(o.svg, o.width)))
 
 
+def add_report(one: argparse.ArgumentParser) -> None:
+    add_schedule(one)
+    one.add_argument("--out", metavar="FILE", required=True, help="write the page there")
+    one.add_argument("--record", metavar="RECORD", help="the record that proves the bound")
+    add_start(one)
+    add_calendar(one)
+    one.set_defaults(run=lambda o: report.report(o.project, o.answer, o.names, o.record, o.out, start(o)))
+
+
 def add_check(one: argparse.ArgumentParser) -> None:
     add_schedule(one)
     one.set_defaults(run=lambda o: check.check(o.project, o.answer, o.names))
@@ -171,8 +180,11 @@ def add_compare(one: argparse.ArgumentParser) -> None:
     one.add_argument("old", metavar="OLD", help="an answer")
     one.add_argument("new", metavar="NEW", help="another one")
     one.add_argument("--names", metavar="PAGE", help="a page of names, for an answer that has none, and for the calendar")
+    one.add_argument("--why", metavar="PROJECT", help="say why no schedule of this project ends as soon as OLD")
+    add_limits(one)
     add_calendar(one)
-    one.set_defaults(run=lambda o: compare.compare(o.old, o.new, wanted(o), o.names))
+    one.set_defaults(run=lambda o: compare.compare(
+        o.old, o.new, wanted(o), o.names, None if o.why is None else compare.Why(o.why, o.seconds, o.jobs)))
 
 
 def add_why(one: argparse.ArgumentParser) -> None:
@@ -221,6 +233,7 @@ COMMANDS = (
     ("write", add_write, "write a schedule as a table in CSV"),
     ("gantt", add_gantt, "draw a schedule as a chart"),
     ("float", add_float, "say from when to when each activity may start, and which are critical"),
+    ("report", add_report, "write a schedule as a page of HTML, with what is proved"),
     ("compare", add_compare, "say what moved from one schedule to another"),
     ("verify", add_verify, "say what a record proves of a project"),
     ("check", add_check, "say whether a schedule is feasible, and what of it is not"),

@@ -99,8 +99,9 @@ def within(project: Project, deadline: int) -> Project | None:
 
 
 def parts(project: Project) -> list[Part]:
-    """Each resource, and each lag that is a greatest one."""
-    lags = [place for place, arc in enumerate(project.arcs) if arc.lag <= 0 and arc.tail != arc.head]
+    """Each resource, and each lag that is a greatest one. A lag of 0 after the end of a milestone is a least one."""
+    lags = [place for place, (tail, head, lag) in enumerate(project.arcs) if tail != head
+            and (lag < 0 or lag == 0 and (project.durations[tail] > 0 or tail == project.end))]
     return [*(Part(False, k) for k in range(len(project.capacities))), *(Part(True, place) for place in lags)]
 
 

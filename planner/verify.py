@@ -1,12 +1,13 @@
 """`plan verify`: what a record proves of a project, and who has checked it."""
 import os
 import re
+from dataclasses import dataclass
 
 from . import dates
 from .clock import Clock
 from .errors import BadInput, Failed
 from .files import read_bytes
-from .opened import open_project
+from .opened import ProjectFile, open_project
 from .psmax import Psmax
 from .psprove import Psprove
 from .replan import Start, begin_with
@@ -17,6 +18,48 @@ LARGEST = 268_435_456  # bytes; the programs read no longer record
 WRONG = 4  # the exit status of the programs for the same
 
 
+@dataclass(frozen=True)
+class Verdict:
+    """What `verify` of a program says of a record, which may be its first wrong line."""
+
+    which: str  # project
+    program: str
+    script: str  # that judges the record without the program
+    told: str
+    wrong: bool
+
+    @property
+    def bound(self) -> int | None:
+        found = re.fullmatch(r"proved (?:bound|optimal) (\d+)", self.told)
+        return int(found[1]) if found else None
+
+    def sentence(self, record: str) -> str:
+        if self.wrong:
+            return f"{record} proves nothing of {self.which}: {self.told}"
+        if self.bound is None:
+            return f"{record} proves that there is no schedule of {self.which}."
+        ends = ", and has one that long" if "optimal" in self.told else ""
+        return f"{record} proves that no schedule of {self.which} is shorter than {self.bound}{ends}."
+
+    @property
+    def judge(self) -> str:
+        return (f"`{self.program} verify`, which is proved itself, has judged each line; "
+                f"{self.script} judges it without {self.program}.")
+
+
+def verdict(opened: ProjectFile, record: str, start: Start) -> Verdict:
+    """The verdict on a record of the project, or of it with what has started kept."""
+    beginning = begin_with(opened, start, dates.chosen(start.wanted, opened) if start.frozen else None)
+    Psmax(Clock(), opened.path).earliest(opened.text)
+    data = read_bytes(record, LARGEST)
+    program, script = (Psmax, "verify.py") if data.startswith(OF_PSMAX) else (Psprove, "verify_lemmas.py")
+    status, told = program(Clock(), record).verify(beginning.text, data)
+    if status != WRONG and not re.fullmatch(r"proved (no schedule|(bound|optimal) \d+)", told):
+        raise Failed(f"{program.name} verify gave an answer that plan does not know: {told}")
+    keeps = "" if start.frozen is None else f" that keeps what {start.answer} starts before {start.frozen}"
+    return Verdict(f"{opened.path}{keeps}", program.name, script, told, status == WRONG)
+
+
 def must_be_record(path: str | None) -> None:
     """A file that an output would replace, and that is there and is no record, stays."""
     if path is not None and os.path.isfile(path) and not (read_bytes(path) or RECORD).startswith(RECORD):
@@ -24,28 +67,8 @@ def must_be_record(path: str | None) -> None:
 
 
 def verify(path: str, record: str, start: Start) -> int:
-    opened = open_project(path)
-    beginning = begin_with(opened, start, dates.chosen(start.wanted, opened) if start.frozen else None)
-    Psmax(Clock(), path).earliest(opened.text)
-    data = read_bytes(record, LARGEST)
-    program, script = (Psmax, "verify.py") if data.startswith(OF_PSMAX) else (Psprove, "verify_lemmas.py")
-    status, told = program(Clock(), record).verify(beginning.text, data)
-    which = path if start.frozen is None else f"{path} that keeps what {start.answer} starts before {start.frozen}"
-    if status == WRONG:
-        print(f"{record} proves nothing of {which}: {told}")
-        return WRONG
-    print(f"{record} proves that {meaning(told, which)}.")
-    print(f"`{program.name} verify`, which is proved itself, has judged each line; {script} judges it without {program.name}.")
-    return 0
-
-
-def meaning(told: str, which: str) -> str:
-    """A line of `verify` as a sentence."""
-    found = re.fullmatch(r"proved (no schedule|bound (\d+)|optimal (\d+))", told)
-    if found is None:
-        raise Failed(f"verify gave an answer that plan does not know: {told}")
-    if found[2]:
-        return f"no schedule of {which} is shorter than {found[2]}"
-    if found[3]:
-        return f"no schedule of {which} is shorter than {found[3]}, and has one that long"
-    return f"there is no schedule of {which}"
+    found = verdict(open_project(path), record, start)
+    print(found.sentence(record))
+    if not found.wrong:
+        print(found.judge)
+    return WRONG if found.wrong else 0

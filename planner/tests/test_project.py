@@ -33,10 +33,13 @@ class Arcs(unittest.TestCase):
 
 class Parts(unittest.TestCase):
     def test_what_can_be_left_out(self) -> None:
-        """Three resources, and the lags that are at most 0, of which the building site has two."""
-        project = parse((EXAMPLES / "building-site.sch").read_bytes())
-        lags = [place for place, arc in enumerate(project.arcs) if arc.lag <= 0]
-        self.assertEqual(parts(project), [*(Part(False, k) for k in range(3)), *(Part(True, place) for place in lags)])
+        """A machine; 2 starts at most 5 after 1; 2 starts with 1; the end is due on day 9. No more: that 2 follows 1, or a
+        milestone 3, is a least lag."""
+        project = parse(b"3 1 0 0\n0 1 0\n1 1 2 2 2 [3] [0]\n2 1 2 1 1 [-5] [0]\n3 1 1 2 [0]\n4 1 1 0 [-9]\n"
+                        b"0 1 0 0\n1 1 3 1\n2 1 4 1\n3 1 0 0\n4 1 0 0\n1\n")
+        told = [project.arcs[part.number] for part in parts(project) if part.is_lag]
+        self.assertEqual(told, [Arc(1, 2, 0), Arc(2, 1, -5), Arc(2, 1, 0), Arc(4, 0, -9)])
+        self.assertEqual([part for part in parts(project) if not part.is_lag], [Part(False, 0)])
 
     def test_without(self) -> None:
         project = parse((EXAMPLES / "building-site.sch").read_bytes())
