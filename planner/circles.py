@@ -14,7 +14,7 @@ def circles(project: Project, psmax: Psmax) -> Iterator[list[Arc]]:
     arcs = project.rules()
     for _ in range(MOST):
         circle = [Arc(*arc) for arc in positive_cycle([(*arc,) for arc in arcs], len(project.durations))]
-        if not circle or psmax.earliest(lags_only(project, circle).text()).cycle is None:
+        if not circle or psmax.earliest(lags_only(project, circle).text()) is not None:
             return
         yield circle
         arcs.remove(min((arc for arc in circle if arc in project.arcs), key=lambda arc: arc.lag))

@@ -1,7 +1,7 @@
 """`plan compare`: what has moved from one schedule to another."""
-from dataclasses import dataclass
+from collections.abc import Callable
 
-from . import dates, why
+from . import dates
 from .answer import same_names
 from .dates import Calendar, Wanted
 from .errors import BadInput
@@ -11,16 +11,8 @@ from .names import Names, read_page
 from .opened import ProjectFile
 
 
-@dataclass(frozen=True)
-class Why:
-    """The project of which is asked why the new schedule is later, and how long."""
-
-    project: str
-    seconds: int
-    jobs: int
-
-
-def compare(old: str, new: str, wanted: Wanted, page: str | None, asked: Why | None) -> int:
+def compare(old: str, new: str, wanted: Wanted, page: str | None, why: Callable[[int], int] | None) -> int:
+    """Where the new schedule is later it asks why none ends as soon as the old one."""
     names = read_page(read_bytes(page)) if page is not None else Names()
     calendar = dates.chosen(wanted, ProjectFile(old, b"", names, page or old))
     was, now = read_answer(old), read_answer(new)
@@ -29,9 +21,7 @@ def compare(old: str, new: str, wanted: Wanted, page: str | None, asked: Why | N
             raise BadInput(f"{given.called}: {given.instead}")
     before, after = Side(was, names), Side(now, names)
     print(*differences(before, after, calendar), sep="\n")
-    if asked is None or after.makespan <= before.makespan:
-        return 0
-    return why.why(asked.project, before.makespan, asked.seconds, asked.jobs, None)
+    return why(before.makespan) if why is not None and after.makespan > before.makespan else 0
 
 
 class Side:

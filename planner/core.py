@@ -3,7 +3,6 @@ import math
 import os
 from dataclasses import dataclass, field
 
-from .errors import TimeUp
 from .files import write_whole
 from .project import Part, Project, parts, without
 from .psmax import starts_text
@@ -27,17 +26,14 @@ class Core:
     def shrink(self, psprove: Psprove, conflicts: int) -> None:
         """Leaves out one part after the other where psprove proves that there is still no schedule. The first proof took
         so many conflicts. What is left when the time is over may have parts that are not needed."""
-        try:
-            for part in self.parts():
-                limits = Limits(math.ceil(psprove.clock.left()), conflicts=max(LEAST, MANY * conflicts))
-                answer = psprove.solve(without(self.project, {*self.gone, part}).text(), limits)
-                if answer.none:
-                    self.gone.add(part)
-                    self.record = answer.record
-                elif answer.starts is not None:
-                    self.schedules[part] = answer.starts
-        except TimeUp:
-            pass
+        for part in self.parts():
+            limits = Limits(math.ceil(psprove.clock.left()), conflicts=max(LEAST, MANY * conflicts))
+            answer = psprove.ask(without(self.project, {*self.gone, part}).text(), limits)
+            if answer.none:
+                self.gone.add(part)
+                self.record = answer.record
+            elif answer.starts is not None:
+                self.schedules[part] = answer.starts
 
     def write(self, folder: str) -> None:
         """What is left and the record, and for each part what is left without it and a schedule."""

@@ -1,70 +1,45 @@
-"""What is known of a project: the shortest schedule that was judged feasible, and the greatest bound with its record."""
+"""What is known of a project while it is searched: what psprove has proved, and schedules that were handed in."""
 from collections.abc import Callable, Sequence
 
 from .clock import Clock, tell
 from .errors import Failed
 from .psmax import starts_text
-from .psprove import Solved
+from .psprove import Claim, Solved
 
 
-class Known:
-    def __init__(self, clock: Clock, quiet: bool = False) -> None:
+class Known(Claim):
+    def __init__(self, clock: Clock) -> None:
         self.clock = clock
-        self.quiet = quiet  # says nothing of what becomes known
         self.better: Callable[[], None] = lambda: None  # what is done each time the schedule gets shorter
-        self.bound = 0  # no feasible schedule is shorter
-        self.makespan: int | None = None
+        self.bound = 0
+        self.makespan = None
         self.starts: tuple[int, ...] | None = None
-        self.none = False  # there is no schedule at all
         self.record = b""  # that proves the bound, or that there is no schedule
         self.conflicts = 0  # of all searches
-
-    @property
-    def settled(self) -> bool:
-        return self.none or self.makespan == self.bound
 
     def learn(self, answer: Solved, by: str) -> None:
         """Takes what psprove has proved."""
         self.conflicts += answer.conflicts
-        least = self.bound if answer.bound is None else answer.bound
-        most = answer.makespan if answer.makespan is not None else self.makespan
-        if most is not None and (answer.none or max(least, self.bound) > most):
-            raise Failed(f"psprove contradicts itself: a schedule of {most}, and {'none' if answer.none else least}, by {by}")
-        if answer.none or least > self.bound or answer.makespan == answer.bound:
+        most = self.makespan if answer.makespan is None else answer.makespan
+        least = None if answer.bound is None else max(answer.bound, self.bound or 0)
+        if most is not None and (least is None or least > most):
+            raise Failed(f"psprove contradicts itself: a schedule of {most}, and {answer.first_line()}, by {by}")
+        if least != self.bound or answer.settled:
             self.record = answer.record
-        self.none, self.bound = answer.none, max(least, self.bound)
+        self.bound = least
         if answer.starts is not None:
             self.take(answer.starts)
-        self.tell(f"{self.first_line()}, proved: {by}")
+        tell(self.clock, f"{self.first_line()}, proved: {by}")
 
     def offer(self, starts: Sequence[int], by: str) -> None:
         """Takes starts that are a feasible schedule, by what is said of them."""
-        self.tell(f"schedule {starts[-1]}: {by}")
+        tell(self.clock, f"schedule {starts[-1]}: {by}")
         self.take(tuple(starts))
-
-    def tell(self, line: str) -> None:
-        if not self.quiet:
-            tell(self.clock, line)
 
     def take(self, starts: tuple[int, ...]) -> None:
         if self.makespan is None or starts[-1] < self.makespan:
             self.makespan, self.starts = starts[-1], starts
             self.better()
-
-    def status(self) -> str:
-        if self.none:
-            return "no schedule"
-        if self.makespan is None:
-            return "unknown"
-        return "optimal" if self.settled else "feasible"
-
-    def first_line(self) -> str:
-        return {
-            "no schedule": "no schedule",
-            "unknown": f"unknown bound {self.bound}",
-            "optimal": f"optimal {self.makespan}",
-            "feasible": f"feasible {self.makespan} bound {self.bound}",
-        }[self.status()]
 
     def answer(self) -> bytes:
         """What is known, in the words of psmax; `psmax check` and `plan gantt` read it."""

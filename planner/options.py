@@ -184,7 +184,7 @@ def add_compare(one: argparse.ArgumentParser) -> None:
     add_limits(one)
     add_calendar(one)
     one.set_defaults(run=lambda o: compare.compare(
-        o.old, o.new, wanted(o), o.names, None if o.why is None else compare.Why(o.why, o.seconds, o.jobs)))
+        o.old, o.new, wanted(o), o.names, o.why and (lambda within: why.why(o.why, within, o.seconds, o.jobs, None))))
 
 
 def add_why(one: argparse.ArgumentParser) -> None:

@@ -7,14 +7,6 @@ from .programs import Program
 
 
 @dataclass(frozen=True)
-class Earliest:
-    """The least schedule of the lags alone, or where a positive cycle is."""
-
-    makespan: int | None
-    cycle: int | None  # some closed walk of positive weight visits only the activities 0 to this one
-
-
-@dataclass(frozen=True)
 class Checked:
     """The makespan where the starts are a feasible schedule, and otherwise every violation."""
 
@@ -25,13 +17,13 @@ class Checked:
 class Psmax(Program):
     name = "psmax"
 
-    def earliest(self, project: bytes) -> Earliest:
+    def earliest(self, project: bytes) -> int | None:
+        """The makespan by the lags alone; none where they contradict each other."""
         status, out = self.call(["earliest"], project)
         found = re.match(rb"(earliest|positive cycle) (\d+)\n", out)
         if status != 0 or found is None:
             raise self.odd("earliest")
-        number = int(found[2])
-        return Earliest(number, None) if found[1] == b"earliest" else Earliest(None, number)
+        return int(found[2]) if found[1] == b"earliest" else None
 
     def check(self, project: bytes, starts: bytes) -> Checked:
         """What psmax says of the starts; the project is one that it has read."""

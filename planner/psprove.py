@@ -4,7 +4,6 @@ import os
 import tempfile
 from collections.abc import Callable, Sequence
 from dataclasses import dataclass
-from typing import Any
 
 from .errors import TimeUp
 from .programs import Program
@@ -27,9 +26,36 @@ class Limits:
         return [word for option, value in told.items() if value is not None for word in (option, f"{value}")]
 
 
+class Claim:
+    """What is known of a project: the shortest schedule, and a bound, none where there is no schedule."""
+
+    makespan: int | None
+    bound: int | None
+
+    @property
+    def none(self) -> bool:
+        return self.bound is None
+
+    @property
+    def settled(self) -> bool:
+        return self.makespan == self.bound or self.none
+
+    def status(self) -> str:
+        if self.none:
+            return "no schedule"
+        if self.makespan is None:
+            return "unknown"
+        return "optimal" if self.settled else "feasible"
+
+    def first_line(self) -> str:
+        """The same in the words of psmax."""
+        makespan = {"optimal": f" {self.makespan}", "feasible": f" {self.makespan} bound {self.bound}"}
+        return self.status() + makespan.get(self.status(), "" if self.none else f" bound {self.bound}")
+
+
 @dataclass(frozen=True)
-class Solved:
-    """The shortest schedule that was found, and the bound, none where there is no schedule, that the record proves."""
+class Solved(Claim):
+    """An answer of psprove, with the record that proves the bound."""
 
     makespan: int | None
     starts: tuple[int, ...] | None
@@ -37,9 +63,8 @@ class Solved:
     conflicts: int
     record: bytes
 
-    @property
-    def none(self) -> bool:
-        return self.bound is None
+
+UNKNOWN = Solved(None, None, 0, 0, b"")
 
 
 class Psprove(Program):
@@ -57,21 +82,18 @@ class Psprove(Program):
                 with open(first, "wb") as file:
                     file.write(starts_text(start))
                 words += ["--start", first]
-            status, out = self.call(words, project, 2 * limits.seconds + GRACE, hear)
-            told = as_object(out)
-            if status not in (0, 3) or told is None or not os.path.isfile(record):
-                raise self.odd("solve")
-            with open(record, "rb") as file:
-                data = file.read()
-        starts = None if told["starts"] is None else tuple(told["starts"])
-        return Solved(told["makespan"], starts, told["bound"], told["conflicts"], data)
+            _, out = self.call(words, project, 2 * limits.seconds + GRACE, hear)
+            try:
+                told = json.loads(out)
+                starts = None if told["starts"] is None else tuple(told["starts"])
+                with open(record, "rb") as file:
+                    return Solved(told["makespan"], starts, told["bound"], told["conflicts"], file.read())
+            except (ValueError, KeyError, TypeError, OSError):
+                raise self.odd("solve") from None
 
-
-def as_object(out: bytes) -> dict[str, Any] | None:
-    """The answer in JSON that this text is; none where it is something else."""
-    try:
-        told = json.loads(out)
-    except ValueError:
-        return None
-    keys = {"conflicts", "bound", "makespan", "starts", "status"}
-    return told if isinstance(told, dict) and keys <= told.keys() else None
+    def ask(self, project: bytes, limits: Limits, start: Sequence[int] | None = None) -> Solved:
+        """The same where the time may be over, so that nothing becomes known."""
+        try:
+            return self.solve(project, limits, start)
+        except TimeUp:
+            return UNKNOWN

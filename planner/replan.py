@@ -84,7 +84,7 @@ def from_frozen(opened: ProjectFile, given: Given, psmax: Psmax, day: str, calen
         broken = psmax.check(limited.text(), starts_text(starts)).violations
         told += at_most([f"{given.called}: {words.violation(violation, starts)}" for violation in broken])
         schedules += [] if broken else [(starts, given.called)]
-    for circle in circles(limited, psmax) if psmax.earliest(limited.text()).cycle is not None else ():
+    for circle in circles(limited, psmax):
         told += in_words(circle, words)
     return Beginning(limited.text(), schedules, repairs(limited, old), arcs, told)
 

@@ -30,8 +30,8 @@ MARK, LETTER = 80, 8  # pixels from one time of the ruler to the next, at least,
 class Chart:
     """The pictures of the page, and where a time stands on them."""
 
-    def __init__(self, shown: Drawing, arcs: list[Arc], words: Words) -> None:
-        self.shown, self.arcs, self.words = shown, arcs, words
+    def __init__(self, shown: Drawing, starts: tuple[int, ...], words: Words) -> None:
+        self.shown, self.starts, self.words, self.arcs = shown, starts, words, words.project.arcs
         self.scale = min(WIDEST, WIDTH / (shown.ends - shown.begins))
         self.width = round(self.scale * (shown.ends - shown.begins)) + 24
         self.rows = {bar.activity: row for row, bar in enumerate(shown.bars)}
@@ -100,12 +100,7 @@ class Chart:
                 f"<title>{escape(self.words.lag(arc))}</title></path>")
 
     def spare(self, arc: Arc) -> int:
-        return self.start(arc.head) - self.start(arc.tail) - arc.lag
-
-    def start(self, activity: int) -> int:
-        if activity in self.rows:
-            return self.shown.bars[self.rows[activity]].begins
-        return 0 if activity == 0 else self.shown.ends
+        return self.starts[arc.head] - self.starts[arc.tail] - arc.lag
 
     def lags(self) -> dict[int, list[str]]:
         """The lags of each activity in words, with how much they leave."""
@@ -170,7 +165,7 @@ def page_of(opened: ProjectFile, answer: Answer, record: str | None, found: Verd
     words = Words(answer.project, opened.names)
     spans = windows(answer.project, answer.starts, opened.text, psmax)
     shown = drawing.make(answer.project, answer.starts, opened.names, "", (), calendar, spans)
-    chart = Chart(shown, list(answer.project.arcs), words)
+    chart = Chart(shown, answer.starts, words)
     heads, rows = heads_and_rows(shown, words)
     is_whole, proved = proof(answer, record, found)
     facts = {"periods": answer.makespan, "activities": len(shown.bars), "critical": sum(not one.float for one in spans.values()),

@@ -60,6 +60,6 @@ class Search:
         elif found and found[1] == "schedule" and int(found[2]) < min(self.most, self.known.makespan or math.inf):
             self.most = int(found[2])
             tell(self.known.clock, f"schedule {self.most}, unproved")
-        elif found and found[1] == "bound" and int(found[2]) > max(self.least, self.known.bound):
+        elif found and found[1] == "bound" and int(found[2]) > max(self.least, self.known.bound or 0):
             self.least = int(found[2])
             tell(self.known.clock, f"bound {self.least}, unproved")

@@ -82,7 +82,7 @@ def give(known: Known, opened: ProjectFile, options: Options, kept: Kept | None,
 def as_json(known: Known, opened: ProjectFile) -> str:
     """What is known as one line, with the keys of psmax first."""
     told: dict[str, object] = {
-        "bound": None if known.none else known.bound,
+        "bound": known.bound,
         "makespan": known.makespan,
         "starts": known.starts,
         "status": known.status(),

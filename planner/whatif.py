@@ -1,16 +1,13 @@
 """`plan whatif`: what one unit more of a resource, or a greatest lag loosened or dropped, gives. psprove proves each answer."""
 import math
-from collections.abc import Sequence
 from concurrent.futures import ThreadPoolExecutor
 from dataclasses import dataclass, replace
 
 from .clock import Clock, tell
-from .errors import TimeUp
 from .files import guard
-from .known import Known
 from .opened import open_project
 from .project import MOST_UNITS, Project, parse, parts, with_lag, without
-from .psprove import Limits, Psprove
+from .psprove import Limits, Psprove, Solved
 from .wording import Words, are
 from .write import Table, put
 
@@ -28,18 +25,19 @@ class Change:
 @dataclass(frozen=True)
 class Outcome:
     change: Change
-    known: Known
+    known: Solved
     seconds: float
 
     def rank(self) -> tuple[float, float]:
         """The shortest schedule first, and of those the least bound; what has no schedule last."""
-        return math.inf if self.known.makespan is None else self.known.makespan, math.inf if self.known.none else self.known.bound
+        makespan, bound = (math.inf if value is None else value for value in (self.known.makespan, self.known.bound))
+        return makespan, bound
 
-    def row(self, base: Known) -> list[object]:
+    def row(self, base: Solved) -> list[object]:
         known = self.known
-        shorter = base.makespan - known.makespan if base.makespan is not None and known.makespan is not None else ""
-        told = ["" if value is None else value for value in (known.makespan, None if known.none else known.bound)]
-        return [self.change.kind, self.change.text, known.status(), *told, shorter, f"{self.seconds:.2f}"]
+        shorter = base.makespan - known.makespan if base.makespan is not None and known.makespan is not None else None
+        told = ["" if value is None else value for value in (known.makespan, known.bound, shorter)]
+        return [self.change.kind, self.change.text, known.status(), *told, f"{self.seconds:.2f}"]
 
 
 def changes(project: Project, words: Words) -> list[Change]:
@@ -61,42 +59,24 @@ def changes(project: Project, words: Words) -> list[Change]:
     return found
 
 
-class WhatIf:
-    def __init__(self, path: str, clock: Clock, jobs: int) -> None:
-        self.psprove, self.jobs = Psprove(clock, path), jobs
-
-    def ask(self, text: bytes, limits: Limits, start: Sequence[int] | None) -> Known:
-        """What psprove knows of a project; a schedule of the one that is not changed is one of it too."""
-        known = Known(self.psprove.clock, quiet=True)
-        if start is not None:
-            known.take(tuple(start))
-        try:
-            known.learn(self.psprove.solve(text, limits, start), "")
-        except TimeUp:
-            pass
-        return known
-
-    def outcome(self, change: Change, left: int, base: Known) -> Outcome:
-        """One change, of which so many are left, each searched by one job beside others."""
-        clock = self.psprove.clock
-        begun, share = clock.elapsed(), clock.left() * self.jobs / left
-        known = self.ask(change.project.text(), Limits(math.ceil(min(share, clock.left()))), base.starts)
-        return Outcome(change, known, clock.elapsed() - begun)
-
-
 def whatif(path: str, page: str | None, seconds: int, jobs: int, table: Table) -> int:
     opened = open_project(path, page)
     guard([table.out], opened.inputs())
     clock = Clock(seconds)
     clock.listen()
-    asking = WhatIf(path, clock, jobs)
-    base = asking.ask(opened.text, Limits(math.ceil(seconds / SHARE), jobs), None)
-    words = Words(parse(opened.text), opened.names)
+    psprove = Psprove(clock, path)
+    base = psprove.ask(opened.text, Limits(math.ceil(seconds / SHARE), jobs))
     tell(clock, f"as it is: {base.first_line()}")
-    found = changes(parse(opened.text), words)
+    found = changes(parse(opened.text), Words(parse(opened.text), opened.names))
+
+    def outcome(place: int) -> Outcome:
+        """What becomes known of one change by one job beside others, in its share of the time that is left."""
+        begun, left = clock.elapsed(), clock.left()
+        limits = Limits(math.ceil(min(left, left * jobs / (len(found) - place))))
+        return Outcome(found[place], psprove.ask(found[place].project.text(), limits, base.starts), clock.elapsed() - begun)
+
     with ThreadPoolExecutor(jobs) as pool:
-        outcomes = [*pool.map(lambda one: asking.outcome(one[1], len(found) - one[0], base), enumerate(found))]
-    outcomes.sort(key=Outcome.rank)
+        outcomes = sorted(pool.map(outcome, range(len(found))), key=Outcome.rank)
     if table.out is not None:
         put(table.text([[*HEADS], *(one.row(base) for one in outcomes)], opened), table.out)
     else:
@@ -104,7 +84,7 @@ def whatif(path: str, page: str | None, seconds: int, jobs: int, table: Table) -
     return 0 if base.settled and all(one.known.settled for one in outcomes) else 3
 
 
-def text(base: Known, outcomes: list[Outcome]) -> list[str]:
+def text(base: Solved, outcomes: list[Outcome]) -> list[str]:
     """What gives a shorter schedule, then what may, and how many do not."""
     better = [one for one in outcomes if one.known.makespan is not None
               and (base.makespan is None or one.known.makespan < base.makespan)]

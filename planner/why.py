@@ -9,7 +9,7 @@ from .errors import BadInput, TimeUp
 from .opened import ProjectFile, open_project
 from .project import MOST_UNITS, Part, Project, parse, too_needy, with_lag, within, without
 from .psmax import Psmax
-from .psprove import Limits, Psprove
+from .psprove import Limits, Psprove, Solved
 from .wording import Words, are
 
 FIRST = 1_000  # conflicts of a first search, which mostly finds a schedule where there is one
@@ -74,36 +74,25 @@ class Causes:
     def lags_that_open(self, places: list[int]) -> None:
         """Takes each of these lags out of the whole project, and tells with which of them gone there is a schedule. No
         other lag opens one, since these contradict each other without it."""
-        opening, open_ones = 0, 0
-        for done, place in enumerate(places):
-            try:
-                answer = self.without_lag(place)
-            except TimeUp:
-                print(f"The time was over before {len(places) - done} of {len(places)} greatest lags were tried.")
-                return
-            opening += answer is True
-            open_ones += answer is None
-        if open_ones:
-            print(f"For {open_ones} greatest lags it is not known whether that opens a schedule.")
-        if not opening and not open_ones:
+        answers = [self.without_lag(place) for place in places]
+        unknown = sum(answer.status() == "unknown" for answer in answers)
+        if unknown:
+            print(f"For {unknown} greatest lags it is not known whether that opens a schedule.")
+        elif all(answer.none for answer in answers):
             print("No greatest lag, taken out alone, opens a schedule.")
 
-    def without_lag(self, place: int) -> bool | None:
-        """Whether the project without this lag has a schedule; none where that is not known."""
+    def without_lag(self, place: int) -> Solved:
         arc = self.project.arcs[place]
-        found = self.schedule(without(self.project, {Part(True, place)}))
-        if not isinstance(found, tuple):
-            return found
-        print(f"Without this lag there is a schedule of {found[-1]}: {self.words.greatest(arc)}.")
-        least, is_least = self.least_enough(place, found)
-        also = "less is not" if is_least else "whether less is, is not known"
-        print(f"  At most {self.words.distance(least, arc.head)} is enough in its place; {also}.")
-        return True
+        answer = self.ask(without(self.project, {Part(True, place)}))
+        if answer.starts is not None:
+            print(f"Without this lag there is a schedule of {answer.makespan}: {self.words.greatest(arc)}.")
+            least, is_least = self.least_enough(place, answer.starts)
+            also = "less is not" if is_least else "whether less is, is not known"
+            print(f"  At most {self.words.distance(least, arc.head)} is enough in its place; {also}.")
+        return answer
 
-    def schedule(self, project: Project) -> tuple[int, ...] | bool | None:
-        """A schedule of the project; False where there is none, None where that is not known."""
-        answer = self.psprove.solve(project.text(), self.limits(CONFLICTS))
-        return answer.starts if answer.starts is not None else False if answer.none else None
+    def ask(self, project: Project) -> Solved:
+        return self.psprove.ask(project.text(), self.limits(CONFLICTS))
 
     def least_enough(self, place: int, found: tuple[int, ...]) -> tuple[int, bool]:
         """How long a greatest lag must be at least, and whether less is known to be too little: halves what lies between
@@ -112,13 +101,13 @@ class Causes:
         too_little, enough = -arc.lag, found[arc.tail] - found[arc.head]
         while enough - too_little > 1:
             middle = (too_little + enough) // 2
-            shorter = self.schedule(with_lag(self.project, place, -middle))
-            if shorter is None:
-                return enough, False
-            if isinstance(shorter, tuple):
-                enough = shorter[arc.tail] - shorter[arc.head]
-            else:
+            answer = self.ask(with_lag(self.project, place, -middle))
+            if answer.starts is not None:
+                enough = answer.starts[arc.tail] - answer.starts[arc.head]
+            elif answer.none:
                 too_little = middle
+            else:
+                return enough, False
         return enough, True
 
 
