@@ -181,10 +181,11 @@ def add_compare(one: argparse.ArgumentParser) -> None:
     one.add_argument("new", metavar="NEW", help="another one")
     one.add_argument("--names", metavar="PAGE", help="a page of names, for an answer that has none, and for the calendar")
     one.add_argument("--why", metavar="PROJECT", help="say why no schedule of this project ends as soon as OLD")
+    one.add_argument("--out", metavar="FOLDER", help="write what proves it into this new folder")
     add_limits(one)
     add_calendar(one)
     one.set_defaults(run=lambda o: compare.compare(
-        o.old, o.new, wanted(o), o.names, o.why and (lambda within: why.why(o.why, within, o.seconds, o.jobs, None))))
+        o.old, o.new, wanted(o), o.names, o.why and (lambda within: why.why(o.why, within, o.seconds, o.jobs, o.out))))
 
 
 def add_why(one: argparse.ArgumentParser) -> None:

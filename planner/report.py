@@ -136,15 +136,13 @@ def heads_and_rows(shown: Drawing, words: Words) -> tuple[str, str]:
     return "".join(f'<th><button type="button">{escape(head)}</button></th>' for head in heads), "\n".join(rows)
 
 
-def proof(answer: Answer, record: str | None, found: Verdict | None) -> tuple[bool, str]:
-    """Whether everything is proved, and what is, by whom."""
-    told = [f"`psmax check` finds this schedule of {answer.makespan} feasible: it keeps each lag and each resource."]
-    if found is None or record is None:
-        return False, " ".join([*told, "No record was handed in, so nothing is said of shorter ones."])
-    data = pathlib.Path(record).read_bytes()
-    told.append(f"{found.sentence(record)} {found.judge} The record has {len(data):,} bytes and the SHA-256 "
-                f"{hashlib.sha256(data).hexdigest()}.")
-    return found.bound == answer.makespan, " ".join(told)
+def proof(answer: Answer, found: Verdict | None) -> str:
+    """What is proved, and by whom."""
+    told = f"`psmax check` finds this schedule of {answer.makespan} feasible: it keeps each lag and each resource. "
+    if found is None:
+        return told + "No record was handed in, so nothing is said of shorter ones."
+    size, digest = len(found.data), hashlib.sha256(found.data).hexdigest()
+    return f"{told}{found.sentence()} {found.judges()} The record has {size:,} bytes and the SHA-256 {digest}."
 
 
 def report(path: str, given: str | None, page: str | None, record: str | None, out: str, start: Start) -> int:
@@ -155,19 +153,17 @@ def report(path: str, given: str | None, page: str | None, record: str | None, o
     answer = feasible(opened, read_answer(given), psmax)
     found = verdict(opened, record, start) if record is not None else None
     if found is not None and found.wrong:
-        raise BadInput(found.sentence(record or ""))
-    write_whole(out, page_of(opened, answer, record, found, dates.chosen(start.wanted, opened), psmax).encode())
+        raise BadInput(found.sentence())
+    write_whole(out, page_of(opened, answer, found, dates.chosen(start.wanted, opened), psmax).encode("utf-8", "replace"))
     return 0
 
 
-def page_of(opened: ProjectFile, answer: Answer, record: str | None, found: Verdict | None, calendar: Calendar | None,
-            psmax: Psmax) -> str:
+def page_of(opened: ProjectFile, answer: Answer, found: Verdict | None, calendar: Calendar | None, psmax: Psmax) -> str:
     words = Words(answer.project, opened.names)
     spans = windows(answer.project, answer.starts, opened.text, psmax)
     shown = drawing.make(answer.project, answer.starts, opened.names, "", (), calendar, spans)
     chart = Chart(shown, answer.starts, words)
     heads, rows = heads_and_rows(shown, words)
-    is_whole, proved = proof(answer, record, found)
     facts = {"periods": answer.makespan, "activities": len(shown.bars), "critical": sum(not one.float for one in spans.values()),
              "resources": len(shown.loads), "lags": len(answer.project.arcs)}
     names = [f'<div data-a="{bar.activity}" title="{escape(label(bar))}">{escape(label(bar))}</div>' for bar in shown.bars]
@@ -177,9 +173,10 @@ def page_of(opened: ProjectFile, answer: Answer, record: str | None, found: Verd
         "title": escape(pathlib.Path(opened.path).stem), "span": escape(f"From {first} to {last}"),
         "facts": "".join(f"<span><b>{count}</b>{escape(opened.names.unit or name if name == 'periods' else name)}</span>"
                          for name, count in facts.items()),
-        "state": "" if is_whole else "open", "proof": re.sub("`(.*?)`", r"<code>\1</code>", escape(proved)), "names": "".join(names), "chart": chart.svg(),
+        "state": "" if found is not None and found.bound == answer.makespan else "open",
+        "proof": re.sub("`(.*?)`", r"<code>\1</code>", escape(proof(answer, found))), "names": "".join(names), "chart": chart.svg(),
         "heads": heads, "rows": rows, "lags": json.dumps(chart.lags()).replace("<", "\\u003c"),
         "made": escape(f"Made by plan {__version__} from {opened.path}."),
     }
-    template = (pathlib.Path(__file__).parent / "report.html").read_text()
+    template = (pathlib.Path(__file__).parent / "report.html").read_text("utf-8")
     return re.sub(r"\{\{(\w+)\}\}", lambda place: texts[place[1]], template)

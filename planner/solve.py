@@ -50,10 +50,10 @@ def solve(path: str, start: Start, options: Options) -> int:
     for line in beginning.told:
         tell(clock, line)
     known = Known(clock)
-    for starts, called in schedules:
-        known.offer(starts, f"{called}, by check")
     if kept is not None:
         known.better = partial(kept.put_if_possible, known)
+    for starts, called in schedules:
+        known.offer(starts, f"{called}, by check")
     try:
         Search(beginning.text, Psprove(clock, path), known, options.jobs).run(beginning.repairs, start.answer or "")
     except Failed:

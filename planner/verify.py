@@ -22,6 +22,8 @@ WRONG = 4  # the exit status of the programs for the same
 class Verdict:
     """What `verify` of a program says of a record, which may be its first wrong line."""
 
+    record: str
+    data: bytes  # of the record
     which: str  # project
     program: str
     script: str  # that judges the record without the program
@@ -33,16 +35,15 @@ class Verdict:
         found = re.fullmatch(r"proved (?:bound|optimal) (\d+)", self.told)
         return int(found[1]) if found else None
 
-    def sentence(self, record: str) -> str:
+    def sentence(self) -> str:
         if self.wrong:
-            return f"{record} proves nothing of {self.which}: {self.told}"
+            return f"{self.record} proves nothing of {self.which}: {self.told}"
         if self.bound is None:
-            return f"{record} proves that there is no schedule of {self.which}."
+            return f"{self.record} proves that there is no schedule of {self.which}."
         ends = ", and has one that long" if "optimal" in self.told else ""
-        return f"{record} proves that no schedule of {self.which} is shorter than {self.bound}{ends}."
+        return f"{self.record} proves that no schedule of {self.which} is shorter than {self.bound}{ends}."
 
-    @property
-    def judge(self) -> str:
+    def judges(self) -> str:
         return (f"`{self.program} verify`, which is proved itself, has judged each line; "
                 f"{self.script} judges it without {self.program}.")
 
@@ -57,7 +58,7 @@ def verdict(opened: ProjectFile, record: str, start: Start) -> Verdict:
     if status != WRONG and not re.fullmatch(r"proved (no schedule|(bound|optimal) \d+)", told):
         raise Failed(f"{program.name} verify gave an answer that plan does not know: {told}")
     keeps = "" if start.frozen is None else f" that keeps what {start.answer} starts before {start.frozen}"
-    return Verdict(f"{opened.path}{keeps}", program.name, script, told, status == WRONG)
+    return Verdict(record, data, f"{opened.path}{keeps}", program.name, script, told, status == WRONG)
 
 
 def must_be_record(path: str | None) -> None:
@@ -68,7 +69,7 @@ def must_be_record(path: str | None) -> None:
 
 def verify(path: str, record: str, start: Start) -> int:
     found = verdict(open_project(path), record, start)
-    print(found.sentence(record))
+    print(found.sentence())
     if not found.wrong:
-        print(found.judge)
+        print(found.judges())
     return WRONG if found.wrong else 0

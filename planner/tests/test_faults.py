@@ -96,7 +96,7 @@ class Faults(InFolder):
             child.send_signal(signal.SIGINT)
             told = child.stderr.read()
             out = child.stdout.read()
-            self.assertEqual(child.wait(timeout=10), 1)
+            self.assertEqual(child.wait(timeout=30), 1)
         self.assertIn("plan: cannot write", told.splitlines()[-1])
         self.assertEqual(out.split()[0], "feasible")
         self.assertTrue(psmax("check", "--project", path, given=out.encode()).startswith("feasible"))

@@ -154,7 +154,7 @@ class Ends(InFolder):
                 told = child.stderr.read()
                 self.assertNotIn("Traceback", told)
                 self.assertNotIn("Error", told)
-                self.assertIn(child.wait(timeout=10), (3, 130, *(-number for number in ENDS)))
+                self.assertIn(child.wait(timeout=30), (3, 130, *(-number for number in ENDS)))
 
     def test_others(self) -> None:
         """A command that waits for its answer ends without a word but one."""
@@ -169,7 +169,7 @@ class Ends(InFolder):
                     time.sleep(0.02)
                 begun.unlink()
                 child.send_signal(sent)
-                self.assertEqual((child.communicate(timeout=10)[1], child.returncode), ("plan: interrupted\n", 130))
+                self.assertEqual((child.communicate(timeout=30)[1], child.returncode), ("plan: interrupted\n", 130))
 
     def test_nohup(self) -> None:
         """Where a closed terminal is ignored, the search goes on."""

@@ -169,6 +169,8 @@ class Installed(InFolder):
         record = self.folder / "record"
         answer = psmax("solve", "--record", record, given=site.read_bytes())
         self.assertEqual(self.run_there("bin/plan", "check", site, self.file("best", answer)).stdout, "feasible 36\n")
+        self.assertEqual(self.run_there("bin/plan", "solve", site, "--out", "own").stdout, "optimal 36\n")
+        self.assertEqual(self.run_there("bin/plan", "report", site, "own", "--out", "page.html").returncode, 0)
         verify = [sys.executable, share / "psmax" / "verify.py"]
         self.assertEqual(self.run_there(*verify, site, record).stdout, "proved optimal 36\n")
         for given in ((), ("gone", record), (site, "gone"), (record, record), (site, site)):

@@ -51,7 +51,7 @@ class Answers(InFolder):
         """Each is settled; psmax alone proves four of them, with the same makespan."""
         for path in sorted(PROJECTS.glob("*.sch")):
             with self.subTest(path.name):
-                self.assertRegex(self.first_line(path, "--seconds", "20"), "^optimal ")
+                self.assertRegex(self.first_line(path, "--seconds", "200"), "^optimal ")
 
     def test_the_answer_is_a_schedule(self) -> None:
         ran = plan("solve", EXAMPLES / "plant-shutdown.sch")
@@ -100,17 +100,18 @@ class Starts(InFolder):
         self.refused(plan("solve", self.file("bad.sch", "x"), "--start", starts), 2, "bad.sch: word 0")
 
     def test_what_psprove_is_handed(self) -> None:
-        """A later slice begins with the best schedule of the one before, has another seed and twice its time."""
+        """A later slice begins with the best schedule of the one before, has another seed and three times its seconds. This
+        one ends before its time, so none follows."""
         calls, handed = self.file("calls", ""), self.folder / "handed"
         spy = self.program("spy", f"""echo "$@" >> {calls}
-            case "$*" in *--start*) for file; do :; done; cat "$file" > {handed}; esac
+            case "$*" in *--start*) for file; do :; done; cat "$file" > {handed}; exec {PSPROVE} "$@" --conflicts 0; esac
             exec {PSPROVE} "$@" """)
         path = self.hard()
-        ran = plan("solve", path, "--seconds", "3", "--jobs", "2", psprove=spy)
+        ran = plan("solve", path, "--seconds", "200", "--jobs", "2", psprove=spy)
         self.assertEqual(ran.returncode, 3)
         first, second = (line.partition(" --record")[0] for line in calls.read_text().splitlines() if line.startswith("solve"))
         self.assertEqual(first, "solve --json --progress --seconds 1 --jobs 2 --seed 0")
-        self.assertEqual(second, "solve --json --progress --seconds 2 --jobs 2 --seed 1")
+        self.assertEqual(second, "solve --json --progress --seconds 3 --jobs 2 --seed 1")
         best = re.search(r"feasible (\d+) bound \d+, proved", ran.stderr)
         assert best is not None
         self.assertEqual(psmax("check", "--project", path, given=handed.read_bytes()), f"feasible {best[1]}\n")
@@ -199,7 +200,7 @@ class Progress(InFolder):
         begun, path = time.monotonic(), self.hard()
         with started("solve", path, "--seconds", "2", "--jobs", "2") as child:
             out, told = child.communicate()
-        self.assertLess(time.monotonic() - begun, 6)
+        self.assertLess(time.monotonic() - begun, 60)
         self.assertEqual(child.returncode, 3)
         self.assertTrue(told.endswith("the 2 seconds are over\n"), told)
         self.held(out, path, told)
@@ -213,6 +214,6 @@ class Progress(InFolder):
                 child.send_signal(sent)
                 told += child.stderr.read()
                 out = child.stdout.read()
-                self.assertEqual(child.wait(timeout=10), 3)
+                self.assertEqual(child.wait(timeout=30), 3)
                 self.assertTrue(told.endswith("stopped\n"), told)
                 self.held(out, path, told)
