@@ -3,11 +3,13 @@ import math
 from concurrent.futures import ThreadPoolExecutor
 from dataclasses import dataclass, replace
 
-from .clock import Clock, tell
+from .clock import Clock
 from .files import guard
+from .known import Known
 from .opened import open_project
 from .project import MOST_UNITS, Project, parse, parts, with_lag, without
-from .psprove import Limits, Psprove, Solved
+from .psprove import UNKNOWN, Limits, Psprove, Solved
+from .search import Search
 from .wording import Words, are
 from .write import Table, put
 
@@ -33,7 +35,7 @@ class Outcome:
         makespan, bound = (math.inf if value is None else value for value in (self.known.makespan, self.known.bound))
         return makespan, bound
 
-    def row(self, base: Solved) -> list[object]:
+    def row(self, base: Known) -> list[object]:
         known = self.known
         shorter = base.makespan - known.makespan if base.makespan is not None and known.makespan is not None else None
         told = ["" if value is None else value for value in (known.makespan, known.bound, shorter)]
@@ -62,11 +64,11 @@ def changes(project: Project, words: Words) -> list[Change]:
 def whatif(path: str, page: str | None, seconds: int, jobs: int, table: Table) -> int:
     opened = open_project(path, page)
     guard([table.out], opened.inputs())
-    clock = Clock(seconds)
+    clock = Clock(seconds / SHARE)
     clock.listen()
-    psprove = Psprove(clock, path)
-    base = psprove.ask(opened.text, Limits(math.ceil(seconds / SHARE), jobs))
-    tell(clock, f"as it is: {base.first_line()}")
+    psprove, base = Psprove(clock, path), Known(clock)
+    Search(opened.text, psprove, base, jobs).run()
+    clock.seconds = seconds
     found = changes(parse(opened.text), Words(parse(opened.text), opened.names))
 
     def outcome(place: int) -> Outcome:
@@ -84,15 +86,16 @@ def whatif(path: str, page: str | None, seconds: int, jobs: int, table: Table) -
     return 0 if base.settled and all(one.known.settled for one in outcomes) else 3
 
 
-def text(base: Solved, outcomes: list[Outcome]) -> list[str]:
+def text(base: Known, outcomes: list[Outcome]) -> list[str]:
     """What gives a shorter schedule, then what may, and how many do not."""
     better = [one for one in outcomes if one.known.makespan is not None
               and (base.makespan is None or one.known.makespan < base.makespan)]
-    open_ones = [one for one in outcomes if one not in better and not one.known.settled]
+    late = [one for one in outcomes if one.known is UNKNOWN]
+    may = [one for one in outcomes if one not in better and one not in late and not one.known.settled]
     told = [f"As it is: {base.first_line()}."]
-    told += [f"  {one.known.first_line()}: {one.change.text}" for one in [*better, *open_ones]]
-    others = len(outcomes) - len(better) - len(open_ones)
+    told += [f"  {one.known.first_line()}: {one.change.text}" for one in [*better, *may]]
+    others = len(outcomes) - len(better) - len(may) - len(late)
     if others:
         says = "opens a schedule" if base.makespan is None else f"gives one shorter than {base.makespan}"
         told.append(f"None of {others} other changes {says}, which is proved.")
-    return told
+    return [*told, f"For {len(late)} changes there was no time."] if late else told
