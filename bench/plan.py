@@ -1,5 +1,5 @@
 #!/usr/bin/env python3
-"""bench/plan.py FOLDER [--set projects|small|large] [--seconds S] [--jobs N]
+"""bench/plan.py FOLDER [--set projects|small|large] [--only WORD] [--seconds S] [--jobs N]
 
 Prints a table of what `plan solve --jobs N` knows after S seconds (1 and 20 by default), which calls the psmax and psprove
 of FOLDER, beside one of them:
@@ -8,6 +8,7 @@ projects  those of planner/projects, beside `psmax solve`, which gets as many no
 small     40 generated projects of 20 to 60 activities, beside `psprove solve --jobs 1`
 large     ten of 100 to 500 activities, beside the same
 
+`--only` takes those alone whose name has the word.
 Each record of plan has to be accepted by `psprove verify`, with the answer that was printed; those below 200,000 bytes also
 by tests/verify_lemmas.py. Seconds are those of a clock. The last lines count what was proved, and tell the load before and
 after."""
@@ -110,6 +111,7 @@ def main():
     parser = argparse.ArgumentParser(description=__doc__, formatter_class=argparse.RawDescriptionHelpFormatter)
     parser.add_argument("folder", type=pathlib.Path)
     parser.add_argument("--set", choices=SETS, default="projects")
+    parser.add_argument("--only", default="")
     parser.add_argument("--seconds", type=int, default=20)
     parser.add_argument("--jobs", type=int, default=1)
     o = parser.parse_args()
@@ -120,7 +122,7 @@ def main():
     proved, wrong = [0, 0, 0], []
     with tempfile.TemporaryDirectory() as kept_in:
         project, record = pathlib.Path(kept_in) / "project.sch", pathlib.Path(kept_in) / "record"
-        for title, text in made():
+        for title, text in (one for one in made() if o.only in one[0]):
             project.write_bytes(text)
             answers = [other(folder, text, o.seconds), by_plan(folder, project, record, o.seconds, o.jobs)]
             row = [title, text.split()[0].decode(), *cells(*answers[0]), *cells(*answers[1]), f"{record.stat().st_size:,}"]

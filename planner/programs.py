@@ -35,9 +35,11 @@ def find_program(name: str) -> str:
 
 
 class Program:
-    """Calls one of the programs until the clock is stopped; `project` is what its project is called in faults."""
+    """Calls one of the programs until the clock is stopped, or the calls are ended. `project` is what its project is called
+    in faults."""
 
     name: str
+    ended = False
 
     def __init__(self, clock: Clock, project: str = "the project") -> None:
         self.clock = clock
@@ -81,7 +83,7 @@ class Program:
 
     def _run(self, words: Sequence[str], given: bytes, seconds: float,
              hear: Callable[[str], None]) -> tuple[int, bytes, bytes]:
-        if self.clock.stopped:
+        if self.clock.stopped or self.ended:
             raise TimeUp
         with tempfile.TemporaryFile() as source, tempfile.TemporaryFile() as out, tempfile.TemporaryFile() as told:
             source.write(given)
@@ -108,7 +110,7 @@ class Program:
                 child.wait(GLANCE)
                 is_over = True
             except subprocess.TimeoutExpired:
-                if self.clock.stopped or time.monotonic() > until:
+                if self.clock.stopped or self.ended or time.monotonic() > until:
                     raise TimeUp from None
             whole = os.pread(told.fileno(), 1 << 20, heard).rpartition(b"\n")[0]
             heard += len(whole) + 1 if whole else 0

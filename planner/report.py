@@ -24,7 +24,7 @@ from .wording import Words
 
 ROW, LOAD, TOP = 22, 52, 34  # pixels of an activity, of a resource, and above them
 WIDTH, WIDEST = 960, 36  # pixels of the time, and of a period at most
-MARK, LETTER = 80, 8  # pixels from one time of the ruler to the next, at least, and of a letter
+MARK = 120  # pixels from one time of the ruler to the next, at least, which is room for a date with its hour
 
 
 class Chart:
@@ -42,24 +42,15 @@ class Chart:
         return round(8 + self.scale * (time - self.shown.begins), 1)
 
     def svg(self) -> str:
-        parts = [f'<svg xmlns="http://www.w3.org/2000/svg" width="{self.width}" height="{self.bottom + 8}">',
-                 '<defs><marker id="head" markerUnits="userSpaceOnUse" markerWidth="9" markerHeight="8" refX="8" refY="4" orient="auto">'
-                 '<path d="M0,0 L9,4 L0,8 z" fill="#6b3fa0"/></marker></defs>', *self.ruler()]
-        parts += [self.bar(bar) for bar in self.shown.bars]
-        parts += [self.load(load, self.below + LOAD * row) for row, load in enumerate(self.shown.loads)]
-        return "\n".join([*parts, *(self.arrow(arc) for arc in self.arcs), "</svg>"])
+        loads = (self.load(load, self.below + LOAD * row) for row, load in enumerate(self.shown.loads))
+        drawn = [*self.ruler(), *map(self.bar, self.shown.bars), *loads, *map(self.arrow, self.arcs)]
+        return "\n".join([f'<svg width="{self.width}" height="{self.bottom + 8}">', *drawn, "</svg>"])
 
     def ruler(self) -> list[str]:
-        """Lines, each with its time where that of the line before leaves room."""
-        step, room = drawing.round_step(MARK / self.scale), 0.0
-        found = []
-        for time in range(-(-self.shown.begins // step) * step, self.shown.ends + 1, step):
-            x, told = self.x(time), self.shown.mark(time, room == 0)
-            found.append(f'<line class="grid" x1="{x}" x2="{x}" y1="24" y2="{self.bottom}"/>')
-            if x >= room:
-                found.append(f'<text x="{x}" y="16">{escape(told)}</text>')
-                room = x + LETTER * len(told)
-        return found
+        step = drawing.round_step(MARK / self.scale)
+        times = range(-(-self.shown.begins // step) * step, self.shown.ends + 1, step)
+        return [f'<line class="grid" x1="{self.x(time)}" x2="{self.x(time)}" y1="24" y2="{self.bottom}"/>'
+                f'<text x="{self.x(time)}" y="16">{escape(self.shown.mark(time, time == times[0]))}</text>' for time in times]
 
     def box(self, begins: int, ends: int, y: float, height: float, kind: str) -> str:
         width = max(2.0, self.x(ends) - self.x(begins))
@@ -120,20 +111,21 @@ def when(calendar: Calendar | None, begins: int, ends: int) -> tuple[str, str]:
     return calendar.times(begins, ends) if calendar else (f"{begins}", f"{ends}")
 
 
-def heads_and_rows(shown: Drawing, words: Words) -> tuple[str, str]:
-    heads = ["No.", "Activity", "float", *(shown.calendar.heads if shown.calendar else ("start", "end")), "takes", "needs"]
-    rows = []
-    for bar in sorted(shown.bars, key=lambda bar: (bar.begins, bar.activity)):
-        spare = bar.window.float if bar.window is not None else 0
-        needs = ", ".join(f"{words.names.resource(k)} {units}" for k, units in
-                          enumerate(words.project.demands[bar.activity]) if units)
-        first, last = when(shown.calendar, bar.begins, bar.ends)
-        cells = [("number", bar.activity, bar.activity), ("name", bar.name, bar.name), ("", spare or "critical", spare),
-                 ("", first, bar.begins), ("", last, bar.ends), ("", bar.ends - bar.begins, bar.ends - bar.begins),
-                 ("", needs, needs)]
-        told = "".join(f'<td class="{kind}" data-key="{escape(str(key))}">{escape(str(text))}</td>' for kind, text, key in cells)
-        rows.append(f'<tr data-a="{bar.activity}">{told}</tr>')
-    return "".join(f'<th><button type="button">{escape(head)}</button></th>' for head in heads), "\n".join(rows)
+def heads(shown: Drawing) -> str:
+    names = ["No.", "Activity", "float", *(shown.calendar.heads if shown.calendar else ("start", "end")), "takes", "needs"]
+    return "".join(f'<th><button type="button">{escape(name)}</button></th>' for name in names)
+
+
+def row(bar: Bar, shown: Drawing, words: Words) -> str:
+    """The cells of an activity, each with what it is sorted by."""
+    spare = bar.window.float if bar.window is not None else 0
+    demands = enumerate(words.project.demands[bar.activity])
+    needs = ", ".join(f"{words.names.resource(k)} {units}" for k, units in demands if units)
+    first, last = when(shown.calendar, bar.begins, bar.ends)
+    cells = [(bar.activity, bar.activity), (bar.name, bar.name), (spare or "critical", spare), (first, bar.begins),
+             (last, bar.ends), (bar.ends - bar.begins, bar.ends - bar.begins), (needs, needs)]
+    told = "".join(f'<td data-key="{escape(str(key))}">{escape(str(text))}</td>' for text, key in cells)
+    return f'<tr data-a="{bar.activity}">{told}</tr>'
 
 
 def proof(answer: Answer, found: Verdict | None) -> str:
@@ -159,24 +151,23 @@ def report(path: str, given: str | None, page: str | None, record: str | None, o
 
 
 def page_of(opened: ProjectFile, answer: Answer, found: Verdict | None, calendar: Calendar | None, psmax: Psmax) -> str:
+    """The template with each `{{name}}` replaced by a text, and each `{{name!}}` by what is HTML already."""
     words = Words(answer.project, opened.names)
     spans = windows(answer.project, answer.starts, opened.text, psmax)
     shown = drawing.make(answer.project, answer.starts, opened.names, "", (), calendar, spans)
     chart = Chart(shown, answer.starts, words)
-    heads, rows = heads_and_rows(shown, words)
-    facts = {"periods": answer.makespan, "activities": len(shown.bars), "critical": sum(not one.float for one in spans.values()),
-             "resources": len(shown.loads), "lags": len(answer.project.arcs)}
     names = [f'<div data-a="{bar.activity}" title="{escape(label(bar))}">{escape(label(bar))}</div>' for bar in shown.bars]
     names += [f'<div class="load">{escape(load.name)}, {load.capacity}</div>' for load in shown.loads]
     first, last = when(calendar, 0, answer.makespan or 0)
     texts = {
-        "title": escape(pathlib.Path(opened.path).stem), "span": escape(f"From {first} to {last}"),
-        "facts": "".join(f"<span><b>{count}</b>{escape(opened.names.unit or name if name == 'periods' else name)}</span>"
-                         for name, count in facts.items()),
-        "state": "" if found is not None and found.bound == answer.makespan else "open",
-        "proof": re.sub("`(.*?)`", r"<code>\1</code>", escape(proof(answer, found))), "names": "".join(names), "chart": chart.svg(),
-        "heads": heads, "rows": rows, "lags": json.dumps(chart.lags()).replace("<", "\\u003c"),
-        "made": escape(f"Made by plan {__version__} from {opened.path}."),
+        "title": pathlib.Path(opened.path).stem, "first": first, "last": last, "makespan": answer.makespan,
+        "unit": opened.names.unit or "periods", "activities": len(shown.bars), "resources": len(shown.loads),
+        "lags": len(chart.arcs), "critical": sum(not one.float for one in spans.values()), "names": "".join(names),
+        "state": "" if found is not None and found.bound == answer.makespan else "open", "chart": chart.svg(),
+        "proof": re.sub("`(.*?)`", r"<code>\1</code>", escape(proof(answer, found))), "heads": heads(shown),
+        "rows": "\n".join(row(bar, shown, words) for bar in sorted(shown.bars, key=lambda bar: (bar.begins, bar.activity))),
+        "told": json.dumps(chart.lags()).replace("<", "\\u003c"), "version": __version__, "path": opened.path,
     }
     template = (pathlib.Path(__file__).parent / "report.html").read_text("utf-8")
-    return re.sub(r"\{\{(\w+)\}\}", lambda place: texts[place[1]], template)
+    return re.sub(r"\{\{(\w+)(!?)\}\}",
+                  lambda place: f"{texts[place[1]]}" if place[2] else escape(f"{texts[place[1]]}"), template)

@@ -1,8 +1,10 @@
-"""A search by psprove in slices. psprove answers only at its end, so each slice begins with the best schedule so far, and
-what a search that is stopped knows is what the slices before know."""
+"""A search by psprove, which answers only at its end. So one of its ways is searched in slices, each from the best schedule
+so far: what a search that is stopped knows is what the slices before know. The other ways run beside them to the end."""
 import math
 import re
+import threading
 from collections.abc import Sequence
+from concurrent.futures import ThreadPoolExecutor
 
 from .clock import tell
 from .errors import TimeUp
@@ -21,45 +23,59 @@ class Search:
         self.psprove = psprove
         self.known = known
         self.jobs = jobs
-        self.least, self.most = 0, math.inf  # the greatest bound and the shortest schedule that were told
+        self.lock = threading.Lock()  # of what is known
+        self.told: dict[str, int] = {}  # the shortest schedule that was reported, and the greatest bound, below 0
 
     def run(self, repairs: Sequence[bytes] = (), called: str = "") -> None:
         """Runs until everything is known or the time is over; what is known stands in `known`."""
-        try:
-            if self.known.starts is None:
-                self.repair(repairs, called)
-            self.slices()
-        except TimeUp:
-            pass
-        if not self.known.settled and self.psprove.clock.over():
-            tell(self.psprove.clock, self.psprove.clock.why_over())
+        clock = self.psprove.clock
+        if self.known.starts is None:
+            self.repair(repairs, called)
+        with ThreadPoolExecutor(1) as beside:
+            try:
+                whole = beside.submit(self.ask, Limits(math.ceil(clock.left()), self.jobs - 1)) if self.jobs > 1 else None
+                self.slices()
+                if whole is not None:
+                    whole.result()
+            finally:
+                self.psprove.ended = True
+        if not self.known.settled and clock.over():
+            tell(clock, clock.why_over())
 
     def repair(self, texts: Sequence[bytes], called: str) -> None:
         """A schedule of the first of these that has one. Each is the project with more lags."""
         for text in texts:
-            answer = self.psprove.solve(text, REPAIR)
+            answer = self.psprove.ask(text, REPAIR)
             if answer.starts is not None:
                 return self.known.offer(answer.starts, f"{called}, repaired")
 
     def slices(self) -> None:
-        clock, length, seed = self.psprove.clock, FIRST, 0
+        clock, length, seed = self.psprove.clock, FIRST, self.jobs - 1
         while not self.known.settled and not clock.over():
             left, begun = math.ceil(clock.left()), clock.elapsed()
-            limits = Limits(left if left < 2 * length else length, self.jobs, seed)
-            answer = self.psprove.solve(self.text, limits, self.known.starts, self.hear)
-            self.known.learn(answer, " ".join(["psprove solve", *limits.words()]))
+            limits = Limits(left if left < 2 * length else length, 1, seed)
+            self.ask(limits)
             if clock.elapsed() - begun < limits.seconds:
                 return  # everything is known, or psprove has told what stopped it
             length, seed = GROWTH * length, seed + 1
+
+    def ask(self, limits: Limits) -> None:
+        try:
+            answer = self.psprove.solve(self.text, limits, self.known.starts, self.hear)
+        except TimeUp:
+            return
+        with self.lock:
+            if not self.known.settled:
+                self.known.learn(answer, " ".join(["psprove solve", *limits.words()]))
+                self.psprove.ended = self.known.settled
 
     def hear(self, line: str) -> None:
         """Tells what psprove reports where it is news. Nothing of that is checked yet."""
         found = TOLD.fullmatch(line)
         if found and found[3]:
             tell(self.known.clock, line)
-        elif found and found[1] == "schedule" and int(found[2]) < min(self.most, self.known.makespan or math.inf):
-            self.most = int(found[2])
-            tell(self.known.clock, f"schedule {self.most}, unproved")
-        elif found and found[1] == "bound" and int(found[2]) > max(self.least, self.known.bound or 0):
-            self.least = int(found[2])
-            tell(self.known.clock, f"bound {self.least}, unproved")
+        elif found:
+            rank = int(found[2]) if found[1] == "schedule" else -int(found[2])
+            if rank < self.told.get(found[1], math.inf):
+                self.told[found[1]] = rank
+                tell(self.known.clock, f"{found[1]} {found[2]}, unproved")

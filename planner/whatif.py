@@ -1,4 +1,4 @@
-"""`plan whatif`: what one unit more of a resource, or a greatest lag loosened or dropped, gives. psprove proves each answer."""
+"""`plan whatif`: what one unit more of a resource, or a greatest lag loosened or dropped, gives, proved by psprove."""
 import math
 from concurrent.futures import ThreadPoolExecutor
 from dataclasses import dataclass, replace
@@ -67,7 +67,7 @@ def whatif(path: str, page: str | None, seconds: int, jobs: int, table: Table) -
     clock = Clock(seconds / SHARE)
     clock.listen()
     psprove, base = Psprove(clock, path), Known(clock)
-    Search(opened.text, psprove, base, jobs).run()
+    Search(opened.text, Psprove(clock, path), base, jobs).run()
     clock.seconds = seconds
     found = changes(parse(opened.text), Words(parse(opened.text), opened.names))
 

@@ -48,7 +48,7 @@ class Faults(InFolder):
         """What is known by then is printed, and the fault is told: this one answers once."""
         calls = self.file("calls", "")
         tired = self.program("tired", f"echo >> {calls}\ntest $(wc -l < {calls}) -le 1 && exec {PSPROVE} \"$@\"\nexit 1")
-        ran = plan("solve", self.hard(), psprove=tired)
+        ran = plan("solve", self.hard(), "--jobs", "1", psprove=tired)
         self.assertEqual((ran.returncode, ran.stdout[:9]), (1, "feasible "))
         self.assertEqual(ran.stderr.splitlines()[-1], "plan: psprove solve failed, exit status 1")
 

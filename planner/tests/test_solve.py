@@ -107,14 +107,28 @@ class Starts(InFolder):
             case "$*" in *--start*) for file; do :; done; cat "$file" > {handed}; exec {PSPROVE} "$@" --conflicts 0; esac
             exec {PSPROVE} "$@" """)
         path = self.hard()
-        ran = plan("solve", path, "--seconds", "200", "--jobs", "2", psprove=spy)
+        ran = plan("solve", path, "--seconds", "200", "--jobs", "1", psprove=spy)
         self.assertEqual(ran.returncode, 3)
         first, second = (line.partition(" --record")[0] for line in calls.read_text().splitlines() if line.startswith("solve"))
-        self.assertEqual(first, "solve --json --progress --seconds 1 --jobs 2 --seed 0")
-        self.assertEqual(second, "solve --json --progress --seconds 3 --jobs 2 --seed 1")
+        self.assertEqual(first, "solve --json --progress --seconds 1 --jobs 1 --seed 0")
+        self.assertEqual(second, "solve --json --progress --seconds 3 --jobs 1 --seed 1")
         best = re.search(r"feasible (\d+) bound \d+, proved", ran.stderr)
         assert best is not None
         self.assertEqual(psmax("check", "--project", path, given=handed.read_bytes()), f"feasible {best[1]}\n")
+
+    def test_ways_side_by_side(self) -> None:
+        """Of three ways two have the whole time. One has slices, and other seeds; what is settled in one ends the other."""
+        calls = self.file("calls", "")
+        spy = self.program("spy", f"""echo "$@" >> {calls}
+            case "$*" in *"--jobs 2"*) exec sleep 100; esac
+            exec {PSPROVE} "$@" """)
+        begun = time.monotonic()
+        ran = plan("solve", INPUTS / "two-jobs.sch", "--seconds", "100", "--jobs", "3", psprove=spy)
+        self.assertLess(time.monotonic() - begun, 50)
+        self.assertEqual(ran.stdout.partition("\n")[0], "optimal 7")
+        words = sorted(line.partition(" --record")[0] for line in calls.read_text().splitlines())
+        self.assertEqual(words[0], "solve --json --progress --seconds 1 --jobs 1 --seed 2")
+        self.assertRegex("".join(words[1:]), "^(solve --json --progress --seconds 100 --jobs 2 --seed 0)?$")
 
     def test_what_contradicts_itself(self) -> None:
         """By hand: two jobs of 3 and 4 on one machine, which a program says take 8 at least, or can't be done."""
