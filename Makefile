@@ -6,7 +6,7 @@
 # make bench    measure the program, and with OTHER=PROGRAM that program in turn with it
 PREFIX ?= /usr/local
 JOBS ?= $(shell nproc)
-MODULES := $(filter-out planner/measure.py,$(wildcard planner/*.py))
+MODULES := $(wildcard planner/*.py)
 SOURCES := crates.txt HANDLES $(shell find crates -path '*/out' -prune -o \( -name '*.rt' -o -name '*.antt' \) -print)
 AT_HAND := $(shell if [ build/psmax -nt release/psmax ]; then echo build; else echo release; fi)
 
@@ -44,7 +44,7 @@ install:
 	install -m 755 $(AT_HAND)/psmax $(AT_HAND)/psprove $(DESTDIR)$(PREFIX)/bin
 	install -D -m 755 planner/plan $(DESTDIR)$(PREFIX)/bin/plan
 	install -d $(DESTDIR)$(PREFIX)/share/psmax/planner
-	install -m 644 $(MODULES) $(DESTDIR)$(PREFIX)/share/psmax/planner
+	install -m 644 $(MODULES) planner/report.html $(DESTDIR)$(PREFIX)/share/psmax/planner
 	install -m 755 tests/verify.py tests/verify_lemmas.py $(DESTDIR)$(PREFIX)/share/psmax
 	install -d $(addprefix $(DESTDIR)$(PREFIX)/share/,man/man1 doc/psmax/docs doc/psmax/examples)
 	install -m 644 docs/psmax.1 docs/psprove.1 docs/plan.1 $(DESTDIR)$(PREFIX)/share/man/man1

@@ -13,8 +13,9 @@ here.
 psprove takes seconds by the clock, so nothing else should run beside it.
 
 psmax answers only when it ends, so it runs with more nodes each time, up to some that take about S seconds; its
-first schedule is that of the first run that has one. plan calls the psmax that it finds by itself. z3 is asked for
-one shorter schedule after the other, of at most 300 activities."""
+first schedule is that of the first run that has one. plan calls the psprove that it finds by itself, with one job, and
+is asked to end after so many seconds of a clock. z3 is asked for one shorter schedule after the other, of at most 300
+activities."""
 import argparse
 import pathlib
 import re
@@ -37,7 +38,6 @@ MOST_NODES = 1_000_000_000
 GROWTH = 10  # a run of psmax gets so many times the nodes of the one before, at most
 ENOUGH = 0.8  # of the seconds, which the last one takes at least
 MOST_FOR_Z3 = 300
-ENDLESS = "1000000"  # seconds, for plan, which is asked to end
 
 
 class Found:
@@ -108,10 +108,11 @@ def psprove(program, source, project, seconds):
 
 def plan(program, source, project, seconds):
     found = Found()
-    ran = watching.watch([program, "solve", source, "--seconds", ENDLESS], source, seconds)
+    words = [program, "solve", source, "--seconds", f"{max(1, round(seconds))}", "--jobs", "1"]
+    ran = watching.watch(words, source, 2 * seconds)
     found.memory = ran.memory
     for when, line in ran.lines:
-        if re.search(r"\d s +\d+ by check: ", line):
+        if re.search(r"\d s  schedule \d+, unproved", line):
             found.begin(when)
     take_answer(found, [line for _, line in ran.lines])
     return found

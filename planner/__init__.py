@@ -1,3 +1,3 @@
-"""The command `plan`: a planner's companion of psmax. docs/PLANNER.md says how to use it."""
+"""The command `plan`: a planner's companion of psmax and psprove. docs/PLANNER.md says how to use it."""
 
 __version__ = "0.9.0"

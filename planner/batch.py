@@ -14,10 +14,10 @@ from .clock import Clock, tell
 from .csv_text import cell, read_sheet, write_sheet
 from .errors import BadInput, Failed
 from .files import guard, read_text, write_whole
-from .psmax import GLANCE
+from .programs import GLANCE
 from .write import put
 
-HEADS = ["project", "activities", "status", "makespan", "bound", "seconds", "nodes", "limit", "plan", "psmax", "fault"]
+HEADS = ["project", "activities", "status", "makespan", "bound", "seconds", "conflicts", "limit", "plan", "psprove", "fault"]
 FAULT = "fault"  # the status of a project that could not be searched
 ENDING = 5.0  # seconds that a search may take to end when it is asked to
 
@@ -30,7 +30,7 @@ class Batch:
     """What the words of the command say."""
 
     folder: str
-    seconds: float
+    seconds: int
     jobs: int
     part: tuple[int, int]  # the first of these of every so many, counted from 1
     csv: str | None
@@ -86,7 +86,8 @@ def run(wanted: Batch, left: Sequence[pathlib.Path], clock: Clock) -> Rows:
 def row_of(path: pathlib.Path, wanted: Batch, clock: Clock) -> Row | None:
     """What one search knows at its end; none where the batch was ended before."""
     out = [] if wanted.out is None else ["--out", os.path.join(wanted.out, path.stem + ".starts")]
-    words = [sys.executable, "-m", "planner", "solve", str(path), "--json", "--seconds", f"{wanted.seconds}", *out]
+    words = [sys.executable, "-m", "planner", "solve", str(path), "--json", "--jobs", "1", "--seconds",
+             f"{wanted.seconds}", *out]
     home = {"PYTHONPATH": str(pathlib.Path(__file__).resolve().parent.parent)}
     if clock.stopped:
         return None
@@ -95,14 +96,14 @@ def row_of(path: pathlib.Path, wanted: Batch, clock: Clock) -> Row | None:
     out_of_it = answer_of(child, clock)
     if out_of_it is None:
         return None
-    row = dict.fromkeys(HEADS, "") | {"project": path.name, "limit": f"{wanted.seconds:g}"}
+    row = dict.fromkeys(HEADS, "") | {"project": path.name, "limit": f"{wanted.seconds}"}
     if child.returncode not in (0, 3):
         faults = [line.removeprefix("plan: ") for line in out_of_it[1].splitlines() if line.startswith("plan: ")]
         return row | {"status": FAULT, "fault": "; ".join(faults) or f"exit status {child.returncode}"}
     told = json.loads(out_of_it[0])
-    known = {head: f"{told[head]}" for head in ("status", "makespan", "bound", "seconds", "nodes") if told[head] is not None}
+    known = {head: f"{told[head]}" for head in ("status", "makespan", "bound", "seconds", "conflicts") if told[head] is not None}
     return row | known | {"activities": f"{len(told['durations'])}", "plan": told["versions"]["plan"],
-                          "psmax": told["versions"]["psmax"]}
+                          "psprove": told["versions"]["psprove"]}
 
 
 def answer_of(child: subprocess.Popen[bytes], clock: Clock) -> tuple[str, str] | None:

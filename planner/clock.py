@@ -1,4 +1,5 @@
 """How much time is left, what ends a run before that, and lines of progress that say when."""
+import math
 import signal
 import sys
 import time
@@ -10,7 +11,7 @@ ENDS = (signal.SIGINT, signal.SIGTERM, signal.SIGHUP)  # Ctrl-C, a request to en
 class Clock:
     """Counts from when it is made; what ends a run stops it where `listen` was called."""
 
-    def __init__(self, seconds: float) -> None:
+    def __init__(self, seconds: float = math.inf) -> None:
         self.begun = time.monotonic()
         self.seconds = seconds
         self.stopped = False

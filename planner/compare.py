@@ -1,4 +1,6 @@
 """`plan compare`: what has moved from one schedule to another."""
+from collections.abc import Callable
+
 from . import dates
 from .answer import same_names
 from .dates import Calendar, Wanted
@@ -9,15 +11,17 @@ from .names import Names, read_page
 from .opened import ProjectFile
 
 
-def compare(old: str, new: str, wanted: Wanted, page: str | None) -> int:
+def compare(old: str, new: str, wanted: Wanted, page: str | None, why: Callable[[int], int] | None) -> int:
+    """Where the new schedule is later it asks why none ends as soon as the old one."""
     names = read_page(read_bytes(page)) if page is not None else Names()
     calendar = dates.chosen(wanted, ProjectFile(old, b"", names, page or old))
     was, now = read_answer(old), read_answer(new)
     for given in (was, now):
         if given.instead:
             raise BadInput(f"{given.called}: {given.instead}")
-    print(*differences(Side(was, names), Side(now, names), calendar), sep="\n")
-    return 0
+    before, after = Side(was, names), Side(now, names)
+    print(*differences(before, after, calendar), sep="\n")
+    return why(before.makespan) if why is not None and after.makespan > before.makespan else 0
 
 
 class Side:

@@ -9,9 +9,5 @@ class Failed(Exception):
     """Something that should have worked and did not: exit status 1."""
 
 
-class NoMemory(Failed):
-    """psmax ran out of memory."""
-
-
 class TimeUp(Exception):
     """The time is over, or somebody asked for the end."""

@@ -11,11 +11,11 @@ STANDARD_INPUT = "/dev/stdin"  # where an answer comes from that is in no file
 LARGEST = 16_777_216  # bytes; psmax reads no longer text, so one byte more is enough to know
 
 
-def read_bytes(path: str) -> bytes:
-    """What the file holds, up to one byte more than psmax would read."""
+def read_bytes(path: str, most: int = LARGEST) -> bytes:
+    """What the file holds, up to one byte more than the programs would read."""
     try:
         with open(path, "rb") as file:
-            return file.read(LARGEST + 1)
+            return file.read(most + 1)
     except (OSError, ValueError) as fault:
         raise Failed(f"cannot read {path}: {reason(fault)}") from None
 

@@ -8,7 +8,7 @@ from .gantt import Chart
 from .given import read_answer
 from .names import Names
 from .opened import open_project
-from .psmax import SECONDS, Psmax
+from .psmax import Psmax
 from .window import Window, windows
 from .write import Table, put, rows
 
@@ -51,7 +51,7 @@ def text(answer: Answer, names: Names, calendar: Calendar | None, found: dict[in
 def floats(path: str, given: str | None, page: str | None, wanted: Wanted, table: Table, chart: Chart) -> int:
     opened = open_project(path, page)
     guard([table.out, chart.svg], opened.inputs() | {"the answer": given or STANDARD_INPUT} | wanted.inputs())
-    calendar, psmax = dates.chosen(wanted, opened), Psmax(Clock(SECONDS), path)
+    calendar, psmax = dates.chosen(wanted, opened), Psmax(Clock(), path)
     known = feasible(opened, read_answer(given), psmax)
     found = windows(known.project, known.starts, opened.text, psmax)
     if table.out is not None:

@@ -9,7 +9,7 @@ from .drawing import Bar, Drawing, Load
 from .files import STANDARD_INPUT, guard, write_whole
 from .given import read_answer
 from .opened import open_project
-from .psmax import SECONDS, Psmax
+from .psmax import Psmax
 
 MARK = 10  # columns from one number of the ruler to the next
 LONGEST_NAME = 40
@@ -111,7 +111,7 @@ def gantt(path: str, given: str | None, page: str | None, wanted: Wanted, chart:
     opened = open_project(path, page)
     guard([chart.svg], opened.inputs() | {"the answer": given or STANDARD_INPUT} | wanted.inputs())
     calendar = dates.chosen(wanted, opened)
-    answer, psmax = read_answer(given), Psmax(Clock(SECONDS), path)
+    answer, psmax = read_answer(given), Psmax(Clock(), path)
     if answer.instead:
         print(answer.instead)
         return 0

@@ -11,7 +11,7 @@ from .given import answer_of
 from .known import Known
 from .opened import ProjectFile
 from .project import parse
-from .psmax import SECONDS, Psmax
+from .psmax import Psmax
 from .write import rows
 
 WITHOUT_STARTS = (b"no schedule", b"unknown bound ")  # the beginnings of answers of a search
@@ -37,7 +37,7 @@ class Kept:
         before it was changed."""
         if not data.strip() or data.startswith(WITHOUT_STARTS):
             return None
-        psmax = Psmax(Clock(SECONDS), self.opened.path)
+        psmax = Psmax(Clock(), self.opened.path)
         psmax.earliest(self.opened.text)
         try:
             return feasible(self.opened, answer_of(data, self.path), psmax)
@@ -51,7 +51,7 @@ class Kept:
             return False
         there = self.look()
         if there is not None and there.starts[-1] < known.starts[-1]:
-            tell(known.psmax.clock, f"{self.path} holds a schedule of {there.starts[-1]} by now, which stays")
+            tell(known.clock, f"{self.path} holds a schedule of {there.starts[-1]} by now, which stays")
             return False
         data = answer_text(known, self.opened, self.path.lower().endswith(".csv"))
         if data != self.written:
@@ -64,7 +64,7 @@ class Kept:
         try:
             self.put(known)
         except (BadInput, Failed) as fault:
-            tell(known.psmax.clock, f"{fault.args[0]}")
+            tell(known.clock, f"{fault.args[0]}")
 
 
 def answer_text(known: Known, opened: ProjectFile, as_table: bool) -> bytes:

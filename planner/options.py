@@ -1,17 +1,21 @@
 """The words of the command line."""
 import argparse
+import os
 import re
 from collections.abc import Callable
 from typing import NoReturn
 
-from . import batch, check, compare, floats, gantt, read, solve, where, why, write
+from . import batch, check, compare, floats, gantt, read, report, solve, verify, whatif, where, why, write
 from .csv_text import SEPARATORS
 from .dates import MINUTES, Wanted
 from .errors import BadInput
+from .project import MOST_UNITS
+from .replan import Start
 
 MOST_SECONDS = 1_000_000
-MOST_WORKERS = 64  # of psmax
-MOST_JOBS = 256
+MOST_JOBS = 64  # of psprove
+PROCESSORS = min(len(os.sched_getaffinity(0)), MOST_JOBS)
+MOST_PROJECTS = 256
 
 
 class Parser(argparse.ArgumentParser):
@@ -26,18 +30,8 @@ class Version(argparse.Action):
 
     def __call__(self, parser: argparse.ArgumentParser, *_: object) -> None:
         found = solve.versions()
-        print(f"plan {found['plan']}, psmax {found['psmax']}, Python {found['python']}")
+        print(f"plan {found['plan']}, psmax {found['psmax']}, psprove {found['psprove']}, Python {found['python']}")
         parser.exit()
-
-
-def seconds(text: str) -> float:
-    try:
-        value = float(text)
-    except ValueError:
-        value = 0.0
-    if not 0 < value <= MOST_SECONDS:
-        raise argparse.ArgumentTypeError(f"'{text}' is not a number of seconds above 0, {MOST_SECONDS:,} at most")
-    return value
 
 
 def number(least: int, most: int) -> Callable[[str], int]:
@@ -57,9 +51,9 @@ def part(text: str) -> tuple[int, int]:
 
 
 def parser() -> Parser:
-    about = "Plan projects with psmax: every claim is checked or proved by it."
+    about = "Plan projects with psmax and psprove: every claim is checked or proved by them."
     top = Parser(prog="plan", description=about)
-    top.add_argument("--version", action=Version, nargs=0, help="print the versions of plan, psmax and Python")
+    top.add_argument("--version", action=Version, nargs=0, help="print the versions of plan, its programs and Python")
     commands = top.add_subparsers(dest="command", required=True, metavar="COMMAND")
     for name, add, text in COMMANDS:
         add(commands.add_parser(name, help=text, description=text[:1].upper() + text[1:] + "."))
@@ -68,17 +62,39 @@ def parser() -> Parser:
 
 def add_solve(one: argparse.ArgumentParser) -> None:
     one.add_argument("project", metavar="PROJECT")
-    one.add_argument("--seconds", type=seconds, default=60.0, metavar="S", help="stop after so many seconds (60)")
-    one.add_argument("--workers", type=number(1, MOST_WORKERS), metavar="N",
-                     help="psmax searches from the best schedule with so many (1)")
-    one.add_argument("--start", metavar="ANSWER", help="begin with this schedule")
-    one.add_argument("--frozen", metavar="DAY", help="what starts before this day or period in the --start stays")
+    add_limits(one)
+    add_start(one)
     one.add_argument("--out", metavar="FILE", help="write the schedule there, each time it gets shorter")
     one.add_argument("--svg", metavar="FILE", help="draw the schedule there")
+    one.add_argument("--record", metavar="FILE", help="write the record there that proves the bound")
     one.add_argument("--json", action="store_true", help="print the answer as one line of JSON")
     add_calendar(one)
-    one.set_defaults(run=lambda o: solve.solve(o.project, solve.Options(
-        o.seconds, o.workers, o.start, o.frozen, o.out, o.svg, o.json, wanted(o))))
+    one.set_defaults(run=lambda o: solve.solve(o.project, start(o), solve.Options(
+        o.seconds, o.jobs, o.out, o.svg, o.record, o.json)))
+
+
+def add_limits(one: argparse.ArgumentParser) -> None:
+    one.add_argument("--seconds", type=number(1, MOST_SECONDS), default=60, metavar="S",
+                     help="stop after so many seconds (60)")
+    one.add_argument("--jobs", type=number(1, MOST_JOBS), default=PROCESSORS, metavar="N",
+                     help="search in so many ways side by side (as many as there are processors)")
+
+
+def add_start(one: argparse.ArgumentParser) -> None:
+    one.add_argument("--start", metavar="ANSWER", help="begin with this schedule")
+    one.add_argument("--frozen", metavar="DAY", help="what starts before this day or period in the --start stays")
+
+
+def start(options: argparse.Namespace) -> Start:
+    return Start(options.start, options.frozen, wanted(options))
+
+
+def add_verify(one: argparse.ArgumentParser) -> None:
+    one.add_argument("project", metavar="PROJECT")
+    one.add_argument("record", metavar="RECORD", help="a record of psprove or psmax")
+    add_start(one)
+    add_calendar(one)
+    one.set_defaults(run=lambda o: verify.verify(o.project, o.record, start(o)))
 
 
 def add_read(one: argparse.ArgumentParser) -> None:
@@ -146,6 +162,15 @@ def add_gantt(one: argparse.ArgumentParser) -> None:
     one.set_defaults(run=lambda o: gantt.gantt(o.project, o.answer, o.names, wanted(o), gantt.Chart(o.svg, o.width)))
 
 
+def add_report(one: argparse.ArgumentParser) -> None:
+    add_schedule(one)
+    one.add_argument("--out", metavar="FILE", required=True, help="write the page there")
+    one.add_argument("--record", metavar="RECORD", help="the record that proves the bound")
+    add_start(one)
+    add_calendar(one)
+    one.set_defaults(run=lambda o: report.report(o.project, o.answer, o.names, o.record, o.out, start(o)))
+
+
 def add_check(one: argparse.ArgumentParser) -> None:
     add_schedule(one)
     one.set_defaults(run=lambda o: check.check(o.project, o.answer, o.names))
@@ -155,14 +180,28 @@ def add_compare(one: argparse.ArgumentParser) -> None:
     one.add_argument("old", metavar="OLD", help="an answer")
     one.add_argument("new", metavar="NEW", help="another one")
     one.add_argument("--names", metavar="PAGE", help="a page of names, for an answer that has none, and for the calendar")
+    one.add_argument("--why", metavar="PROJECT", help="say why no schedule of this project ends as soon as OLD")
+    one.add_argument("--out", metavar="FOLDER", help="write what proves it into this new folder")
+    add_limits(one)
     add_calendar(one)
-    one.set_defaults(run=lambda o: compare.compare(o.old, o.new, wanted(o), o.names))
+    one.set_defaults(run=lambda o: compare.compare(
+        o.old, o.new, wanted(o), o.names, o.why and (lambda within: why.why(o.why, within, o.seconds, o.jobs, o.out))))
 
 
 def add_why(one: argparse.ArgumentParser) -> None:
     one.add_argument("project", metavar="PROJECT")
-    one.add_argument("--seconds", type=seconds, default=60.0, metavar="S", help="stop after so many seconds (60)")
-    one.set_defaults(run=lambda o: why.why(o.project, o.seconds))
+    one.add_argument("--within", type=number(0, MOST_UNITS), metavar="C", help="why no schedule ends by the period C")
+    one.add_argument("--out", metavar="FOLDER", help="write what proves it into this new folder")
+    add_limits(one)
+    one.set_defaults(run=lambda o: why.why(o.project, o.within, o.seconds, o.jobs, o.out))
+
+
+def add_whatif(one: argparse.ArgumentParser) -> None:
+    one.add_argument("project", metavar="PROJECT")
+    one.add_argument("--names", metavar="PAGE", help="the page of names (the .md file beside the project)")
+    add_limits(one)
+    add_table(one)
+    one.set_defaults(run=lambda o: whatif.whatif(o.project, o.names, o.seconds, o.jobs, table(o)))
 
 
 def add_where(one: argparse.ArgumentParser) -> None:
@@ -172,8 +211,8 @@ def add_where(one: argparse.ArgumentParser) -> None:
 
 def add_batch(one: argparse.ArgumentParser) -> None:
     one.add_argument("folder", metavar="FOLDER", nargs="?", help="its .sch files are the projects")
-    one.add_argument("--seconds", type=seconds, default=60.0, metavar="S", help="for each project (60)")
-    one.add_argument("--jobs", type=number(1, MOST_JOBS), default=1, metavar="N", help="so many projects at a time (1)")
+    one.add_argument("--seconds", type=number(1, MOST_SECONDS), default=60, metavar="S", help="for each project (60)")
+    one.add_argument("--jobs", type=number(1, MOST_PROJECTS), default=1, metavar="N", help="so many projects at a time (1)")
     one.add_argument("--csv", metavar="FILE", help="the table; rows that it has are kept (standard output)")
     one.add_argument("--out", metavar="FOLDER", help="write the schedules into this folder too")
     one.add_argument("--part", type=part, default=(1, 1), metavar="I/N", help="each N-th project from the I-th on alone")
@@ -195,9 +234,12 @@ COMMANDS = (
     ("write", add_write, "write a schedule as a table in CSV"),
     ("gantt", add_gantt, "draw a schedule as a chart"),
     ("float", add_float, "say from when to when each activity may start, and which are critical"),
+    ("report", add_report, "write a schedule as a page of HTML, with what is proved"),
     ("compare", add_compare, "say what moved from one schedule to another"),
+    ("verify", add_verify, "say what a record proves of a project"),
     ("check", add_check, "say whether a schedule is feasible, and what of it is not"),
     ("why", add_why, "say why a project has no schedule"),
+    ("whatif", add_whatif, "say what one unit more, or a greatest lag loosened or dropped, gives"),
     ("where", add_where, "say where a project text has its fault"),
     ("batch", add_batch, "search the projects of a folder, and make a table of what is known"),
 )

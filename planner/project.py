@@ -1,5 +1,7 @@
 """A project as numbers, and the projects that are made of it."""
+from collections.abc import Collection, Mapping
 from dataclasses import dataclass, replace
+from itertools import combinations
 from typing import NamedTuple
 
 from .layout import layout, words
@@ -16,6 +18,13 @@ class Arc(NamedTuple):
     tail: int
     head: int
     lag: int
+
+
+class Part(NamedTuple):
+    """A greatest lag, by its place among the arcs, or a resource, by its number."""
+
+    is_lag: bool
+    number: int
 
 
 @dataclass(frozen=True)
@@ -66,6 +75,21 @@ def parse(data: bytes) -> Project:
     return Project(tuple(found["duration"]), tuple(demands), tuple(found["capacity"]), tuple(arcs))
 
 
+def in_order(project: Project, old: Mapping[int, int]) -> Project:
+    """The project in which activities that can't run at once, or that need the same and didn't run at once by old starts,
+    keep their order, the nearest first where the format has no room for all."""
+    arcs = [Arc(i, j, project.durations[i]) for i, j in combinations(sorted(old, key=old.__getitem__), 2)
+            if any(map(min, project.demands[i], project.demands[j]))
+            and (old[i] + project.durations[i] <= old[j] or are_rivals(project, i, j))]
+    arcs.sort(key=lambda arc: old[arc.head] - old[arc.tail])
+    return replace(project, arcs=(*project.arcs, *arcs)[:MOST_ARCS])
+
+
+def are_rivals(project: Project, i: int, j: int) -> bool:
+    """Whether both together need more of some resource than there is."""
+    return any(a + b > units for a, b, units in zip(project.demands[i], project.demands[j], project.capacities))
+
+
 def within(project: Project, deadline: int) -> Project | None:
     """The project that must end by the deadline: one arc more, from the end to the start. None where the format
     has no such arc: its lag would be too large, or there are as many arcs already as may be."""
@@ -74,27 +98,32 @@ def within(project: Project, deadline: int) -> Project | None:
     return replace(project, arcs=(*project.arcs, Arc(project.end, 0, -deadline)))
 
 
-def without(project: Project, place: int) -> Project:
-    """The project with one of its given arcs taken out."""
-    return replace(project, arcs=project.arcs[:place] + project.arcs[place + 1 :])
+def parts(project: Project) -> list[Part]:
+    """Each resource, and each lag that is a greatest one. A lag of 0 after the end of a milestone is a least one."""
+    lags = [place for place, (tail, head, lag) in enumerate(project.arcs) if tail != head
+            and (lag < 0 or lag == 0 and (project.durations[tail] > 0 or tail == project.end))]
+    return [*(Part(False, k) for k in range(len(project.capacities))), *(Part(True, place) for place in lags)]
+
+
+def without(project: Project, gone: Collection[Part]) -> Project:
+    """The project with fewer parts: each schedule of it is one of this project too."""
+    arcs = tuple(arc for place, arc in enumerate(project.arcs) if Part(True, place) not in gone)
+    kept = [k for k in range(len(project.capacities)) if Part(False, k) not in gone]
+    demands = tuple(tuple(row[k] for k in kept) for row in project.demands)
+    return Project(project.durations, demands, tuple(project.capacities[k] for k in kept), arcs)
+
+
+def with_lag(project: Project, place: int, lag: int) -> Project:
+    """The project with another lag for one of its arcs."""
+    arcs = [*project.arcs]
+    arcs[place] = arcs[place]._replace(lag=lag)
+    return replace(project, arcs=tuple(arcs))
 
 
 def too_needy(project: Project) -> list[int]:
     """The activities that need more of some resource than there is."""
     inner = range(1, project.end)
     return [i for i in inner if any(need > units for need, units in zip(project.demands[i], project.capacities))]
-
-
-def with_resources(project: Project, kept: tuple[int, ...]) -> Project:
-    """The project with these resources alone; of the others there is always enough."""
-    demands = tuple(tuple(row[k] for k in kept) for row in project.demands)
-    return replace(project, demands=demands, capacities=tuple(project.capacities[k] for k in kept))
-
-
-def alone(project: Project, activity: int) -> Project:
-    """The project of one activity, with all the resources and no given arc."""
-    none = (0,) * len(project.capacities)
-    return Project((0, project.durations[activity], 0), (none, project.demands[activity], none), project.capacities, ())
 
 
 def lags_only(project: Project, arcs: list[Arc]) -> Project:

@@ -14,7 +14,7 @@ from .letters import printable
 from .names import MADE, page, read_page
 from .opened import page_of
 from .project import Project, too_needy
-from .psmax import SECONDS, Earliest, Psmax
+from .psmax import Psmax
 from .table import read_table
 from .wording import Words
 
@@ -49,12 +49,12 @@ def read_activities(path: str, out: str | None, wanted: Wanted) -> int:
     must_be_ours(target, named, names.source, there, out is not None)
     names.settings = settings(there, wanted, named, names.unit)
     text = project.text()
-    answer = Psmax(Clock(SECONDS), path).earliest(text)
+    least = Psmax(Clock(), path).earliest(text)
     write_whole(target, text)
     write_whole(named, page(printable(pathlib.Path(target).stem), project, names).encode())
     sizes = f"{project.end - 1} activities, {len(project.capacities)} resources, {len(project.arcs)} lags"
     print(f"{target}: {sizes}; names in {named}")
-    print(what_is_clear(answer, project, Words(project, names)))
+    print(what_is_clear(least, project, Words(project, names)))
     return 0
 
 
@@ -75,14 +75,14 @@ def settings(there: bytes | None, wanted: Wanted, named: str, unit: str) -> dict
     return found
 
 
-def what_is_clear(answer: Earliest, project: Project, words: Words) -> str:
+def what_is_clear(least: int | None, project: Project, words: Words) -> str:
     """What is known at once, before anything is searched."""
     needy = too_needy(project)
     if needy:
         return "\n".join(f"Activity {words.needs(activity)}, so there is no schedule." for activity in needy)
-    if answer.makespan is None:
+    if least is None:
         return "The lags contradict each other, so there is no schedule; `plan why` says which do."
-    return (f"By the lags alone it takes {answer.makespan}; `plan solve` says whether there is a schedule that keeps the "
+    return (f"By the lags alone it takes {least}; `plan solve` says whether there is a schedule that keeps the "
             "resources too.")
 
 
@@ -94,7 +94,7 @@ def read_sch(path: str, out: str | None) -> int:
         raise BadInput(f"{path}: {OTHER_SET}")
     clean = data.removeprefix(MARK).rstrip(b" \t\r\n" + CTRL_Z) + b"\n"
     try:
-        Psmax(Clock(SECONDS), path).earliest(clean)
+        Psmax(Clock(), path).earliest(clean)
     except BadInput as fault:
         raise BadInput(f"{fault}{MODES if is_other_modes(fault) else ''}") from None
     if out is not None:

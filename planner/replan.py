@@ -5,23 +5,35 @@ from dataclasses import dataclass, field, replace
 from . import dates
 from .answer import Answer, feasible, tie
 from .circles import circles, in_words
-from .dates import Calendar
+from .clock import Clock
+from .dates import Calendar, Wanted
 from .errors import BadInput
-from .given import Given
+from .given import Given, read_answer
 from .letters import at_most
 from .opened import ProjectFile
-from .project import MOST_ARCS, MOST_UNITS, Arc, Project, parse
+from .project import MOST_ARCS, MOST_UNITS, Arc, Project, in_order, parse
 from .psmax import Psmax, starts_text
-from .search import Old
 from .window import stretches
 from .wording import Words
+
+
+@dataclass(frozen=True)
+class Start:
+    """What the words say of a schedule to begin with, and of what has started."""
+
+    answer: str | None
+    frozen: str | None
+    wanted: Wanted
+
+    def inputs(self) -> dict[str, str]:
+        return self.wanted.inputs() | ({} if self.answer is None else {"the start": self.answer})
 
 
 @dataclass(frozen=True)
 class Beginning:
     text: bytes  # of the project that is searched
     schedules: list[tuple[tuple[int, ...], str]] = field(default_factory=list)  # each with what it is called
-    old: Old | None = None
+    repairs: list[bytes] = field(default_factory=list)  # it with more lags, of which a schedule is like an old one
     frozen: tuple[Arc, ...] = ()  # that keep what has started, and the rest from starting before that
     told: list[str] = field(default_factory=list)
 
@@ -30,6 +42,17 @@ class Beginning:
         if any(there.starts[arc.head] < there.starts[arc.tail] + arc.lag for arc in self.frozen):
             raise BadInput(f"{path} holds a schedule of {there.makespan} that doesn't keep what has started; "
                            "name another file with --out")
+
+
+def begin_with(opened: ProjectFile, start: Start, calendar: Calendar | None) -> Beginning:
+    if start.answer is None:
+        if start.frozen is not None:
+            raise BadInput("--frozen needs --start, the schedule of which a part has started")
+        return Beginning(opened.text)
+    given, psmax = read_answer(start.answer), Psmax(Clock(), opened.path)
+    if start.frozen is None:
+        return from_schedule(opened, given, psmax)
+    return from_frozen(opened, given, psmax, start.frozen, calendar)
 
 
 def from_schedule(opened: ProjectFile, given: Given, psmax: Psmax) -> Beginning:
@@ -61,9 +84,16 @@ def from_frozen(opened: ProjectFile, given: Given, psmax: Psmax, day: str, calen
         broken = psmax.check(limited.text(), starts_text(starts)).violations
         told += at_most([f"{given.called}: {words.violation(violation, starts)}" for violation in broken])
         schedules += [] if broken else [(starts, given.called)]
-    for circle in circles(limited, psmax) if psmax.earliest(limited.text()).cycle is not None else ():
+    for circle in circles(limited, psmax):
         told += in_words(circle, words)
-    return Beginning(limited.text(), schedules, Old(given.called, old), arcs, told)
+    return Beginning(limited.text(), schedules, repairs(limited, old), arcs, told)
+
+
+def repairs(project: Project, old: dict[int, int]) -> list[bytes]:
+    """The project in the order of an old schedule: first with no start before the old one, then without that."""
+    ordered = in_order(project, old)
+    later = tuple(Arc(0, i, start) for i, start in old.items())[: MOST_ARCS - len(ordered.arcs)]
+    return [replace(ordered, arcs=ordered.arcs + later).text(), ordered.text()]
 
 
 def period_of(day: str, calendar: Calendar | None) -> int:

@@ -1,4 +1,4 @@
-"""`plan solve`: a shorter and shorter schedule with a rising bound, until both meet or the time is over."""
+"""`plan solve`: a search by psprove with names, dates and files. What it says psprove has proved."""
 import json
 import platform
 import sys
@@ -7,42 +7,39 @@ from functools import partial
 
 from . import __version__, dates, drawing, svg
 from .clock import Clock, tell
-from .dates import Calendar, Wanted
-from .errors import BadInput, Failed
+from .dates import Calendar
+from .errors import Failed
 from .files import guard, write_whole
-from .given import read_answer
 from .kept import Kept, activities_of
 from .known import Known
 from .opened import ProjectFile, open_project
 from .project import parse
-from .psmax import SECONDS, Psmax
-from .replan import Beginning, from_frozen, from_schedule
+from .psmax import Psmax
+from .psprove import Psprove
+from .replan import Start, begin_with
 from .search import Search
+from .verify import must_be_record
 
 
 @dataclass(frozen=True)
 class Options:
-    """What the words of the command say."""
+    """What the words of the command say, besides what it begins with."""
 
-    seconds: float
-    workers: int | None
-    start: str | None
-    frozen: str | None
+    seconds: int
+    jobs: int
     out: str | None
     svg: str | None
+    record: str | None
     json: bool
-    wanted: Wanted
-
-    def inputs(self) -> dict[str, str]:
-        return self.wanted.inputs() | ({} if self.start is None else {"the start": self.start})
 
 
-def solve(path: str, options: Options) -> int:
+def solve(path: str, start: Start, options: Options) -> int:
     opened = open_project(path)
-    guard([options.out, options.svg], opened.inputs() | options.inputs())
-    calendar = dates.chosen(options.wanted, opened) if options.svg or options.frozen else None
+    guard([options.out, options.svg, options.record], opened.inputs() | start.inputs())
+    must_be_record(options.record)
+    calendar = dates.chosen(start.wanted, opened) if options.svg or start.frozen else None
     kept = None if options.out is None else Kept(options.out, opened)
-    beginning = begin_with(opened, options, calendar)
+    beginning = begin_with(opened, start, calendar)
     schedules = list(beginning.schedules)
     there = kept.look() if kept is not None else None
     if kept is not None and there is not None:
@@ -52,43 +49,31 @@ def solve(path: str, options: Options) -> int:
     clock.listen()
     for line in beginning.told:
         tell(clock, line)
-    known = Known(Psmax(clock, path), beginning.text, opened.text)
+    known = Known(clock)
     if kept is not None:
         known.better = partial(kept.put_if_possible, known)
+    for starts, called in schedules:
+        known.offer(starts, f"{called}, by check")
     try:
-        Search(beginning.text, known, options.workers or 1, beginning.old).run(schedules)
+        Search(beginning.text, Psprove(clock, path), known, options.jobs).run(beginning.repairs, start.answer or "")
     except Failed:
         if known.starts is not None:
-            give(known, opened, options, kept)
-            draw(known, opened, options, calendar)
+            give(known, opened, options, kept, calendar)
         raise
-    give(known, opened, options, kept)
-    draw(known, opened, options, calendar)
+    give(known, opened, options, kept, calendar)
     return 0 if known.settled else 3
 
 
-def begin_with(opened: ProjectFile, options: Options, calendar: Calendar | None) -> Beginning:
-    if options.start is None:
-        if options.frozen is not None:
-            raise BadInput("--frozen needs --start, the schedule of which a part has started")
-        return Beginning(opened.text)
-    given, psmax = read_answer(options.start), Psmax(Clock(SECONDS), opened.path)
-    if options.frozen is None:
-        return from_schedule(opened, given, psmax)
-    return from_frozen(opened, given, psmax, options.frozen, calendar)
-
-
-def give(known: Known, opened: ProjectFile, options: Options, kept: Kept | None) -> None:
-    """Prints what is known, and writes the schedule where that was asked for. One that can't be written is printed."""
+def give(known: Known, opened: ProjectFile, options: Options, kept: Kept | None, calendar: Calendar | None) -> None:
+    """Prints what is known, and writes what was asked for. A schedule that can't be written is printed."""
     plain = known.answer().decode()
     try:
         if kept is not None and kept.put(known):
             plain = known.first_line() + "\n"
     finally:
         sys.stdout.write(as_json(known, opened) if options.json else plain)
-
-
-def draw(known: Known, opened: ProjectFile, options: Options, calendar: Calendar | None) -> None:
+    if options.record is not None and known.record:
+        write_whole(options.record, known.record)
     if options.svg is not None and known.starts is not None:
         drawn = drawing.make(parse(opened.text), known.starts, opened.names, known.first_line(), (), calendar)
         write_whole(options.svg, svg.draw(drawn).encode())
@@ -96,24 +81,25 @@ def draw(known: Known, opened: ProjectFile, options: Options, calendar: Calendar
 
 def as_json(known: Known, opened: ProjectFile) -> str:
     """What is known as one line, with the keys of psmax first."""
-    clock = known.psmax.clock
     told: dict[str, object] = {
-        "bound": None if known.none else known.bound,
+        "bound": known.bound,
         "makespan": known.makespan,
         "starts": known.starts,
         "status": known.status(),
         **activities_of(opened),
-        "nodes": known.psmax.nodes,
-        "seconds": round(clock.elapsed(), 3),
+        "conflicts": known.conflicts,
+        "seconds": round(known.clock.elapsed(), 3),
         "versions": versions(),
     }
     return json.dumps(told) + "\n"
 
 
 def versions() -> dict[str, str]:
-    """Of plan, of the psmax that it calls, and of Python."""
-    try:
-        psmax = Psmax(Clock(SECONDS)).version()
-    except Failed:
-        psmax = "not found"
-    return {"plan": __version__, "psmax": psmax, "python": platform.python_version()}
+    """Of plan, of the programs that it calls, and of Python."""
+    found = {"plan": __version__}
+    for program in (Psmax, Psprove):
+        try:
+            found[program.name] = program(Clock()).version()
+        except Failed:
+            found[program.name] = "not found"
+    return found | {"python": platform.python_version()}

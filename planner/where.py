@@ -8,7 +8,7 @@ from .layout import Place, Word, layout, words
 from .letters import short
 from .names import Names
 from .opened import open_project
-from .psmax import SECONDS, Psmax
+from .psmax import Psmax
 
 NUMBER = re.compile(rb"-?[0-9]{1,9}")
 ROW_FAULTS = {  # the end of psmax's text, and the kinds of place that it is about
@@ -22,7 +22,7 @@ ROW_FAULTS = {  # the end of psmax's text, and the kinds of place that it is abo
 def where(path: str) -> int:
     opened = open_project(path)
     try:
-        Psmax(Clock(SECONDS), path).earliest(opened.text)
+        Psmax(Clock(), path).earliest(opened.text)
     except BadInput as fault:
         text = str(fault).removeprefix(f"{path}: ")
         print(f"{path}: {text}", *details(opened.text, text, opened.names), sep="\n")

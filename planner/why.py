@@ -1,92 +1,98 @@
-"""`plan why`: why a project has no schedule. Every cause is confirmed by psmax on a smaller project."""
-from dataclasses import replace
+"""`plan why`: why a project has no schedule, or none that ends in time. psprove proves each cause."""
+import math
+import os
 
 from .circles import circles, in_words
 from .clock import Clock, tell
-from .errors import TimeUp
+from .core import Core
+from .errors import BadInput, TimeUp
 from .opened import ProjectFile, open_project
-from .project import Project, alone, parse, too_needy, without
-from .psmax import Psmax, Solved, starts_text
-from .wording import Words
+from .project import MOST_UNITS, Part, Project, parse, too_needy, with_lag, within, without
+from .psmax import Psmax
+from .psprove import Limits, Psprove, Solved
+from .wording import Words, are
 
-FIRST_NODES = 200_000  # for the project as it stands
-NODES = 50_000  # for the project with one of its lags taken out or longer
+FIRST = 1_000  # conflicts of a first search, which mostly finds a schedule where there is one
+CONFLICTS = 10_000  # of a search of the project without one of its lags, or with a longer one
 
 
 class Causes:
-    def __init__(self, opened: ProjectFile, psmax: Psmax) -> None:
-        self.cycle = psmax.earliest(opened.text).cycle
-        self.text = opened.text
-        self.project = parse(opened.text)
-        self.words = Words(self.project, opened.names)
-        self.psmax = psmax
+    def __init__(self, opened: ProjectFile, clock: Clock, jobs: int, deadline: int | None) -> None:
+        self.psmax, self.psprove, self.jobs = Psmax(clock, opened.path), Psprove(clock, opened.path), jobs
+        self.psmax.earliest(opened.text)
+        project = parse(opened.text)
+        self.words = Words(project, opened.names)
+        limited = project if deadline is None else within(project, deadline)
+        if limited is None:
+            raise BadInput(f"a deadline of {deadline} has no room in {opened.path}; it is at most {MOST_UNITS:,}")
+        self.project = limited
+        self.fixed = None if deadline is None else Part(True, len(project.arcs))
+        self.late = "" if deadline is None else f" that ends by {deadline}"
 
-    def tell_all(self) -> int:
-        """Prints why there is no schedule; the exit status is 3 where psmax can't say whether there is one."""
-        needy = [i for i in too_needy(self.project) if self.psmax.solve(alone(self.project, i).text(), 1).none]
-        if self.cycle is None and not needy:
-            answer = self.psmax.solve(self.text, FIRST_NODES)
-            if not answer.none:
-                return self.not_proved(answer)
-        print("There is no schedule.")
+    def tell_all(self, out: str | None) -> int:
+        """Prints why there is no schedule; the exit status is 3 where psprove can't say whether there is one."""
+        answer = self.psprove.solve(self.project.text(), self.limits(FIRST))
+        if not answer.none and answer.starts is None:
+            answer = self.psprove.solve(self.project.text(), self.limits(None))
+        if answer.starts is not None:
+            print(f"There is a schedule{self.late}: psprove has found one of {answer.makespan}.")
+            return 0
+        if not answer.none:
+            print(f"Not known: psprove found neither a schedule{self.late} nor that there is none.")
+            return 3
+        print(f"There is no schedule{self.late}.")
+        found = Core(self.project, self.fixed, answer.record)
+        found.shrink(self.psprove, answer.conflicts)
+        self.tell_core(found)
+        if out is not None:
+            found.write(out)
+        needy = too_needy(self.project)
         for activity in needy:
             print(f"Activity {self.words.needs(activity)}.")
-        if self.cycle is not None:
-            self.contradictions()
-        elif not needy:
-            print("The lags alone can be kept, and each activity alone has what it needs; both together can't be.")
-        if not needy:
-            self.lags_that_open()
-        return 0
-
-    def not_proved(self, answer: Solved) -> int:
-        if answer.makespan is not None and answer.starts is not None:
-            judged = self.psmax.check(self.text, starts_text(answer.starts))
-            print(f"There is a schedule: check says feasible {judged.makespan}. `plan solve` looks for a shorter one.")
-            return 0
-        print(f"Not known: psmax found neither a schedule nor that there is none, with solve --nodes {FIRST_NODES}.")
-        return 3
-
-    def contradictions(self) -> None:
-        """The lags around each positive cycle, once psmax finds it positive by itself."""
         for circle in circles(self.project, self.psmax):
             print(*in_words(circle, self.words), sep="\n")
+        if not needy:
+            self.lags_that_open([part.number for part in found.parts() if part.is_lag])
+        return 0
 
-    def lags_that_open(self) -> None:
-        """Takes out each greatest lag alone, and tells with which of them gone there is a schedule."""
-        places = [place for place, arc in enumerate(self.project.arcs) if arc.lag <= 0 and arc.tail != arc.head]
-        opening, open_ones = 0, 0
-        for done, place in enumerate(places):
-            try:
-                answer = self.without_lag(place)
-            except TimeUp:
-                print(f"The time was over before {len(places) - done} of {len(places)} greatest lags were tried.")
-                return
-            opening += answer is True
-            open_ones += answer is None
-        if open_ones:
-            print(f"For {open_ones} greatest lags it is not known, after {NODES} nodes each, whether that opens one.")
-        if not opening and not open_ones:
-            print("No greatest lag, taken out alone, opens a schedule." if places else "There are no greatest lags.")
+    def limits(self, conflicts: int | None) -> Limits:
+        return Limits(math.ceil(self.psprove.clock.left()), self.jobs if conflicts is None else 1, conflicts=conflicts)
 
-    def without_lag(self, place: int) -> bool | None:
-        """Whether the project without this lag has a schedule; none where that is not known."""
+    def tell_core(self, found: Core) -> None:
+        if not found.parts():
+            print("The least lags alone contradict each other, by a proof of psprove.")
+            return
+        print("These contradict each other, by a proof of psprove; without any one of them there is a schedule:")
+        for part in found.parts():
+            print(f"  {self.part(part)}" + ("" if part in found.schedules else " (not known whether it is needed)"))
+
+    def part(self, part: Part) -> str:
+        if part.is_lag:
+            return self.words.greatest(self.project.arcs[part.number])
+        return f"{self.words.names.resource(part.number)}, of which there {are(self.project.capacities[part.number])}"
+
+    def lags_that_open(self, places: list[int]) -> None:
+        """Takes each of these lags out of the whole project, and tells with which of them gone there is a schedule. No
+        other lag opens one, since these contradict each other without it."""
+        answers = [self.without_lag(place) for place in places]
+        unknown = sum(answer.status() == "unknown" for answer in answers)
+        if unknown:
+            print(f"For {unknown} greatest lags it is not known whether that opens a schedule.")
+        elif all(answer.none for answer in answers):
+            print("No greatest lag, taken out alone, opens a schedule.")
+
+    def without_lag(self, place: int) -> Solved:
         arc = self.project.arcs[place]
-        found = self.schedule(without(self.project, place))
-        if not isinstance(found, tuple):
-            return found
-        print(f"Without this lag there is a schedule of {found[-1]}: {self.words.greatest(arc)}.")
-        least, is_least = self.least_enough(place, found)
-        also = "less is not" if is_least else "whether less is, is not known"
-        print(f"  At most {self.words.distance(least, arc.head)} is enough in its place; {also}.")
-        return True
+        answer = self.ask(without(self.project, {Part(True, place)}))
+        if answer.starts is not None:
+            print(f"Without this lag there is a schedule of {answer.makespan}: {self.words.greatest(arc)}.")
+            least, is_least = self.least_enough(place, answer.starts)
+            also = "less is not" if is_least else "whether less is, is not known"
+            print(f"  At most {self.words.distance(least, arc.head)} is enough in its place; {also}.")
+        return answer
 
-    def schedule(self, project: Project) -> tuple[int, ...] | bool | None:
-        """A schedule of the project that `check` finds feasible; False where there is none, None where that is not known."""
-        answer = self.psmax.solve(project.text(), NODES)
-        if answer.starts is None:
-            return False if answer.none else None
-        return answer.starts if self.psmax.check(project.text(), starts_text(answer.starts)).makespan is not None else None
+    def ask(self, project: Project) -> Solved:
+        return self.psprove.ask(project.text(), self.limits(CONFLICTS))
 
     def least_enough(self, place: int, found: tuple[int, ...]) -> tuple[int, bool]:
         """How long a greatest lag must be at least, and whether less is known to be too little: halves what lies between
@@ -95,25 +101,25 @@ class Causes:
         too_little, enough = -arc.lag, found[arc.tail] - found[arc.head]
         while enough - too_little > 1:
             middle = (too_little + enough) // 2
-            arcs = [*self.project.arcs]
-            arcs[place] = arc._replace(lag=-middle)
-            shorter = self.schedule(replace(self.project, arcs=tuple(arcs)))
-            if shorter is None:
-                return enough, False
-            if isinstance(shorter, tuple):
-                enough = shorter[arc.tail] - shorter[arc.head]
-            else:
+            answer = self.ask(with_lag(self.project, place, -middle))
+            if answer.starts is not None:
+                enough = answer.starts[arc.tail] - answer.starts[arc.head]
+            elif answer.none:
                 too_little = middle
+            else:
+                return enough, False
         return enough, True
 
 
-def why(path: str, seconds: float) -> int:
+def why(path: str, deadline: int | None, seconds: int, jobs: int, out: str | None) -> int:
     opened = open_project(path)
+    if out is not None and os.path.exists(out) and not (os.path.isdir(out) and not os.listdir(out)):
+        raise BadInput(f"{out} is no empty folder; name a new one with --out")
     clock = Clock(seconds)
     clock.listen()
     try:
-        return Causes(opened, Psmax(clock, path)).tell_all()
+        return Causes(opened, clock, jobs, deadline).tell_all(out)
     except TimeUp:
         tell(clock, clock.why_over())
-        print("Not known: the time was over before psmax could say whether there is a schedule.")
+        print("Not known: the time was over before psprove could say whether there is a schedule.")
         return 3

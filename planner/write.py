@@ -11,7 +11,7 @@ from .files import STANDARD_INPUT, guard, write_whole
 from .given import read_answer
 from .names import Names
 from .opened import ProjectFile, open_project
-from .psmax import SECONDS, Psmax
+from .psmax import Psmax
 
 
 @dataclass(frozen=True)
@@ -51,6 +51,6 @@ def write(path: str, given: str | None, page: str | None, wanted: Wanted, table:
     opened = open_project(path, page)
     guard([table.out], opened.inputs() | {"the answer": given or STANDARD_INPUT} | wanted.inputs())
     calendar = dates.chosen(wanted, opened)
-    known = feasible(opened, read_answer(given), Psmax(Clock(SECONDS), path))
+    known = feasible(opened, read_answer(given), Psmax(Clock(), path))
     put(table.text(rows(known, opened.names, calendar), opened), table.out)
     return 0

@@ -206,7 +206,7 @@ class Clone:
         for name in ("psmax", "psprove"):
             (self.folder / name).symlink_to(programs.paths[name])
             (bin_folder / name).symlink_to(programs.paths[name])
-        self.environment = {name: value for name, value in os.environ.items() if name != "PSMAX"}
+        self.environment = {name: value for name, value in os.environ.items() if name not in ("PSMAX", "PSPROVE")}
         self.environment["PATH"] = f"{bin_folder}:{pathlib.Path(sys.executable).parent}:/usr/bin:/bin"
 
     def save(self, command, text):

@@ -111,7 +111,8 @@ def scripts(folder, with_tests):
 
 
 def test(parts, folder, with_tests=False):
-    os.environ["PSMAX"] = str(folder / "psmax")
+    for name in ("psmax", "psprove"):
+        os.environ[name.upper()] = str(folder / name)
     for name, words in scripts(folder, with_tests):
         parts.run(name, lambda: counted([sys.executable, *words]))
 

@@ -1,4 +1,4 @@
-"""What the tests share. They call the built psmax, and take their expected values from the format's description, from
+"""What the tests share. They call the built programs, and take their expected values from the format's description, from
 calculation by hand, or from a proof of psmax."""
 import io
 import os
@@ -20,6 +20,8 @@ INPUTS = TOP / "tests" / "inputs"
 EXAMPLES = TOP / "examples"
 PROJECTS = TOP / "planner" / "projects"
 PSMAX = os.environ.get("PSMAX") or str(TOP / "psmax")
+PSPROVE = os.environ.get("PSPROVE") or str(TOP / "psprove")
+CALLED = {"PSMAX": PSMAX, "PSPROVE": PSPROVE}  # the programs that are called, as variables of the environment
 
 # Two jobs of 3 and 4 on one machine: the README's first project without its lag. Every schedule takes 7 at least.
 TWO_JOBS = "2 1 0 0\n0 1 0\n1 1 0\n2 1 0\n3 1 0\n0 1 0 0\n1 1 3 1\n2 1 4 1\n3 1 0 0\n1\n"
@@ -28,13 +30,13 @@ TWO_JOBS = "2 1 0 0\n0 1 0\n1 1 0\n2 1 0\n3 1 0\n0 1 0 0\n1 1 3 1\n2 1 4 1\n3 1 
 Ran = subprocess.CompletedProcess[str]
 
 
-def plan(*words: object, given: bytes = b"", psmax: str = PSMAX) -> Ran:
+def plan(*words: object, given: bytes = b"", psmax: str = PSMAX, psprove: str = PSPROVE) -> Ran:
     """A run of the command, in this process, since a hundred starts of Python take long."""
     buffers = [io.BytesIO(data) for data in (given, b"", b"")]
     source, out, told = (io.TextIOWrapper(buffer, "utf-8") for buffer in buffers)
     handlers = {number: signal.getsignal(number) for number in ENDS}
     with (mock.patch("sys.stdin", source), mock.patch("sys.stdout", out), mock.patch("sys.stderr", told),
-          mock.patch.dict(os.environ, {"PSMAX": psmax})):
+          mock.patch.dict(os.environ, {"PSMAX": psmax, "PSPROVE": psprove})):
         try:
             status = main([*map(str, words)])
         except SystemExit as ended:
@@ -50,7 +52,7 @@ def plan(*words: object, given: bytes = b"", psmax: str = PSMAX) -> Ran:
 def started(*words: object, out: int | IO[bytes] = subprocess.PIPE) -> subprocess.Popen[str]:
     """The command as a process of its own, which every signal ends, however the tests were started."""
     path = f"{pathlib.Path(sys.executable).parent}:{os.environ['PATH']}"  # on which the Python of the tests is found first
-    return subprocess.Popen([PLAN, *map(str, words)], text=True, env={**os.environ, "PSMAX": PSMAX, "PATH": path},
+    return subprocess.Popen([PLAN, *map(str, words)], text=True, env={**os.environ, **CALLED, "PATH": path},
                             stdout=out, stderr=subprocess.PIPE, preexec_fn=end_at_once)
 
 
@@ -87,6 +89,18 @@ class InFolder(unittest.TestCase):
         path = self.folder / name
         path.write_bytes(content.encode() if isinstance(content, str) else content)
         return path
+
+    def program(self, name: str, script: str) -> str:
+        """A program that stands in for psmax or psprove."""
+        path = self.file(name, f"#!/bin/sh\n{script}\n")
+        path.chmod(0o755)
+        return str(path)
+
+    def hard(self) -> pathlib.Path:
+        """A project that no search here settles in a minute, and of which psprove finds a schedule at once."""
+        made = "import projects; print(projects.text(*projects.job_shop(20, 15, 1)))"
+        ran = subprocess.run([sys.executable, "-c", made], cwd=TOP / "bench", capture_output=True, check=True)
+        return self.file("hard.sch", ran.stdout)
 
     def refused(self, ran: Ran, status: int, *texts: str, faults: int = 1) -> None:
         """One clear line on standard error for each fault, and nothing else."""

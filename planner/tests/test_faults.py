@@ -3,8 +3,9 @@ import shutil
 import signal
 import subprocess
 import sys
+from unittest import mock
 
-from .helpers import EXAMPLES, PLAN, PROJECTS, PSMAX, InFolder, plan, psmax, started, told_until
+from .helpers import CALLED, EXAMPLES, PLAN, PSPROVE, InFolder, Ran, plan, psmax, started, told_until
 
 COMMANDS = ("solve", "why", "where", "gantt", "write")
 SITE = EXAMPLES / "building-site.sch"
@@ -25,31 +26,31 @@ class Faults(InFolder):
             with self.subTest(command):
                 self.refused(plan(command, path, given=b"0 0\n"), 2, "bad.sch: word 4: not a number")
 
-    def test_a_psmax_that_fails(self) -> None:
+    def test_a_program_that_fails(self) -> None:
         for program, text in (("/bin/false", "failed"), ("/bin/cat", ""), ("/bin/true", "does not know"),
                               (str(self.folder / "gone"), "no program"), (str(self.folder), "no program")):
             for command in COMMANDS:
                 with self.subTest(program=program, command=command):
-                    self.refused(plan(command, SITE, given=b"0 0\n", psmax=program), 1, text)
-        killed = self.file("killed", "#!/bin/sh\nkill -9 $$\n")
-        killed.chmod(0o755)
-        self.refused(plan("solve", SITE, psmax=str(killed)), 1, "signal 9")
+                    called = {"psprove" if command == "solve" else "psmax": program}
+                    self.refused(self.called(command, **called), 1, text)
+        self.refused(plan("solve", SITE, psprove=self.program("killed", "kill -9 $$")), 1, "psprove solve was ended by signal 9")
 
-    def test_a_psmax_that_does_not_end(self) -> None:
-        slow = self.file("slow", "#!/bin/sh\nexec sleep 60\n")
-        slow.chmod(0o755)
-        ran = plan("solve", SITE, "--seconds", "0.5", psmax=str(slow))
+    def called(self, command: str, **programs: str) -> Ran:
+        return plan(command, SITE, given=b"0 0\n", **programs)
+
+    def test_a_psprove_that_does_not_end(self) -> None:
+        slow = self.program("slow", "exec sleep 60")
+        with mock.patch("planner.psprove.GRACE", -1.5):
+            ran = plan("solve", SITE, "--seconds", "1", psprove=slow)
         self.assertEqual((ran.returncode, ran.stdout), (3, "unknown bound 0\n"))
 
-    def test_a_psmax_that_fails_later(self) -> None:
-        """What is known by then is printed, and the fault is told: this one answers six times."""
+    def test_a_psprove_that_fails_later(self) -> None:
+        """What is known by then is printed, and the fault is told: this one answers once."""
         calls = self.file("calls", "")
-        tired = self.file("tired", f"#!/bin/sh\necho >> {calls}\n"
-                          f"test $(wc -l < {calls}) -le 6 && exec {PSMAX} \"$@\"\nexit 1\n")
-        tired.chmod(0o755)
-        ran = plan("solve", PROJECTS / "assay-lab.sch", psmax=str(tired))
+        tired = self.program("tired", f"echo >> {calls}\ntest $(wc -l < {calls}) -le 1 && exec {PSPROVE} \"$@\"\nexit 1")
+        ran = plan("solve", self.hard(), "--jobs", "1", psprove=tired)
         self.assertEqual((ran.returncode, ran.stdout[:9]), (1, "feasible "))
-        self.assertEqual(ran.stderr.splitlines()[-1], "plan: psmax solve failed, exit status 1")
+        self.assertEqual(ran.stderr.splitlines()[-1], "plan: psprove solve failed, exit status 1")
 
     def test_files_that_can_not_be_written(self) -> None:
         for words in (("--out", self.folder / "no" / "x"), ("--svg", self.folder / "no" / "x"), ("--out", self.folder),
@@ -62,15 +63,15 @@ class Faults(InFolder):
 
     def test_bad_words(self) -> None:
         for words in ((), ("draw",), ("solve",), ("solve", SITE, "--seconds", "0"), ("solve", SITE, "--seconds", "nan"),
-                      ("solve", SITE, "--seconds", "soon"), ("solve", SITE, "--workers", "0"),
-                      ("solve", SITE, "--workers", "65"), ("solve", SITE, "--workers", "-1"),
-                      ("solve", SITE, "--workers", "two"), ("solve", SITE, "--workers", ""), ("solve", SITE, "--start"),
+                      ("solve", SITE, "--seconds", "soon"), ("solve", SITE, "--seconds", "0.5"),
+                      ("solve", SITE, "--jobs", "0"), ("solve", SITE, "--jobs", "65"), ("solve", SITE, "--jobs", "-1"),
+                      ("solve", SITE, "--jobs", "two"), ("solve", SITE, "--jobs", ""), ("solve", SITE, "--start"),
                       ("solve", SITE, "--x\n\x1b[2J"), ("gantt", SITE, "--width", "7"),
                       ("write", SITE, "--period", "years")):
             with self.subTest(words):
                 self.refused(plan(*words), 2, "plan: ")
         self.assertEqual(plan("--help").returncode, 0)
-        self.assertIn("--workers N", plan("solve", "--help").stdout)
+        self.assertIn("--jobs N", plan("solve", "--help").stdout)
 
     def test_closed_streams(self) -> None:
         for closed, status, text in ((">&-", 1, "plan: standard output is closed\n"),
@@ -79,7 +80,7 @@ class Faults(InFolder):
                 words = ["sh", "-c", f'exec "$@" {closed}', "sh", sys.executable, str(PLAN), "gantt", str(SITE)]
                 with open(EXAMPLES / "building-site-feasible.starts", "rb") as starts:
                     ran = subprocess.run(words, stdin=starts, capture_output=True, text=True,
-                                         env={**os.environ, "PSMAX": PSMAX})
+                                         env={**os.environ, **CALLED})
                 self.assertEqual((ran.returncode, ran.stderr), (status, text))
                 self.assertEqual(ran.stdout != "", status == 0)
 
@@ -87,17 +88,18 @@ class Faults(InFolder):
         """The schedule that can't be written any more goes to standard output."""
         folder = self.folder / "gone"
         folder.mkdir()
-        with started("solve", PROJECTS / "assay-lab.sch", "--out", folder / "best") as child:
+        path = self.hard()
+        with started("solve", path, "--out", folder / "best") as child:
             assert child.stdout is not None and child.stderr is not None
-            told_until(child, "by check")
+            told_until(child, ", proved: ")
             shutil.rmtree(folder)
             child.send_signal(signal.SIGINT)
             told = child.stderr.read()
             out = child.stdout.read()
-            self.assertEqual(child.wait(timeout=10), 1)
+            self.assertEqual(child.wait(timeout=30), 1)
         self.assertIn("plan: cannot write", told.splitlines()[-1])
         self.assertEqual(out.split()[0], "feasible")
-        self.assertTrue(psmax("check", "--project", PROJECTS / "assay-lab.sch", given=out.encode()).startswith("feasible"))
+        self.assertTrue(psmax("check", "--project", path, given=out.encode()).startswith("feasible"))
 
     def test_a_page_that_is_named_and_gone(self) -> None:
         starts = EXAMPLES / "building-site-feasible.starts"

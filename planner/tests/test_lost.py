@@ -8,9 +8,8 @@ import time
 
 from planner.clock import ENDS
 
-from .helpers import EXAMPLES, INPUTS, PLAN, PROJECTS, PSMAX, TWO_JOBS, InFolder, plan, psmax, started, told_until
+from .helpers import CALLED, EXAMPLES, INPUTS, PLAN, PSPROVE, TWO_JOBS, InFolder, plan, psmax, started, told_until
 
-HARD = PROJECTS / "assay-lab.sch"
 TABLE = "activity,days,crane (1)\na,3,1\nb,4,1\n"
 STARTS = "0 0\n1 0\n2 3\n3 7\n"
 
@@ -64,7 +63,7 @@ class Inputs(InFolder):
     def test_an_answer_on_standard_input(self) -> None:
         with open(self.folder / "w.st", "rb") as answer:
             words = [sys.executable, str(PLAN), "write", str(self.folder / "w.sch"), "--out", str(self.folder / "hard.st")]
-            ran = subprocess.run(words, stdin=answer, capture_output=True, text=True, env={**os.environ, "PSMAX": PSMAX})
+            ran = subprocess.run(words, stdin=answer, capture_output=True, text=True, env={**os.environ, **CALLED})
         self.assertEqual((ran.returncode, self.texts()), (2, self.before), ran.stderr)
 
     def test_two_outputs(self) -> None:
@@ -82,12 +81,12 @@ class Inputs(InFolder):
 class Results(InFolder):
     def test_written_each_time(self) -> None:
         """The schedule is in the file once it is told, whole, also where the command is killed."""
-        best = self.folder / "best"
-        with started("solve", HARD, "--out", best) as child:
-            told_until(child, "by check")
+        best, path = self.folder / "best", self.hard()
+        with started("solve", path, "--out", best) as child:
+            told_until(child, ", proved: ")
             time.sleep(0.2)
             child.kill()
-        told = psmax("check", "--project", HARD, given=best.read_bytes())
+        told = psmax("check", "--project", path, given=best.read_bytes())
         self.assertEqual(told.split()[1], best.read_text().split()[1])
 
     def test_never_longer(self) -> None:
@@ -97,19 +96,19 @@ class Results(InFolder):
                 best = self.file("best", f"0 0\n1 0\n2 {end - 4}\n3 {end}\n")
                 ran = plan("solve", INPUTS / "two-jobs.sch", "--out", best)
                 self.assertEqual(ran.stdout, "optimal 7\n")
-                self.assertIn(f"{end} by check: {best}\n", ran.stderr)
+                self.assertIn(f"schedule {end}: {best}, by check\n", ran.stderr)
                 self.assertIn("3 7", best.read_text())
 
     def test_a_shorter_one_of_somebody_else(self) -> None:
         """One search finds a schedule while another puts a shorter one into the same file; the file keeps that."""
-        short = psmax("solve", "--nodes", "20000", given=(PROJECTS / "twin-towers.sch").read_bytes())
-        best = self.folder / "best"
-        copy = f"cp {self.file('short', short)} {best}.copy; mv {best}.copy {best}"
-        long = self.file("long", f"#!/bin/sh\ncase \"$1\" in solve) {copy};; esac\nexec {PSMAX} \"$@\"\n")
-        long.chmod(0o755)
-        ran = plan("solve", PROJECTS / "twin-towers.sch", "--out", best, "--seconds", "0.4", psmax=str(long))
+        path, best, short = self.hard(), self.folder / "best", self.folder / "short"
+        self.assertEqual(plan("solve", path, "--out", short, "--seconds", "3").returncode, 3)
+        copy = f"cp {short} {best}.copy; mv {best}.copy {best}"
+        long = self.program("long", f"{copy}\nexec {PSPROVE} \"$@\"")
+        ran = plan("solve", path, "--out", best, "--seconds", "1", "--jobs", "1", psprove=long)
         self.assertEqual(ran.returncode, 3, ran.stderr)
-        self.assertLessEqual(int(best.read_text().split()[1]), int(short.split()[1]))
+        self.assertIn("by now, which stays", ran.stderr)
+        self.assertEqual(best.read_bytes(), short.read_bytes())
 
     def test_what_is_no_schedule_of_this_project(self) -> None:
         """The answer of another project stays, of this one before its table was changed, and any other file."""
@@ -146,37 +145,37 @@ class Ends(InFolder):
     """Ctrl-C, a request to end and a terminal that closes end every command alike."""
 
     def test_at_any_moment(self) -> None:
+        path = self.hard()
         for place in range(20):
-            with self.subTest(place), started("solve", HARD, "--seconds", "5") as child:
+            with self.subTest(place), started("solve", path, "--seconds", "5") as child:
                 assert child.stdout is not None and child.stderr is not None
                 time.sleep(place / 200)
                 child.send_signal(ENDS[place % 3])
                 told = child.stderr.read()
                 self.assertNotIn("Traceback", told)
                 self.assertNotIn("Error", told)
-                self.assertIn(child.wait(timeout=10), (3, 130, *(-number for number in ENDS)))
+                self.assertIn(child.wait(timeout=30), (3, 130, *(-number for number in ENDS)))
 
     def test_others(self) -> None:
         """A command that waits for its answer ends without a word but one."""
         begun = self.folder / "begun"
-        slow = self.file("slow", f"#!/bin/sh\n> {begun}\nexec sleep 30\n")
-        slow.chmod(0o755)
+        slow = self.program("slow", f"> {begun}\nexec sleep 30")
         words = [sys.executable, str(PLAN), "gantt", str(INPUTS / "two-jobs.sch"), str(self.file("starts", STARTS))]
         for sent in ENDS:
             with self.subTest(sent):
-                child = subprocess.Popen(words, stderr=subprocess.PIPE, text=True, env={**os.environ, "PSMAX": str(slow)},
+                child = subprocess.Popen(words, stderr=subprocess.PIPE, text=True, env={**os.environ, "PSMAX": slow},
                                          preexec_fn=heed_all)
                 while not begun.exists():
                     time.sleep(0.02)
                 begun.unlink()
                 child.send_signal(sent)
-                self.assertEqual((child.communicate(timeout=10)[1], child.returncode), ("plan: interrupted\n", 130))
+                self.assertEqual((child.communicate(timeout=30)[1], child.returncode), ("plan: interrupted\n", 130))
 
     def test_nohup(self) -> None:
         """Where a closed terminal is ignored, the search goes on."""
         words = ["nohup", sys.executable, str(PLAN), "solve", str(EXAMPLES / "building-site.sch")]
         child = subprocess.Popen(words, stdout=subprocess.PIPE, stderr=subprocess.PIPE, text=True,
-                                 env={**os.environ, "PSMAX": PSMAX})
+                                 env={**os.environ, **CALLED})
         time.sleep(0.05)
         child.send_signal(signal.SIGHUP) if shutil.which("nohup") else None
         self.assertIn("optimal 36", child.communicate(timeout=30)[0])

@@ -116,4 +116,4 @@ class Why(InFolder):
         self.assertIn("Activity 1 needs 2 of resource 0, of which there is 1.", ran.stdout)
 
     def test_there_is_one(self) -> None:
-        self.assertIn("check says feasible 36", plan("why", EXAMPLES / "building-site.sch").stdout)
+        self.assertIn("psprove has found one of 36", plan("why", EXAMPLES / "building-site.sch").stdout)

@@ -42,7 +42,7 @@ class Named(InFolder):
                 self.assertEqual(plan("check", self.project, answer).stdout, "feasible 9\n")
                 ran = plan("solve", self.project, "--start", answer)
                 self.assertEqual((ran.returncode, ran.stdout.partition("\n")[0]), (0, "optimal 9"))
-                self.assertIn(f"9 by check: {answer}", ran.stderr)
+                self.assertIn(f"schedule 9: {answer}, by check", ran.stderr)
 
     def test_a_row_that_was_inserted(self) -> None:
         self.read(INSERTED)

@@ -1,7 +1,7 @@
 """A schedule of which a part has started is planned again, and two schedules are compared."""
 import pathlib
 
-from .helpers import InFolder, Ran, plan, psmax
+from .helpers import INPUTS, InFolder, Ran, plan, psmax
 
 # By hand: one crane, and what is lifted is bolted at once. 3 + 2 + 4 + 2 = 11 in this order, as the lags ask for.
 TABLE = """activity,days,crane (1),after,at least,at most
@@ -152,3 +152,13 @@ class Comparing(InFolder):
         more = self.file("more", "0 0\n1 4\n2 0\n3 7\n4 7\n")
         self.refused(plan("compare", old, more), 2, "2 activities and 3; without names nobody can say")
         self.refused(plan("compare", old, self.file("none", "no schedule\n")), 2, "no schedule")
+
+    def test_why(self) -> None:
+        """By hand: two jobs of 3 and 4 on one machine take 7, so not 6, and one after the other 9, where 7 will do."""
+        for end, told in ((6, "There is no schedule that ends by 6."),
+                          (7, "There is a schedule that ends by 7: psprove has found one of 7.")):
+            old, new = self.file("old", f"0 0\n1 0\n2 2\n3 {end}\n"), self.file("new", "0 0\n1 0\n2 5\n3 9\n")
+            ran = plan("compare", old, new, "--why", INPUTS / "two-jobs.sch")
+            self.assertEqual((ran.returncode, ran.stdout.splitlines()[3]), (0, told), ran.stderr)
+            ran = plan("compare", new, old, "--why", INPUTS / "two-jobs.sch")
+            self.assertNotIn("There is", ran.stdout)

@@ -16,14 +16,14 @@ from typing import Any
 
 from planner import __version__
 
-from .helpers import EXAMPLES, INPUTS, PLAN, PROJECTS, PSMAX, TOP, TWO_JOBS, InFolder, plan, psmax, started
+from .helpers import CALLED, EXAMPLES, INPUTS, PLAN, PROJECTS, PSMAX, PSPROVE, TOP, TWO_JOBS, InFolder, plan, psmax, started
 
-HEADS = "project,activities,status,makespan,bound,seconds,nodes,limit,plan,psmax,fault\n"
+HEADS = "project,activities,status,makespan,bound,seconds,conflicts,limit,plan,psprove,fault\n"
 
 
 class Json(InFolder):
-    def told(self, *words: object) -> dict[str, Any]:
-        ran = plan("solve", *words, "--json")
+    def told(self, *words: object, psprove: str = PSPROVE) -> dict[str, Any]:
+        ran = plan("solve", *words, "--json", psprove=psprove)
         self.assertEqual(len(ran.stdout.splitlines()), 1, ran.stdout)
         found = json.loads(ran.stdout)
         assert isinstance(found, dict)
@@ -31,17 +31,17 @@ class Json(InFolder):
 
     def test_by_hand(self) -> None:
         told = self.told(INPUTS / "two-jobs.sch")
-        self.assertEqual([*told], ["bound", "makespan", "starts", "status", "names", "durations", "nodes", "seconds",
+        self.assertEqual([*told], ["bound", "makespan", "starts", "status", "names", "durations", "conflicts", "seconds",
                                    "versions"])
         self.assertEqual([told[key] for key in ("bound", "makespan", "status", "durations")], [7, 7, "optimal", [3, 4]])
         self.assertGreater(told["seconds"], 0)
-        self.assertGreater(told["nodes"], 0)
-        self.assertEqual({*told["versions"]}, {"plan", "psmax", "python"})
+        self.assertGreater(told["conflicts"], -1)
+        self.assertEqual({*told["versions"]}, {"plan", "psmax", "psprove", "python"})
 
     def test_other_answers(self) -> None:
         told = self.told(INPUTS / "two-jobs-close-lags.sch")
         self.assertEqual([told[key] for key in ("bound", "makespan", "starts", "status")], [None, None, None, "no schedule"])
-        told = self.told(PROJECTS / "assay-lab.sch", "--seconds", "0.0001")
+        told = self.told(self.hard(), "--seconds", "1", "--jobs", "1", psprove=self.program("slow", f'exec {PSPROVE} "$@" --conflicts 0'))
         self.assertEqual([told[key] for key in ("makespan", "starts", "status")], [None, None, "unknown"])
         told = self.told(EXAMPLES / "building-site.sch", "--out", self.folder / "best")
         self.assertEqual((told["makespan"], len(told["names"])), (36, 13))
@@ -49,7 +49,7 @@ class Json(InFolder):
 
     def test_version(self) -> None:
         ran = plan("--version")
-        self.assertRegex(ran.stdout, rf"^plan {re.escape(__version__)}, psmax \d+\.\d+\.\d+, Python 3\.\d+\.\d+\n$")
+        self.assertRegex(ran.stdout, rf"^plan {re.escape(__version__)}, psmax \d+\.\d+\.\d+, psprove \d+\.\d+\.\d+, Python 3\.\d+\.\d+\n$")
         self.assertIn("psmax not found", plan("--version", psmax="/gone").stdout)
 
 
@@ -89,8 +89,8 @@ class Batch(InFolder):
     def test_cut_off(self) -> None:
         """Rows come one after another, so that what is known is in the table when the batch is ended; a second run does
         the rest."""
-        for name in ("assay-lab", "engine-cells"):
-            shutil.copy(PROJECTS / f"{name}.sch", self.folder)
+        self.hard()
+        shutil.copy(PROJECTS / "assay-lab.sch", self.folder)
         words = ("batch", self.folder, "--jobs", "2", "--csv", self.csv)
         with started(*words, "--seconds", "60") as child:
             while not self.csv.exists():
@@ -98,11 +98,11 @@ class Batch(InFolder):
             child.terminate()
             self.assertEqual(child.wait(timeout=20), 3)
         known = self.rows()
-        self.assertNotIn("assay-lab.sch", known)
-        plan(*words, "--seconds", "0.5")
+        self.assertNotIn("hard.sch", known)
+        plan(*words, "--seconds", "1")
         self.assertEqual(len(self.rows()), 7)
         self.assertEqual({name: self.rows()[name] for name in known}, known)
-        self.assertEqual(self.rows()["assay-lab.sch"]["limit"], "0.5")
+        self.assertEqual((self.rows()["hard.sch"]["limit"], self.rows()["hard.sch"]["status"]), ("1", "feasible"))
 
     def test_parts(self) -> None:
         """Each N-th project from the I-th on, by name; together they are all, and --join makes one table of them."""
@@ -129,7 +129,7 @@ class Batch(InFolder):
         python = f"{pathlib.Path(sys.executable).parent}:{PLAN.parent}:{os.environ['PATH']}"
         command = f"{line}\n{join}\n".replace("FOLDER", ".")
         ran = subprocess.run(["sh", "-ec", command], cwd=self.folder, capture_output=True, text=True,
-                             env={**os.environ, "PSMAX": PSMAX, "PATH": python, "HOME": str(self.folder)})
+                             env={**os.environ, **CALLED, "PATH": python, "HOME": str(self.folder)})
         self.assertEqual(ran.returncode, 0, ran.stderr)
         self.assertEqual(len(self.rows((self.folder / "all.csv").read_text())), 5)
 
@@ -153,7 +153,7 @@ class Batch(InFolder):
 
 class Installed(InFolder):
     def run_there(self, *words: object) -> subprocess.CompletedProcess[str]:
-        given = {name: value for name, value in os.environ.items() if name not in ("PSMAX", "PYTHONPATH")}
+        given = {name: value for name, value in os.environ.items() if name not in (*CALLED, "PYTHONPATH")}
         given["PATH"] = f"{pathlib.Path(sys.executable).parent}:{given['PATH']}"
         return subprocess.run([*map(str, words)], capture_output=True, text=True, env=given, cwd=self.folder)
 
@@ -169,10 +169,12 @@ class Installed(InFolder):
         record = self.folder / "record"
         answer = psmax("solve", "--record", record, given=site.read_bytes())
         self.assertEqual(self.run_there("bin/plan", "check", site, self.file("best", answer)).stdout, "feasible 36\n")
+        self.assertEqual(self.run_there("bin/plan", "solve", site, "--out", "own").stdout, "optimal 36\n")
+        self.assertEqual(self.run_there("bin/plan", "report", site, "own", "--out", "page.html").returncode, 0)
         verify = [sys.executable, share / "psmax" / "verify.py"]
         self.assertEqual(self.run_there(*verify, site, record).stdout, "proved optimal 36\n")
-        for words in ((), ("gone", record), (site, "gone"), (record, record), (site, site)):
-            ran = self.run_there(*verify, *words)
+        for given in ((), ("gone", record), (site, "gone"), (record, record), (site, site)):
+            ran = self.run_there(*verify, *given)
             self.assertIn(ran.returncode, (1, 2))
             self.assertEqual((ran.stdout, len(ran.stderr.splitlines())), ("", 1), ran.stderr)
 
@@ -185,7 +187,7 @@ class Installed(InFolder):
                          ({"plan": "planner.main:run"}, ">=3.11", []))
         self.assertIs(told["tool"]["mypy"]["strict"], True)
         ran = subprocess.run([sys.executable, "-m", "planner", "--version"], cwd=TOP, capture_output=True, text=True,
-                             env={**os.environ, "PSMAX": PSMAX})
+                             env={**os.environ, **CALLED})
         self.assertIn(f"plan {__version__}", ran.stdout)
 
     @unittest.skipUnless(all(map(importlib.util.find_spec, ("pip", "setuptools", "wheel"))), "no tools for packages here")
@@ -198,7 +200,7 @@ class Installed(InFolder):
                              "--no-build-isolation", "--target", "there", source)
         self.assertEqual(ran.returncode, 0, ran.stderr)
         ran = subprocess.run([sys.executable, "there/bin/plan", "--version"], capture_output=True, text=True, cwd=self.folder,
-                             env={**os.environ, "PSMAX": PSMAX, "PYTHONPATH": str(self.folder / "there")})
+                             env={**os.environ, **CALLED, "PYTHONPATH": str(self.folder / "there")})
         self.assertIn(f"plan {__version__}", ran.stdout)
 
     @unittest.skipUnless(shutil.which("mypy"), "mypy isn't here")

@@ -1,17 +1,10 @@
-import io
 import pathlib
 import re
 import time
-from unittest import mock
 
-from planner.clock import ENDS, Clock
-from planner.known import Known
-from planner.psmax import Psmax
-from planner.search import Search
+from planner.clock import ENDS
 
-from .helpers import EXAMPLES, INPUTS, PROJECTS, PSMAX, TWO_JOBS, InFolder, plan, psmax, started, told_until
-
-HARD = PROJECTS / "assay-lab.sch"  # plain psmax does not settle it in minutes
+from .helpers import EXAMPLES, INPUTS, PROJECTS, PSPROVE, TWO_JOBS, InFolder, plan, psmax, started, told_until
 
 ANSWERS = {
     "two-jobs": "optimal 7",
@@ -19,7 +12,7 @@ ANSWERS = {
     "two-jobs-deadline-6": "no schedule",
     "two-jobs-deadline-7": "optimal 7",
     "two-jobs-positive-cycle": "no schedule",
-    "two-jobs-longest-duration": "optimal 1000004",
+    "two-jobs-longest-duration": "unknown bound 1000000",
     "three-jobs-capacity-two": "optimal 4",
     "three-jobs-lags": "optimal 5",
     "one-job-too-big": "no schedule",
@@ -30,7 +23,7 @@ ANSWERS = {
 
 class Answers(InFolder):
     def first_line(self, path: pathlib.Path, *words: str) -> str:
-        ran = plan("solve", path, "--seconds", "10", *words)
+        ran = plan("solve", path, *words)
         self.assertIn(ran.returncode, (0, 3), ran.stderr)
         return ran.stdout.partition("\n")[0]
 
@@ -47,10 +40,18 @@ class Answers(InFolder):
                 proved = psmax("solve", given=path.read_bytes()).partition("\n")[0]
                 self.assertEqual(self.first_line(path), proved)
 
-    def test_a_lag_beyond_any_deadline(self) -> None:
-        """By hand, two jobs of 1,000,000 on one machine: a makespan for which the format has no deadline arc."""
+    def test_a_makespan_without_a_record(self) -> None:
+        """By hand, two jobs of 1,000,000 on one machine: records end there (docs/LEMMAS.md), which is told."""
         text = TWO_JOBS.replace("1 1 3 1", "1 1 1000000 1").replace("2 1 4 1", "2 1 1000000 1")
-        self.assertEqual(self.first_line(self.file("long.sch", text)), "optimal 2000000")
+        ran = plan("solve", self.file("long.sch", text))
+        self.assertEqual((ran.returncode, ran.stdout), (3, "unknown bound 1000000\n"))
+        self.assertIn("the search stopped: a makespan is above 1,000,000", ran.stderr)
+
+    def test_planners_projects(self) -> None:
+        """Each is settled; psmax alone proves four of them, with the same makespan."""
+        for path in sorted(PROJECTS.glob("*.sch")):
+            with self.subTest(path.name):
+                self.assertRegex(self.first_line(path, "--seconds", "200", "--jobs", "1"), "^optimal ")
 
     def test_the_answer_is_a_schedule(self) -> None:
         ran = plan("solve", EXAMPLES / "plant-shutdown.sch")
@@ -84,7 +85,7 @@ class Starts(InFolder):
                 starts = self.file("given", given)
                 ran = plan("solve", path, "--start", starts)
                 self.assertEqual((ran.returncode, ran.stdout), (0, "optimal 7\n0 0\n1 0\n2 3\n3 7\n"), ran.stderr)
-                self.assertIn(f"7 by check: {starts}\n", ran.stderr)
+                self.assertIn(f"schedule 7: {starts}, by check\n", ran.stderr)
 
     def test_what_is_no_schedule(self) -> None:
         path = INPUTS / "two-jobs.sch"
@@ -98,109 +99,135 @@ class Starts(InFolder):
         starts = self.file("given", "0 0\n")
         self.refused(plan("solve", self.file("bad.sch", "x"), "--start", starts), 2, "bad.sch: word 0")
 
-    def search(self, text: bytes, workers: int, program: str = PSMAX) -> Search:
-        """A search that knows a schedule, found in 100 nodes."""
-        search = Search(text, Known(Psmax(Clock(60), "a project", program), text), workers)
-        search.from_best(100)  # nothing to begin with, so nothing is asked
-        search.plain(100)
-        return search
-
-    def test_from_the_best(self) -> None:
-        """By one worker and by two: from a schedule after 100 nodes to 55, the optimum of Fisher and Thompson's first
-        job shop, and the proof."""
-        text = (INPUTS / "job-shop-6-by-6.sch").read_bytes()
-        for workers in (1, 2):
-            with self.subTest(workers), mock.patch("sys.stderr", io.StringIO()) as told:
-                search = self.search(text, workers)
-                first = search.known.makespan or 0
-                self.assertGreater(first, 55)
-                search.from_best(100_000)
-                self.assertEqual(search.known.first_line(), "optimal 55")
-                self.assertIn(f"by check: solve --nodes 100000 --workers {workers} --start the {first}", told.getvalue())
-
-    def test_what_psmax_is_handed(self) -> None:
-        """The search from the best schedule has that schedule and the workers, the plain one has neither."""
+    def test_what_psprove_is_handed(self) -> None:
+        """A later slice begins with the best schedule of the one before, has another seed and three times its seconds. This
+        one ends before its time, so none follows."""
         calls, handed = self.file("calls", ""), self.folder / "handed"
-        spy = self.file("spy", f"""#!/bin/sh
-            echo "$@" >> {calls}
-            case "$*" in *--start*) for file; do :; done; cat "$file" > {handed}; esac
-            exec {PSMAX} "$@"
-            """)
-        spy.chmod(0o755)
-        with mock.patch("sys.stderr", io.StringIO()):
-            search = self.search(HARD.read_bytes(), 3, str(spy))
-            best = search.known.makespan
-            search.from_best(100)
-        words = [line for line in calls.read_text().splitlines() if line.startswith("solve")]
-        self.assertEqual(words[0], "solve --nodes 100")
-        self.assertRegex(words[1], r"^solve --nodes 100 --workers 3 --start \S+$")
-        self.assertEqual(psmax("check", "--project", HARD, given=handed.read_bytes()), f"feasible {best}\n")
+        spy = self.program("spy", f"""echo "$@" >> {calls}
+            case "$*" in *--start*) for file; do :; done; cat "$file" > {handed}; exec {PSPROVE} "$@" --conflicts 0; esac
+            exec {PSPROVE} "$@" """)
+        path = self.hard()
+        ran = plan("solve", path, "--seconds", "200", "--jobs", "1", psprove=spy)
+        self.assertEqual(ran.returncode, 3)
+        first, second = (line.partition(" --record")[0] for line in calls.read_text().splitlines() if line.startswith("solve"))
+        self.assertEqual(first, "solve --json --progress --seconds 1 --jobs 1 --seed 0")
+        self.assertEqual(second, "solve --json --progress --seconds 3 --jobs 1 --seed 1")
+        best = re.search(r"feasible (\d+) bound \d+, proved", ran.stderr)
+        assert best is not None
+        self.assertEqual(psmax("check", "--project", path, given=handed.read_bytes()), f"feasible {best[1]}\n")
 
-    def test_workers(self) -> None:
-        ran = plan("solve", INPUTS / "three-jobs-lags.sch", "--workers", "2")
-        self.assertEqual((ran.returncode, ran.stdout.partition("\n")[0]), (0, "optimal 5"))
+    def test_ways_side_by_side(self) -> None:
+        """Of three ways two have the whole time. One has slices, and other seeds; what is settled in one ends the other."""
+        calls = self.file("calls", "")
+        spy = self.program("spy", f"""echo "$@" >> {calls}
+            case "$*" in *"--jobs 2"*) exec sleep 100; esac
+            exec {PSPROVE} "$@" """)
+        begun = time.monotonic()
+        ran = plan("solve", INPUTS / "two-jobs.sch", "--seconds", "100", "--jobs", "3", psprove=spy)
+        self.assertLess(time.monotonic() - begun, 50)
+        self.assertEqual(ran.stdout.partition("\n")[0], "optimal 7")
+        words = sorted(line.partition(" --record")[0] for line in calls.read_text().splitlines())
+        self.assertEqual(words[0], "solve --json --progress --seconds 1 --jobs 1 --seed 2")
+        self.assertRegex("".join(words[1:]), "^(solve --json --progress --seconds 100 --jobs 2 --seed 0)?$")
 
-    def test_no_memory_for_workers(self) -> None:
-        """A search that runs out of memory says nothing, and later ones of its kind get half of its nodes."""
-        small = self.file("small", f"""#!/bin/sh
-            case "$*" in *--start*) echo 'psmax: out of memory' >&2; exit 1; esac
-            exec {PSMAX} "$@"
-            """)
-        small.chmod(0o755)
-        with mock.patch("sys.stderr", io.StringIO()) as told:
-            search = self.search(HARD.read_bytes(), 1, str(small))
-            before = search.known.first_line()
-            search.from_best(1000)
-        self.assertEqual(search.known.first_line(), before)
-        self.assertIn("psmax ran out of memory: solve --nodes 1000 --workers 1\n", told.getvalue())
-        self.assertEqual(search.psmax.affordable(9000, 1), 500)
-        self.assertGreater(search.psmax.affordable(9000), 500)
+    def test_what_contradicts_itself(self) -> None:
+        """By hand: two jobs of 3 and 4 on one machine, which a program says take 8 at least, or can't be done."""
+        starts = self.file("given", "0 0\n1 0\n2 3\n3 7\n")
+        for said in ('"bound":8,"makespan":null,"starts":null,"status":"unknown"',
+                     '"bound":null,"makespan":null,"starts":null,"status":"no schedule"'):
+            liar = self.program("liar", f"for file; do case $before in --record) echo > $file; esac; before=$file; done\n"
+                                f"echo '{{\"conflicts\":1,{said}}}'\nexit 3")
+            ran = plan("solve", INPUTS / "two-jobs.sch", "--start", starts, psprove=liar)
+            self.assertEqual((ran.returncode, ran.stdout[:18]), (1, "feasible 7 bound 0"))
+            self.assertIn("plan: psprove contradicts itself: a schedule of 7, and ", ran.stderr)
+
+
+class Records(InFolder):
+    def verified(self, *words: object) -> tuple[int, str]:
+        ran = plan("verify", *words)
+        return ran.returncode, ran.stdout.partition("\n")[0]
+
+    def test_what_is_proved(self) -> None:
+        """By hand, as in ANSWERS: each record is accepted, and says what was answered."""
+        record = self.folder / "record"
+        for name, meaning in (("two-jobs", "no schedule of {} is shorter than 7, and has one that long"),
+                              ("two-jobs-close-lags", "there is no schedule of {}")):
+            path = INPUTS / f"{name}.sch"
+            self.assertEqual(plan("solve", path, "--record", record).returncode, 0)
+            self.assertEqual(self.verified(path, record), (0, f"{record} proves that {meaning.format(path)}."))
+            self.assertIn("verify_lemmas.py judges it without psprove.", plan("verify", path, record).stdout)
+
+    def test_a_stopped_search(self) -> None:
+        """The record proves the bound that is told."""
+        path, record = self.hard(), self.folder / "record"
+        ran = plan("solve", path, "--record", record, "--seconds", "1")
+        bound = ran.stdout.partition("\n")[0].split()[-1]
+        self.assertEqual(self.verified(path, record), (0, f"{record} proves that no schedule of {path} is shorter than {bound}."))
+
+    def test_a_record_of_psmax(self) -> None:
+        path, record = INPUTS / "two-jobs.sch", self.folder / "record"
+        psmax("solve", "--record", record, given=path.read_bytes())
+        self.assertIn("one that long", self.verified(path, record)[1])
+        self.assertIn("verify.py judges it without psmax.", plan("verify", path, record).stdout)
+
+    def test_what_has_started(self) -> None:
+        """By hand: 2 has started first, so 1 follows on day 4; on day 1 nothing can be changed any more."""
+        path, record = INPUTS / "two-jobs.sch", self.folder / "record"
+        words = (path, "--start", self.file("old", "0 0\n1 5\n2 0\n3 8\n"), "--frozen", "1")
+        self.assertEqual(plan("solve", *words, "--record", record).stdout, "optimal 7\n0 0\n1 4\n2 0\n3 7\n")
+        status, told = self.verified(words[0], record, *words[1:])
+        self.assertEqual((status, told[-35:]), (0, " shorter than 7, and has one that long."[-35:]))
+        self.assertIn("that keeps what ", told)
+
+    def test_wrong_records(self) -> None:
+        path, record = INPUTS / "two-jobs.sch", self.folder / "record"
+        self.file("record", "record 2\nbound 8\nend dead\n")
+        self.assertEqual(self.verified(path, record), (4, f"{record} proves nothing of {path}: line 3: end"))
+        for text, told in (("hello\n", "line 1: form"), ("", "line 1: short")):
+            self.refused(plan("verify", path, self.file("record", text)), 2, f"record: {told}")
+        self.refused(plan("verify", self.file("bad.sch", "x"), record), 2, "bad.sch: word 0")
+        self.refused(plan("verify", path, self.folder / "gone"), 1, "cannot read")
+
+    def test_what_is_no_record_stays(self) -> None:
+        for text in ("my own words\n", "optimal 7\n"):
+            mine = self.file("mine", text)
+            self.refused(plan("solve", INPUTS / "two-jobs.sch", "--record", mine), 2, "mine is no record, and would be lost")
+            self.assertEqual(mine.read_text(), text)
 
 
 class Progress(InFolder):
-    LINE = re.compile(r" *\d+\.\d\d s  (?:(\d+) by check: (.+)|at least (\d+): (.+)|the .* seconds are over|stopped)")
+    LINE = re.compile(r" *\d+\.\d\d s  (?:schedule \d+(?:, unproved|: .+)|bound \d+, unproved|"
+                      r"(optimal (\d+)|feasible (\d+) bound (\d+)), proved: psprove solve .+|the .* seconds are over|stopped)")
 
-    def told(self, text: str) -> tuple[list[int], list[int]]:
-        """The makespans and the bounds of the lines, each of which must say by what it is known."""
-        lengths, bounds = [], []
-        for line in text.splitlines():
+    def held(self, out: str, path: pathlib.Path, told: str) -> None:
+        """A stopped answer is what was proved last, and a schedule that psmax finds feasible."""
+        proved = []
+        for line in told.splitlines():
             found = self.LINE.fullmatch(line)
             self.assertIsNotNone(found, line)
             if found and found[1]:
-                lengths.append(int(found[1]))
-            if found and found[3]:
-                bounds.append(int(found[3]))
-        return lengths, bounds
-
-    def held(self, out: str, path: pathlib.Path, told: str) -> None:
-        """A stopped answer: what was told last, and a schedule that psmax finds feasible."""
-        lengths, bounds = self.told(told)
-        self.assertEqual(lengths, sorted(lengths, reverse=True))
-        self.assertEqual(bounds, sorted(bounds))
-        self.assertEqual(out.partition("\n")[0], f"feasible {lengths[-1]} bound {bounds[-1]}")
-        self.assertEqual(psmax("check", "--project", path, given=out.encode()), f"feasible {lengths[-1]}\n")
+                proved.append(found)
+        self.assertEqual(out.partition("\n")[0], proved[-1][1])
+        self.assertEqual(psmax("check", "--project", path, given=out.encode()), f"feasible {proved[-1][3]}\n")
 
     def test_time_limit(self) -> None:
-        begun = time.monotonic()
-        with started("solve", HARD, "--seconds", "1.5") as child:
+        begun, path = time.monotonic(), self.hard()
+        with started("solve", path, "--seconds", "2", "--jobs", "2") as child:
             out, told = child.communicate()
-        self.assertLess(time.monotonic() - begun, 2.5)
+        self.assertLess(time.monotonic() - begun, 60)
         self.assertEqual(child.returncode, 3)
-        self.held(out, HARD, told)
+        self.assertTrue(told.endswith("the 2 seconds are over\n"), told)
+        self.held(out, path, told)
 
     def test_interrupt(self) -> None:
+        path = self.hard()
         for sent in ENDS:
-            with self.subTest(sent), started("solve", HARD) as child:
+            with self.subTest(sent), started("solve", path, "--jobs", "2") as child:
                 assert child.stdout is not None and child.stderr is not None
-                told = told_until(child, "by check")
+                told = told_until(child, ", proved: ")
                 child.send_signal(sent)
                 told += child.stderr.read()
                 out = child.stdout.read()
-                self.assertEqual(child.wait(timeout=10), 3)
+                self.assertEqual(child.wait(timeout=30), 3)
                 self.assertTrue(told.endswith("stopped\n"), told)
-                self.held(out, HARD, told)
-
-    def test_optimal_is_told_by_both_sides(self) -> None:
-        ran = plan("solve", INPUTS / "three-jobs-capacity-two.sch")
-        lengths, bounds = self.told(ran.stderr)
-        self.assertEqual((ran.stdout.split("\n")[0], lengths[-1], bounds[-1]), ("optimal 4", 4, 4))
+                self.held(out, path, told)

@@ -1,4 +1,10 @@
-from .helpers import EXAMPLES, INPUTS, TWO_JOBS, InFolder, plan
+from unittest import mock
+
+from planner.project import parse, parts
+
+from .helpers import EXAMPLES, INPUTS, PROJECTS, TWO_JOBS, InFolder, plan, psmax
+
+THESE = "These contradict each other, by a proof of psprove; without any one of them there is a schedule:\n"
 
 
 class Why(InFolder):
@@ -21,13 +27,13 @@ class Why(InFolder):
                   "Activity 1 needs 2 of resource 0, of which there is 1")
 
     def test_deadline_too_short(self) -> None:
-        """By hand: two jobs of 3 and 4 on one machine take 7, which the deadline of 6 forbids."""
-        self.told(INPUTS / "two-jobs-deadline-6.sch", "both together",
-                  "a schedule of 7: 3 (the end) starts at most 6 after the start")
+        """By hand: two jobs of 3 and 4 on one machine take 7, which the deadline of 6 forbids: that and the machine."""
+        self.told(INPUTS / "two-jobs-deadline-6.sch", f"{THESE}  resource 0, of which there is 1\n"
+                  "  3 (the end) starts at most 6 after the start\n", "a schedule of 7: 3 (the end) starts at most 6 after the start")
 
     def test_either_lag(self) -> None:
         """2 starts from 0 to 2 after 1, so neither can go first: without either lag one of them can."""
-        text = self.told(INPUTS / "two-jobs-close-lags.sch", "both together")
+        text = self.told(INPUTS / "two-jobs-close-lags.sch", THESE)
         self.assertEqual(text.count("Without this lag there is a schedule of 7"), 2)
 
     def test_no_lag_alone(self) -> None:
@@ -43,8 +49,41 @@ class Why(InFolder):
                   "3 (blinding concrete) starts at most 3 after 2 (excavate) starts")
 
     def test_there_is_one(self) -> None:
-        self.told(EXAMPLES / "building-site.sch", "There is a schedule: check says feasible 36.")
+        self.told(EXAMPLES / "building-site.sch", "There is a schedule: psprove has found one of 36.")
+
+    def test_within(self) -> None:
+        """By hand: two jobs of 3 and 4 on one machine take 7, so 6 is too early by the machine, and 3 by a lag."""
+        for deadline, told in ((6, f"{THESE}  resource 0, of which there is 1\nNo greatest lag"),
+                               (3, "The least lags alone contradict each other, by a proof of psprove.\nThese lags contradict")):
+            ran = plan("why", INPUTS / "two-jobs.sch", "--within", deadline)
+            self.assertIn(f"There is no schedule that ends by {deadline}.\n{told}", ran.stdout)
+        ran = plan("why", INPUTS / "two-jobs.sch", "--within", 7)
+        self.assertEqual(ran.stdout, "There is a schedule that ends by 7: psprove has found one of 7.\n")
+
+    def test_what_proves_it(self) -> None:
+        """By hand: 2 starts from 0 to 2 after 1 on the same machine. Neither lag and not the machine can be spared."""
+        out = self.folder / "out"
+        self.assertEqual(plan("why", INPUTS / "two-jobs-close-lags.sch", "--out", out).returncode, 0)
+        told = plan("verify", out / "core.sch", out / "core.record").stdout
+        self.assertIn("proves that there is no schedule of", told)
+        for place in (1, 2):
+            told = plan("check", out / f"without-{place}.sch", out / f"without-{place}.starts").stdout
+            self.assertIn("feasible ", told)
+        self.refused(plan("why", INPUTS / "two-jobs-close-lags.sch", "--out", out), 2, "is no empty folder")
+
+    def test_each_is_needed(self) -> None:
+        """The project that is left has the deadline and what is told, and psmax finds the schedule without each feasible."""
+        out = self.folder / "out"
+        ran = plan("why", PROJECTS / "vaccine-lots.sch", "--within", "104", "--out", out)
+        self.assertEqual(ran.returncode, 0, ran.stderr)
+        told = ran.stdout.partition(THESE)[2].partition("Without this lag")[0].splitlines()
+        self.assertNotIn("not known", ran.stdout)
+        self.assertEqual(len(parts(parse((out / "core.sch").read_bytes()))), len(told) + 1)
+        for place in range(1, len(told) + 1):
+            project, starts = out / f"without-{place}.sch", out / f"without-{place}.starts"
+            self.assertIn("feasible ", psmax("check", "--project", project, given=starts.read_bytes()))
 
     def test_time_is_over(self) -> None:
-        ran = plan("why", EXAMPLES / "building-site.sch", "--seconds", "0.0001")
+        with mock.patch("planner.psprove.GRACE", -1.5):
+            ran = plan("why", EXAMPLES / "building-site.sch", "--seconds", "1", psprove=self.program("slow", "exec sleep 9"))
         self.assertEqual((ran.returncode, ran.stdout[:10]), (3, "Not known:"))

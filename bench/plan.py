@@ -1,0 +1,137 @@
+#!/usr/bin/env python3
+"""bench/plan.py FOLDER [--set projects|small|large] [--only WORD] [--seconds S] [--jobs N]
+
+Prints a table of what `plan solve --jobs N` knows after S seconds (1 and 20 by default), which calls the psmax and psprove
+of FOLDER, beside one of them:
+
+projects  those of planner/projects, beside `psmax solve`, which gets as many nodes as take about S seconds
+small     40 generated projects of 20 to 60 activities, beside `psprove solve --jobs 1`
+large     ten of 100 to 500 activities, beside the same
+
+`--only` takes those alone whose name has the word.
+Each record of plan has to be accepted by `psprove verify`, with the answer that was printed; those below 200,000 bytes also
+by tests/verify_lemmas.py. Seconds are those of a clock. The last lines count what was proved, and tell the load before and
+after."""
+import argparse
+import os
+import pathlib
+import re
+import subprocess
+import sys
+import tempfile
+import time
+
+import networks
+import projects
+import proofs
+import shutdown
+
+TOP = pathlib.Path(__file__).resolve().parent.parent
+FIRST_NODES, MOST_NODES = 20_000, 1_000_000_000
+GROWTH = 10  # a search of psmax gets so many times the nodes of the one before, at most
+ENOUGH = 0.8  # of the time, that the search in the table takes at least
+SEEDS = 101, 102
+
+
+def small():
+    families = {**proofs.FAMILIES, "network": networks.project}
+    for n in (20, 30, 40, 50, 60):
+        for name, family in families.items():
+            for seed in SEEDS:
+                yield f"{name}, {n}, seed {seed}", projects.text(*family(n, seed)).encode()
+
+
+def large():
+    for n in (100, 200, 300, 400, 500):
+        yield f"network, {n}", projects.text(*networks.project(n, SEEDS[0], 0.15, loops=5)).encode()
+        yield f"shutdown, {n}", projects.text(*shutdown.project(n, SEEDS[0])).encode()
+
+
+def kept():
+    for path in sorted((TOP / "planner" / "projects").glob("*.sch")):
+        yield path.stem, path.read_bytes()
+
+
+def run(words, text=b"", folder=None):
+    """What a command prints, and the seconds that it takes."""
+    begun = time.monotonic()
+    called = {name.upper(): str(folder / name) for name in ("psmax", "psprove")} if folder else {}
+    ran = subprocess.run([*map(str, words)], input=text, stdout=subprocess.PIPE, stderr=subprocess.DEVNULL,
+                         env={**os.environ, **called})
+    return ran.stdout.decode(), time.monotonic() - begun
+
+
+def is_proved(out):
+    return out.startswith(("optimal", "no schedule"))
+
+
+def by_psmax(folder, text, seconds):
+    """The answer of the first search that takes about so many seconds, or that proves everything before."""
+    nodes = FIRST_NODES
+    while True:
+        out, took = run([folder / "psmax", "solve", "--nodes", nodes], text)
+        if is_proved(out) or took >= ENOUGH * seconds or nodes == MOST_NODES:
+            return out, took
+        nodes = min(MOST_NODES, int(nodes * min(GROWTH, seconds / took)))
+
+
+def by_psprove(folder, text, seconds):
+    return run([folder / "psprove", "solve", "--seconds", seconds], text)
+
+
+def by_plan(folder, project, record, seconds, jobs):
+    words = [sys.executable, TOP / "planner" / "plan", "solve", project, "--record", record]
+    return run([*words, "--seconds", seconds, "--jobs", jobs], folder=folder)
+
+
+def cells(out, took):
+    """The schedule, the bound, and the seconds."""
+    found = re.match(r"(?:optimal|feasible) (\d+)", out)
+    bound = re.search(r"^(?:optimal |.* bound )(\d+)$", out, re.M)
+    told = [found[1] if found else "none" if is_proved(out) else "-", bound[1] if bound else ""]
+    return [*(f"**{cell}**" if cell and is_proved(out) else cell for cell in told), f"{took:.1f}"]
+
+
+def refused(folder, project, record, out):
+    """Why a record is no proof of the answer; empty where it is one."""
+    words = out.partition("\n")[0].split()
+    wanted = f"proved {'bound ' + words[-1] if 'bound' in words else ' '.join(words)}\n"
+    judges = [[folder / "psprove", "verify", "--project", project]]
+    if record.stat().st_size < proofs.SMALL:
+        judges.append([sys.executable, TOP / "tests" / "verify_lemmas.py", project, record])
+    said = {run(words, record.read_bytes())[0] for words in judges}
+    return "" if said == {wanted} else f"{said}, not {wanted!r}"
+
+
+SETS = {"projects": (kept, by_psmax, "psmax solve"), "small": (small, by_psprove, "psprove solve"),
+        "large": (large, by_psprove, "psprove solve")}
+
+
+def main():
+    parser = argparse.ArgumentParser(description=__doc__, formatter_class=argparse.RawDescriptionHelpFormatter)
+    parser.add_argument("folder", type=pathlib.Path)
+    parser.add_argument("--set", choices=SETS, default="projects")
+    parser.add_argument("--only", default="")
+    parser.add_argument("--seconds", type=int, default=20)
+    parser.add_argument("--jobs", type=int, default=1)
+    o = parser.parse_args()
+    made, other, name = SETS[o.set]
+    folder, load = o.folder.resolve(), os.getloadavg()[0]
+    heads = [f"{title}{head}" for title in (f"`{name}`: ", "`plan solve`: ") for head in ("schedule", "bound", "s")]
+    print(f"| Project | Activities | {' | '.join(heads)} | bytes of the record |\n|{'---|' * 9}", flush=True)
+    proved, wrong = [0, 0, 0], []
+    with tempfile.TemporaryDirectory() as kept_in:
+        project, record = pathlib.Path(kept_in) / "project.sch", pathlib.Path(kept_in) / "record"
+        for title, text in (one for one in made() if o.only in one[0]):
+            project.write_bytes(text)
+            answers = [other(folder, text, o.seconds), by_plan(folder, project, record, o.seconds, o.jobs)]
+            row = [title, text.split()[0].decode(), *cells(*answers[0]), *cells(*answers[1]), f"{record.stat().st_size:,}"]
+            print(f"| {' | '.join(row)} |", flush=True)
+            proved = [proved[0] + 1, *(count + is_proved(out) for count, (out, _) in zip(proved[1:], answers))]
+            wrong += [f"{title}: {fault}" for fault in [refused(folder, project, record, answers[1][0])] if fault]
+    print(f"\nOf {proved[0]}: {proved[1]} by `{name}`, {proved[2]} by `plan solve --jobs {o.jobs}`.", *wrong, sep="\n")
+    print(f"Load before and after: {load:.1f}, {os.getloadavg()[0]:.1f}.")
+
+
+if __name__ == "__main__":
+    main()

@@ -1,0 +1,120 @@
+import html
+import re
+import shutil
+import subprocess
+import unittest
+
+from .helpers import EXAMPLES, INPUTS, PROJECTS, InFolder, plan, psmax
+
+CHROMIUM = shutil.which("chromium")
+TABLE = '''activity,days,crew (2),after,at least,at most
+dig <b>,3,2,,,
+pour {{title}},1,1,dig <b>,,
+"cure & ""wait""",4,,pour {{title}},,2
+'''
+ASK = """<script>
+const all = (selector) => [...document.querySelectorAll(selector)];
+all("tbody tr")[2].click();
+all("th button")[2].click();
+document.body.textContent = JSON.stringify({
+  sideways: document.documentElement.scrollWidth > window.innerWidth,
+  rows: all("tbody tr").map((row) => row.cells[0].textContent),
+  shown: all(".lag.shown").length, chosen: all(".names .chosen").map((one) => one.textContent),
+  lags: all("#lags li").map((one) => one.textContent),
+});
+</script></body>"""
+
+
+class Report(InFolder):
+    def page(self, *words: object) -> str:
+        out = self.folder / "page.html"
+        ran = plan("report", *words, "--out", out)
+        self.assertEqual((ran.returncode, ran.stdout, ran.stderr), (0, "", ""))
+        return out.read_text()
+
+    def proof(self, page: str) -> str:
+        found = re.search(r'<div class="(proof[^"]*)">(.*?)</div>', page)
+        assert found is not None
+        return f"{found[1].strip()}: {html.unescape(re.sub('<.*?>', '', found[2]))}"
+
+    def test_what_is_proved(self) -> None:
+        """By hand: two jobs of 3 and 4 on one machine take 7. A schedule of 9 is not a shortest one."""
+        path, record = INPUTS / "two-jobs.sch", self.folder / "record"
+        short, long = self.file("short", "0 0\n1 0\n2 3\n3 7\n"), self.file("long", "0 0\n1 0\n2 5\n3 9\n")
+        told = self.proof(self.page(path, short))
+        self.assertTrue(told.startswith("proof open: psmax check finds this schedule of 7 feasible"), told)
+        self.assertIn("No record was handed in", told)
+        other = self.folder / "other"
+        psmax("solve", "--record", record, given=path.read_bytes())
+        self.assertEqual(plan("solve", path, "--record", other).returncode, 0)
+        for record in (record, other):
+            told = self.proof(self.page(path, short, "--record", record))
+            self.assertTrue(told.startswith("proof: psmax check finds"), told)
+            self.assertIn("is shorter than 7, and has one that long. ", told)
+            self.assertRegex(told, r"The record has \d+ bytes and the SHA-256 [0-9a-f]{64}\.$")
+        self.assertTrue(self.proof(self.page(path, long, "--record", record)).startswith("proof open:"))
+
+    def test_faults(self) -> None:
+        path, out = INPUTS / "two-jobs.sch", self.folder / "page.html"
+        short, wrong = self.file("short", "0 0\n1 0\n2 3\n3 7\n"), self.file("wrong", "record 2\nbound 8\nend dead\n")
+        self.refused(plan("report", path, short, "--record", wrong, "--out", out), 2, "proves nothing of", "line 3: end")
+        self.refused(plan("report", path, short, "--record", wrong, "--out", wrong), 2, "is the record, which would be lost")
+        self.refused(plan("report", path, short, "--out", short), 2, "is the answer, which would be lost")
+        self.refused(plan("report", path, self.file("bad", "0 0\n1 0\n2 2\n3 6\n"), "--out", out), 2, "not a schedule")
+        self.refused(plan("report", path, short), 2, "--out")
+        self.assertFalse(out.exists())
+
+    def hostile(self) -> str:
+        self.assertEqual(plan("read", self.file("p.csv", TABLE), "--from", "2026-03-02").returncode, 0)
+        starts = self.file("starts", plan("solve", self.folder / "p.sch").stdout)
+        return self.page(self.folder / "p.sch", starts)
+
+    def test_names(self) -> None:
+        """Whatever a name has, it is text; and nothing is fetched from anywhere."""
+        page = self.hostile()
+        for name in ("dig &lt;b&gt;", "pour {{title}}", "cure &amp; &quot;wait&quot;"):
+            self.assertIn(name, page)
+        self.assertNotIn("<b>dig", page)
+        self.assertNotIn("dig <b>", page)
+        self.assertNotRegex(page, "https?:|src=|href=|@import")
+        self.assertIn("default-src 'none'", page)
+        self.assertIn("From 2026-03-02 to 2026-03-09", page)
+
+    def test_what_is_drawn(self) -> None:
+        """Of the building site: a row for each of 13 activities in the chart and in the table, and its three resources."""
+        answer = self.file("best", psmax("solve", given=(EXAMPLES / "building-site.sch").read_bytes()))
+        page = self.page(EXAMPLES / "building-site.sch", answer)
+        self.assertEqual((page.count('<g data-a="'), page.count("<tr data-a="), page.count('class="load"')), (13, 13, 3))
+        named = plan("float", EXAMPLES / "building-site.sch", answer).stdout
+        self.assertEqual(page.count('data-key="0">critical'), named.count("critical"))
+
+    def asked(self, page: str, width: int) -> str:
+        """What a browser of this width makes of the page, once something is chosen and sorted."""
+        assert CHROMIUM is not None
+        path = self.file("asked.html", page.replace("</body>", ASK))
+        ran = subprocess.run([CHROMIUM, "--headless", "--no-sandbox", "--disable-gpu", f"--user-data-dir={self.folder}/chromium",
+                              f"--window-size={width},900", "--dump-dom", path.as_uri()], capture_output=True, timeout=60)
+        return html.unescape(ran.stdout.decode())
+
+    @unittest.skipUnless(CHROMIUM, "Chromium isn't here")
+    def test_in_a_browser(self) -> None:
+        """By hand: curing is tied to pouring by two lags; it and what it waits for are critical, and so in their order."""
+        page = self.hostile()
+        for width in (1280, 390):
+            told = self.asked(page, width)
+            self.assertIn('"sideways":false', told)
+            self.assertIn('"rows":["1","2","3"]', told)
+            self.assertIn('"shown":2,"chosen":["3 cure & \\"wait\\""]', told)
+            self.assertIn('"lags":["3 (cure & \\"wait\\") starts at least 1 after 2 (pour {{title}}) starts (0 after it ends): tight', told)
+
+    @unittest.skipUnless(CHROMIUM, "Chromium isn't here")
+    def test_sorted(self) -> None:
+        """By float: the order is that of `plan float`."""
+        path = PROJECTS / "paint-line.sch"
+        answer = self.file("best", psmax("solve", given=path.read_bytes()))
+        rows = [line.split() for line in plan("float", path, answer).stdout.splitlines()[1:]]
+        spare = {row[0]: int(row[-1] if row[-1] != "critical" else row[-2]) for row in rows}
+        found = re.search(r'"rows":\[(.*?)\]', self.asked(self.page(path, answer), 1280))
+        assert found is not None
+        told = [spare[number.strip('"')] for number in found[1].split(",")]
+        self.assertEqual((len(told), told), (12, sorted(told)))
