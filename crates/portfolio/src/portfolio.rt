@@ -11,7 +11,7 @@ use std::alloc::{AllocError, Global};
 const CONFLICTS: u64 = 512;
 
 /// How many neighbourhoods are searched in a turn.
-const ROUNDS: u64 = 16;
+const ROUNDS: u64 = 32;
 
 /// How many passes the serial scheme makes in a turn.
 const PASSES: u64 = 4;

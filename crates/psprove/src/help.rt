@@ -25,7 +25,7 @@ activity:
   no schedule         there is none at all
   feasible C bound B  stopped at a limit: no feasible schedule is shorter than B
   unknown bound B     the same, and no schedule was found
-From 61 activities on, searches for large projects get half of the time, above 200 nearly all. The
+From 61 activities on, searches for large projects get most of the time, above 120 nearly all. The
 clock is looked at after each turn. The same seed and --conflicts give the same answer and record
 where neither the clock nor the memory stops the search first, and --jobs is 1. With --jobs N the
 searches differ in seeds and in parts that are switched off; a schedule that one finds is a ceiling

@@ -21,11 +21,9 @@ pub(crate) struct Turns {
 /// Up to so many activities most proofs are found by lemmas on pairs. The portfolio gets a tenth of the time.
 const SMALL: usize = 60;
 
-/// Up to so many the two have about as much time each.
+/// Up to so many the portfolio gets more than half of the time. From there on lemmas on pairs do little once the first bounds
+/// are known.
 const MIDDLE: usize = 120;
-
-/// From here on lemmas on pairs do little once the first bounds are known.
-const LARGE: usize = 200;
 
 impl Turns {
     /// The turns for a project of so many activities, by the number of a job. Every second job has those of a project of twice
@@ -37,13 +35,11 @@ impl Turns {
             activities.saturating_mul(2)
         };
         let (conflicts, lemmas, portfolio) = if size <= SMALL {
-            (64, 64, 1)
+            (64, 96, 1)
         } else if size <= MIDDLE {
-            (64, 2, 1)
-        } else if size <= LARGE {
-            (4, 1, 1)
+            (64, 1, 1)
         } else {
-            (1, 1, 32)
+            (1, 1, 16)
         };
         Turns {
             conflicts,
