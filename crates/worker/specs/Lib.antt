@@ -1,3 +1,5 @@
 pub mod Desks
 pub mod Faults
+pub mod Gates
+pub mod Locking
 pub mod Solving

@@ -2,6 +2,7 @@ ghost use Rattle.std.specs.Prelude.{◌≡◌, ◌≤◌, IfOk, IfErr};
 ghost use Rattle.std.specs.Arc.{arc_value};
 ghost use Rattle.worker.specs.Desks.{SeatedAt, StaysAt, CountsAccepted};
 ghost use Rattle.worker.specs.Faults.{IsOfWork};
+ghost use Rattle.worker.specs.Gates.{IsAt};
 
 use crate::desk::Desk;
 use crate::fault::{SolveFault, WorkFault};
@@ -38,7 +39,7 @@ fn searcher_for(alloc: Global, kept: Option<Searcher>, node: &Lean) -> Result<Se
 
 /// A searcher that is at the node: the kept one, if it is one of the node's project.
 fn searcher_at(alloc: Global, kept: Option<Searcher>, node: &Lean) -> Result<Searcher, AllocError>
-    ensures { IfOk result (λ searcher. searcher.project ≡ node.now.project) }
+    ensures { IfOk result (λ searcher. IsAt searcher node.now) }
 {
     let mut searcher = searcher_for(alloc, kept, node)?;
     searcher.move_to(node.pairs())?;
@@ -56,12 +57,12 @@ impl<L: Ledger> Shared<L> {
         searcher: &mut Searcher,
         ticket: &Ticket,
     ) -> Result<Option<i64>, CheckFault>
-        requires { searcher.old.project ≡ (arc_value ticket.now.node).project }
+        requires { IsAt searcher.old (arc_value ticket.now.node) }
         ensures searcher { searcher.new.project ≡ searcher.old.project }
         ensures same { (desk.new.number ≡ desk.old.number) × (desk.new.seat ≡ desk.old.seat) }
         ensures counts { CountsAccepted desk.old result desk.new }
     {
-        let Ok(report) = gate.expand(rt, alloc, searcher, &ticket.node, ticket.ceiling) else {
+        let Ok(report) = gate.expand_at(rt, alloc, searcher, &ticket.node, ticket.ceiling) else {
             return Err(CheckFault::Memory);
         };
         let found = report.found().map(|schedule| schedule.makespan());
@@ -72,6 +73,26 @@ impl<L: Ledger> Shared<L> {
             }
             Err(fault) => Err(fault),
         }
+    }
+
+    /// The same after a first attempt, by which the searcher may have moved.
+    fn attempt_again<G: Gate, R: Wait>(
+        &self,
+        rt: &R,
+        alloc: Global,
+        desk: &mut Desk<L>,
+        gate: &G,
+        searcher: &mut Searcher,
+        ticket: &Ticket,
+    ) -> Result<Option<i64>, CheckFault>
+        requires { searcher.old.project ≡ (arc_value ticket.now.node).project }
+        ensures same { (desk.new.number ≡ desk.old.number) × (desk.new.seat ≡ desk.old.seat) }
+        ensures counts { CountsAccepted desk.old result desk.new }
+    {
+        if searcher.move_to(ticket.node.pairs()).is_err() {
+            return Err(CheckFault::Memory);
+        }
+        self.attempt(rt, alloc, desk, gate, searcher, ticket)
     }
 
     /// Expands a node under the lesser of the ticket's ceiling and the best word. Where the book knows of no schedule so
@@ -96,7 +117,7 @@ impl<L: Ledger> Shared<L> {
         let mut settled = self.attempt(rt, alloc, desk, gate, &mut searcher, &ticket);
         if let Err(CheckFault::AheadOfBook { best }) = settled {
             ticket.ceiling = best;
-            settled = self.attempt(rt, alloc, desk, gate, &mut searcher, &ticket);
+            settled = self.attempt_again(rt, alloc, desk, gate, &mut searcher, &ticket);
         }
         desk.searcher = Some(searcher);
         settled
