@@ -1,11 +1,12 @@
-ghost use Rattle.std.specs.Prelude.{◌≡◌, ◌+◌, ◌<◌, OnOk, IfOk, IfErr, IfSome, is_some, length, map, sum_by, vec_len};
+ghost use Rattle.std.specs.Prelude.{◌≡◌, ◌+◌, ◌<◌, ◌↔◌, OnOk, IfOk, IfErr, IfSome, is_some, length, map, sum_by, vec_len};
 ghost use Rattle.std.specs.Arc.{arc_value};
 ghost use Rattle.std.specs.Bool.{OnTrue};
 ghost use Rattle.network.specs.Schedule.{makespan};
+ghost use Rattle.book.specs.State.{live};
 ghost use Rattle.plain_search.specs.Verdicts.{IsTrueOf};
 ghost use Rattle.worker.specs.Desks.{HasTold, IsRow};
 ghost use Rattle.worker.specs.Faults.{IsWithinLimits, RefusesLimits};
-ghost use Rattle.worker.specs.Solving.{IsFrom, IsOutcomeOf, IsSolution, IsTrailOf};
+ghost use Rattle.worker.specs.Solving.{IsFrom, IsOutcomeOf, IsSolution, IsStopped, IsTrailOf, best_of};
 
 use crate::desk::{Desk, Tally};
 use crate::fault::SolveFault;
@@ -103,6 +104,8 @@ fn drop_beside<R: Threads>(rt: &R, nodes: NodesLeft) {
 fn outcome_of<R: Threads>(rt: &R, book: Book) -> (Outcome, Option<Trail>)
     ensures true_of { IsTrueOf book.project result.0 }
     ensures told { IsOutcomeOf book result.0 }
+    ensures left { IsStopped result.0 ↔ (0 < length (live book)) }
+    ensures best { best_of result.0 ≡ book.best }
     ensures trail { IfSome result.1 (IsTrailOf book.project result.0) }
 {
     let verdict = book.verdict();
