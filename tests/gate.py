@@ -100,10 +100,11 @@ def scripts(folder, with_tests):
         yield "events", ["tests/events.py", book_events]
         yield "refused growths", ["tests/growths.py", psmax]
         yield "those of psprove", ["tests/growths.py", psprove, "--proofs"]
+        yield "threads", ["tests/threads.py", psmax]
         if with_tests:
             yield "growths of tests", ["tests/test_growths.py"]
     else:
-        print("left out, for want of a C compiler: refused growths, and those of lists of events")
+        print("left out, for want of a C compiler: refused growths, threads, and growths of lists of events")
         yield "events", ["tests/events.py", book_events, "--refused", "0"]
     yield "devices", ["tests/devices.py", psmax]
     yield "plan", ["planner/tests/run.py"]

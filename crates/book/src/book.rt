@@ -1,10 +1,11 @@
-ghost use Rattle.std.specs.Prelude.{◌≡◌, ◌↔◌, ◌<◌, IsTrue, true, false, length, Ok, Err, IfOk, IfErr, IfSome, option_map};
+ghost use Rattle.std.specs.Prelude.{◌≡◌, ◌↔◌, ◌<◌, IsTrue, true, false, length, IfOk, IfErr, IfSome, option_map};
 ghost use Rattle.std.specs.Arc.{arc_value};
+ghost use Rattle.branching.specs.ReportView.{AreListsOf};
 ghost use Rattle.book.specs.Sound.{IsSound, IsWithinLimits};
 ghost use Rattle.book.specs.Opening.{AreAllowed, AreFirst, Opens, OpensRecorded};
 ghost use Rattle.book.specs.Offering.{Offers};
 ghost use Rattle.book.specs.Taking.{IsFull, Cuts, HandsOut, Takes};
-ghost use Rattle.book.specs.CheckingIn.{MayCheckIn, Judges, Accepts, ChecksIn};
+ghost use Rattle.book.specs.CheckingIn.{MayCheckIn, Judges, Accepts, ChecksIn, ChecksInForReuse};
 ghost use Rattle.book.specs.GivingBack.{GivesBack};
 ghost use Rattle.book.specs.Counts.{counts_of};
 ghost use Rattle.book.specs.Recorded.{IsRecorded, EndsWhole};
@@ -261,6 +262,7 @@ impl Book {
     ) -> Result<(CheckedIn, Branches), Report>
         requires { MayCheckIn self.old worker name report }
         ensures ok { IfOk result (λ done. Accepts self.old worker name report done.0 self.new) }
+        ensures lists { IfOk result (λ done. AreListsOf report done.1) }
         ensures err { IfErr result (λ back. (back ≡ report) × (self.new ≡ self.old)) }
         ensures sound { IsSound self.new }
     {
@@ -312,8 +314,7 @@ impl Book {
         name: u64,
         report: Report,
     ) -> Result<(CheckedIn, Branches), (Report, CheckFault)>
-        ensures ok { IfOk result (λ done. ChecksIn self.old name report (Ok done.0) self.new) }
-        ensures err { IfErr result (λ refused. ChecksIn self.old name report (Err refused) self.new) }
+        ensures step { ChecksInForReuse self.old name report result self.new }
         ensures sound { IsSound self.new }
     {
         let worker = match self.judge(name, &report) {
@@ -400,6 +401,7 @@ impl Book {
     pub fn into_parts(self) -> (Option<Schedule>, Option<Trail>, NodesLeft)
         ensures best { result.0 ≡ self.best }
         ensures trail { result.1 ≡ option_map (trail_for self.project) self.trail }
+        ensures left { (result.2.waiting ≡ self.waiting) × (result.2.hands ≡ self.hands) }
         ensures sound { IsSound self }
         ensures recorded { IfSome self.trail (IsRecorded self) }
         ensures whole { EndsWhole self }

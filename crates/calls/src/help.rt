@@ -12,8 +12,7 @@ Projects, starts and answers are texts; docs/FORMAT.md describes them, and 'man 
 
 Exit status: 0 answered; 1 memory ran out, a thread could not be started, or a device failed;
 2 the words or a text are not what they should be; 3 the search was stopped at its limit; 4 the
-starts are no feasible schedule, or the record is not right. A fault is one line on standard
-error.";
+starts are no feasible schedule, or the record is not right. A fault goes to standard error.";
 
 pub(crate) const EARLIEST: &str = "\
 Looks at the time lags alone, as if all resources were free: the schedule may overload them.

@@ -1,5 +1,6 @@
 ghost use Rattle.std.specs.Prelude.{◌≡◌, ◌≤◌, IfOk, IfErr};
 ghost use Rattle.std.specs.Arc.{arc_value};
+ghost use Rattle.branching.specs.Path.{IsAt};
 ghost use Rattle.worker.specs.Desks.{SeatedAt, StaysAt, CountsAccepted};
 ghost use Rattle.worker.specs.Faults.{IsOfWork};
 
@@ -38,7 +39,7 @@ fn searcher_for(alloc: Global, kept: Option<Searcher>, node: &Lean) -> Result<Se
 
 /// A searcher that is at the node: the kept one, if it is one of the node's project.
 fn searcher_at(alloc: Global, kept: Option<Searcher>, node: &Lean) -> Result<Searcher, AllocError>
-    ensures { IfOk result (λ searcher. searcher.project ≡ node.now.project) }
+    ensures { IfOk result (λ searcher. IsAt searcher node.now) }
 {
     let mut searcher = searcher_for(alloc, kept, node)?;
     searcher.move_to(node.pairs())?;
@@ -56,12 +57,12 @@ impl<L: Ledger> Shared<L> {
         searcher: &mut Searcher,
         ticket: &Ticket,
     ) -> Result<Option<i64>, CheckFault>
-        requires { searcher.old.project ≡ (arc_value ticket.now.node).project }
-        ensures searcher { searcher.new.project ≡ searcher.old.project }
+        requires { IsAt searcher.old (arc_value ticket.now.node) }
+        ensures stays { searcher.new ≡ searcher.old }
         ensures same { (desk.new.number ≡ desk.old.number) × (desk.new.seat ≡ desk.old.seat) }
         ensures counts { CountsAccepted desk.old result desk.new }
     {
-        let Ok(report) = gate.expand(rt, alloc, searcher, &ticket.node, ticket.ceiling) else {
+        let Ok(report) = gate.expand_at(rt, alloc, searcher, &ticket.node, ticket.ceiling) else {
             return Err(CheckFault::Memory);
         };
         let found = report.found().map(|schedule| schedule.makespan());

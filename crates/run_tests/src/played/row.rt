@@ -78,6 +78,19 @@ impl<'a> Row<'a> {
         }
     }
 
+    /// The `verify` of the record in what was told of a call, on the project of a name.
+    pub(super) fn verifying(told: &'a str, project: &'a str) -> Row<'a> {
+        let (_, written) = told.split_once('|').unwrap_or((told, ""));
+        let (_, record) = written.split_once('|').unwrap_or((written, ""));
+        Row {
+            line: "verify --project p",
+            texts: [record.strip_suffix('|').unwrap_or(record), text_of(project)],
+            wanted: "",
+            answer: "",
+            record: "",
+        }
+    }
+
     /// What is told of the call.
     pub(super) fn told<R: Threads + Wait + Sync>(
         &self,
@@ -86,6 +99,18 @@ impl<'a> Row<'a> {
         limits: Limits,
         gate: &Watch,
     ) -> Result<String, Fail> {
+        let (told, _) = self.played(rt, alloc, limits, gate)?;
+        Ok(told)
+    }
+
+    /// What is told of the call, and how often its outputs took bytes.
+    fn played<R: Threads + Wait + Sync>(
+        &self,
+        rt: &R,
+        alloc: Global,
+        limits: Limits,
+        gate: &Watch,
+    ) -> Result<(String, usize), Fail> {
         let call = match call_of(alloc, &words_of(alloc, self.line)?) {
             Ok(call) => call,
             Err(WordsFault::Memory) => return Err(AllocError.into()),
@@ -106,11 +131,12 @@ impl<'a> Row<'a> {
             &mut record,
             gate,
         );
-        let (out, record) = (out.into_inner().taken, record.into_inner().taken);
-        ended_text(alloc, ended, &out, &record)
+        let (out, record) = (out.into_inner(), record.into_inner());
+        let told = ended_text(alloc, ended, &out.taken, &record.taken)?;
+        Ok((told, out.writes.saturating_add(record.writes)))
     }
 
-    /// Plays the call through outputs that take few bytes at once.
+    /// Plays the call through outputs that take few bytes at once, and are handed all that is left.
     pub(super) fn goes_in_pieces<R: Threads + Wait + Sync + Abort>(
         &self,
         rt: &R,
@@ -121,8 +147,10 @@ impl<'a> Row<'a> {
                 chunk,
                 ..Limits::NONE
             };
-            let told = self.told(rt, alloc, limits, &Watch::new(Holds::Nobody))?;
+            let (told, writes) = self.played(rt, alloc, limits, &Watch::new(Holds::Nobody))?;
             assert_eq!(rt; told.as_str(), self.wanted, "{self:?}: {chunk}");
+            let least = [self.answer, self.record].map(|text| text.len().div_ceil(chunk));
+            assert_eq!(rt; writes, least[0].saturating_add(least[1]), "{self:?}: {chunk}");
         }
         Ok(())
     }

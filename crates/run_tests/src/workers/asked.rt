@@ -19,8 +19,9 @@ pub(super) struct Asked<'a> {
     /// A makespan that the best word is told of.
     pub(super) tells: u64,
     pub(super) gives_back: bool,
-    /// The ceiling of the first report.
+    /// The ceiling of the first reports, and how many these are.
     pub(super) ceiling: Option<i64>,
+    pub(super) lowered: u64,
 }
 
 /// What a row asks for: one worker, 100 takes and a gate that holds nobody unless it says more.
@@ -36,6 +37,7 @@ pub(super) fn asked_by(row: &str) -> Result<Asked<'_>, Fail> {
         tells: u64::MAX,
         gives_back: false,
         ceiling: None,
+        lowered: 1,
     };
     for part in rest.split(';') {
         let part = part.trim();
@@ -49,6 +51,7 @@ pub(super) fn asked_by(row: &str) -> Result<Asked<'_>, Fail> {
             "tells" => asked.tells = value.parse::<u64>()?,
             "gives" => asked.gives_back = true,
             "ceiling" => asked.ceiling = Some(value.parse::<i64>()?),
+            "reports" => asked.lowered = value.parse::<u64>()?,
             _ => {}
         }
     }

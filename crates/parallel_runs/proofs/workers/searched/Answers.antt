@@ -7,6 +7,6 @@ pub returns-clause-found : goal.returns-clause-found
 returns-clause-found g c =
     let on : c.in-Solve.recorded ≡ true = sym (rw c.in-Some.is at c.in-Ok.ensures.recorded) in
     let trail = rw c.in-Some.is at c.in-Ok.ensures.trail in
-    replies_recorded c.args.job (arc_value c.args.project) _ c.new-2.result c.in_ok-answer.answer.exit c.in_ok-answer.answer.text.items _
-    (rw c.in-Solve.is c.in_ok-answer.ensures) c.in-Ok.ensures.solution.true_of (rw c.in-Solve.is on)
+    replies_recorded c.args.job (arc_value c.args.project) c.args.start _ c.new-2.result c.in_ok-answer.answer.exit c.in_ok-answer.answer.text.items _
+    c.in_ok-answer.ensures c.in-Ok.ensures.solution.true_of c.in-Ok.ensures.solution.from_start (rw c.in-Solve.is on)
     (rw trail.of_project at c.in_ok-recorded.ensures) c.new-2.ensures.exit c.new-2.ensures.text c.new-2.ensures.recorded
