@@ -1,7 +1,7 @@
 -- What is said of an outcome is an answer of `solve`.
-use Rattle.std.proofs.Common.{◌≡◌, true, false, Some, None, inl, inr}
+use Rattle.std.proofs.Common.{◌≡◌, true, false, Some, None, inl, inr, arith}
 use Rattle.plain_search.specs.declared.outcome.Outcome.TheVariants.{Optimal, NoSchedule, Stopped}
-use Rattle.answers.specs.Outcomes.{FoundIsTrue, SaidIsTrue}
+use Rattle.answers.specs.Outcomes.{AloneIsTrue, FoundIsTrue, SaidIsTrue}
 
 pub said_is_true : SaidIsTrue
 said_is_true p (Optimal best) alone json exit written is below said = inl (record {
@@ -43,3 +43,21 @@ found_is_true p (Some from) (Stopped (Some best) bound) json exit written is wit
   status = said.0;
 })
 found_is_true p (Some from) (Stopped None bound) json exit written is within said = absurd within
+
+pub alone_is_true : AloneIsTrue
+alone_is_true p takes (Optimal best) json exit written is below only said = record {
+  said = said_is_true p (Optimal best) true json exit written is (λ _. below) said;
+  stopped = λ (three : exit ≡ 3). let zero = said.0 in absurd (omega (arith, zero, three));
+}
+alone_is_true p takes NoSchedule json exit written is below only said = record {
+  said = said_is_true p NoSchedule true json exit written is (λ _. below) said;
+  stopped = λ (three : exit ≡ 3). let zero = said.0 in absurd (omega (arith, zero, three));
+}
+alone_is_true p takes (Stopped (Some best) bound) json exit written is below only said = record {
+  said = said_is_true p (Stopped (Some best) bound) true json exit written is (λ _. below) said;
+  stopped = λ _. record { outcome = Stopped (Some best) bound; after = only; says = said };
+}
+alone_is_true p takes (Stopped None bound) json exit written is below only said = record {
+  said = said_is_true p (Stopped None bound) true json exit written is (λ _. below) said;
+  stopped = λ _. record { outcome = Stopped None bound; after = only; says = said };
+}

@@ -141,7 +141,10 @@ fn ends_of_two<L: Ledger + Send + Sync, R: Threads + Wait + Sync>(
 {
     let project = Arc::new(alloc, one_machine(alloc, &[])?)?;
     let (shared, mut desks) = Shared::<L>::open(alloc, blank, project, 2, 100)?;
-    let (Some(second), Some(first)) = (desks.pop(), desks.pop()) else {
+    let Some(second) = desks.pop() else {
+        unreachable!()
+    };
+    let Some(first) = desks.pop() else {
         unreachable!()
     };
     let gate = Waker {
