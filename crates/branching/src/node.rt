@@ -35,7 +35,11 @@ impl Model for Node {
 
 impl Node {
     /// The node of these parts, to be shared.
-    pub(crate) fn shared(alloc: Global, lean: Arc<Lean>, matrix: Matrix) -> Result<Arc<Node>, AllocError>
+    pub(crate) fn shared(
+        alloc: Global,
+        lean: Arc<Lean>,
+        matrix: Matrix,
+    ) -> Result<Arc<Node>, AllocError>
         requires { IsTiedTo (arc_value lean) matrix }
         ensures { IfOk result (λ node. arc_value node ≡ arc_value lean) }
     {

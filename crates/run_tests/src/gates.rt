@@ -144,12 +144,7 @@ impl Watch {
     }
 
     /// The report of a worker that is refused, if this one of two is that of the node, which adds 3 before 2 under the name 6.
-    fn fail(
-        &self,
-        alloc: Global,
-        refused: usize,
-        node: &Arc<Node>,
-    ) -> Result<Report, AllocError> {
+    fn fail(&self, alloc: Global, refused: usize, node: &Arc<Node>) -> Result<Report, AllocError> {
         let is_sixth = match node.lean().pairs().get(0) {
             Some(pair) => pair.before == 3 && pair.after == 2,
             None => return expand(alloc, node, None),

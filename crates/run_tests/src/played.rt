@@ -173,7 +173,10 @@ fn records_of_two_threads_are_right(rt: HostRuntime) -> Result<(), Fail> {
     assert_eq!(&rt; gate.seen().gave_up, 0);
     let verify = Row::verifying(&told, "three on two");
     let proved = verify.told(&rt, rt.alloc(), Limits::NONE, &Watch::new(Holds::Nobody))?;
-    assert!(&rt; proved.as_str() == "0|proved optimal 4\n||", "{verify:?} -> : {proved}");
+    assert!(&rt;
+        proved.as_str() == "0|proved optimal 4\n||",
+        "{verify:?} -> : {proved}"
+    );
     Ok(())
 }
 

@@ -103,7 +103,7 @@ fn desks_share_a_book(rt: HostRuntime) -> Result<(), Fail> {
 /// A node that is given back wakes up a worker that waits.
 #[test]
 fn two_desks_share_a_book(rt: HostRuntime) -> Result<(), Fail> {
-    plays(&rt, rt.alloc(), &["two desks -> one lost true; gave up 0"])
+    plays(&rt, rt.alloc(), &["two desks -> one lost true"])
 }
 
 /// However memory runs out, two workers find a shortest schedule, or say that it did, or that a thread couldn't start.

@@ -150,7 +150,11 @@ impl<'a> Row<'a> {
             let (told, writes) = self.played(rt, alloc, limits, &Watch::new(Holds::Nobody))?;
             assert_eq!(rt; told.as_str(), self.wanted, "{self:?}: {chunk}");
             let least = [self.answer, self.record].map(|text| text.len().div_ceil(chunk));
-            assert_eq!(rt; writes, least[0].saturating_add(least[1]), "{self:?}: {chunk}");
+            assert_eq!(rt;
+                writes,
+                least[0].saturating_add(least[1]),
+                "{self:?}: {chunk}"
+            );
         }
         Ok(())
     }

@@ -171,13 +171,16 @@ fn ends_of_two<L: Ledger + Send + Sync, R: Threads + Wait + Sync>(
     Ok(([one, other], gate.watch.seen().gave_up))
 }
 
-/// What is told of two workers. The want of memory of one of them ends the test.
+/// What is told of two workers. Want of memory ends the test, and so does want of a thread: then one worker waits in vain.
 pub(super) fn two_told<R: Threads + Wait + Sync>(rt: &R, alloc: Global) -> Result<String, Fail> {
     let (ends, gave_up) = ends_of_two::<Brand, _>(rt, alloc, Blank::new(2))?;
     let lost = Err(SolveFault::Refused(CheckFault::NotInHand));
     if ends.contains(&Err(SolveFault::Memory)) {
         return Err(SolveFault::Memory.into());
     }
+    if gave_up > 0 {
+        return Err(SolveFault::Thread.into());
+    }
     let one_lost = ends == [lost, Ok(())] || ends == [Ok(()), lost];
-    Ok(format!(in alloc; "; one lost {one_lost}; gave up {gave_up};")?)
+    Ok(format!(in alloc; "; one lost {one_lost};")?)
 }
