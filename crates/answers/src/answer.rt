@@ -1,3 +1,5 @@
+//! What a run prints and its exit status.
+
 ghost use Rattle.std.specs.Prelude.{◌≡◌, string_bytes};
 
 /// What is to be written, and the exit status once it is.

@@ -1,3 +1,5 @@
+//! What can go wrong in a run of psmax, with the line it is told by and its exit status.
+
 ghost use Rattle.std.specs.Prelude.{◌≡◌};
 
 use record_text::{RecordFault, Why};

@@ -1,3 +1,5 @@
+//! A thread's seat at the shared word: what it has seen of it.
+
 use crate::view::View;
 use atomic_table::Seat;
 use std::marker::Model;

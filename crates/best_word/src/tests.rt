@@ -1,3 +1,5 @@
+//! Looks and offers of several threads, played.
+
 ghost use Rattle.std.specs.Prelude.{◌≡◌};
 
 use crate::{BestSeat, BestWord};

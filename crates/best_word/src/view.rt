@@ -1,3 +1,5 @@
+//! What a seat knows and has offered, for contracts alone.
+
 /// What a seat knows and has offered. It is for contracts alone: no value of it is made.
 pub(crate) struct View {
     /// The least number that the seat found in the word or offered.

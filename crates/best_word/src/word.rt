@@ -1,3 +1,5 @@
+//! A number that threads lower together.
+
 ghost use Rattle.std.specs.Prelude.{◌≡◌, ℕ, IfOk};
 ghost use Rattle.best_word.specs.View.{Sees, Lowers, opening_view};
 

@@ -1,3 +1,5 @@
+//! What the methods of a book answer.
+
 use branching::Lean;
 use std::alloc::AllocError;
 use std::sync::Arc;

@@ -1,3 +1,5 @@
+//! The search book: the state of a search as a machine that workers ask for nodes.
+
 ghost use Rattle.std.specs.Prelude.{◌≡◌, ◌↔◌, ◌<◌, IsTrue, true, false, length, Ok, Err, IfOk, IfErr, IfSome, option_map};
 ghost use Rattle.std.specs.Arc.{arc_value};
 ghost use Rattle.book.specs.Sound.{IsSound, IsWithinLimits};

@@ -1,3 +1,5 @@
+//! How many nodes a book opened, checked in, cut, and handed out.
+
 ghost use Rattle.std.specs.Prelude.{◌≡◌};
 ghost use Rattle.book.specs.Counts.{CountsOf, AddUp};
 

@@ -1,3 +1,5 @@
+//! Lists of events, played on a book.
+
 ghost use Rattle.std.specs.Prelude.{◌≡◌, IfOk, OnErr};
 ghost use Rattle.book.specs.Sound.{IsSound};
 ghost use Rattle.book.specs.Events.{Step, Run};

@@ -1,3 +1,5 @@
+//! The nodes in the hands of workers, with their names.
+
 ghost use Rattle.std.specs.Prelude.{◌≡◌, ◌≢◌, ◌<◌, ◌≤◌, [], ◌∷◌, length, replicate, Some, None, IfOk, IfSome, IfNone, MatchOption, slice_set};
 ghost use Rattle.std.specs.Arc.{arc_value};
 ghost use Rattle.std.specs.List.{All};

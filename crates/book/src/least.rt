@@ -1,3 +1,5 @@
+//! The lesser of two bounds that may be missing.
+
 ghost use Rattle.std.specs.Prelude.{ℤ, List, ◌++◌};
 ghost use Rattle.book.specs.Verdicts.{IsLeast};
 

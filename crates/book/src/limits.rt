@@ -1,3 +1,5 @@
+//! When a bound or a schedule is below a limit.
+
 ghost use Rattle.std.specs.Prelude.{◌≡◌};
 ghost use Rattle.std.specs.Bool.{OnTrue, OnFalse};
 ghost use Rattle.branching.specs.Ceiling.{IsUnder, Reaches};

@@ -1,3 +1,5 @@
+//! The owners of the nodes that a book has left, to be dropped outside its lock.
+
 use crate::hands::Hands;
 use crate::open_nodes::OpenNodes;
 

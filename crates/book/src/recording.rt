@@ -1,3 +1,5 @@
+//! What a step does to the open nodes and the trail together.
+
 ghost use Rattle.std.specs.Prelude.{◌≡◌, ◌+◌, ◌^◌, ◌<◌, [], length, IfOk, OnOk, OnErr, IfSome, option_map};
 ghost use Rattle.book.specs.Sound.{AreNamedBelow};
 ghost use Rattle.book.specs.OpenNodes.{InsertsKids};

@@ -1,3 +1,5 @@
+//! The energy of a project under a matrix.
+
 ghost use Rattle.std.specs.Prelude.{IfOk};
 ghost use Rattle.bounds.specs.Bound.{IsMatrixFor, IsTrueBoundFor, IsEnergyOf};
 

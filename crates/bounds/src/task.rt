@@ -1,3 +1,5 @@
+//! The tasks of one resource: work, duration and demand.
+
 ghost use Rattle.std.specs.Prelude.{◌≡◌, ◌<◌, IfOk};
 ghost use Rattle.network.specs.Problem.{resource_count};
 ghost use Rattle.bounds.specs.Tasks.{tasks_of};

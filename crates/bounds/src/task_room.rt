@@ -1,3 +1,5 @@
+//! The tasks of one resource, with the memory that their energy takes.
+
 ghost use Rattle.std.specs.Prelude.{◌≡◌, ◌+◌, ◌<◌, ◌≤◌, length, take, IfOk};
 ghost use Rattle.network.specs.Problem.{resource_count};
 ghost use Rattle.bounds.specs.Ends.{AreEnds};

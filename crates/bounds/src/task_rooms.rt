@@ -1,3 +1,5 @@
+//! The energy of all resources, up to a ceiling.
+
 ghost use Rattle.std.specs.Prelude.{◌≡◌, ◌<◌, ◌≤◌, length, IfOk};
 ghost use Rattle.network.specs.Problem.{activity_count, resource_count};
 ghost use Rattle.bounds.specs.Energy.{IsResourceEnergy, IsEnergyWhereAny, IsEnergyUnder};

@@ -1,3 +1,5 @@
+//! The bound of a node with one pair more, without its matrix.
+
 ghost use Rattle.std.specs.Prelude.{◌≡◌, [], ◌<◌, ◌∷◌, length, IfOk};
 ghost use Rattle.network.specs.Problem.{activity_count, NameActivities, pair_arc};
 ghost use Rattle.network.specs.declared.limits.TheConstants.{MAX_LAG_WEIGHT};

@@ -1,3 +1,5 @@
+//! The buffers in which bounds of one project are computed.
+
 ghost use Rattle.std.specs.Prelude.{◌≡◌, [], ◌∷◌, IfOk};
 ghost use Rattle.network.specs.Problem.{NameActivities, pair_arc};
 ghost use Rattle.longest_path.specs.Insert.{ClosesNone};

@@ -1,3 +1,5 @@
+//! What all nodes of a project share: the project, its matrix and its rivals.
+
 ghost use Rattle.std.specs.Prelude.{◌≡◌, [], IfOk};
 ghost use Rattle.std.specs.Arc.{arc_value};
 ghost use Rattle.network.specs.Limits.{IsProject};

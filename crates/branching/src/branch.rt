@@ -1,3 +1,5 @@
+//! What becomes of a node with one pair more.
+
 ghost use Rattle.std.specs.Prelude.{◌≡◌, [], ◌∷◌, ◌++◌, ◌≤ℤ◌, ℤ, List, IfOk};
 ghost use Rattle.std.specs.Bool.{MatchBool, OnTrue, OnFalse};
 ghost use Rattle.network.specs.Problem.{NameActivities, pair_arc};

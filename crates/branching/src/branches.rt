@@ -1,3 +1,5 @@
+//! The fates of the pairs of a forbidden set, and the kids among them.
+
 ghost use Rattle.std.specs.Prelude.{◌≡◌, [], IfOk};
 ghost use Rattle.network.specs.Problem.{NameActivities};
 ghost use Rattle.bounds.specs.Workspace.{IsWorkspaceFor};

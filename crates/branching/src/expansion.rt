@@ -1,3 +1,5 @@
+//! The expansion of a node: a schedule, or its kids.
+
 ghost use Rattle.std.specs.Prelude.{◌≡◌, IfOk};
 ghost use Rattle.std.specs.Arc.{arc_value};
 ghost use Rattle.network.specs.Schedule.{IsWithinCapacities, running};

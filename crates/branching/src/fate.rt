@@ -1,3 +1,5 @@
+//! What became of a pair that a node was branched over.
+
 use network::Pair;
 
 /// What became of an ordered pair of a forbidden set.

@@ -1,3 +1,5 @@
+//! Pairs that a matrix forces, since the other order is impossible.
+
 ghost use Rattle.std.specs.Prelude.{◌≡◌, ◌↔◌, ◌<◌, [], ◌∷◌, ◌++◌, length, IsTrue, IfOk, IfSome};
 ghost use Rattle.std.specs.List.{Any};
 ghost use Rattle.network.specs.Limits.{IsWithin};

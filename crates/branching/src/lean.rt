@@ -1,3 +1,5 @@
+//! A node as it waits: its pairs and its bound, without a matrix.
+
 ghost use Rattle.std.specs.Prelude.{◌≡◌, ◌↔◌, IsTrue, ◌∷◌, IfOk};
 ghost use Rattle.std.specs.Arc.{arc_value};
 ghost use Rattle.network.specs.Limits.{IsProject};

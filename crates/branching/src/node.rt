@@ -1,3 +1,5 @@
+//! A node with its matrix.
+
 ghost use Rattle.std.specs.Prelude.{◌≡◌, [], IfOk, IfErr};
 ghost use Rattle.std.specs.Arc.{arc_value};
 ghost use Rattle.network.specs.Problem.{arcs_of, NameActivities};

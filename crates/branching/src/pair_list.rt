@@ -1,3 +1,5 @@
+//! The pairs of a node: those of its parent, and its own.
+
 ghost use Rattle.std.specs.Prelude.{◌≡◌, ◌↔◌, [], IfOk, IsTrue, length, slice_get, ◌++◌};
 ghost use Rattle.std.specs.Arc.{arc_value};
 ghost use Rattle.branching.specs.Last.{last_pairs};

@@ -1,3 +1,5 @@
+//! The pairs that the kids of one node share.
+
 ghost use Rattle.std.specs.Prelude.{◌≡◌, IfOk, IfSome};
 ghost use Rattle.std.specs.Arc.{arc_value};
 ghost use Rattle.branching.specs.Parent.{IsParent};

@@ -1,3 +1,5 @@
+//! What an expansion reports. Its type keeps that the report is fair.
+
 ghost use Rattle.std.specs.Prelude.{◌≡◌, ◌≤◌, List, map, length, option_map};
 ghost use Rattle.std.specs.Arc.{arc_value};
 ghost use Rattle.branching.specs.Fate.{fate_value};

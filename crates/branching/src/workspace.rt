@@ -1,3 +1,5 @@
+//! The buffers of an expansion.
+
 ghost use Rattle.std.specs.Prelude.{IfOk};
 ghost use Rattle.branching.specs.Workspace.{HasRoomFor};
 

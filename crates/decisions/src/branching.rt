@@ -1,3 +1,5 @@
+//! Which order or start is tried next.
+
 use crate::incumbent::Incumbent;
 use crate::overloads::Overloads;
 use crate::weights::Weights;

@@ -1,3 +1,5 @@
+//! The best schedule of a search on pairs, and its ceiling.
+
 use std::alloc::{AllocError, Global};
 
 /// The ceiling where no schedule is known.

@@ -1,3 +1,5 @@
+//! The overloads of the least schedule, and a forbidden set of the one that weighs most.
+
 use crate::weights::Weights;
 use lemma_trail::{Cause, Conflict, Literal, NO_LITERAL, Rules, Stop, Trail};
 use std::alloc::{AllocError, Global};

@@ -1,3 +1,5 @@
+//! How often an activity or a pair took part in recent conflicts.
+
 use lemma_trail::Literal;
 use std::alloc::{AllocError, Global};
 use tables::Table;

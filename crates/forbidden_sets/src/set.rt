@@ -1,3 +1,5 @@
+//! A minimal forbidden set of one resource.
+
 ghost use Rattle.std.specs.Prelude.{◌≡◌, ◌<◌, ◌≤◌, ◌+◌, length};
 ghost use Rattle.std.specs.List.{All, sum};
 ghost use Rattle.std.specs.List.Sorted.{IsStrictlyIncreasing};

@@ -1,3 +1,5 @@
+//! Shrinks activities that ask for too much to a minimal forbidden set.
+
 ghost use Rattle.std.specs.Prelude.{◌≡◌, ◌<◌, ◌≤◌, ◌+◌, ◌*◌, ℕ, pos, ◌≤ℤ◌, length, map, drop, IfOk};
 ghost use Rattle.std.specs.List.{All, AllPairs, Contains};
 ghost use Rattle.std.specs.List.Sorted.{IsStrictlyIncreasing, IsNonDecreasing, IsPermutation};

@@ -1,3 +1,5 @@
+//! Which steps an entry of the matrix stands on, as weak as they may be.
+
 use crate::history::{History, Task};
 use crate::literal::Literal;
 use std::alloc::AllocError;

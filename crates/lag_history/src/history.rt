@@ -1,3 +1,5 @@
+//! The matrix of all pairs, with the changes that each step made.
+
 use crate::literal::{Literal, NO_LITERAL};
 use crate::marks::Marks;
 use longest_path::Matrix;

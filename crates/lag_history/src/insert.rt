@@ -1,3 +1,5 @@
+//! Inserts an arc into the matrix, as the next step.
+
 use crate::history::{Change, History, Step, is_there};
 use crate::literal::Literal;
 use std::alloc::AllocError;

@@ -1,3 +1,5 @@
+//! A literal: an arc between two activities.
+
 /// An arc: activity `to` starts at least `weight` periods after activity `from` starts.
 #[derive(Clone, Copy, PartialEq, Eq, Debug)]
 pub struct Literal {

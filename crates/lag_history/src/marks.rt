@@ -1,3 +1,5 @@
+//! The steps that an explanation needs, and the weight that is needed of each.
+
 use std::alloc::{AllocError, Global};
 use tables::Table;
 

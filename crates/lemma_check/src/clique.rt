@@ -1,3 +1,5 @@
+//! When the reason `clique` ends a block.
+
 ghost use Rattle.std.specs.Prelude.{◌≡◌, ◌↔◌, ◌<◌, List, length, unsigned_abs, IsTrue};
 ghost use Rattle.std.specs.List.{All, AllPairs, sum_by};
 ghost use Rattle.network.specs.declared.lag.Lag.{Lag};

@@ -1,3 +1,5 @@
+//! When a reason ends a block.
+
 ghost use Rattle.std.specs.Prelude.{◌≡◌, ◌↔◌, List, length, IsTrue};
 ghost use Rattle.std.specs.List.{All};
 ghost use Rattle.network.specs.declared.lag.Lag.{Lag};

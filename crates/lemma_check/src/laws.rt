@@ -1,3 +1,5 @@
+//! What callers are to know of right records.
+
 ghost use Rattle.lemma_check.specs.Proves.{RightIsTrue};
 ghost use Rattle.lemma_check.specs.Faults.{FaultIsWrong, FirstFaultIsOne};
 

@@ -1,3 +1,5 @@
+//! The lemmas that have ended, and when the reason `use` ends a block.
+
 ghost use Rattle.std.specs.Prelude.{◌≡◌, ◌↔◌, ◌<◌, ◌≤◌, List, [], length, slice_index_or, IsTrue, MatchOption};
 ghost use Rattle.std.specs.List.{All};
 ghost use Rattle.network.specs.declared.lag.Lag.{Lag};

@@ -1,3 +1,5 @@
+//! Checks the lines of a record in order.
+
 ghost use Rattle.std.specs.Prelude.{◌≡◌, ◌≢◌, ◌+◌, ◌≤◌, None, length, OnOk, IfErr};
 ghost use Rattle.std.specs.List.{All, AllByRecursion};
 ghost use Rattle.network.specs.Problem.{Problem};

@@ -1,3 +1,5 @@
+//! When the reason `load` ends a block.
+
 ghost use Rattle.std.specs.Prelude.{◌≡◌, ◌↔◌, ◌<◌, ◌≤◌, List, length, IsTrue};
 ghost use Rattle.network.specs.declared.lag.Lag.{Lag};
 ghost use Rattle.network.specs.Limits.{IsTime};

@@ -1,3 +1,5 @@
+//! Members of a set or a clique, and when their demands exceed a capacity.
+
 ghost use Rattle.std.specs.Prelude.{◌<◌, ◌↔◌, IsTrue};
 ghost use Rattle.network.specs.Forbidden.{IsForbidden};
 ghost use Rattle.network.specs.Problem.{resource_count};

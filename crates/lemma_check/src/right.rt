@@ -1,3 +1,5 @@
+//! When a line is right in a block that is not dead.
+
 ghost use Rattle.std.specs.Prelude.{◌≡◌, ◌↔◌, List, length, IsTrue};
 ghost use Rattle.std.specs.List.{All};
 ghost use Rattle.network.specs.declared.lag.Lag.{Lag};

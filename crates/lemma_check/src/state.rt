@@ -1,3 +1,5 @@
+//! The block that a line stands in: its matrix, and the lemmas before.
+
 ghost use Rattle.std.specs.Prelude.{◌≡◌, ◌↔◌, List, length, IsTrue, IfOk, OnOk, MatchOption};
 ghost use Rattle.std.specs.List.{All};
 ghost use Rattle.network.specs.Limits.{IsAmount, IsLag};

@@ -1,3 +1,5 @@
+//! The checker of records of lemmas.
+
 ghost use Rattle.std.specs.Prelude.{◌≡◌, ◌≢◌, ◌↔◌, IsTrue, IfOk, IfErr, OnOk};
 ghost use Rattle.lemma_text.specs.Text.{IsWritableClaim};
 ghost use Rattle.lemma_text.specs.declared.fault.Why.TheVariants.{Memory};

@@ -1,3 +1,5 @@
+//! The matrix of a block with one arc more, entry by entry.
+
 ghost use Rattle.std.specs.Prelude.{◌≡◌, ◌↔◌, ◌<◌, List, length, None, Some, IsTrue, IfSome};
 ghost use Rattle.network.specs.declared.lag.Lag.{Lag};
 ghost use Rattle.network.specs.declared.limits.TheConstants.{MAX_WALK_WEIGHT};

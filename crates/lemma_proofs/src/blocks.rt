@@ -1,3 +1,5 @@
+//! The blocks of a record, without lines that hold already.
+
 use crate::proofs::Proofs;
 use crate::reasons::{Link, Why};
 use crate::telling::Event;

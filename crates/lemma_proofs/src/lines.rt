@@ -1,3 +1,5 @@
+//! The lines of a record, of its blocks.
+
 use crate::blocks::{Block, Blocks};
 use crate::proofs::Proofs;
 use crate::reasons::{Link, Why};

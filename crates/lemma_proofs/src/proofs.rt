@@ -1,3 +1,5 @@
+//! The proofs of all lemmas of a search.
+
 use crate::reasons::{Link, Why};
 use lemma_trail::{Cause, Literal, NO_LITERAL, Trail};
 use std::alloc::{AllocError, Global};

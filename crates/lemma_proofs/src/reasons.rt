@@ -1,3 +1,5 @@
+//! Why a literal follows, as a record says it.
+
 use lemma_trail::Literal;
 use tables::Span;
 

@@ -1,3 +1,5 @@
+//! A claim and the lines that show it.
+
 use lemma_text::{Claim, Line, Reason};
 use std::alloc::{AllocError, Global};
 

@@ -1,3 +1,5 @@
+//! What a last proof needs, gathered backward.
+
 use crate::proofs::{Proof, Proofs};
 use crate::reasons::{Link, Why};
 use lemma_trail::{Cause, Lemmas, NO_LITERAL, Rules, Trail};

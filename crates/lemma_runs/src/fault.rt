@@ -1,3 +1,5 @@
+//! What can go wrong in a run of `psprove verify`.
+
 ghost use Rattle.std.specs.Prelude.{◌≡◌};
 
 use answers::Fault;

@@ -1,3 +1,5 @@
+//! Reads the project and the record of a run.
+
 ghost use Rattle.std.specs.Prelude.{◌≡◌, ◌≢◌, ◌<◌, ◌+◌, Err, take, IfOk, IfErr};
 ghost use Rattle.network.specs.Limits.{IsProject};
 ghost use Rattle.record_text.specs.declared.TheConstants.{MAX_RECORD_BYTES};

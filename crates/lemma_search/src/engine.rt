@@ -1,3 +1,5 @@
+//! The loop of the search on pairs: propagate, decide, learn, restart.
+
 use crate::learning::Learner;
 use crate::options::{Counts, Options, State};
 use crate::probing::Probe;

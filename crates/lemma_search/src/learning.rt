@@ -1,3 +1,5 @@
+//! Analyses a conflict to its first unique implication point.
+
 use decisions::Weights;
 use lemma_proofs::Forced;
 use lemma_trail::{Cause, Conflict, Lemmas, Literal, NO_LITERAL, Rules, Trail};

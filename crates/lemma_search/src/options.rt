@@ -1,3 +1,5 @@
+//! How a search on pairs goes, where it stands, and how much it did.
+
 /// Which parts of the search are on.
 #[derive(Clone, Copy, PartialEq, Eq, Debug)]
 pub struct Parts {

@@ -1,3 +1,5 @@
+//! The search on pairs, as callers see it.
+
 use crate::engine::{Engine, Next};
 use crate::options::{Counts, Options, State};
 use crate::showing::periods;

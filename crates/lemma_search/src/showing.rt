@@ -1,3 +1,5 @@
+//! The claim of a search on pairs, and the lines that show it.
+
 use crate::engine::Engine;
 use crate::options::State;
 use decisions::MAX_MAKESPAN;

@@ -1,3 +1,5 @@
+//! What a record of lemmas claims.
+
 use record_text::Starts;
 
 /// What a record says of a project. Makespans and bounds are in periods.

@@ -1,3 +1,5 @@
+//! Why a text is no record of lemmas, or a record is not right.
+
 ghost use Rattle.std.specs.Prelude.{◌≡◌};
 ghost use Rattle.lemma_text.specs.TextFaults.{form};
 ghost use Rattle.lemma_text.specs.declared.fault.Why.TheVariants.{Memory};

@@ -1,3 +1,5 @@
+//! The arcs of a lemma's first line.
+
 use network::Lag;
 use std::marker::Model;
 

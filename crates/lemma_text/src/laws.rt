@@ -1,3 +1,5 @@
+//! What callers are to know of the text of a record.
+
 ghost use Rattle.lemma_text.specs.Shape.{BlocksComplete};
 ghost use Rattle.lemma_text.specs.TextFaults.{RecordIsOne, FirstFaultIsOne, FaultIsNoRecord};
 

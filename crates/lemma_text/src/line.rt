@@ -1,3 +1,5 @@
+//! A line of a record of lemmas.
+
 use crate::lags::Lags;
 use crate::reason::Reason;
 use network::{Lag, Pair};

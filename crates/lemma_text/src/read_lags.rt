@@ -1,3 +1,5 @@
+//! Reads the arcs of a lemma's first line.
+
 ghost use Rattle.std.specs.Prelude.{◌≡◌, ◌<◌, length, IfOk, IfSome, MatchOption, option_map, Some, None};
 ghost use Rattle.record_text.specs.Reading.{fields, fields_left};
 ghost use Rattle.lemma_text.specs.Reading.{lags, lag_first};

@@ -1,3 +1,5 @@
+//! Reads a reason.
+
 ghost use Rattle.std.specs.Prelude.{◌≡◌, IfOk, option_map, pos};
 ghost use Rattle.std.specs.List.{All};
 ghost use Rattle.record_text.specs.Text.{IsNumber};

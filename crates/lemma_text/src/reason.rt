@@ -1,3 +1,5 @@
+//! Why the arcs of a block cannot all be met.
+
 use record_text::Members;
 
 /// Why a block's arcs can't all be met. A window is from the period `from` to the period `to`.

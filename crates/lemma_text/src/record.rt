@@ -1,3 +1,5 @@
+//! A record of lemmas, and its text.
+
 ghost use Rattle.std.specs.Prelude.{◌≡◌, ◌≢◌, ◌≤◌, nat_lt, length, IfOk, OnOk, IfErr};
 ghost use Rattle.lemma_text.specs.LemmaRecord.{LemmaRecordOf};
 ghost use Rattle.lemma_text.specs.Text.{IsRecord, Spells, record_text};

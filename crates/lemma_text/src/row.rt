@@ -1,3 +1,5 @@
+//! Reads one line of a record.
+
 ghost use Rattle.std.specs.Prelude.{◌≡◌, IfOk, option_map};
 ghost use Rattle.record_text.specs.Reading.{numbers, fields_left};
 ghost use Rattle.lemma_text.specs.Reading.{lags, lag_first, reason_of, lemma_of, force_of, add_of, end_of, line_of};

@@ -1,3 +1,5 @@
+//! Reads the weight of an arc.
+
 ghost use Rattle.std.specs.Prelude.{◌≡◌, ◌<◌, ◌^◌};
 ghost use Rattle.record_text.specs.Text.{IsNumber};
 ghost use Rattle.lemma_text.specs.Reading.{at_most, size, weight};

@@ -1,3 +1,5 @@
+//! Why a literal holds.
+
 use tables::Span;
 
 /// An activity of a cause, and of a load how long it runs in the window at least.

@@ -1,3 +1,5 @@
+//! Which steps a literal or a conflict follows from.
+
 use crate::cause::{Cause, Part};
 use crate::lemmas::Lemmas;
 use crate::rules::Rules;

@@ -1,3 +1,5 @@
+//! The lemmas of a search, watched by two literals each.
+
 use crate::watching::Watches;
 use lag_history::{Literal, NO_LITERAL};
 use std::alloc::{AllocError, Global};

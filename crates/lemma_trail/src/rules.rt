@@ -1,3 +1,5 @@
+//! The numbers of a project, and its rivals.
+
 use network::Project;
 use std::alloc::{AllocError, Global};
 use tables::{Span, Table, narrow};

@@ -1,3 +1,5 @@
+//! Why a step did not end well: a conflict, or want of memory.
+
 use crate::cause::Cause;
 use lag_history::Literal;
 use std::alloc::{AllocError, AllocFailed};

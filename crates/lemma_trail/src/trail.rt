@@ -1,3 +1,5 @@
+//! The literals in the order in which they came, with causes and levels.
+
 use crate::cause::{Cause, Part};
 use crate::rules::Rules;
 use crate::stop::{Conflict, Stop};

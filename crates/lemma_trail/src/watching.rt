@@ -1,3 +1,5 @@
+//! Which lemmas to look at when an entry of the matrix grows.
+
 use crate::cause::Cause;
 use crate::lemmas::{Lemma, Lemmas};
 use crate::stop::Stop;

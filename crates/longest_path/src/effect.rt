@@ -1,3 +1,5 @@
+//! What an arc changes in a matrix: nothing, entries, or it closes a walk.
+
 ghost use Rattle.std.specs.Prelude.{◌<◌, length};
 ghost use Rattle.longest_path.specs.Effect.{IsEffectOf};
 ghost use Rattle.network.specs.declared.limits.TheConstants.{MAX_LAG_WEIGHT};

@@ -1,3 +1,5 @@
+//! The cells of a matrix in one list.
+
 ghost use Rattle.std.specs.Prelude.{◌≡◌, [], slice_set, ◌+◌, ◌*◌, ◌+ℤ◌, ◌≤ℤ◌, ◌<◌, ◌≤◌, ℕ, length, slice_index_or, take, drop, None, Some, IfOk, IfSome};
 ghost use Rattle.network.specs.Walk.{entry, Rows};
 ghost use Rattle.longest_path.specs.Relax.{greater, joined};

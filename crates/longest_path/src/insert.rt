@@ -1,3 +1,5 @@
+//! Takes the walks over a new arc into a matrix.
+
 ghost use Rattle.std.specs.Prelude.{◌≡◌, ◌<◌, ℕ, ℤ, ◌+ℤ◌, length, Some, FitsSigned, IfSome};
 ghost use Rattle.std.specs.Int.{w64};
 ghost use Rattle.std.specs.Bool.{MatchBool};

@@ -1,3 +1,5 @@
+//! A matrix with marks to go back to.
+
 ghost use Rattle.std.specs.Prelude.{◌≡◌, ◌<◌, [], ◌∷◌, length, IfErr, OnOk, OnErr};
 ghost use Rattle.longest_path.specs.Insert.{arc_of, AddsArc};
 ghost use Rattle.longest_path.specs.Fault.{IsInsertFault};

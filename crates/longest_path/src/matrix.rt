@@ -1,3 +1,5 @@
+//! The greatest weights of walks between all activities.
+
 ghost use Rattle.std.specs.Prelude.{◌≡◌, ◌<◌, ◌≤◌, pos, length, Some, IfSome, IfOk, IfErr, OnOk, OnErr};
 ghost use Rattle.network.specs.Walk.{entry, Rows};
 ghost use Rattle.longest_path.specs.Insert.{arc_of, AddsArc, ClosesCycle};

@@ -1,3 +1,5 @@
+//! Computes the matrix of a project and pairs, as Floyd and Warshall do.
+
 ghost use Rattle.std.specs.Prelude.{◌≡◌, ◌<◌, ◌≤◌, ℤ, pos, ◌≤ℤ◌, length, Some, IfSome, IfOk, IfErr};
 ghost use Rattle.std.specs.Bool.{MatchBool};
 ghost use Rattle.network.specs.Problem.{activity_count, arcs_of, NameActivities};

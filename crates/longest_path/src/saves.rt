@@ -1,3 +1,5 @@
+//! The parts of rows that changed since a mark.
+
 ghost use Rattle.std.specs.Prelude.{◌≡◌, ◌++◌, ◌∷◌, [], ◌<◌, ◌≤◌, ◌+◌, ◌-◌, length, take, drop, OnOk, OnErr};
 ghost use Rattle.longest_path.specs.Saved.{PutsLastBack, undone};
 ghost use Rattle.network.specs.Walk.{Rows};

@@ -1,3 +1,5 @@
+//! An entry of the matrix with an arc that is not inserted.
+
 ghost use Rattle.std.specs.Prelude.{◌≡◌, Some, IfSome};
 ghost use Rattle.network.specs.declared.limits.TheConstants.{MAX_LAG_WEIGHT, MAX_WALK_WEIGHT};
 ghost use Rattle.network.specs.Limits.{IsWithin};

@@ -1,3 +1,5 @@
+//! How much the neighbourhoods did.
+
 /// How much was done.
 #[derive(Clone, Copy, PartialEq, Eq, Debug)]
 pub struct Counts {

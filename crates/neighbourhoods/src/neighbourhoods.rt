@@ -1,3 +1,5 @@
+//! Neighbourhoods of the best schedule, searched one after the other.
+
 use crate::choosing::Choosing;
 use crate::counts::Counts;
 use crate::handing::Handing;

@@ -1,3 +1,5 @@
+//! Numbers by lot, the same for the same seed.
+
 /// A row of numbers that look random, the linear one of Knuth's MMIX. The same seed gives the same row.
 #[derive(Clone, Copy, Debug)]
 pub(crate) struct Random {

@@ -1,3 +1,5 @@
+//! Kinds of neighbourhoods, and how many activities are free by each.
+
 use crate::random::Random;
 
 /// How the free activities of a neighbourhood are chosen.

@@ -1,3 +1,5 @@
+//! The arcs of a project that its text does not list.
+
 ghost use Rattle.std.specs.Prelude.{◌≡◌, ◌<◌, ◌≤◌, ◌++◌, length, map, OnOk};
 ghost use Rattle.std.specs.List.{All, range_with_len};
 ghost use Rattle.network.specs.Problem.{start_arc, lasting};

@@ -1,3 +1,5 @@
+//! Finds the first fault of parts that are to be a project.
+
 ghost use Rattle.std.specs.Prelude.{◌≡◌, ◌<◌, length, vec_len, nat_eq};
 ghost use Rattle.std.specs.Result.{result_err};
 ghost use Rattle.std.specs.List.{list_all};

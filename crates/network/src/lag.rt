@@ -1,3 +1,5 @@
+//! A time lag, and a pair of activities in order.
+
 /// An arc: activity `to` starts at least `weight` periods after activity `from` starts. A negative
 /// weight is a greatest lag from `to` to `from`.
 #[derive(Clone, Copy, PartialEq, Eq, Debug)]

@@ -1,3 +1,5 @@
+//! All numbers of a project in one list.
+
 ghost use Rattle.std.specs.Prelude.{◌≡◌, ◌<◌, ◌++◌, IfOk, OnOk};
 ghost use Rattle.std.specs.List.{All, flat_map};
 ghost use Rattle.network.specs.declared.limits.TheConstants.{MAX_ACTIVITIES};

@@ -1,3 +1,5 @@
+//! What a project is made of, and why parts are no project.
+
 use crate::lag::Lag;
 
 /// What a limit is on.

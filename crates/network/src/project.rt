@@ -1,3 +1,5 @@
+//! A project within the limits.
+
 ghost use Rattle.std.specs.Prelude.{◌≡◌, ◌<◌, ◌≤ℤ◌, pos, length, slice_index_or, [], ◌∷◌, IfOk, IfErr, OnErr, Some};
 ghost use Rattle.network.specs.Problem.{activity_count, resource_count, duration, demand, capacity, pair_arc, arcs_of, NameActivities};
 ghost use Rattle.network.specs.declared.limits.TheConstants.{MAX_AMOUNT};

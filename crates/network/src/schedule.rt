@@ -1,3 +1,5 @@
+//! The starts of a feasible schedule, with their project.
+
 ghost use Rattle.std.specs.Prelude.{◌≡◌, IfOk};
 ghost use Rattle.std.specs.Arc.{arc_value};
 

@@ -1,3 +1,5 @@
+//! A project that many share, with all its numbers in one list, which is compared in one pass.
+
 ghost use Rattle.std.specs.Prelude.{◌≡◌, ◌↔◌, IsTrue, IfOk};
 ghost use Rattle.std.specs.Arc.{arc_value};
 

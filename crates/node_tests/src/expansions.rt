@@ -1,3 +1,5 @@
+//! Expansions, searches and matrices of nodes, played from lines.
+
 use bounds::bound;
 use branching::{Fate, Lean, Report, Searcher, expand, ordered_pairs, rebuild, root};
 use earliest::least_starts;

@@ -1,3 +1,5 @@
+//! Heads and tails of small projects.
+
 use earliest::{heads, least_starts, tails};
 use longest_path::longest;
 use std::test::Fail;

@@ -1,3 +1,5 @@
+//! Matrices with arcs that are inserted and taken back.
+
 use longest_path::{MarkedMatrix, Matrix, PathFault, longest};
 use network::{Lag, MAX_LAG_WEIGHT, Pair};
 use std::alloc::{AllocError, Global};

@@ -1,3 +1,5 @@
+//! Resource use and overloads, against plain loops.
+
 ghost use Rattle.profile.specs.SweepOf.{IsSweepFor};
 
 use network::Project;

@@ -1,3 +1,5 @@
+//! Forbidden sets that shrink.
+
 ghost use Rattle.network.specs.Limits.{AreStarts};
 
 use forbidden_sets::{ForbiddenSet, shrink, shrink_activities};

@@ -1,3 +1,5 @@
+//! Bounds of small projects.
+
 ghost use Rattle.std.specs.Prelude.{◌≡◌, ◌<◌, [], ◌∷◌, IsTrue, IfOk};
 ghost use Rattle.longest_path.specs.Insert.{ClosesNone};
 ghost use Rattle.network.specs.Problem.{resource_count, NameActivities, pair_arc};

@@ -1,3 +1,5 @@
+//! Orders of small lists.
+
 use crate::{first_order, repair};
 use std::test::Fail;
 

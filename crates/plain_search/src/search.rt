@@ -1,3 +1,5 @@
+//! The search by one thread.
+
 ghost use Rattle.std.specs.Prelude.{◌≡◌, ◌<◌, ◌≤◌, ◌≤ℤ◌, ◌⊎◌, [], Some, map, option_map, IfOk, IfSome, IfNone, IsTrue, ◌↔◌};
 ghost use Rattle.std.specs.Arc.{arc_value};
 ghost use Rattle.branching.specs.Covered.{IsRootOf, IsShorterOf, ceiling_of};

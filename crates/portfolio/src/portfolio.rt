@@ -1,3 +1,5 @@
+//! The searches of a portfolio, and their turns.
+
 use crate::incumbent::Incumbent;
 use lemma_proofs::Shown;
 use neighbourhoods::{Neighbourhoods, State};

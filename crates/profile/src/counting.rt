@@ -1,3 +1,5 @@
+//! What activities have asked for along an order, up to a time.
+
 ghost use Rattle.std.specs.Prelude.{◌≡◌, ℕ, ◌<◌, ◌≤◌, ◌≤ℤ◌, length};
 ghost use Rattle.std.specs.List.{All};
 ghost use Rattle.network.specs.Problem.{activity_count, resource_count};

@@ -1,3 +1,5 @@
+//! The buffers in which overloads are found.
+
 ghost use Rattle.std.specs.Prelude.{◌≡◌, IfOk, IfSome, IfNone};
 ghost use Rattle.network.specs.Limits.{AreStarts};
 ghost use Rattle.network.specs.Schedule.{running, IsWithinCapacities};

@@ -1,3 +1,5 @@
+//! What is to be looked at: changes of the matrix, and rivals of activities whose windows moved.
+
 use lemma_trail::{Cause, Conflict, Lemmas, Rules, Stop, Trail};
 use std::alloc::{AllocError, Global};
 use tables::Table;

@@ -1,3 +1,5 @@
+//! What a clique says of members before and after one of them.
+
 use crate::cliques::{ByEnd, ByHead, Cliques};
 use lemma_trail::{Cause, Literal, Stop, Trail};
 use std::alloc::AllocError;

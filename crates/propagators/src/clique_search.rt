@@ -1,3 +1,5 @@
+//! Finds cliques of rivals whose members take long.
+
 use lemma_trail::Rules;
 use std::alloc::{AllocError, Global};
 use tables::{NO_SPAN, Span, Table};

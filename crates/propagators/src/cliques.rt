@@ -1,3 +1,5 @@
+//! Cliques of rivals, which run one at a time.
+
 use crate::clique_search::CliqueSearch;
 use lemma_trail::{Cause, Conflict, Rules, Stop, Trail};
 use std::alloc::{AllocError, Global};

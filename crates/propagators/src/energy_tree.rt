@@ -1,3 +1,5 @@
+//! The tree of Vilím over heads.
+
 use std::alloc::{AllocError, Global};
 use tables::Table;
 

@@ -1,3 +1,5 @@
+//! The profile of the parts that must run.
+
 use std::alloc::{AllocError, Global};
 use tables::Table;
 

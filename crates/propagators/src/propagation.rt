@@ -1,3 +1,5 @@
+//! All propagators of the search on pairs.
+
 use crate::agenda::{Agenda, find_alone, follow_head, follow_latest, follow_rivals};
 use crate::cliques::Cliques;
 use crate::energy::Energy;

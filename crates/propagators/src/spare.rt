@@ -1,3 +1,5 @@
+//! Which activities a cause can do without.
+
 use lemma_trail::Trail;
 use std::alloc::{AllocError, Global};
 use tables::Span;

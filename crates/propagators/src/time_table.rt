@@ -1,3 +1,5 @@
+//! The time table: loads, and windows that they narrow.
+
 use crate::profile::{Piece, Profile};
 use crate::spare::Spare;
 use crate::users::Users;

@@ -1,3 +1,5 @@
+//! The users of each resource, and which resources are to be looked at.
+
 use lemma_trail::Rules;
 use std::alloc::{AllocError, Global};
 use tables::{NO_SPAN, Span, Table};

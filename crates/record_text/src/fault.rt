@@ -1,3 +1,5 @@
+//! Why a text is no record of a search, or a record is not right.
+
 ghost use Rattle.std.specs.Prelude.{◌≡◌};
 ghost use Rattle.record_text.specs.TextFaults.{form};
 ghost use Rattle.record_text.specs.declared.fault.Why.TheVariants.{Memory};

@@ -1,3 +1,5 @@
+//! The fields of a line.
+
 ghost use Rattle.std.specs.Prelude.{◌≡◌, ◌<◌, length, IfOk, IfSome, ◌∷◌, option_map};
 ghost use Rattle.std.specs.List.{All};
 ghost use Rattle.record_text.specs.Reading.{fields, fields_left, numbers, numbers_after};

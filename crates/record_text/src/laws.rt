@@ -1,3 +1,5 @@
+//! What callers are to know of the text of a record.
+
 ghost use Rattle.record_text.specs.Shape.{TreesComplete};
 ghost use Rattle.record_text.specs.TextFaults.{RecordIsOne, FirstFaultIsOne, FaultIsNoRecord};
 

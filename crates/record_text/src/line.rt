@@ -1,3 +1,5 @@
+//! The claim and the lines of a record of a search.
+
 use crate::members::Members;
 use crate::starts::Starts;
 use network::Pair;

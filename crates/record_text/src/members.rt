@@ -1,3 +1,5 @@
+//! The members of a set, rising.
+
 use std::marker::Model;
 
 /// The members of a split in the order of its line.

@@ -1,3 +1,5 @@
+//! Reads a number of a record.
+
 ghost use Rattle.std.specs.Prelude.{◌≡◌, IfSome};
 ghost use Rattle.record_text.specs.Text.{IsNumber};
 ghost use Rattle.record_text.specs.Reading.{has_leading_zero, number};

@@ -1,3 +1,5 @@
+//! Reads the claim and the lines of a record from a text.
+
 ghost use Rattle.std.specs.Prelude.{◌≡◌, ◌≢◌, ◌<◌, ◌≤◌, ◌+◌, ◌*◌, ◌∷◌, [], ◌++◌, length, map, codes, Some, IfOk, IfErr};
 ghost use Rattle.std.specs.List.{AllByRecursion};
 ghost use Rattle.record_text.specs.Text.{IsWritableClaim, IsWritableLine, claim_rows, head_rows, row_of};

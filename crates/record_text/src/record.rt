@@ -1,3 +1,5 @@
+//! A record of a search, and its text.
+
 ghost use Rattle.std.specs.Prelude.{◌≡◌, ◌≢◌, ◌≤◌, nat_lt, length, IfOk, OnOk, IfErr};
 ghost use Rattle.record_text.specs.SearchRecord.{SearchRecord};
 ghost use Rattle.record_text.specs.Text.{IsRecord, Spells, record_text};

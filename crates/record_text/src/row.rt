@@ -1,3 +1,5 @@
+//! Reads one line of a record.
+
 ghost use Rattle.std.specs.Prelude.{◌≡◌, IfOk, IfErr, Some};
 ghost use Rattle.record_text.specs.Reading.{leaf, force_of, split_of, line_from, line_of};
 ghost use Rattle.record_text.specs.TextFaults.{IsFormFault};

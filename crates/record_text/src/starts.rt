@@ -1,3 +1,5 @@
+//! The starts in a record.
+
 ghost use Rattle.std.specs.Prelude.{◌≡◌, map, pos, IfOk};
 ghost use Rattle.std.specs.List.{All};
 ghost use Rattle.record_text.specs.Text.{IsNumber};

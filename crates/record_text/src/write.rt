@@ -1,3 +1,5 @@
+//! Writes a record as a text.
+
 ghost use Rattle.std.specs.Prelude.{◌≡◌, ◌++◌, OnOk, string_bytes};
 ghost use Rattle.std.specs.List.{flat_map};
 ghost use Rattle.record_text.specs.Text.{spaced, spaced_times, head_rows, ended, line_text};

@@ -1,3 +1,5 @@
+//! The rivals of each activity.
+
 ghost use Rattle.std.specs.Prelude.{◌<◌, IfOk};
 ghost use Rattle.network.specs.Problem.{activity_count};
 ghost use Rattle.rivals.specs.Incompatible.{AllIncompatible};

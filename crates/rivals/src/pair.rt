@@ -1,3 +1,5 @@
+//! When two activities are rivals.
+
 ghost use Rattle.std.specs.Prelude.{◌↔◌, IsTrue, [], ◌∷◌};
 ghost use Rattle.network.specs.Problem.{NameActivities};
 ghost use Rattle.rivals.specs.Incompatible.{AreIncompatible, ExceedSome};

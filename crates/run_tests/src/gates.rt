@@ -1,3 +1,5 @@
+//! A gate that watches, holds and counts workers.
+
 ghost use Rattle.std.specs.Prelude.{◌≡◌};
 ghost use Rattle.std.specs.Arc.{arc_value};
 

@@ -1,3 +1,5 @@
+//! Runs of psmax, played from lines of data.
+
 use crate::gates::{Holds, Watch};
 use answers::Fault;
 use std::alloc::Global;

@@ -1,3 +1,5 @@
+//! Searches by workers, played from lines of data.
+
 use std::alloc::Global;
 use std::process::Abort;
 use std::sync::Wait;

@@ -1,3 +1,5 @@
+//! The jobs of psmax.
+
 /// How many workers search where their number isn't said.
 pub const ONE_WORKER: usize = 1;
 

@@ -1,3 +1,5 @@
+//! Devices over the readers and writers of the standard library.
+
 ghost use Rattle.std.specs.Prelude.{◌≡◌};
 
 use crate::device::{Failed, Input, Output};

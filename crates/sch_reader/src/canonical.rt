@@ -1,3 +1,5 @@
+//! Writes a project as its canonical text.
+
 ghost use Rattle.std.specs.Prelude.{◌≡◌, ◌++◌, ◌==◌, map, string_bytes, OnOk, IfOk, IfErr, MatchResult};
 ghost use Rattle.std.specs.List.{flat_map, prefix_len};
 ghost use Rattle.std.specs.Fmt.{decimal, signed_decimal};

@@ -1,3 +1,5 @@
+//! Why a text is no project.
+
 ghost use Rattle.std.specs.Prelude.{◌≡◌};
 ghost use Rattle.sch_reader.specs.declared.fault.SchFault.TheVariants.{Memory};
 

@@ -1,3 +1,5 @@
+//! What a number means in a project's text, and which values fit.
+
 ghost use Rattle.std.specs.Prelude.{◌≡◌};
 ghost use Rattle.sch_reader.specs.Layout.{fits, misfit};
 

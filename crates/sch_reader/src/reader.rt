@@ -1,3 +1,5 @@
+//! A cursor over the words of a text.
+
 ghost use Rattle.std.specs.Prelude.{◌≡◌, ◌≤◌, ◌+◌, ◌∷◌, [], length, MatchOption, ℕ, List, IfOk, true};
 ghost use Rattle.words.specs.declared.TheConstants.{MAX_TEXT_BYTES};
 ghost use Rattle.sch_reader.specs.Words.{text_words, token};

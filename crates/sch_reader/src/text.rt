@@ -1,3 +1,5 @@
+//! Reads a project from a text.
+
 ghost use Rattle.std.specs.Prelude.{◌≡◌, ◌≢◌, ◌≤◌, ◌<◌, ◌+◌, ◌↔◌, nat_abs, pos, IfOk, IfErr, MatchResult, length, ℕ};
 ghost use Rattle.network.specs.Problem.{Problem};
 ghost use Rattle.network.specs.declared.limits.TheConstants.{MAX_ACTIVITIES, MAX_RESOURCES};

@@ -1,3 +1,5 @@
+//! Accepts starts as a feasible schedule.
+
 ghost use Rattle.std.specs.Prelude.{◌≡◌, IfOk, IfErr, OnOk};
 ghost use Rattle.std.specs.Arc.{arc_value};
 ghost use Rattle.network.specs.Limits.{AreStarts};

@@ -1,3 +1,5 @@
+//! Reads a line of starts.
+
 ghost use Rattle.std.specs.Prelude.{◌≡◌, ◌||◌, codes, nat_eq};
 ghost use Rattle.std.specs.List.{starts_with};
 ghost use Rattle.words.specs.Words.{words};

@@ -1,3 +1,5 @@
+//! Why a text has no starts of a project.
+
 ghost use Rattle.std.specs.Prelude.{◌≡◌};
 ghost use Rattle.schedule_check.specs.declared.fault.StartsFault.TheVariants.{Memory};
 

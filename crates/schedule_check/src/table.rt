@@ -1,3 +1,5 @@
+//! The starts that were read so far.
+
 ghost use Rattle.std.specs.Prelude.{◌≡◌, ◌≢◌, length, map, None, Some, OnOk, IfOk, IfErr, unwrap_or, pos};
 ghost use Rattle.std.specs.Result.{result_err};
 ghost use Rattle.schedule_check.specs.Starts.{missing_fault};

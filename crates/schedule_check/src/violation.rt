@@ -1,3 +1,5 @@
+//! What starts violate.
+
 ghost use Rattle.std.specs.Prelude.{◌≡◌, ◌<◌, ◌↔◌, ◌++◌, [], length, IfOk, OnOk};
 ghost use Rattle.std.specs.List.{All};
 ghost use Rattle.network.specs.Limits.{AreStarts, IsLag, IsTime};

@@ -1,3 +1,5 @@
+//! The nodes of a record that must still come.
+
 ghost use Rattle.std.specs.Prelude.{◌≡◌, ◌<◌, List, [], ◌∷◌, drop, length, IfOk, OnOk};
 ghost use Rattle.network.specs.declared.lag.Pair.{Pair};
 ghost use Rattle.network.specs.Problem.{NameActivities};

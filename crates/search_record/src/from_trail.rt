@@ -1,3 +1,5 @@
+//! Makes the record of a search from its trail.
+
 ghost use Rattle.std.specs.Prelude.{◌≡◌, IfOk, OnOk, IfSome, option_map};
 ghost use Rattle.branching.specs.Covered.{ceiling_of};
 ghost use Rattle.book.specs.RightTrail.{IsWholeTree};

@@ -1,3 +1,5 @@
+//! When a line of a record is right at its node.
+
 ghost use Rattle.std.specs.Prelude.{◌∷◌, [], IfOk};
 ghost use Rattle.network.specs.Problem.{NameActivities};
 ghost use Rattle.bounds.specs.Bound.{IsMatrixFor};

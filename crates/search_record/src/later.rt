@@ -1,3 +1,5 @@
+//! The kids of a node that come later in a record.
+
 ghost use Rattle.std.specs.Prelude.{◌≡◌, ◌++◌, map, reverse, OnOk};
 ghost use Rattle.search_record.specs.Later.{StayNested, later_at};
 

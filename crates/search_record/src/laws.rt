@@ -1,3 +1,5 @@
+//! What callers are to know of right records.
+
 ghost use Rattle.search_record.specs.Proves.{RightIsTrue};
 ghost use Rattle.search_record.specs.Faults.{FaultIsWrong, FirstFaultIsOne};
 

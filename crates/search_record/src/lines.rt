@@ -1,3 +1,5 @@
+//! Checks the lines of a record in order.
+
 ghost use Rattle.std.specs.Prelude.{◌≡◌, ◌≢◌, ◌≤◌, ◌↔◌, [], ℤ, Option, IsTrue, OnOk, IfErr};
 ghost use Rattle.network.specs.Problem.{Problem};
 ghost use Rattle.branching.specs.Right.{IsDead};

@@ -1,3 +1,5 @@
+//! The node at which a record stands, with its matrix.
+
 ghost use Rattle.std.specs.Prelude.{◌≡◌, ◌≤◌, ◌↔◌, ◌++◌, ◌∷◌, [], length, take, IsTrue, IfOk, OnOk, OnErr, MatchOption};
 ghost use Rattle.network.specs.Problem.{NameActivities};
 ghost use Rattle.network.specs.ProjectMatrix.{IsProjectMatrix};

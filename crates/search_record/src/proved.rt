@@ -1,3 +1,5 @@
+//! What a right record proves.
+
 /// What a right record proves of its project.
 #[derive(Clone, Copy, PartialEq, Eq, Debug)]
 pub enum Proved {

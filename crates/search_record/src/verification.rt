@@ -1,3 +1,5 @@
+//! The checker of records of a search.
+
 ghost use Rattle.std.specs.Prelude.{◌≡◌, ◌≢◌, ◌↔◌, IsTrue, IfOk, IfErr, OnOk};
 ghost use Rattle.record_text.specs.Text.{IsWritableClaim};
 ghost use Rattle.record_text.specs.declared.fault.Why.TheVariants.{Memory};

@@ -1,3 +1,5 @@
+//! Writes the nodes of a trail in the order of a record.
+
 ghost use Rattle.std.specs.Prelude.{◌≡◌, ◌<◌, ◌++◌, map, length, IfOk, OnOk};
 ghost use Rattle.book.specs.TrailViews.{pair_fate, node_ending, trail_entry};
 ghost use Rattle.record_text.specs.Tree.{lines_of};

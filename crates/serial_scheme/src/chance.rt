@@ -1,3 +1,5 @@
+//! Numbers by lot, the same for the same seed.
+
 /// Numbers by chance, the same for the same seed.
 #[derive(Drop)]
 pub(crate) struct Chance {

@@ -1,3 +1,5 @@
+//! The activities whose predecessors are placed, by priority.
+
 use crate::chance::{CHANCES, Chance};
 use crate::paths::Paths;
 use crate::precedence::Precedence;

@@ -1,3 +1,5 @@
+//! What activities need of each resource.
+
 use network::Project;
 use std::alloc::{AllocError, Global};
 use tables::{NO_SPAN, Span, Table, narrow};

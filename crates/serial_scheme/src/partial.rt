@@ -1,3 +1,5 @@
+//! A partial schedule: places activities, and unschedules them.
+
 use crate::chance::Chance;
 use crate::eligible::Eligible;
 use crate::profile::Profile;

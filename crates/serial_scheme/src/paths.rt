@@ -1,3 +1,5 @@
+//! The greatest weights of walks, by rows and by columns.
+
 use longest_path::Matrix;
 use std::alloc::{AllocError, Global};
 use tables::Table;

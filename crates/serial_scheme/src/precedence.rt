@@ -1,3 +1,5 @@
+//! Which activities come before which.
+
 use crate::paths::Paths;
 use std::alloc::{AllocError, Global};
 use tables::{NO_SPAN, Span, Table, narrow};

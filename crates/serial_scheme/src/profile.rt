@@ -1,3 +1,5 @@
+//! What is left of each resource over time.
+
 use crate::needs::Need;
 use std::alloc::{AllocError, Global};
 use tables::{Table, narrow};

@@ -1,3 +1,5 @@
+//! What a pass needs to know of a project.
+
 use crate::needs::Needs;
 use crate::paths::Paths;
 use crate::precedence::Precedence;

@@ -1,3 +1,5 @@
+//! Passes of the serial scheme, and their best schedule.
+
 use crate::chance::Chance;
 use crate::partial::{Limits, Partial};
 use crate::rules::Rules;

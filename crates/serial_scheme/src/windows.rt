@@ -1,3 +1,5 @@
+//! The earliest and latest starts that placed activities leave.
+
 use crate::paths::{NOTHING, Paths};
 use std::alloc::{AllocError, Global};
 use tables::Table;

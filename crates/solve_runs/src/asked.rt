@@ -1,3 +1,5 @@
+//! What a run of `psprove solve` is asked for.
+
 ghost use Rattle.std.specs.Prelude.{◌≡◌};
 ghost use Rattle.solve_runs.specs.Asking.{job_of};
 

@@ -1,3 +1,5 @@
+//! The breakpoints of the time table.
+
 use crate::buckets::{Buckets, NOWHERE};
 use std::alloc::{AllocError, Global};
 use tables::Table;

@@ -1,3 +1,5 @@
+//! Finds the breakpoint at a time.
+
 use std::alloc::{AllocError, Global};
 use tables::Table;
 

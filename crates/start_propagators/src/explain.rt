@@ -1,3 +1,5 @@
+//! Which literals an event or a conflict follows from.
+
 use crate::pairs::{Pairs, order_literal};
 use start_trail::{Conflict, Literal, NO_LITERAL, Nogoods, Reason, Rules, Trail};
 use std::alloc::{AllocError, Global};

@@ -1,3 +1,5 @@
+//! All propagators of the search on bounds.
+
 use crate::pairs::{Pair, Pairs};
 use crate::time_table::{Look, TimeTable};
 use start_trail::{Arcs, Literal, Nogoods, Reason, Rules, Stop, Trail};

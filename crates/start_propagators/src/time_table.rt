@@ -1,3 +1,5 @@
+//! The parts that must run, and which activities they touch.
+
 use crate::breaks::{Breaks, Part};
 use start_trail::{Conflict, Rules, Stop, Trail, Use};
 use std::alloc::{AllocError, Global};

@@ -1,3 +1,5 @@
+//! Which nogoods a last proof needs.
+
 use start_search::{Ground, Link, Proof, Trace};
 use std::alloc::{AllocError, Global};
 use tables::Table;

@@ -1,3 +1,5 @@
+//! The record of a search on bounds.
+
 use crate::needs::needs_of;
 use crate::writer::Writer;
 use lag_history::{History, Literal};

@@ -1,3 +1,5 @@
+//! Nogoods as lemmas, and why they hold as a record says it.
+
 use lemma_proofs::{Event, Link, Proofs, Why};
 use lemma_trail::{Lemmas, Literal};
 use start_search::{Ground, Proof, Trace};

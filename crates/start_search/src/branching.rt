@@ -1,3 +1,5 @@
+//! Which start or order is tried next.
+
 use crate::incumbent::Incumbent;
 use crate::weights::Weights;
 use start_propagators::Pairs;

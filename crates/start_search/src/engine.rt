@@ -1,3 +1,5 @@
+//! The loop of the search on bounds: propagate, decide, learn, restart.
+
 use crate::branching::Brancher;
 use crate::incumbent::Incumbent;
 use crate::learning::Learner;

@@ -1,3 +1,5 @@
+//! The best schedule of a search on bounds, and its ceiling.
+
 use std::alloc::{AllocError, Global};
 use tables::Table;
 

@@ -1,3 +1,5 @@
+//! Analyses a conflict to its first unique implication point.
+
 use crate::weights::Weights;
 use start_propagators::{Asked, Explainer, Pairs, enough_of};
 use start_trail::{Conflict, Literal, NO_LITERAL, Nogoods, Reason, Rules, Trail};

@@ -1,3 +1,5 @@
+//! How a search on bounds goes, where it stands, and how much it did.
+
 /// How a search goes. The same options give the same search.
 #[derive(Clone, Copy, PartialEq, Eq, Debug)]
 pub struct Options {

@@ -1,3 +1,5 @@
+//! The search on bounds, as callers see it.
+
 use crate::engine::Engine;
 use crate::options::{Counts, Limits, Options, State};
 use crate::trace::Trace;

@@ -1,3 +1,5 @@
+//! The trace of a search on bounds: what a record needs of its conflicts.
+
 use start_propagators::Asked;
 use start_trail::{Conflict, Literal, NO_LITERAL, Nogoods, Reason, Trail};
 use std::alloc::{AllocError, Global};

@@ -1,3 +1,5 @@
+//! Which variables took part in recent conflicts, the heaviest first.
+
 use std::alloc::{AllocError, Global};
 use tables::Table;
 

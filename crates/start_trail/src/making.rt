@@ -1,3 +1,5 @@
+//! The numbers of a project in units of time.
+
 use crate::arcs::Arcs;
 use crate::literal::least_slot;
 use crate::rules::MAX_HORIZON;

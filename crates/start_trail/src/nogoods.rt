@@ -1,3 +1,5 @@
+//! The nogoods of a search, watched by two literals each.
+
 use crate::literal::{Literal, NO_LITERAL};
 use crate::watching::Watches;
 use std::alloc::{AllocError, Global};

@@ -1,3 +1,5 @@
+//! Why an event came, and why literals contradict each other.
+
 use crate::literal::Literal;
 use std::alloc::{AllocError, AllocFailed};
 

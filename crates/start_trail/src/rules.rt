@@ -1,3 +1,5 @@
+//! What a search on bounds needs to know of a project.
+
 use crate::arcs::Arcs;
 use crate::literal::least_slot;
 use crate::making::{Numbers, arcs_of, horizon_of, numbers_of};

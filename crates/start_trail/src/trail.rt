@@ -1,3 +1,5 @@
+//! The bounds of all starts, with the events that moved them.
+
 use crate::literal::Literal;
 use crate::reason::{Conflict, Reason, Stop};
 use std::alloc::{AllocError, Global};

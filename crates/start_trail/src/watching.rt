@@ -1,3 +1,5 @@
+//! Which nogoods to look at when a bound moves.
+
 use crate::literal::{Literal, NO_LITERAL};
 use crate::nogoods::Nogoods;
 use crate::reason::{Conflict, Reason, Stop};

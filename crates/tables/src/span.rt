@@ -1,3 +1,5 @@
+//! A part of a list.
+
 /// Places of a table: from `from` on, up to `to`.
 #[derive(Clone, Copy, PartialEq, Eq, Debug)]
 pub struct Span {

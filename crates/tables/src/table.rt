@@ -1,3 +1,5 @@
+//! A list that answers at each place.
+
 use crate::span::{Span, narrow};
 use std::alloc::{AllocError, Global};
 

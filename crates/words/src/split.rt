@@ -1,3 +1,5 @@
+//! Splits texts at bytes.
+
 ghost use Rattle.std.specs.Prelude.{◌≡◌, ◌+◌, ◌<◌, ◌∷◌, [], length, MatchOption, IfSome, not, position, ◌==◌};
 ghost use Rattle.words.specs.Words.{is_in, pieces, words};
 

@@ -1,3 +1,5 @@
+//! Words and numbers of short texts.
+
 use super::*;
 
 #[test]

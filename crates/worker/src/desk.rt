@@ -1,3 +1,5 @@
+//! A worker's place: its number, its share of the ledger, and what it did.
+
 ghost use Rattle.std.specs.Prelude.{◌≡◌, ◌≤◌};
 
 use best_word::BestSeat;

@@ -1,3 +1,5 @@
+//! What can go wrong in a search by workers.
+
 use book::{BookFault, CheckFault};
 use std::alloc::AllocError;
 

@@ -1,3 +1,5 @@
+//! What a caller puts between the steps of workers.
+
 ghost use Rattle.std.specs.Prelude.{◌≡◌};
 ghost use Rattle.std.specs.Arc.{arc_value};
 

@@ -1,3 +1,5 @@
+//! A book and the shares of those who checked nodes in, under one lock.
+
 ghost use Rattle.std.specs.Prelude.{◌≡◌, ◌+◌, ◌<◌, ◌≤◌, OnOk, OnErr};
 
 use book::{Book, CheckFault, CheckedIn};

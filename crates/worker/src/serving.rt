@@ -1,3 +1,5 @@
+//! The loop of a worker: take a node, expand it, check in its report.
+
 ghost use Rattle.std.specs.Prelude.{◌≡◌, ◌≤◌, IfOk, IfErr};
 ghost use Rattle.std.specs.Arc.{arc_value};
 ghost use Rattle.worker.specs.Desks.{SeatedAt, StaysAt, CountsAccepted};

@@ -1,3 +1,5 @@
+//! The book that workers share, under its lock.
+
 ghost use Rattle.std.specs.Prelude.{◌≡◌, ◌+◌, ℕ, IfOk, map, sum_by, vec_len};
 ghost use Rattle.best_word.specs.View.{Lowers};
 ghost use Rattle.worker.specs.Desks.{IsRow, IsRowAt, SeatedAt, CountsAccepted, tally_of};

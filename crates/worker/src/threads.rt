@@ -1,3 +1,5 @@
+//! Starts the threads of workers, and joins them.
+
 ghost use Rattle.std.specs.Prelude.{◌≡◌, ◌≤◌, IfOk, IfErr, vec_len, vec_capacity, []};
 ghost use Rattle.worker.specs.Desks.{IsRow};
 ghost use Rattle.worker.specs.Faults.{IsWithinLimits};

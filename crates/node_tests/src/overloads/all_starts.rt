@@ -1,3 +1,5 @@
+//! Overloads of all starts of small projects.
+
 use super::seeded::assert_first;
 use network::Project;
 use profile::OverloadSweep;

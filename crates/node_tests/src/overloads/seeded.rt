@@ -1,3 +1,5 @@
+//! Overloads of seeded projects.
+
 ghost use Rattle.std.specs.Prelude.{◌<◌};
 ghost use Rattle.network.specs.Problem.{resource_count};
 ghost use Rattle.profile.specs.SweepOf.{IsSweepFor};

@@ -1,3 +1,5 @@
+//! What a line of data asks of workers.
+
 use crate::gates::Holds;
 use network::{Project, Schedule};
 use schedule_check::accept;
