@@ -94,7 +94,7 @@ def scripts(folder, with_tests):
     yield "workers", ["tests/workers.py", psmax, "--runs", "100"]
     yield "records", ["tests/records.py", psmax, "--seeded", "20", "--damaged", "1000"]
     yield "lemmas", ["tests/lemmas.py", psprove, "--damaged", "200"]
-    yield "searches", ["tests/searches.py", psmax, psprove, "--seeded", "200"]
+    yield "searches", ["tests/searches.py", psmax, psprove, "--seeded", "200", "--large", "10"]
     yield "books", ["tests/books.py", book_events]
     if shutil.which(os.environ.get("CC", "cc")):
         yield "events", ["tests/events.py", book_events]
