@@ -59,8 +59,9 @@ def end_at_once() -> None:
 
 
 def tell(clock: Clock, text: str) -> None:
-    """A line of progress; where nobody reads them any more, the search goes on without."""
+    """A line of progress, written at once, since several threads tell; where nobody reads them any more, the search goes on
+    without."""
     try:
-        print(f"{clock.elapsed():7.2f} s  {text}", file=sys.stderr, flush=True)
+        print(f"{clock.elapsed():7.2f} s  {text}\n", end="", file=sys.stderr, flush=True)
     except OSError:
         pass
