@@ -32,10 +32,10 @@ release: build/psmax
 	python3 tests/gate.py release
 
 bench: build/psmax
-	python3 bench/run.py build/psmax $(OTHER)
+	python3 bench/speed.py build/psmax $(OTHER)
 	python3 bench/counts.py build/psmax $(OTHER)
-	python3 bench/workers.py build/psmax
-	python3 bench/records.py build/psmax
+	python3 bench/worker_speed.py build/psmax
+	python3 bench/record_speed.py build/psmax
 	python3 bench/book.py build/book_bench
 
 # The programs at hand are installed as they are: that needs no toolchain.

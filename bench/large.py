@@ -5,10 +5,9 @@ Prints a table of what programs find for generated projects of 100 to 1,000 acti
 and two of bench/shutdown.py. `--only` takes those alone whose name has the word.
 
 A program is the one that is named, else that of the PATH; it is left out where there is none: `psprove solve`, `psmax
-solve`, `plan solve`, Gecode's `fzn-gecode` and `z3`. Each gets S seconds of processor time a project, 60 if not said, one project
-after the other. A cell says the makespan of the best schedule, the bound if the program tells one, the seconds of
-processor time up to the first schedule, in hundredths, and the peak memory in MiB. Each best schedule is checked
-here.
+solve`, `plan solve`, Gecode's `fzn-gecode` and `z3`. Each gets S seconds of processor time a project, 60 if not said, one
+project after the other. A cell says the makespan of the best schedule, the bound if the program tells one, the seconds of
+processor time up to the first schedule, in hundredths, and the peak memory in MiB. Each best schedule is checked here.
 
 psprove takes seconds by the clock, so nothing else should run beside it.
 
@@ -17,20 +16,21 @@ first schedule is that of the first run that has one. plan calls the psprove tha
 is asked to end after so many seconds of a clock. z3 is asked for one shorter schedule after the other, of at most 300
 activities."""
 import argparse
-import pathlib
 import re
 import shutil
 import sys
 import tempfile
+from collections.abc import Callable, Iterator, Sequence
 
+import measuring
 import models
 import networks
-import projects
 import shutdown
 import watching
+from projects import Project
 
 SIZES = 100, 200, 500, 1000
-# Resource strengths, and for how many activities in a hundred a greatest lag leads back.
+# Resource strengths, and for how many activities in a hundred a maximum lag leads back.
 STRENGTHS = (0, 1), (0.05, 5), (0.15, 5)
 SHUTDOWNS = 300, 1000
 
@@ -43,15 +43,17 @@ MOST_FOR_Z3 = 300
 class Found:
     """What is known: the starts, the bound, the seconds up to the first schedule, and the memory in MiB."""
 
-    def __init__(self):
-        self.starts = self.bound = self.first = None
+    def __init__(self) -> None:
+        self.starts: list[int] | None = None
+        self.bound: int | None = None
+        self.first: float | None = None
         self.none, self.memory = False, 0.0
 
-    def begin(self, seconds):
+    def begin(self, seconds: float) -> None:
         if self.first is None:
             self.first = seconds
 
-    def cell(self):
+    def cell(self) -> str:
         if self.none:
             return f"no schedule, {self.memory:.0f} MiB"
         told = ["?" if self.starts is None else str(self.starts[-1])]
@@ -62,7 +64,7 @@ class Found:
         return ", ".join([*told, f"{self.memory:.0f} MiB"])
 
 
-def take_answer(found, lines):
+def take_answer(found: Found, lines: Sequence[str]) -> None:
     """Takes an answer in the words of psmax."""
     starts = []
     for line in lines:
@@ -78,7 +80,7 @@ def take_answer(found, lines):
     found.starts = starts or None
 
 
-def psmax(program, source, project, seconds):
+def psmax(program: str, source: str, project: Project, seconds: float) -> Found:
     found, nodes = Found(), 1
     while True:
         ran = watching.watch([program, "solve", "--nodes", str(nodes)], source, 2 * seconds)
@@ -94,55 +96,53 @@ def psmax(program, source, project, seconds):
         nodes = min(MOST_NODES, int(nodes * min(GROWTH, seconds / max(ran.seconds, 0.01))) + 1)
 
 
-def psprove(program, source, project, seconds):
+def timed(words: list[str], source: str, seconds: float, schedule: str) -> Found:
+    """What a program finds that ends by itself; its lines about schedules have this pattern."""
     found = Found()
+    ran = watching.watch(words, source, 2 * seconds)
+    found.memory = ran.memory
+    for when, line in ran.lines:
+        if re.search(schedule, line):
+            found.begin(when)
+    take_answer(found, [line for _, line in ran.lines])
+    return found
+
+
+def psprove(program: str, source: str, project: Project, seconds: float) -> Found:
     words = [program, "solve", "--progress", "--seconds", str(round(seconds))]
-    ran = watching.watch(words, source, 2 * seconds)
-    found.memory = ran.memory
-    for when, line in ran.lines:
-        if re.fullmatch(r"\d+ s: schedule \d+", line):
-            found.begin(when)
-    take_answer(found, [line for _, line in ran.lines])
-    return found
+    return timed(words, source, seconds, r"^\d+ s: schedule \d+$")
 
 
-def plan(program, source, project, seconds):
-    found = Found()
+def plan(program: str, source: str, project: Project, seconds: float) -> Found:
     words = [program, "solve", source, "--seconds", f"{max(1, round(seconds))}", "--jobs", "1"]
-    ran = watching.watch(words, source, 2 * seconds)
-    found.memory = ran.memory
-    for when, line in ran.lines:
-        if re.search(r"\d s  schedule \d+, unproved", line):
-            found.begin(when)
-    take_answer(found, [line for _, line in ran.lines])
-    return found
+    return timed(words, source, seconds, r"\d s  schedule \d+, unproved")
 
 
-def gecode(program, source, project, seconds):
+def gecode(program: str, source: str, project: Project, seconds: float) -> Found:
     found = Found()
     with tempfile.NamedTemporaryFile("w", suffix=".fzn") as model:
-        model.write(models.flatzinc(*project))
+        model.write(models.flatzinc(project))
         model.flush()
         ran = watching.watch([program, "-a", model.name], source, seconds)
     found.memory = ran.memory
     for when, line in ran.lines:
         if line.startswith("starts = "):
             found.begin(when)
-            found.starts = list(map(int, re.search(r"\[(.*)\]", line)[1].split(",")))
+            found.starts = [int(word) for word in re.findall(r"\d+", line.partition("[")[2])]
         elif line == "=" * 10:
-            found.bound = found.starts[-1]
+            found.bound = found.starts[-1] if found.starts else None
         elif line == "=====UNSATISFIABLE=====":
             found.none = True
     return found
 
 
-def z3(program, source, project, seconds):
+def z3(program: str, source: str, project: Project, seconds: float) -> Found | None:
     found = Found()
     names = [f"s{i}" for i in range(len(project[0]))]
     if len(names) - 2 > MOST_FOR_Z3:
         return None
 
-    def reply(line):
+    def reply(line: str) -> bytes | None:
         if line == "sat":
             return f"(get-value ({' '.join(names)}))(echo \"told\")\n".encode()
         if line == "told":
@@ -153,9 +153,9 @@ def z3(program, source, project, seconds):
         told.append(line)
         return None if line in ("unsat", "unknown") else b""
 
-    told = []
+    told: list[str] = []
     with tempfile.NamedTemporaryFile("w", suffix=".smt2") as model:
-        model.write(models.smt(*project))
+        model.write(models.smt(project))
         model.flush()
         ran = watching.watch([program, "-in", "-smt2"], model.name, seconds, reply)
     found.memory = ran.memory
@@ -164,7 +164,7 @@ def z3(program, source, project, seconds):
             found.begin(when)
         elif line == "unsat":
             found.none = found.starts is None
-            found.bound = found.starts and found.starts[-1]
+            found.bound = found.starts[-1] if found.starts else None
     return found
 
 
@@ -175,14 +175,15 @@ PROGRAMS = (
     ("gecode", "Gecode", gecode, "fzn-gecode"),
     ("z3", "z3", z3, "z3"),
 )
+Column = tuple[str, Callable[[str, str, Project, float], Found | None], str]  # its title, how a program runs, and that program
 
 
-def fault(project, starts):
+def fault(project: Project, starts: Sequence[int]) -> str | None:
     """What a schedule breaks, none if it is feasible."""
-    durations, demands, capacities, arcs = project
+    durations, demands, capacities, _ = project
     if len(starts) != len(durations) or starts[0]:
         return "not the starts of the project"
-    for i, j, lag in models.all_arcs(durations, arcs):
+    for i, j, lag in models.all_arcs(project):
         if starts[j] < starts[i] + lag:
             return f"lag {i} {j} {lag}"
     for time in set(starts):
@@ -193,7 +194,7 @@ def fault(project, starts):
     return None
 
 
-def chosen_projects():
+def chosen_projects() -> Iterator[tuple[str, Project]]:
     for n in SIZES:
         for strength, loops in STRENGTHS:
             yield f"network {n}, strength {strength}", networks.project(n, 1, strength, loops=loops)
@@ -201,11 +202,10 @@ def chosen_projects():
         yield f"shutdown {n}", shutdown.project(n, 1)
 
 
-def row(name, project, programs, seconds):
-    durations, _, _, arcs = project
+def row(name: str, project: Project, programs: Sequence[Column], seconds: float) -> None:
     cells = [name]
-    with tempfile.NamedTemporaryFile("w", suffix=".sch") as source:
-        source.write(projects.text(*project))
+    with tempfile.NamedTemporaryFile(suffix=".sch") as source:
+        source.write(project.text())
         source.flush()
         for title, run, program in programs:
             found = run(program, source.name, project, seconds)
@@ -213,23 +213,18 @@ def row(name, project, programs, seconds):
             if wrong:
                 sys.exit(f"{title} has no schedule of {name}: {wrong}")
             cells.append(found.cell() if found else "")
-    print("| " + " | ".join(cells) + " |", flush=True)
+    measuring.row(*cells)
 
 
-def main():
+def main() -> None:
     parser = argparse.ArgumentParser(description=__doc__, formatter_class=argparse.RawDescriptionHelpFormatter)
     parser.add_argument("--seconds", type=float, default=60.0)
     parser.add_argument("--only", default="")
     for option, title, _, name in PROGRAMS:
         parser.add_argument(f"--{option}", default=shutil.which(name), help=f"the program of the column {title}")
     o = parser.parse_args()
-    programs = []
-    for option, title, run, _ in PROGRAMS:
-        named = getattr(o, option)
-        if named:
-            programs.append((title, run, str(pathlib.Path(named).resolve())))
-    print("| Project | " + " | ".join(title for title, _, _ in programs) + " |")
-    print("|---" * (1 + len(programs)) + "|", flush=True)
+    programs = [(title, run, measuring.path(getattr(o, option))) for option, title, run, _ in PROGRAMS if getattr(o, option)]
+    measuring.heads("Project", *(title for title, _, _ in programs))
     for name, project in chosen_projects():
         if o.only in name:
             row(name, project, programs, o.seconds)

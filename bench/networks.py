@@ -4,24 +4,25 @@
 Writes a project of N activities in the manner of ProGen/max (Schwindt 1998), the same for the same numbers.
 
 An activity takes 1 to 10 periods and needs 1 to 10 units of about half of the 5 resources. One to three arcs lead
-from it to some of the next W activities, N / 8 if not said; a least lag is half to one and a half of its duration.
-For L activities in a hundred, 10 if not said, a greatest lag leads back over a few of these arcs. The earliest
-starts of the least lags keep it, so that no lags contradict each other.
+from it to some of the next W activities, N / 8 if not said; a minimum lag is half to one and a half of its duration.
+For L activities in a hundred, 10 if not said, a maximum lag leads back over a few of these arcs. The earliest
+starts of the minimum lags keep it, so that no lags contradict each other.
 
 The resource strength S, from 0 to 1, sets the capacities: with 0 a resource serves the activity alone that needs
 the most of it, with 1 it serves all at their earliest starts."""
-import argparse
 import random
 import sys
+from collections.abc import Sequence
 
 import projects
+from projects import Arc, Project, earliest
 
 RESOURCES = 5
 USED = 0.5
 MOST = 10
 
 
-def least_lags(rng, durations, width):
+def least_lags(rng: random.Random, durations: Sequence[int], width: int) -> list[Arc]:
     n = len(durations) - 2
     arcs = []
     for i in range(1, n):
@@ -31,16 +32,8 @@ def least_lags(rng, durations, width):
     return arcs
 
 
-def earliest(count, arcs):
-    """The earliest starts by arcs that lead on."""
-    starts = [0] * count
-    for i, j, lag in arcs:
-        starts[j] = max(starts[j], starts[i] + lag)
-    return starts
-
-
-def greatest_lags(rng, n, arcs, starts, loops):
-    after = {}
+def greatest_lags(rng: random.Random, n: int, arcs: Sequence[Arc], starts: Sequence[int], loops: float) -> list[Arc]:
+    after: dict[int, list[int]] = {}
     for i, j, _ in arcs:
         after.setdefault(i, []).append(j)
     back = []
@@ -54,7 +47,7 @@ def greatest_lags(rng, n, arcs, starts, loops):
     return back
 
 
-def peak(durations, demands, starts, resource):
+def peak(durations: Sequence[int], demands: Sequence[Sequence[int]], starts: Sequence[int], resource: int) -> int:
     """The most that activities need of a resource at a time."""
     use = 0
     for time in sorted(set(starts)):
@@ -63,7 +56,7 @@ def peak(durations, demands, starts, resource):
     return use
 
 
-def project(n, seed, strength=0.25, width=None, loops=10):
+def project(n: int, seed: int, strength: float = 0.25, width: int | None = None, loops: float = 10) -> Project:
     rng = random.Random(f"network {n} {seed} {strength}")
     durations = [0] + [rng.randint(1, 10) for _ in range(n)] + [0]
     demands = [[0] * RESOURCES]
@@ -77,18 +70,16 @@ def project(n, seed, strength=0.25, width=None, loops=10):
         least = max(row[k] for row in demands)
         most = max(least, peak(durations, demands, starts, k))
         capacities.append(least + round(strength * (most - least)))
-    return durations, demands, capacities, arcs + greatest_lags(rng, n, arcs, starts, loops)
+    return Project(durations, demands, capacities, arcs + greatest_lags(rng, n, arcs, starts, loops))
 
 
-def main():
-    parser = argparse.ArgumentParser()
-    parser.add_argument("n", type=int)
-    parser.add_argument("seed", type=int)
+def main() -> None:
+    parser = projects.words(__doc__)
     parser.add_argument("--strength", type=float, default=0.25)
     parser.add_argument("--width", type=int)
     parser.add_argument("--loops", type=float, default=10)
     o = parser.parse_args()
-    sys.stdout.write(projects.text(*project(o.n, o.seed, o.strength, o.width, o.loops)))
+    sys.stdout.buffer.write(project(o.n, o.seed, o.strength, o.width, o.loops).text())
 
 
 if __name__ == "__main__":

@@ -1,18 +1,51 @@
 #!/usr/bin/env python3
 """bench/projects.py N SEED [--resources K] [--tight T] [--busy P] [--reach R] [--wide] > PROJECT.sch
 
-Writes a project of N activities with least and greatest lags, the same for the same numbers.
+Writes a project of N activities with minimum and maximum lags, the same for the same numbers.
 
-Each activity has one to three followers among the next eight (--reach), with a least lag of its duration or less,
-and now and then a greatest lag back, which leaves the earliest starts of the least lags feasible, so that
+Each activity has one to three followers among the next eight (--reach), with a minimum lag of its duration or less,
+and now and then a maximum lag back, which leaves the earliest starts of the minimum lags feasible, so that
 no lags contradict each other. An activity uses a resource with probability P, and then about T of these fit at
 once. With --wide the resources have capacities of 12 to 24, an activity uses most of them, each by an eighth to a third of
 its capacity, and one in twelve uses more than half of one: few are rivals."""
 import argparse
 import random
+import sys
+from collections.abc import Sequence
+from typing import NamedTuple
+
+Arc = tuple[int, int, int]
 
 
-def project(n, seed, resources=5, tight=3, busy=0.5, reach=8):
+class Project(NamedTuple):
+    durations: list[int]
+    demands: list[list[int]]
+    capacities: list[int]
+    arcs: list[Arc]
+
+    def text(self) -> bytes:
+        lines: list[Sequence[object]] = [[len(self.durations) - 2, len(self.capacities), 0, 0]]
+        followers: dict[int, list[tuple[int, int]]] = {}
+        for i, j, lag in self.arcs:
+            followers.setdefault(i, []).append((j, lag))
+        for i in range(len(self.durations)):
+            out = followers.get(i, [])
+            lines.append([i, 1, len(out), *(j for j, _ in out), *(f"[{lag}]" for _, lag in out)])
+        lines += [[i, 1, duration, *row] for i, (duration, row) in enumerate(zip(self.durations, self.demands))]
+        if self.capacities:
+            lines.append(self.capacities)
+        return "".join(" ".join(map(str, line)) + "\n" for line in lines).encode()
+
+
+def earliest(count: int, arcs: Sequence[Arc]) -> list[int]:
+    """The earliest starts by arcs that lead on."""
+    starts = [0] * count
+    for i, j, lag in arcs:
+        starts[j] = max(starts[j], starts[i] + lag)
+    return starts
+
+
+def project(n: int, seed: int, resources: int = 5, tight: int = 3, busy: float = 0.5, reach: int = 8) -> Project:
     rng = random.Random(1_000_003 * n + seed)
     durations = [0] + [rng.randint(1, 10) for _ in range(n)] + [0]
     capacities = [rng.randint(6, 10) for _ in range(resources)]
@@ -26,18 +59,16 @@ def project(n, seed, resources=5, tight=3, busy=0.5, reach=8):
         last = min(n, i + reach)
         for j in sorted(rng.sample(range(i + 1, last + 1), min(rng.randint(1, 3), last - i))):
             arcs.append((i, j, rng.choice((durations[i], rng.randint(0, durations[i])))))
-    starts = [0] * (n + 2)
-    for i, j, lag in arcs:
-        starts[j] = max(starts[j], starts[i] + lag)
+    starts = earliest(n + 2, arcs)
     for i, j, _ in list(arcs):
         if rng.random() < 0.15:
             arcs.append((j, i, -(starts[j] - starts[i] + rng.randint(2, 15))))
-    return durations, demands, capacities, arcs
+    return Project(durations, demands, capacities, arcs)
 
 
-def wide(n, seed, resources=3):
+def wide(n: int, seed: int, resources: int = 3) -> Project:
     """A project in whose resources few activities are rivals. A follower may be any later activity."""
-    durations, _, _, arcs = project(n, seed, 0, reach=n)
+    made = project(n, seed, 0, reach=n)
     rng = random.Random(1_000_003 * n + 7 * seed + 1)
     capacities = [rng.randint(12, 24) for _ in range(resources)]
     demands = [[0] * resources]
@@ -47,10 +78,10 @@ def wide(n, seed, resources=3):
             place = rng.randrange(resources)
             row[place] = rng.randint(capacities[place] // 2 + 1, capacities[place])
         demands.append(row)
-    return durations, [*demands, [0] * resources], capacities, arcs
+    return made._replace(demands=[*demands, [0] * resources], capacities=capacities)
 
 
-def job_shop(jobs, machines, seed):
+def job_shop(jobs: int, machines: int, seed: int) -> Project:
     """Jobs that each take 1 to 10 periods on every machine, one machine after the other in an order of their own."""
     rng = random.Random(1_000_003 * jobs + 1_009 * machines + seed)
     durations, demands, arcs = [0], [[0] * machines], []
@@ -61,29 +92,19 @@ def job_shop(jobs, machines, seed):
                 arcs.append((len(durations) - 1, len(durations), durations[-1]))
             durations.append(rng.randint(1, 10))
             demands.append([int(k == machine) for k in range(machines)])
-    return durations + [0], demands + [[0] * machines], [1] * machines, arcs
+    return Project(durations + [0], demands + [[0] * machines], [1] * machines, arcs)
 
 
-def text(durations, demands, capacities, arcs):
-    lines = [f"{len(durations) - 2} {len(capacities)} 0 0"]
-    followers = {}
-    for i, j, lag in arcs:
-        followers.setdefault(i, []).append((j, lag))
-    for i in range(len(durations)):
-        out = followers.get(i, [])
-        words = [i, 1, len(out), *(j for j, _ in out), *(f"[{lag}]" for _, lag in out)]
-        lines.append(" ".join(map(str, words)))
-    for i, (duration, row) in enumerate(zip(durations, demands)):
-        lines.append(" ".join(map(str, [i, 1, duration, *row])))
-    if capacities:
-        lines.append(" ".join(map(str, capacities)))
-    return "\n".join(lines) + "\n"
-
-
-def main():
-    parser = argparse.ArgumentParser()
+def words(page: str | None) -> argparse.ArgumentParser:
+    """The words of a script that makes a project of N activities."""
+    parser = argparse.ArgumentParser(description=page, formatter_class=argparse.RawDescriptionHelpFormatter)
     parser.add_argument("n", type=int)
     parser.add_argument("seed", type=int)
+    return parser
+
+
+def main() -> None:
+    parser = words(__doc__)
     parser.add_argument("--resources", type=int, default=5)
     parser.add_argument("--tight", type=int, default=3)
     parser.add_argument("--busy", type=float, default=0.5)
@@ -91,7 +112,7 @@ def main():
     parser.add_argument("--wide", action="store_true")
     o = parser.parse_args()
     made = wide(o.n, o.seed, o.resources) if o.wide else project(o.n, o.seed, o.resources, o.tight, o.busy, o.reach)
-    print(text(*made), end="")
+    sys.stdout.buffer.write(made.text())
 
 
 if __name__ == "__main__":

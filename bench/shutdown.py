@@ -5,14 +5,14 @@ Writes a project of N activities like the shutdown of a plant, in hours, the sam
 
 A plant has areas, and an area has items: vessels, exchangers, columns, pumps and valves. An area is drained first,
 and is tested and started once all its items are closed. Each kind of item has its row of jobs, which crews of nine
-trades do: it is opened, cleaned, inspected, perhaps repaired, and closed. Three rules are greatest lags: an item
+trades do: it is opened, cleaned, inspected, perhaps repaired, and closed. Three rules are maximum lags: an item
 stands open no longer than its kind allows, a scaffold is struck in time, and an item is closed before its
 inspection is too old."""
-import argparse
 import random
 import sys
 
 import projects
+from projects import Project
 
 TRADES = {"operator": 6, "fitter": 9, "cleaner": 5, "inspector": 3, "welder": 4, "rigger": 3, "scaffolder": 5,
           "electrician": 3, "insulator": 3}
@@ -50,7 +50,7 @@ KINDS = {
     "valve": (6, "isolate open overhaul inspect close release"),
 }
 
-# Greatest lags from the start of one job to that of another, in hours besides those of the jobs on the way.
+# Maximum lags from the start of one job to that of another, in hours besides those of the jobs on the way.
 WITHIN = (("open", "close", 60), ("lift", "set", 40), ("inspect", "close", 48), ("inspect", "set", 48),
           ("scaffold", "strike", 120))
 
@@ -60,11 +60,12 @@ ITEMS_OF_AN_AREA = 8
 class Plant:
     """The jobs so far, and the arcs between them."""
 
-    def __init__(self, seed):
+    def __init__(self, seed: int) -> None:
         self.rng = random.Random(f"plant {seed}")
-        self.durations, self.demands, self.arcs = [0], [[0] * len(TRADES)], []
+        self.durations, self.demands = [0], [[0] * len(TRADES)]
+        self.arcs: list[projects.Arc] = []
 
-    def job(self, name, *before):
+    def job(self, name: str, *before: int) -> int:
         least, most, crew, _ = JOBS[name]
         job = len(self.durations)
         self.durations.append(self.rng.randint(least, most))
@@ -72,11 +73,12 @@ class Plant:
         self.arcs += [(i, job, self.durations[i]) for i in before]
         return job
 
-    def item(self, drained, most):
+    def item(self, drained: int, most: int) -> int:
         """An item of at most so many jobs, in an area that is drained. Gives its last job."""
         _, names = self.rng.choices(list(KINDS.values()), [common for common, _ in KINDS.values()])[0]
         there = [name for name in names.split() if self.rng.random() < JOBS[name][3]][:most]
-        jobs, last = {}, drained
+        jobs: dict[str, int] = {}
+        last = drained
         for name in there:
             last = jobs[name] = self.job(name, last)
         for first, then, hours in WITHIN:
@@ -85,17 +87,17 @@ class Plant:
                 self.arcs.append((jobs[then], jobs[first], -(span + hours)))
         return last
 
-    def area(self, most):
+    def area(self, most: int) -> None:
         """An area of at most so many jobs."""
         drained = self.job("drain")
         end = len(self.durations) + most - 2
-        last = []
+        last: list[int] = []
         while len(last) < ITEMS_OF_AN_AREA and len(self.durations) < end:
             last.append(self.item(drained, end - len(self.durations)))
         self.job("start", *(last or [drained]))
 
 
-def project(n, seed):
+def project(n: int, seed: int) -> Project:
     plant = Plant(seed)
     while len(plant.durations) + 1 < n:
         plant.area(n + 1 - len(plant.durations))
@@ -104,16 +106,9 @@ def project(n, seed):
     more = max(1, n / TRADES_FOR) ** 0.5
     capacities = [round(count * more) for count in TRADES.values()]
     none = [0] * len(TRADES)
-    return plant.durations + [0], plant.demands + [none], capacities, plant.arcs
-
-
-def main():
-    parser = argparse.ArgumentParser()
-    parser.add_argument("n", type=int)
-    parser.add_argument("seed", type=int)
-    o = parser.parse_args()
-    sys.stdout.write(projects.text(*project(o.n, o.seed)))
+    return Project(plant.durations + [0], plant.demands + [none], capacities, plant.arcs)
 
 
 if __name__ == "__main__":
-    main()
+    given = projects.words(__doc__).parse_args()
+    sys.stdout.buffer.write(project(given.n, given.seed).text())

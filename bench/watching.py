@@ -7,19 +7,24 @@ import signal
 import subprocess
 import threading
 import time
+from collections.abc import Callable
+from typing import IO
 
 GLANCE = 0.05  # seconds between two looks at what a program has used
 GRACE = 30.0  # seconds that it has to end in, once it was asked to
 TICKS = os.sysconf("SC_CLK_TCK")
+Texts = queue.SimpleQueue[bytes | None]  # what is written to a program, and none to end it
+Reply = Callable[[str], bytes | None]
 
 
 class Watched:
     """What a program wrote, as pairs of seconds of processor time and a line; and what it took in all."""
 
-    def __init__(self):
-        self.lines, self.seconds, self.memory, self.stopped = [], 0.0, 0.0, False
+    def __init__(self) -> None:
+        self.lines: list[tuple[float, str]] = []
+        self.seconds, self.memory, self.stopped = 0.0, 0.0, False
 
-    def look(self, pid):
+    def look(self, pid: int) -> None:
         seconds = memory = 0.0
         for process in family(pid):
             used, peak = taken(process)
@@ -29,7 +34,7 @@ class Watched:
         self.memory = max(self.memory, memory)
 
 
-def family(pid):
+def family(pid: int) -> list[int]:
     """A process and those that it started, as far as they run."""
     found = [pid]
     for process in found:
@@ -40,7 +45,7 @@ def family(pid):
     return found
 
 
-def taken(process):
+def taken(process: int) -> tuple[float, float]:
     """The processor time of a process and of its children that ended, and its peak memory in MiB."""
     try:
         numbers = pathlib.Path(f"/proc/{process}/stat").read_text().rpartition(")")[2].split()
@@ -51,7 +56,7 @@ def taken(process):
     return sum(map(int, numbers[11:15])) / TICKS, int(peak[0]) / 1024 if peak else 0.0
 
 
-def feed(stream, texts):
+def feed(stream: IO[bytes], texts: Texts) -> None:
     """Writes texts as they come, up to none."""
     with stream:
         for text in iter(texts.get, None):
@@ -62,14 +67,14 @@ def feed(stream, texts):
                 return
 
 
-def watch(command, source, seconds, reply=None):
+def watch(command: list[str], source: str, seconds: float, reply: Reply | None = None) -> Watched:
     """Runs a command on a file as its input. After so many seconds of processor time it is asked to end. `reply` gives
     for each line what is written to the program then, and none to end its input; without it the file is all."""
     with open(source, "rb") as given:
         child = subprocess.Popen(command, stdin=subprocess.PIPE if reply else given, stdout=subprocess.PIPE,
                                  stderr=subprocess.STDOUT, start_new_session=True)
-        texts = queue.SimpleQueue()
-        if reply:
+        texts: Texts = queue.SimpleQueue()
+        if child.stdin:
             texts.put(given.read())
             threading.Thread(target=feed, args=(child.stdin, texts), daemon=True).start()
     watched = Watched()
@@ -81,8 +86,9 @@ def watch(command, source, seconds, reply=None):
     return watched
 
 
-def follow(child, watched, seconds, take):
+def follow(child: subprocess.Popen[bytes], watched: Watched, seconds: float, take: Callable[[str], None]) -> None:
     """Reads lines until the program ends, or is not in time once it was asked to end."""
+    assert child.stdout is not None
     rest, asked = b"", None
     while asked is None or time.monotonic() < asked + GRACE:
         ready, _, _ = select.select([child.stdout], [], [], GLANCE)
@@ -100,11 +106,12 @@ def follow(child, watched, seconds, take):
             child.send_signal(signal.SIGTERM)
 
 
-def end(child):
+def end(child: subprocess.Popen[bytes]) -> None:
     if child.poll() is None:
         try:
             child.wait(0.2)
         except subprocess.TimeoutExpired:
             os.killpg(child.pid, signal.SIGKILL)
             child.wait()
-    child.stdout.close()
+    if child.stdout:
+        child.stdout.close()

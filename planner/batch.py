@@ -101,7 +101,8 @@ def row_of(path: pathlib.Path, wanted: Batch, clock: Clock) -> Row | None:
         faults = [line.removeprefix("plan: ") for line in out_of_it[1].splitlines() if line.startswith("plan: ")]
         return row | {"status": FAULT, "fault": "; ".join(faults) or f"exit status {child.returncode}"}
     told = json.loads(out_of_it[0])
-    known = {head: f"{told[head]}" for head in ("status", "makespan", "bound", "seconds", "conflicts") if told[head] is not None}
+    heads = "status", "makespan", "bound", "seconds", "conflicts"
+    known = {head: f"{told[head]}" for head in heads if told[head] is not None}
     return row | known | {"activities": f"{len(told['durations'])}", "plan": told["versions"]["plan"],
                           "psprove": told["versions"]["psprove"]}
 

@@ -1,4 +1,4 @@
-"""A smallest set of greatest lags and resources that contradict each other: without any one of them there is a schedule."""
+"""A smallest set of maximum lags and resources that contradict each other: without any one of them there is a schedule."""
 import math
 import os
 from dataclasses import dataclass, field

@@ -51,38 +51,43 @@ def part(text: str) -> tuple[int, int]:
 
 
 def parser() -> Parser:
-    about = "Plan projects with psmax and psprove: every claim is checked or proved by them."
-    top = Parser(prog="plan", description=about)
+    shown = argparse.RawDescriptionHelpFormatter
+    top = Parser(prog="plan", description=ABOUT, epilog=STATUSES, formatter_class=shown)
     top.add_argument("--version", action=Version, nargs=0, help="print the versions of plan, its programs and Python")
     commands = top.add_subparsers(dest="command", required=True, metavar="COMMAND")
-    for name, add, text in COMMANDS:
-        add(commands.add_parser(name, help=text, description=text[:1].upper() + text[1:] + "."))
+    for name, add, text, reads, example in COMMANDS:
+        epilog = f"example:\n  plan {name} {example}\n\n{STATUSES}"
+        add(commands.add_parser(name, help=text, description=reads, epilog=epilog, formatter_class=shown))
     return top
 
 
 def add_solve(one: argparse.ArgumentParser) -> None:
-    one.add_argument("project", metavar="PROJECT")
+    add_project(one)
     add_limits(one)
     add_start(one)
-    one.add_argument("--out", metavar="FILE", help="write the schedule there, each time it gets shorter")
-    one.add_argument("--svg", metavar="FILE", help="draw the schedule there")
-    one.add_argument("--record", metavar="FILE", help="write the record there that proves the bound")
+    one.add_argument("--out", metavar="FILE", help="write each shorter schedule into FILE")
+    one.add_argument("--svg", metavar="FILE", help="draw the schedule into FILE")
+    one.add_argument("--record", metavar="FILE", help="write the record that proves the bound into FILE")
     one.add_argument("--json", action="store_true", help="print the answer as one line of JSON")
     add_calendar(one)
     one.set_defaults(run=lambda o: solve.solve(o.project, start(o), solve.Options(
         o.seconds, o.jobs, o.out, o.svg, o.record, o.json)))
 
 
+def add_project(one: argparse.ArgumentParser) -> None:
+    one.add_argument("project", metavar="PROJECT", help="a project in a .sch file")
+
+
 def add_limits(one: argparse.ArgumentParser) -> None:
     one.add_argument("--seconds", type=number(1, MOST_SECONDS), default=60, metavar="S",
-                     help="stop after so many seconds (60)")
+                     help="stop after S seconds (default 60)")
     one.add_argument("--jobs", type=number(1, MOST_JOBS), default=PROCESSORS, metavar="N",
-                     help="search in so many ways side by side (as many as there are processors)")
+                     help="run N searches side by side (default: the number of processors)")
 
 
 def add_start(one: argparse.ArgumentParser) -> None:
-    one.add_argument("--start", metavar="ANSWER", help="begin with this schedule")
-    one.add_argument("--frozen", metavar="DAY", help="what starts before this day or period in the --start stays")
+    one.add_argument("--start", metavar="ANSWER", help="start from this schedule")
+    one.add_argument("--frozen", metavar="DAY", help="keep what starts before this day or period in --start")
 
 
 def start(options: argparse.Namespace) -> Start:
@@ -90,7 +95,7 @@ def start(options: argparse.Namespace) -> Start:
 
 
 def add_verify(one: argparse.ArgumentParser) -> None:
-    one.add_argument("project", metavar="PROJECT")
+    add_project(one)
     one.add_argument("record", metavar="RECORD", help="a record of psprove or psmax")
     add_start(one)
     add_calendar(one)
@@ -99,23 +104,24 @@ def add_verify(one: argparse.ArgumentParser) -> None:
 
 def add_read(one: argparse.ArgumentParser) -> None:
     one.add_argument("table", metavar="TABLE", help="a table in CSV, or a .sch file")
-    one.add_argument("--out", metavar="PROJECT", help="write the project there (beside the table, with .sch)")
+    one.add_argument("--out", metavar="PROJECT", help="write the project there (default: beside the table, as .sch)")
     add_calendar(one)
     one.set_defaults(run=lambda o: read.read(o.table, o.out, wanted(o)))
 
 
 def add_schedule(one: argparse.ArgumentParser) -> None:
-    one.add_argument("project", metavar="PROJECT")
-    one.add_argument("answer", metavar="ANSWER", nargs="?", help="an answer of plan or psmax, or starts (standard input)")
-    one.add_argument("--names", metavar="PAGE", help="the page of names (the .md file beside the project)")
+    add_project(one)
+    one.add_argument("answer", metavar="ANSWER", nargs="?",
+                     help="an answer of plan, psmax or psprove, or starts (default: standard input)")
+    one.add_argument("--names", metavar="PAGE", help="the page of names (default: the .md file beside the project)")
 
 
 def add_calendar(one: argparse.ArgumentParser) -> None:
-    """The calendar; what isn't said here the page of names may say."""
-    one.add_argument("--from", dest="first", metavar="DATE", help="the day, or the moment, at which the project starts")
-    one.add_argument("--period", choices=[*MINUTES], help="what a period is (as the table has it)")
-    one.add_argument("--workdays", metavar="DAYS", help="the days with work, such as mon-fri (every day)")
-    one.add_argument("--holidays", metavar="FILE", help="days without work, a date a line")
+    """The calendar. The page of names says what these options do not."""
+    one.add_argument("--from", dest="first", metavar="DATE", help="the day or the moment at which the project starts")
+    one.add_argument("--period", choices=[*MINUTES], help="the unit of time (default: as the table says)")
+    one.add_argument("--workdays", metavar="DAYS", help="the days with work, such as mon-fri (default: every day)")
+    one.add_argument("--holidays", metavar="FILE", help="a file of days without work, one date a line")
 
 
 def wanted(options: argparse.Namespace) -> Wanted:
@@ -123,9 +129,11 @@ def wanted(options: argparse.Namespace) -> Wanted:
 
 
 def add_table(one: argparse.ArgumentParser) -> None:
-    one.add_argument("--out", metavar="FILE", help="write the table there")
-    one.add_argument("--excel", action="store_true", help="as a spreadsheet opens it: UTF-8 with a mark, its separator")
-    one.add_argument("--separator", choices=[*SEPARATORS], help="between cells (comma; with --excel that of the table)")
+    one.add_argument("--out", metavar="FILE", help="write the table into FILE")
+    one.add_argument("--excel", action="store_true",
+                     help="write for a spreadsheet: a byte order mark, and the table's separator")
+    one.add_argument("--separator", choices=[*SEPARATORS],
+                     help="between cells (default: comma; with --excel that of the table)")
 
 
 def table(options: argparse.Namespace) -> write.Table:
@@ -150,9 +158,9 @@ def add_float(one: argparse.ArgumentParser) -> None:
 
 
 def add_chart(one: argparse.ArgumentParser) -> None:
-    one.add_argument("--svg", metavar="FILE", help="draw a picture there instead")
+    one.add_argument("--svg", metavar="FILE", help="draw a picture into FILE instead")
     one.add_argument("--width", type=number(20, 500), default=80, metavar="COLUMNS",
-                     help="columns for the time, at most (80)")
+                     help="columns for the time, 20 to 500 (default 80)")
 
 
 def add_gantt(one: argparse.ArgumentParser) -> None:
@@ -164,7 +172,7 @@ def add_gantt(one: argparse.ArgumentParser) -> None:
 
 def add_report(one: argparse.ArgumentParser) -> None:
     add_schedule(one)
-    one.add_argument("--out", metavar="FILE", required=True, help="write the page there")
+    one.add_argument("--out", metavar="FILE", required=True, help="write the page into FILE")
     one.add_argument("--record", metavar="RECORD", help="the record that proves the bound")
     add_start(one)
     add_calendar(one)
@@ -178,10 +186,10 @@ def add_check(one: argparse.ArgumentParser) -> None:
 
 def add_compare(one: argparse.ArgumentParser) -> None:
     one.add_argument("old", metavar="OLD", help="an answer")
-    one.add_argument("new", metavar="NEW", help="another one")
-    one.add_argument("--names", metavar="PAGE", help="a page of names, for an answer that has none, and for the calendar")
-    one.add_argument("--why", metavar="PROJECT", help="say why no schedule of this project ends as soon as OLD")
-    one.add_argument("--out", metavar="FOLDER", help="write what proves it into this new folder")
+    one.add_argument("new", metavar="NEW", help="a later answer")
+    one.add_argument("--names", metavar="PAGE", help="a page of names, for an answer without names and for the calendar")
+    one.add_argument("--why", metavar="PROJECT", help="explain why no schedule of this project ends as early as OLD")
+    one.add_argument("--out", metavar="FOLDER", help="write the proof into this new folder")
     add_limits(one)
     add_calendar(one)
     one.set_defaults(run=lambda o: compare.compare(
@@ -189,34 +197,37 @@ def add_compare(one: argparse.ArgumentParser) -> None:
 
 
 def add_why(one: argparse.ArgumentParser) -> None:
-    one.add_argument("project", metavar="PROJECT")
-    one.add_argument("--within", type=number(0, MOST_UNITS), metavar="C", help="why no schedule ends by the period C")
-    one.add_argument("--out", metavar="FOLDER", help="write what proves it into this new folder")
+    add_project(one)
+    one.add_argument("--within", type=number(0, MOST_UNITS), metavar="C", help="explain why no schedule ends by period C")
+    one.add_argument("--out", metavar="FOLDER", help="write the proof into this new folder")
     add_limits(one)
     one.set_defaults(run=lambda o: why.why(o.project, o.within, o.seconds, o.jobs, o.out))
 
 
 def add_whatif(one: argparse.ArgumentParser) -> None:
-    one.add_argument("project", metavar="PROJECT")
-    one.add_argument("--names", metavar="PAGE", help="the page of names (the .md file beside the project)")
+    add_project(one)
+    one.add_argument("--names", metavar="PAGE", help="the page of names (default: the .md file beside the project)")
     add_limits(one)
     add_table(one)
     one.set_defaults(run=lambda o: whatif.whatif(o.project, o.names, o.seconds, o.jobs, table(o)))
 
 
 def add_where(one: argparse.ArgumentParser) -> None:
-    one.add_argument("project", metavar="PROJECT")
+    add_project(one)
     one.set_defaults(run=lambda o: where.where(o.project))
 
 
 def add_batch(one: argparse.ArgumentParser) -> None:
-    one.add_argument("folder", metavar="FOLDER", nargs="?", help="its .sch files are the projects")
-    one.add_argument("--seconds", type=number(1, MOST_SECONDS), default=60, metavar="S", help="for each project (60)")
-    one.add_argument("--jobs", type=number(1, MOST_PROJECTS), default=1, metavar="N", help="so many projects at a time (1)")
-    one.add_argument("--csv", metavar="FILE", help="the table; rows that it has are kept (standard output)")
-    one.add_argument("--out", metavar="FOLDER", help="write the schedules into this folder too")
-    one.add_argument("--part", type=part, default=(1, 1), metavar="I/N", help="each N-th project from the I-th on alone")
-    one.add_argument("--join", nargs="+", metavar="FILE", help="make one table of these, and search nothing")
+    one.add_argument("folder", metavar="FOLDER", nargs="?", help="the folder with the .sch files")
+    one.add_argument("--seconds", type=number(1, MOST_SECONDS), default=60, metavar="S",
+                     help="stop each search after S seconds (default 60)")
+    one.add_argument("--jobs", type=number(1, MOST_PROJECTS), default=1, metavar="N",
+                     help="search N projects at a time (default 1)")
+    one.add_argument("--csv", metavar="FILE", help="write the table there, and keep its rows (default: standard output)")
+    one.add_argument("--out", metavar="FOLDER", help="write the schedules into this folder")
+    one.add_argument("--part", type=part, default=(1, 1), metavar="I/N",
+                     help="take only each N-th project from the I-th on")
+    one.add_argument("--join", nargs="+", metavar="FILE", help="make one table from these, and do not search")
     one.set_defaults(run=run_batch)
 
 
@@ -228,18 +239,52 @@ def run_batch(options: argparse.Namespace) -> int:
     return batch.batch(batch.Batch(options.folder, options.seconds, options.jobs, options.part, options.csv, options.out))
 
 
+ABOUT = "Plans projects with psmax and psprove. They check or prove every claim."
+
+STATUSES = """exit status:
+  0    answered
+  1    a file or a program failed, or a project of a batch has a fault
+  2    the words of the command or a text have a fault
+  3    the time ran out, or you ended the search, before all was known
+  4    check found a violation, or verify a wrong line
+  130  interrupted before anything was known"""
+
+# Each command: its name, its options, what it does, what it reads and prints, and the words of an example.
 COMMANDS = (
-    ("solve", add_solve, "find a shorter and shorter schedule, with a rising bound"),
-    ("read", add_read, "make a project of a table in CSV, or clean a PSPLIB file"),
-    ("write", add_write, "write a schedule as a table in CSV"),
-    ("gantt", add_gantt, "draw a schedule as a chart"),
-    ("float", add_float, "say from when to when each activity may start, and which are critical"),
-    ("report", add_report, "write a schedule as a page of HTML, with what is proved"),
-    ("compare", add_compare, "say what moved from one schedule to another"),
-    ("verify", add_verify, "say what a record proves of a project"),
-    ("check", add_check, "say whether a schedule is feasible, and what of it is not"),
-    ("why", add_why, "say why a project has no schedule"),
-    ("whatif", add_whatif, "say what one unit more, or a greatest lag loosened or dropped, gives"),
-    ("where", add_where, "say where a project text has its fault"),
-    ("batch", add_batch, "search the projects of a folder, and make a table of what is known"),
+    ("solve", add_solve, "find a shortest schedule, with a proof",
+     """Reads a project. Searches until it has proved a shortest schedule, or until a
+limit. Prints the answer on standard output, and its progress on standard error.""",
+     "site.sch --seconds 600 --out plan.csv --record plan.rec"),
+    ("read", add_read, "make a project from a table in CSV, or clean a PSPLIB file",
+     "Reads a table or a .sch file. Writes a project, and a page with its names.",
+     "site.csv --from 2026-03-02 --workdays mon-fri"),
+    ("write", add_write, "write a schedule as a table in CSV",
+     "Reads a project and an answer. Writes a row for each activity, with its dates.", "site.sch plan.csv"),
+    ("gantt", add_gantt, "draw a schedule as a chart",
+     "Reads a project and an answer. Draws a chart, with every violation.", "site.sch plan.csv --svg site.svg"),
+    ("float", add_float, "show when each activity may start, and which are critical",
+     """Reads a project and an answer. Prints the earliest and the latest start of each
+activity while the others stay as they are.""", "site.sch plan.csv"),
+    ("report", add_report, "write a schedule as a page of HTML, with what is proved",
+     """Reads a project and an answer. Writes one page with a chart, lags, resources and
+float.""",
+     "site.sch plan.csv --record plan.rec --out site.html"),
+    ("compare", add_compare, "show what moved from one schedule to another",
+     "Reads two answers. Prints what moved, what is new and what is gone.", "old.csv new.csv --names site.md"),
+    ("verify", add_verify, "say what a record proves of a project",
+     "Reads a project and a record. Prints what it proves, or its first wrong line.", "site.sch plan.rec"),
+    ("check", add_check, "check a schedule, and list its violations",
+     "Reads a project and an answer. Prints 'feasible C', or each violation by name.", "site.sch plan.csv"),
+    ("why", add_why, "explain why a project has no schedule",
+     """Reads a project. Prints a smallest set of maximum lags and resources that
+contradict each other, and which maximum lag would open a schedule.""", "site.sch --within 30"),
+    ("whatif", add_whatif, "show which resource or maximum lag would give a shorter schedule",
+     """Reads a project. Prints the makespan with one unit more of each resource, and
+with each maximum lag longer by one period or dropped. The shortest comes first.""", "site.sch --seconds 60"),
+    ("where", add_where, "locate the fault in a project text",
+     """Reads a project text. Prints the line and column of its fault, and what should
+stand there.""", "site.sch"),
+    ("batch", add_batch, "search all projects of a folder, and make a table",
+     """Reads the .sch files of a folder. Writes a row for each project once it is known.
+The same command continues a batch that was cut off.""", "projects --seconds 20 --csv all.csv"),
 )

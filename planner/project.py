@@ -13,7 +13,7 @@ MOST_UNITS = 1_000_000  # of a duration, a demand, a capacity, and of a lag eith
 
 
 class Arc(NamedTuple):
-    """The head starts at least `lag` after the tail starts; a negative lag is a greatest lag the other way round."""
+    """The head starts at least `lag` after the tail starts; a negative lag is a maximum lag the other way round."""
 
     tail: int
     head: int
@@ -21,7 +21,7 @@ class Arc(NamedTuple):
 
 
 class Part(NamedTuple):
-    """A greatest lag, by its place among the arcs, or a resource, by its number."""
+    """A maximum lag, by its place among the arcs, or a resource, by its number."""
 
     is_lag: bool
     number: int

@@ -22,7 +22,7 @@ PSPLIB = (".sch", ".sm", ".mm")
 MARK = b"\xef\xbb\xbf"  # the byte order mark of UTF-8
 CTRL_Z = b"\x1a"  # the end of a file to old systems
 OURS = "psmax reads the .sch files of the single-mode sets of RCPSP/max"
-OTHER_SET = ("a PSPLIB file of another problem: the sets j30, j60, j90, j120 (.sm) have no greatest lags, the "
+OTHER_SET = ("a PSPLIB file of another problem: the sets j30, j60, j90, j120 (.sm) have no maximum lags, the "
              f"multi-mode sets (.mm) choose how each activity is done; {OURS}")
 MODES = f"; a PSPLIB set with several modes for an activity (MRCPSP/max) is another problem; {OURS}"
 

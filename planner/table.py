@@ -17,7 +17,7 @@ RESOURCE = re.compile(r"(.*\S)\s*\(\s*(\d+)\s*\)")
 START = "start"  # the start of the project, as something to come after
 START_OF = "start of "  # before a name: its start, and not its end
 WITH = "with "  # before a name: start to start, with lags 0 and 0
-ANY = "any"  # no least lag
+ANY = "any"  # no minimum lag
 
 
 @dataclass
@@ -167,7 +167,7 @@ def check_continuation(plan: Plan, row: Row) -> None:
 
 
 def read_lags(plan: Plan, row: Row, activity: int) -> list[Arc]:
-    """The arcs of a row: for each activity that it comes after, the least and the greatest lag."""
+    """The arcs of a row: for each activity that it comes after, the minimum and the maximum lag."""
     least, most = (kind if kind in row.columns.places else "after" for kind in ("at least", "at most"))
     low, high = read_limits(row)
     arcs = []
@@ -186,10 +186,10 @@ def read_lags(plan: Plan, row: Row, activity: int) -> list[Arc]:
 
 
 def read_limits(row: Row) -> tuple[int | None, int | None]:
-    """The least and the greatest lag of a row; one that is not there is none."""
+    """The minimum and the maximum lag of a row; one that is not there is none."""
     low, high = lag(row, "at least", 0), lag(row, "at most", None)
     if low is None and high is None:
-        raise row.fault("at least", f"'{ANY}' without a greatest lag says nothing")
+        raise row.fault("at least", f"'{ANY}' without a maximum lag says nothing")
     if low is not None and high is not None and high < low:
         raise row.fault("at most", f"at most {high} is less than at least {low}")
     return low, high

@@ -1,4 +1,4 @@
-"""`plan whatif`: what one unit more of a resource, or a greatest lag loosened or dropped, gives, proved by psprove."""
+"""`plan whatif`: what one unit more of a resource, or a maximum lag loosened or dropped, gives, proved by psprove."""
 import math
 from concurrent.futures import ThreadPoolExecutor
 from dataclasses import dataclass, replace

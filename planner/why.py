@@ -60,7 +60,7 @@ class Causes:
 
     def tell_core(self, found: Core) -> None:
         if not found.parts():
-            print("The least lags alone contradict each other, by a proof of psprove.")
+            print("The minimum lags alone contradict each other, by a proof of psprove.")
             return
         print("These contradict each other, by a proof of psprove; without any one of them there is a schedule:")
         for part in found.parts():
@@ -77,9 +77,9 @@ class Causes:
         answers = [self.without_lag(place) for place in places]
         unknown = sum(answer.status() == "unknown" for answer in answers)
         if unknown:
-            print(f"For {unknown} greatest lags it is not known whether that opens a schedule.")
+            print(f"For {unknown} maximum lags it is not known whether that opens a schedule.")
         elif all(answer.none for answer in answers):
-            print("No greatest lag, taken out alone, opens a schedule.")
+            print("No maximum lag, taken out alone, opens a schedule.")
 
     def without_lag(self, place: int) -> Solved:
         arc = self.project.arcs[place]
@@ -95,7 +95,7 @@ class Causes:
         return self.psprove.ask(project.text(), self.limits(CONFLICTS))
 
     def least_enough(self, place: int, found: tuple[int, ...]) -> tuple[int, bool]:
-        """How long a greatest lag must be at least, and whether less is known to be too little: halves what lies between
+        """How long a maximum lag must be at least, and whether less is known to be too little: halves what lies between
         the lag that is there and what a schedule without it needs."""
         arc = self.project.arcs[place]
         too_little, enough = -arc.lag, found[arc.tail] - found[arc.head]

@@ -20,7 +20,7 @@ class Words:
         return f"{self.names.activity(arc.head)} {verb} at least {self.distance(arc.lag, arc.tail)}"
 
     def greatest(self, arc: Arc, verb: str = "starts") -> str:
-        """A lag that is at most 0, as the greatest lag that it is."""
+        """A lag that is at most 0, as the maximum lag that it is."""
         return f"{self.names.activity(arc.tail)} {verb} at most {self.distance(-arc.lag, arc.head)}"
 
     def distance(self, lag: int, before: int) -> str:

@@ -3,55 +3,43 @@
 
 Plays each paragraph of tests/books.txt by the program of crates/book_events, and compares each reply. The last line counts
 the replies."""
-import argparse
-import pathlib
-import subprocess
-import sys
+from collections.abc import Iterator, Sequence
 
-HERE = pathlib.Path(__file__).resolve().parent
+import harness
+from harness import INPUTS, TOP, Verdicts
 
 
-def paragraphs():
+def paragraphs() -> Iterator[tuple[str, list[str], list[str], list[tuple[str, str]]]]:
     """Title, projects, steps without a reply, and steps each with its reply."""
-    text = (HERE / "books.txt").read_text()
+    text = (TOP / "tests" / "books.txt").read_text()
     for paragraph in text.split("\n\n")[1:]:
         title, head, *lines = paragraph.strip("\n").split("\n")
         own, other, *quiet = head.split()
-        yield title, (own, other), quiet, [(line.split()[0], line[22:]) for line in lines]
+        yield title, [own, other], quiet, [(line.split()[0], line[22:]) for line in lines]
 
 
-def played(program, projects, steps):
+def played(program: str, projects: Sequence[str], steps: Sequence[str]) -> list[str]:
     """What the program says, a line a step; after a failure its fault."""
-    text = b";".join((HERE / "inputs" / f"{name}.sch").read_bytes() for name in projects)
-    ran = subprocess.run([program, *steps], input=text, capture_output=True, timeout=60)
-    lines = ran.stdout.decode().splitlines()
-    return lines + ([] if ran.returncode == 0 else [f"exit {ran.returncode}: {ran.stderr.decode()}"])
+    text = b";".join((INPUTS / f"{name}.sch").read_bytes() for name in projects)
+    status, out, fault = harness.ended([program, *steps], text)
+    lines = [line for line in out.decode().splitlines() if line.split(" ")[0] not in ("node", "found", "kid")]
+    return lines + ([] if status == 0 else [f"exit {status}: {fault.decode()}"])
 
 
-def is_as_told(line, reply):
+def is_as_told(line: str, reply: str) -> bool:
     return line == reply if ";" in reply else line.split(";")[0] == reply
 
 
-def main():
-    parser = argparse.ArgumentParser()
-    parser.add_argument("program")
+def verdicts(words: Sequence[str]) -> Verdicts:
+    parser = harness.Words(__doc__, "program")
     parser.add_argument("--only", default="")
-    options = parser.parse_args()
-    program = str(pathlib.Path(options.program).resolve())
-    passed = failed = 0
+    o = parser.parse_args(words)
     for title, projects, quiet, steps in paragraphs():
-        if options.only not in title:
-            continue
-        lines = played(program, projects, [*quiet, *(step for step, _ in steps)])
-        lines = [line for line in lines if line.split(" ")[0] not in ("node", "found", "kid")]
-        for place, (step, reply) in enumerate(steps):
-            line = lines[place] if place < len(lines) else "nothing"
-            well = is_as_told(line, reply)
-            passed, failed = passed + well, failed + (not well)
-            if not well:
-                print(f"FAILED {title}: at {step} {line!r}, not {reply!r}")
-    print(f"{passed} passed, {failed} failed")
-    return failed > 0
+        if o.only in title:
+            lines = played(o.program, projects, [*quiet, *(step for step, _ in steps)])
+            for (step, reply), line in zip(steps, [*lines, *["nothing"] * len(steps)]):
+                yield f"{title}, {step}", None if is_as_told(line, reply) else f"{line!r}, not {reply!r}"
 
 
-sys.exit(main())
+if __name__ == "__main__":
+    harness.run(verdicts)

@@ -1,17 +1,17 @@
 """Calls of psmax and of psprove on the smallest projects that reach each of their paths, and what they have to answer."""
-import pathlib
+from collections.abc import Callable
 
+import judges
 import verify
-
-TESTS = pathlib.Path(__file__).resolve().parent
-
-
-def project(name):
-    return (TESTS / "inputs" / f"{name}.sch").read_bytes()
+from harness import INPUTS, TOP, Ended
 
 
-def lemmas(name):
-    return (TESTS / "lemmas" / name).read_bytes()
+def project(name: str) -> bytes:
+    return (INPUTS / f"{name}.sch").read_bytes()
+
+
+def lemmas(name: str) -> bytes:
+    return (TOP / "tests" / "lemmas" / name).read_bytes()
 
 
 TWO, THREE, LAGS = project("two-jobs"), project("three-jobs-capacity-two"), project("three-jobs-lags")
@@ -32,29 +32,31 @@ CHECK = ["check", "--project", "second"]
 VERIFY = ["verify", "--project", "second"]
 
 
-def shortest_of_three(out, record):
+def shortest_of_three(out: bytes, record: bytes) -> bool:
     """Whether an answer is a shortest schedule of three jobs on two machines, and a record, if there is one, proves it."""
     first, *lines = out.decode().splitlines()
     starts = [int(line.split()[1]) for line in lines]
     judge = verify.Project(THREE)
     if first != "optimal 4" or not judge.is_feasible(starts) or starts[-1] != 4:
         return False
-    return not record or verify.verify(judge, *verify.read_record(record)) == "proved optimal 4"
+    return not record or judges.by_script(judge, record) == (0, b"proved optimal 4\n", b"")
 
 
 class Call:
     """One call: its words and texts, and the usual status, output and fault, and record."""
 
-    def __init__(self, words, text, second=b"", exit=0, out=b"", fault=b"", record=b"", answer=None):
+    def __init__(self, words: list[str], text: bytes, second: bytes = b"", exit: int = 0, out: bytes = b"", fault: bytes = b"",
+                 record: bytes = b"", answer: Callable[[bytes, bytes], bool] | None = None) -> None:
         self.words, self.text, self.second = words, text, second
-        self.usual, self.record, self.answer = (exit, out, fault), record, answer
+        self.usual: Ended = exit, out, fault
+        self.record, self.answer, self.name = record, answer, " ".join(words)
 
-    def is_usual(self, ended, record):
+    def is_usual(self, ended: Ended, record: bytes) -> bool:
         if self.answer:
             return (ended[0], ended[2]) == (0, b"") and self.answer(ended[1], record)
         return ended == self.usual and record == self.record
 
-    def is_want(self, ended, record):
+    def is_want(self, ended: Ended, record: bytes) -> bool:
         """Whether a call ended for want of memory, or of a thread where it has workers or jobs."""
         status, out, fault = ended
         wants = [b"psmax: out of memory\n", b"psprove: out of memory\n"]

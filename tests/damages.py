@@ -1,64 +1,68 @@
 """Damages to a record's text: each makes other lines of its lines."""
+import random
 import re
+from collections.abc import Callable, Sequence
 
+Damage = Callable[[random.Random, list[bytes]], None]
 LEAVES = [b"solved", b"cut", b"dead"]
 NUMBER = re.compile(rb"[0-9]+")
 
 
-def without_line(rng, lines):
+def without_line(rng: random.Random, lines: list[bytes]) -> None:
     del lines[rng.randrange(len(lines))]
 
 
-def line_twice(rng, lines):
+def line_twice(rng: random.Random, lines: list[bytes]) -> None:
     lines.insert(rng.randrange(len(lines) + 1), rng.choice(lines))
 
 
-def lines_swapped(rng, lines):
+def lines_swapped(rng: random.Random, lines: list[bytes]) -> None:
     a, b = rng.randrange(len(lines)), rng.randrange(len(lines))
     lines[a], lines[b] = lines[b], lines[a]
 
 
-def other_leaf(rng, lines):
+def other_leaf(rng: random.Random, lines: list[bytes]) -> None:
     leaves = [place for place, line in enumerate(lines) if line in LEAVES]
     if leaves:
         lines[rng.choice(leaves)] = rng.choice(LEAVES)
 
 
-def other_number(rng, lines):
+def other_number(rng: random.Random, lines: list[bytes]) -> None:
     place = rng.randrange(len(lines))
     found = list(NUMBER.finditer(lines[place]))
     if found:
         number = rng.choice(found)
         value = int(number.group())
         value = rng.choice([value + 1, max(0, value - 1), rng.randrange(20), rng.randrange(10**11)])
-        lines[place] = lines[place][: number.start()] + b"%d" % value + lines[place][number.end() :]
+        lines[place] = lines[place][:number.start()] + b"%d" % value + lines[place][number.end():]
 
 
-def other_claim(rng, lines):
+def other_claim(rng: random.Random, lines: list[bytes]) -> None:
     if rng.randrange(2) or lines[1] == b"no schedule":
         lines[1] = b"optimal %d" % rng.randrange(60)
     else:
         lines[1:3] = [b"no schedule"]
 
 
-def other_byte(rng, lines):
+def other_byte(rng: random.Random, lines: list[bytes]) -> None:
     place = rng.randrange(len(lines))
     at = rng.randrange(len(lines[place]) + 1)
-    lines[place] = lines[place][:at] + bytes([rng.randrange(256)]) + lines[place][at + rng.randrange(2) :]
+    lines[place] = lines[place][:at] + bytes([rng.randrange(256)]) + lines[place][at + rng.randrange(2):]
 
 
-def cut_off(rng, lines):
+def cut_off(rng: random.Random, lines: list[bytes]) -> None:
     text = b"\n".join(lines)
-    lines[:] = text[: rng.randrange(len(text))].split(b"\n")
+    lines[:] = text[:rng.randrange(len(text))].split(b"\n")
 
 
-DAMAGES = [without_line, line_twice, lines_swapped, other_leaf, other_number, other_claim, other_byte, cut_off]
+DAMAGES = (without_line, line_twice, lines_swapped, other_leaf, other_number, other_claim, other_byte, cut_off)
+DAMAGES_OF_LEMMAS = (other_number, without_line, line_twice, lines_swapped)
 
 
-def damaged(rng, record):
+def damaged(rng: random.Random, record: bytes, damages: Sequence[Damage] = DAMAGES) -> bytes:
     """The record with one to three damages."""
     lines = record.split(b"\n")
     for _ in range(rng.randint(1, 3)):
         if len(lines) > 2:
-            rng.choice(DAMAGES)(rng, lines)
+            rng.choice(damages)(rng, lines)
     return b"\n".join(lines)

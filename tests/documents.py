@@ -26,15 +26,18 @@ import shlex
 import shutil
 import subprocess
 import sys
-import tempfile
+from collections.abc import Iterable, Iterator, Sequence
 
-TOP = pathlib.Path(__file__).resolve().parent.parent
+import harness
+from harness import TOP, Verdict, Verdicts
+
+Blocks = Sequence[tuple[str, str]]  # the blocks of a document, each with its kind
 SHOWN = {"README.md", "docs/FORMAT.md", "docs/RECORD.md", "docs/WORKERS.md", "docs/PLANNER.md", "docs/LEMMAS.md",
          "docs/BUILDING-SITE.md", "docs/psmax.1", "docs/plan.1",
          "examples/building-site.md", "examples/plant-shutdown.md", "examples/test-bench.md"}
 PARTS = ("examples", "planner", "tests")  # what a command may read, besides the programs
 SKIPPED = {".git", "out", "build", "__pycache__"}
-SECONDS = "60"
+SECONDS = 60
 
 LINK = re.compile(r"\[((?:[^\[\]]|\[[^\]]*\])*)\]\(([^)\s]+)\)")
 SPAN = re.compile(r"`([^`\n]+)`")
@@ -46,45 +49,38 @@ OPTION = re.compile(r"(?<![\w-])--[a-z][a-z-]*")
 SOURCE = re.compile(r"[\w-]+\.(?:py|c|jsonl|antt|rt|toml)")
 
 
-class Counts:
-    def __init__(self):
-        self.passed = self.failed = 0
-
-    def add(self, document, is_right, fault):
-        self.passed, self.failed = self.passed + bool(is_right), self.failed + (not is_right)
-        if not is_right:
-            print(f"FAILED {document.relative_to(TOP)}: {fault}")
+def verdict(document: pathlib.Path, is_right: object, fault: str) -> Verdict:
+    return str(document.relative_to(TOP)), None if is_right else fault
 
 
 @functools.cache
-def files():
+def files() -> list[pathlib.Path]:
     return [path for path in TOP.rglob("*") if path.is_file() and not SKIPPED & set(path.relative_to(TOP).parts)]
 
 
 class Programs:
     """The programs, and what their help says."""
 
-    def __init__(self, folder):
+    def __init__(self, folder: pathlib.Path) -> None:
         self.paths = {name: str(folder / name) for name in ("psmax", "psprove")}
         self.paths["plan"] = str(TOP / "planner" / "plan")
 
     @functools.cache
-    def help(self, *words):
+    def help(self, *words: str) -> str | None:
         """The help of a program or of one of its commands; none if there is no such command."""
         start = [sys.executable] if words[0] == "plan" else []
-        ran = subprocess.run([*start, self.paths[words[0]], *words[1:], "--help"], stdin=subprocess.DEVNULL,
-                             capture_output=True, text=True)
-        return ran.stdout if ran.returncode == 0 else None
+        status, out, _ = harness.ended([*start, self.paths[words[0]], *words[1:], "--help"])
+        return out.decode() if status == 0 else None
 
     @functools.cache
-    def options(self):
+    def options(self) -> set[str]:
         """The options of all commands and scripts."""
         texts = [path.read_text() for path in files() if path.suffix in (".py", ".rt")]
-        commands = re.findall(r"^ {2,4}([a-z]+)  ", "".join(map(self.help, self.paths)), re.M)
+        commands = re.findall(r"^ {2,4}([a-z]+)  ", "".join(self.help(name) or "" for name in self.paths), re.M)
         texts += [self.help(name, command) or "" for name in self.paths for command in commands]
         return {"--help", *OPTION.findall("".join(texts))}
 
-    def fault_of(self, words):
+    def fault_of(self, words: Sequence[str]) -> str | None:
         """What is wrong with a command, as its words; empty if nothing is, and none if it is not of this project."""
         if not words:
             return None
@@ -102,40 +98,40 @@ class Programs:
         return None
 
 
-def fault_of_target(name):
+def fault_of_target(name: str) -> str:
     is_there = re.search(rf"^(?:[\w/]+ )*{name}(?: [\w/]+)*:", (TOP / "Makefile").read_text(), re.M)
     return "" if is_there else "no such target"
 
 
-def missing_options(words, text):
+def missing_options(words: Iterable[str], text: str | None) -> str:
     """What is wrong with the options of a command that this text describes; with none there is no such command."""
     missing = sorted(set(OPTION.findall(" ".join(words))) - {"--help", *OPTION.findall(text or "")})
     return "no such command" if text is None else f"no option {', '.join(missing)}" if missing else ""
 
 
 @functools.cache
-def anchors(path):
+def anchors(path: pathlib.Path) -> set[str]:
     """The anchors of a document's headings."""
     heads = re.findall(r"^#+ (.*)$", FENCE.sub("", path.read_text()), re.M)
     return {re.sub(r"[^\w\- ]", "", head.lower()).replace(" ", "-") for head in heads}
 
 
-def is_link(document, text, target):
+def is_link(document: pathlib.Path, text: str, target: str) -> bool:
     name, _, anchor = target.partition("#")
     path = document.parent / name if name else document
     if not path.exists() or anchor and anchor not in anchors(path.resolve()):
         return False
     named = re.fullmatch(r"`(\w+)`", text) if path.suffix == ".antt" else None
-    return not named or re.search(rf"\b{named[1]}\b", path.read_text())
+    return not named or re.search(rf"\b{named[1]}\b", path.read_text()) is not None
 
 
-def check_links(document, prose, counts):
+def of_links(document: pathlib.Path, prose: str) -> Verdicts:
     for text, target in LINK.findall(prose):
         if not re.match(r"\w+:", target):
-            counts.add(document, is_link(document, text, target), f"link [{text}]({target})")
+            yield verdict(document, is_link(document, text, target), f"link [{text}]({target})")
 
 
-def is_file(span):
+def is_file(span: str) -> bool | None:
     """Whether the file is there that a span names; none if it names none. NAME in a path stands for any name."""
     if SOURCE.fullmatch(span):
         return any(path.name == span for path in files())
@@ -144,29 +140,30 @@ def is_file(span):
     bases = [base for base in (TOP, TOP / "crates") if (base / first).is_dir()]
     if not re.fullmatch(r"[\w.*/-]+", span) or not rest or not bases or SKIPPED & {first, *rest}:
         return None
-    return any(next(base.glob(path.replace("NAME", "*")), None) for base in bases)
+    return any(True for base in bases for _ in base.glob(path.replace("NAME", "*")))
 
 
-def check_files(document, prose, counts):
+def of_files(document: pathlib.Path, prose: str) -> Verdicts:
     for span in sorted(set(SPAN.findall(prose))):
         if (is_there := is_file(span)) is not None:
-            counts.add(document, is_there, f"no file {span}")
+            yield verdict(document, is_there, f"no file {span}")
 
 
-def check_definitions(document, blocks, counts):
+def of_definitions(document: pathlib.Path, blocks: Blocks) -> Verdicts:
+    shown = [text.strip() for kind, text in blocks if kind == "antt"]
     texts = [path.read_text() for path in files() if path.suffix == ".antt"]
-    for definition in "\n\n".join(text.strip() for kind, text in blocks if kind == "antt").split("\n\n"):
-        counts.add(document, any(definition in text for text in texts), f"no definition\n{definition}")
+    for definition in "\n\n".join(shown).split("\n\n") if shown else []:
+        yield verdict(document, any(definition in text for text in texts), f"no definition\n{definition}")
 
 
-def check_crates(counts):
+def of_crates() -> Verdicts:
     document = TOP / "docs" / "ARCHITECTURE.md"
-    picture = FENCE.search(document.read_text())[2]
+    _, picture = FENCE.findall(document.read_text())[0]
     for crate in re.findall(r"^\w+", (TOP / "crates.txt").read_text(), re.M):
-        counts.add(document, re.search(rf"\b{crate}\b", picture), f"the picture has no {crate}")
+        yield verdict(document, re.search(rf"\b{crate}\b", picture), f"the picture has no {crate}")
 
 
-def commands_in(line):
+def commands_in(line: str) -> list[list[str]]:
     """The commands of a line of a shell, each as its words."""
     try:
         words = shlex.split(line, comments=True)
@@ -176,7 +173,7 @@ def commands_in(line):
     return [words[start:end] for start, end in zip([0, *(end + 1 for end in ends)], [*ends, len(words)])]
 
 
-def fault_of_line(line, programs):
+def fault_of_line(line: str, programs: Programs) -> str | None:
     """What is wrong with a line; empty if nothing is, and none if it names neither commands nor options."""
     if line.startswith("--"):
         return ", ".join(sorted(set(OPTION.findall(line)) - programs.options()))
@@ -184,20 +181,20 @@ def fault_of_line(line, programs):
     return ", ".join(filter(None, faults)) if faults else None
 
 
-def check_commands(document, prose, blocks, programs, counts):
+def of_commands(document: pathlib.Path, prose: str, blocks: Blocks, programs: Programs) -> Verdicts:
     shells = "".join(text for kind, text in blocks if kind in ("sh", "console"))
     options = OPTION.findall(prose) if document.suffix == ".1" else []
     lines = {*SPAN.findall(prose), *shells.splitlines(), *COMMAND.findall(shells), *options}
     for line in sorted(lines):
         if (fault := fault_of_line(line, programs)) is not None:
-            counts.add(document, not fault, f"{line}: {fault}")
+            yield verdict(document, not fault, f"{line}: {fault}")
 
 
 class Clone:
     """A folder with what a clone has, and the installed programs on the PATH."""
 
-    def __init__(self, folder, programs):
-        self.folder = pathlib.Path(folder)
+    def __init__(self, folder: pathlib.Path, programs: Programs) -> None:
+        self.folder = folder
         for name in PARTS:
             shutil.copytree(TOP / name, self.folder / name, ignore=shutil.ignore_patterns("__pycache__"))
         bin_folder = self.folder / ".bin"
@@ -209,20 +206,20 @@ class Clone:
         self.environment = {name: value for name, value in os.environ.items() if name not in ("PSMAX", "PSPROVE")}
         self.environment["PATH"] = f"{bin_folder}:{pathlib.Path(sys.executable).parent}:/usr/bin:/bin"
 
-    def save(self, command, text):
+    def save(self, command: str, text: str) -> None:
         """Saves a file that the document shows, and that is not there yet."""
         named = re.fullmatch(r"cat ([\w.-]+)\n", command)
         if named and not (self.folder / named[1]).exists():
             (self.folder / named[1]).write_text(text)
 
-    def run(self, command):
+    def run(self, command: str) -> str:
         """All that a command prints."""
-        ran = subprocess.run(["timeout", SECONDS, "sh", "-c", command], cwd=self.folder, env=self.environment,
-                             stdin=subprocess.DEVNULL, stdout=subprocess.PIPE, stderr=subprocess.STDOUT)
-        return ran.stdout.decode()
+        _, out, _ = harness.ended(["timeout", SECONDS, "sh", "-c", command], seconds=2 * SECONDS, cwd=self.folder,
+                                  env=self.environment, stderr=subprocess.STDOUT)
+        return out.decode()
 
 
-def shown_in(blocks):
+def shown_in(blocks: Blocks) -> Iterator[tuple[str, str]]:
     """The commands that blocks show, each with what it prints."""
     for kind, text in blocks:
         parts = COMMAND.split(text)[1:] if kind == "console" else []
@@ -231,17 +228,17 @@ def shown_in(blocks):
         yield from zip(parts[::2], parts[1::2])
 
 
-def check_shown(document, blocks, programs, counts):
-    with tempfile.TemporaryDirectory() as folder:
+def of_shown(document: pathlib.Path, blocks: Blocks, programs: Programs) -> Verdicts:
+    with harness.new_folder() as folder:
         clone = Clone(folder, programs)
         for command, wanted in shown_in(blocks):
             clone.save(command, wanted)
             printed = clone.run(command.replace("\n> ", "\n"))
             is_right = PROGRESS.sub("", printed) == PROGRESS.sub("", wanted)
-            counts.add(document, is_right, f"$ {command}printed\n{printed}and not\n{wanted}")
+            yield verdict(document, is_right, f"$ {command}printed\n{printed}and not\n{wanted}")
 
 
-def parts_of(document):
+def parts_of(document: pathlib.Path) -> tuple[str, Blocks]:
     """A document's prose, and its blocks, each with its kind."""
     text = document.read_text()
     if document.suffix == ".md":
@@ -250,26 +247,24 @@ def parts_of(document):
     return EXAMPLE.sub("", text), [("console", example) for example in EXAMPLE.findall(text)]
 
 
-def check(document, programs, counts):
+def of_document(document: pathlib.Path, programs: Programs) -> Verdicts:
     prose, blocks = parts_of(document)
-    check_links(document, prose, counts)
-    check_files(document, prose, counts)
-    check_commands(document, prose, blocks, programs, counts)
-    if any(kind == "antt" for kind, _ in blocks):
-        check_definitions(document, blocks, counts)
+    yield from of_links(document, prose)
+    yield from of_files(document, prose)
+    yield from of_commands(document, prose, blocks, programs)
+    yield from of_definitions(document, blocks)
     if str(document.relative_to(TOP)) in SHOWN:
-        check_shown(document, blocks, programs, counts)
+        yield from of_shown(document, blocks, programs)
 
 
-def main(folder):
-    programs, counts = Programs(folder), Counts()
+def verdicts(words: Sequence[str]) -> Verdicts:
+    parser = harness.Words(__doc__)
+    parser.add_argument("folder", nargs="?", type=harness.resolved, default=TOP)
+    programs = Programs(pathlib.Path(parser.parse_args(words).folder))
     for document in sorted(path for path in files() if path.suffix in (".md", ".1")):
-        check(document, programs, counts)
-    check_crates(counts)
-    print(f"{counts.passed} passed, {counts.failed} failed")
-    return counts.failed > 0
+        yield from of_document(document, programs)
+    yield from of_crates()
 
 
-if len(sys.argv) > 2 or sys.argv[1:2] == ["--help"]:
-    sys.exit(__doc__)
-sys.exit(main(pathlib.Path(sys.argv[1]).resolve() if len(sys.argv) == 2 else TOP))
+if __name__ == "__main__":
+    harness.run(verdicts)

@@ -12,25 +12,22 @@ them, which is refused: a check-in or a node that is given back may then be told
 comes after is again as in the model.
 
 The last line counts the lists and the runs."""
-import argparse
 import collections
-import concurrent.futures
+import functools
 import itertools
-import os
 import pathlib
 import random
 import re
-import subprocess
-import sys
-import tempfile
+from collections.abc import Iterator, Sequence
 
+import harness
+from harness import INPUTS, Verdicts
 from refusing import Refusing, library, one
 
-INPUTS = pathlib.Path(__file__).resolve().parent / "inputs"
 DEPTH = 3  # so far below the roots are nodes expanded
 LISTS_AT_ONCE = 50
 # Each project, another that has the same activities, and schedules of each, which may be offered.
-PROJECTS = [
+PROJECTS: list[tuple[str, str, list[str], list[str]]] = [
     ("two-jobs", "two-jobs-longest-duration", ["0,5,0,8", "0,0,3,7", "0,4,0,7", "0,6,0,9"], ["0,4,0,1000004"]),
     ("three-jobs-capacity-two", "three-jobs-lags", ["0,0,2,4,6", "0,0,0,2,4", "0,1,1,3,5"], ["0,0,2,1,5"]),
     ("three-jobs-lags", "three-jobs-capacity-two", ["0,3,0,4,6", "0,0,2,1,5", "0,1,3,2,6"], ["0,0,0,2,4"]),
@@ -45,33 +42,39 @@ AGAIN = "record:1:1000 take:0 check:0:0: check:0:0: trail".split()
 SPLIT_ONCE = "4 activities, root split 0 [1, 2] opened 1 opened 2, 0 1-2 open, 0 2-1 open"
 
 
+Replies = collections.Counter[str]  # how often each came
+
+
 class Node:
     """A node: whose project it is of, its pairs and bound, and what an expansion without a ceiling gives."""
 
-    def __init__(self, foreign, pairs, bound):
+    def __init__(self, foreign: bool, pairs: list[str], bound: int = 0) -> None:
         self.foreign, self.pairs, self.bound = foreign, pairs, bound
-        self.found, self.kids = None, None
+        self.found: int | None = None
+        self.kids: list[Node] | None = None
 
 
 class Model:
     """A book as its description says: open nodes and hands by plain lists, each rule in turn."""
 
-    def __init__(self, root, workers, takes):
-        self.workers, self.limit, self.halted, self.best = workers, takes, False, None
-        self.open, self.hands = {0: root}, {}
+    def __init__(self, root: Node, workers: int, takes: int) -> None:
+        self.workers, self.limit, self.halted = workers, takes, False
+        self.best: int | None = None
+        self.open: dict[int, Node] = {0: root}
+        self.hands: dict[int, tuple[int, Node]] = {}  # of each worker, the name and the node
         self.opened, self.checked, self.cut, self.taken = 1, 0, 0, 0
 
-    def bounds(self):
+    def bounds(self) -> list[int]:
         nodes = [*self.open.values(), *(node for _, node in self.hands.values())]
         return [node.bound for node in nodes] + ([] if self.best is None else [self.best])
 
-    def told(self):
+    def told(self) -> str:
         bounds = self.bounds()
         numbers = [self.opened, self.checked, self.cut, self.taken, len(self.open), len(self.hands),
                    shown(self.best), shown(min(bounds) if bounds else None)]
         return " ".join(map(str, numbers))
 
-    def take(self, worker):
+    def take(self, worker: int) -> str:
         if worker >= self.workers:
             return "nobody"
         if worker in self.hands:
@@ -91,16 +94,14 @@ class Model:
         self.taken += 1
         return " ".join(["ticket", str(name), shown(self.best), str(node.bound), *node.pairs])
 
-    def in_hand(self, name):
+    def in_hand(self, name: int) -> int | None:
         """The worker whose hand has the node of this name."""
         return next((worker for worker, (held, _) in self.hands.items() if held == name), None)
 
-    def refusal(self, name, node, ceiling):
-        if name >= self.opened:
-            return "unknown"
+    def refusal(self, name: int, node: Node, ceiling: int | None) -> str | None:
         worker = self.in_hand(name)
         if worker is None:
-            return "gone"
+            return self.absent(name)
         if self.hands[worker][1].pairs != node.pairs:
             return "other node"
         if node.foreign:
@@ -109,38 +110,39 @@ class Model:
             return f"ahead {shown(self.best)}"
         return None
 
-    def check(self, name, node, ceiling):
+    def check(self, name: int, node: Node, ceiling: int | None) -> str:
         refused = self.refusal(name, node, ceiling)
         if refused:
             return refused
-        del self.hands[self.in_hand(name)]
+        self.hands = {worker: held for worker, held in self.hands.items() if held[0] != name}
         self.checked += 1
         cut_off = ceiling is not None and node.bound >= ceiling
         found = None if cut_off else node.found
         improved = found is not None and (self.best is None or found < self.best)
         if improved:
             self.best = found
-        kids = [] if cut_off else [kid for kid in node.kids if ceiling is None or kid.bound < ceiling]
+        kids = [] if cut_off else [kid for kid in node.kids or [] if ceiling is None or kid.bound < ceiling]
         kids = [kid for kid in kids if self.best is None or kid.bound < self.best]
         for kid in kids:
             self.open[self.opened] = kid
             self.opened += 1
         return f"opened {len(kids)} {'improved' if improved else 'as before'}"
 
-    def back(self, name):
-        if name >= self.opened:
-            return "unknown"
+    def absent(self, name: int) -> str:
+        return "unknown" if name >= self.opened else "gone"
+
+    def back(self, name: int) -> str:
         worker = self.in_hand(name)
         if worker is None:
-            return "gone"
+            return self.absent(name)
         self.open[name] = self.hands.pop(worker)[1]
         return "back"
 
-    def halt(self):
+    def halt(self) -> str:
         self.halted = True
         return "halt"
 
-    def offer(self, starts, foreign):
+    def offer(self, starts: str, foreign: bool) -> str:
         if foreign:
             return f"other project {starts.replace(',', ' ')}"
         makespan = int(starts.split(",")[-1])
@@ -150,47 +152,45 @@ class Model:
         return "shorter"
 
 
-def shown(number):
+def shown(number: int | None) -> str:
     return "-" if number is None else str(number)
 
 
 class Board:
     """Two projects, their nodes, and the words by which the program is told to find these."""
 
-    def __init__(self, program, names, offers, others):
-        texts = [(INPUTS / f"{name}.sch").read_bytes() for name in names]
-        self.program, self.text, self.offers, self.others = program, b";".join(texts), offers, others
-        self.words, self.nodes = ["expand:0", "expand:1"], []
+    def __init__(self, program: str, own: str, other: str, offers: list[str], others: list[str]) -> None:
+        self.program, self.offers, self.others = program, offers, others
+        self.text = b";".join((INPUTS / f"{name}.sch").read_bytes() for name in (own, other))
+        self.words, self.nodes = ["expand:0", "expand:1"], list[Node]()
         for _ in range(DEPTH):
             self.nodes = self.found(self.play(self.words))
             self.words = [f"expand:{place}" for place in range(len(self.nodes))]
         lines = self.play(self.words)
         self.found_lines, self.nodes = len(lines), self.found(lines)[: len(self.words)]
 
-    def play(self, words):
-        told = subprocess.run([self.program, *words], input=self.text, capture_output=True, timeout=60)
-        lines = told.stdout.decode().splitlines()
-        if told.returncode != 0:
-            lines.append(f"exit {told.returncode}: {told.stderr.decode()}")
-        return lines
+    def play(self, words: Sequence[str]) -> list[str]:
+        status, out, fault = harness.ended([self.program, *words], self.text)
+        return out.decode().splitlines() + ([] if status == 0 else [f"exit {status}: {fault.decode()}"])
 
-    def found(self, lines):
+    def found(self, lines: Sequence[str]) -> list[Node]:
         """All nodes that were printed: a block for each that was expanded, the node first and then its kids."""
-        nodes, place = [Node(False, [], None), Node(True, [], None)], -1
+        nodes, place = [Node(False, []), Node(True, [])], -1
         for line in lines:
             kind, *words = line.split()
             if kind == "node":
                 place += 1
-                nodes[place].bound, nodes[place].kids = int(words[0]), []
+                nodes[place].bound = int(words[0])
+                kids = nodes[place].kids = []
             elif kind == "found":
                 nodes[place].found = int(words[-1])
             elif kind == "kid":
                 kid = Node(nodes[place].foreign, words[1:], int(words[0]))
-                nodes[place].kids.append(kid)
+                kids.append(kid)
                 nodes.append(kid)
         return nodes
 
-    def list_of_events(self, rng):
+    def list_of_events(self, rng: random.Random) -> list[str]:
         """A new book and a list of events, as words."""
         workers, takes = rng.randint(1, 3), rng.choice([1, 2, 3, 1000, 1000, 1000])
         words = [f"{rng.choice(['open', 'record'])}:{workers}:{takes}"]
@@ -200,11 +200,11 @@ class Board:
             self.reply(model, words[-1])
         return words
 
-    def model(self, first):
+    def model(self, first: str) -> Model:
         _, workers, takes = first.split(":")
         return Model(self.nodes[0], int(workers), int(takes))
 
-    def reply(self, model, word):
+    def reply(self, model: Model, word: str) -> str:
         """What an event does to a model."""
         kind, *rest = word.split(":")
         if kind == "take":
@@ -218,7 +218,7 @@ class Board:
             return model.offer(rest[0], kind == "other")
         return SPLIT_ONCE if kind == "trail" else model.halt()
 
-    def event(self, rng, model):
+    def event(self, rng: random.Random, model: Model) -> str:
         kind = rng.choices(["take", "check", "back", "offer", "other", "halt"], [36, 40, 10, 8, 3, 1])[0]
         if kind == "take":
             return f"take:{rng.randint(0, model.workers) if rng.random() < 0.1 else rng.randrange(model.workers)}"
@@ -229,7 +229,7 @@ class Board:
         offers = self.offers if kind == "offer" else self.others
         return f"{kind}:{rng.choice(offers)}" if offers and kind != "halt" else "halt"
 
-    def check(self, rng, model):
+    def check(self, rng: random.Random, model: Model) -> str:
         """A report on a node in hand, or on any node under any name."""
         name, node = rng.randint(0, model.opened), rng.choice(self.nodes)
         if model.hands and rng.random() < 0.8:
@@ -242,16 +242,17 @@ class Board:
         return f"check:{name}:{place}:{'' if ceiling is None else ceiling}"
 
 
-def hostile_lists():
+def hostile_lists() -> Iterator[list[str]]:
     """The hostile events, for a book without and with a trail: whole, with each left out, and with each doubled."""
     for first in ("open:2:1000", "record:2:1000"):
         yield [first, *HOSTILE]
         for place in range(len(HOSTILE)):
-            yield [first, *HOSTILE[:place], *HOSTILE[place + 1 :]]
-            yield [first, *HOSTILE[:place], *HOSTILE[place:place + 1] * 2, *HOSTILE[place + 1 :]]
+            yield [first, *HOSTILE[:place], *HOSTILE[place + 1:]]
+            yield [first, *HOSTILE[:place], *HOSTILE[place:place + 1] * 2, *HOSTILE[place + 1:]]
 
 
-def disagreement(board, words, lines, replies, refused=False):
+def disagreement(board: Board, words: Sequence[str], lines: Iterator[str], replies: Replies,
+                 refused: bool = False) -> str | None:
     """The first reply or counts that aren't the model's, or None. A refused growth may end the program, or be told once."""
     model = board.model(words[0])
     for word in words:
@@ -269,63 +270,52 @@ def disagreement(board, words, lines, replies, refused=False):
     return None
 
 
-def judged(board, lists, replies):
+def judged(board: Board, lists: Sequence[list[str]], replies: Replies) -> Iterator[str | None]:
     """For each list the first reply or counts that aren't the model's, or None."""
-    lines = iter(board.play([*board.words, *(word for words in lists for word in words)])[board.found_lines :])
+    lines = iter(board.play([*board.words, *(word for words in lists for word in words)])[board.found_lines:])
     for words in lists:
         told = iter([next(lines, "nothing") for _ in words])
         yield disagreement(board, words, told, replies)
 
 
-def refused(made, board, words, replies):
+def refused(made: pathlib.Path, replies: Replies, board: Board, words: Sequence[str]) -> Iterator[str | None]:
     """The same for each growth of memory in a list, which is refused."""
     known = Refusing(made, [board.program, *board.words], board.text).count()
     refusing = Refusing(made, [board.program, *board.words, *words], board.text)
     for growth in range(known + 1, refusing.count() + 1):
-        status, out, fault, _ = refusing.run(one(growth))
-        lines = out.decode().splitlines()[board.found_lines :]
+        (status, out, fault), _ = refusing.run(one(growth))
+        lines = out.decode().splitlines()[board.found_lines:]
         wrong = disagreement(board, words, iter(lines), replies, True)
         well = status == 0 and len(lines) == len(words) or status == 1 and fault.startswith(b"Error: ")
-        yield wrong or (None if well else f"{' '.join(words)}: exit {status}, {fault}")
+        yield wrong or (None if well else f"{' '.join(words)}: exit {status}, {fault!r}")
 
 
-def verdicts(program, options, rng):
-    """What is wrong with each list and each run, or None; and how often each reply came by then."""
-    replies = collections.Counter()
-    boards = [Board(program, (own, other), offers, others) for own, other, offers, others in PROJECTS]
-    for wrong in judged(boards[0], list(hostile_lists()), replies):
-        yield wrong, replies
-    for start in range(0, options.lists, LISTS_AT_ONCE):
-        board = boards[start // LISTS_AT_ONCE % len(boards)]
-        lists = [board.list_of_events(rng) for _ in range(min(LISTS_AT_ONCE, options.lists - start))]
-        for wrong in judged(board, lists, replies):
-            yield wrong, replies
-    given = [(board, board.list_of_events(rng)) for board, _ in zip(itertools.cycle(boards), range(options.refused))]
-    if not given:
-        return
-    given.append((boards[0], AGAIN))
-    with tempfile.TemporaryDirectory() as folder, concurrent.futures.ThreadPoolExecutor(os.cpu_count()) as pool:
-        made = library(folder)
-        for runs in pool.map(lambda one_list: list(refused(made, *one_list, replies)), given):
-            for wrong in runs:
-                yield wrong, replies
+def faults(program: str, count: int, count_refused: int, replies: Replies) -> Iterator[str | None]:
+    """What is wrong with each list and each run, or None."""
+    rng = random.Random(1)
+    boards = [Board(program, *names) for names in PROJECTS]
+    yield from judged(boards[0], [*hostile_lists()], replies)
+    for start, board in zip(range(0, count, LISTS_AT_ONCE), itertools.cycle(boards)):
+        lists = [board.list_of_events(rng) for _ in range(min(LISTS_AT_ONCE, count - start))]
+        yield from judged(board, lists, replies)
+    given = [(board, board.list_of_events(rng)) for board, _ in zip(itertools.cycle(boards), range(count_refused))]
+    if given:
+        with harness.new_folder() as folder:
+            judge = functools.partial(refused, library(folder), replies)
+            for runs in harness.side_by_side(lambda one_list: [*judge(*one_list)], [*given, (boards[0], AGAIN)]):
+                yield from runs
 
 
-def main():
-    parser = argparse.ArgumentParser()
-    parser.add_argument("program")
+def verdicts(words: Sequence[str]) -> Verdicts:
+    parser = harness.Words(__doc__, "program")
     parser.add_argument("--lists", type=int, default=10_000)
     parser.add_argument("--refused", type=int, default=24)
-    options = parser.parse_args()
-    program = str(pathlib.Path(options.program).resolve())
-    passed = failed = 0
-    for wrong, told in verdicts(program, options, random.Random(1)):
-        passed, failed = passed + (wrong is None), failed + (wrong is not None)
-        if wrong:
-            print(f"FAILED {wrong}")
-    print(", ".join(f"{reply} {count}" for reply, count in sorted(told.items())))
-    print(f"{passed} passed, {failed} failed")
-    return failed > 0
+    o = parser.parse_args(words)
+    replies: Replies = collections.Counter()
+    for number, fault in enumerate(faults(o.program, o.lists, o.refused, replies)):
+        yield f"run {number}", fault
+    print(", ".join(f"{reply} {count}" for reply, count in sorted(replies.items())))
 
 
-sys.exit(main())
+if __name__ == "__main__":
+    harness.run(verdicts)

@@ -20,116 +20,144 @@ import shutil
 import subprocess
 import sys
 import time
+import traceback
+from collections.abc import Callable, Iterator, Sequence
 
-TOP = pathlib.Path(__file__).resolve().parent.parent
+import books
+import devices
+import documents
+import events
+import growths
+import harness
+import lemmas
+import records
+import run
+import searches
+import test_growths
+import threads
+import workers
+from harness import TOP, Counts, Verdicts
+from planner.tests import run as planner_tests
+
 BUILD, RELEASE = TOP / "build", TOP / "release"
 PROGRAMS = {"psmax": "solver_cli", "psprove": "psprove", "book_events": "book_events"}
-STEP = re.compile(r"^rt: .*( proved$|NOT PROVED|trying its must-fail edits|NOT REFUSED|BAD EDIT)")  # what a proof tells as it goes
+# What a proof tells as it goes.
+STEP = re.compile(r"^rt: .*( proved$|NOT PROVED|trying its must-fail edits|NOT REFUSED|BAD EDIT)")
 KIT = re.compile(r"^    (rattle-kit-.+)$", re.M)
 
 
-def processor_seconds():
-    used = resource.getrusage(resource.RUSAGE_CHILDREN)
-    return used.ru_utime + used.ru_stime
+def processor_seconds() -> float:
+    used = [resource.getrusage(who) for who in (resource.RUSAGE_SELF, resource.RUSAGE_CHILDREN)]
+    return sum(one.ru_utime + one.ru_stime for one in used)
 
 
 class Parts:
     """What the parts of a run count, and what each took."""
 
-    def __init__(self):
-        self.rows, self.passed, self.failed = [], 0, 0
+    def __init__(self) -> None:
+        self.rows: list[tuple[str, float, float, Counts]] = []
 
-    def run(self, name, part):
-        """Runs a part, which answers how much passed and failed."""
+    def run(self, name: str, part: Callable[[], Counts]) -> None:
         print(f"== {name}: {time.strftime('%H:%M:%S', time.gmtime())}", flush=True)
         clock, used = time.monotonic(), processor_seconds()
-        passed, failed = part()
-        minutes = (time.monotonic() - clock) / 60, (processor_seconds() - used) / 60
-        self.rows.append((name, *minutes, passed, failed))
-        self.passed, self.failed = self.passed + passed, self.failed + failed
+        counts = part()
+        print(counts, flush=True)
+        self.rows.append((name, (time.monotonic() - clock) / 60, (processor_seconds() - used) / 60, counts))
 
-    def close(self):
-        """Prints the table and the last line. Answers the exit status."""
-        sums = [sum(row[place] for row in self.rows) for place in (1, 2)]
+    def all(self) -> Counts:
+        return Counts(sum(counts.passed for *_, counts in self.rows), sum(counts.failed for *_, counts in self.rows))
+
+    def close(self) -> bool:
+        """Prints the table and the last line. Whether a part failed."""
+        _, minutes, used, _ = zip(*self.rows)
         print(f"{'part':24} {'minutes':>8} {'of a processor':>15} {'passed':>8} {'failed':>7}")
-        for name, minutes, used, passed, failed in [*self.rows, ("all", *sums, self.passed, self.failed)]:
-            print(f"{name:24} {minutes:8.1f} {used:15.1f} {passed:8} {failed:7}")
-        print(f"{self.passed} passed, {self.failed} failed")
-        return int(self.failed > 0)
+        for name, took, processor, counts in [*self.rows, ("all", sum(minutes), sum(used), self.all())]:
+            print(f"{name:24} {took:8.1f} {processor:15.1f} {counts.passed:8} {counts.failed:7}")
+        print(self.all())
+        return self.all().failed > 0
 
 
-def counted(words, log=None):
-    """Runs a command in the project's folder. What its last line 'N passed, M failed' counts; one failure without such a line,
-    or where the status says more than the line."""
-    lines, clock = [], time.monotonic()
-    ran = subprocess.Popen(words, cwd=TOP, stdin=subprocess.DEVNULL, stdout=subprocess.PIPE, stderr=subprocess.STDOUT,
-                           text=True, errors="replace")
-    with ran, open(log or os.devnull, "w") as copy:
-        for line in ran.stdout:
-            lines.append(line)
-            copy.write(line)
-            if log is None:
-                print(line, end="", flush=True)
-            elif STEP.search(line):
-                print(f"{(time.monotonic() - clock) / 60:6.1f} {line}", end="", flush=True)
-    told = re.fullmatch(r"(\d+) passed, (\d+) failed\n?", lines[-1] if lines else "")
-    passed, failed = map(int, told.groups()) if told else (0, 1)
-    if log is not None:
-        print("".join(lines[-60:]), end="", flush=True)
-    return passed, failed or int(ran.returncode != 0)
-
-
-def at_hand():
+def at_hand() -> pathlib.Path:
     """The folder whose programs are run: build/ where its psmax is newer than the released one."""
     built, released = BUILD / "psmax", RELEASE / "psmax"
     is_newer = built.exists() and not (released.exists() and released.stat().st_mtime >= built.stat().st_mtime)
     return BUILD if is_newer else RELEASE
 
 
-def scripts(folder, with_tests):
-    """The scripts, each with its name and words. Growths are refused by a library, which a C compiler makes."""
+Script = tuple[str, Callable[[Sequence[str]], Verdicts], list[str]]  # a name, the script, and its words
+
+
+def scripts(folder: pathlib.Path, with_tests: bool) -> Iterator[Script]:
+    """The scripts. Growths are refused by a library, which a C compiler makes."""
     psmax, psprove, book_events = (str(folder / name) for name in PROGRAMS)
-    yield "cases", ["tests/run.py", psmax]
-    yield "cases of psprove", ["tests/run.py", psprove, "--cases", "tests/proofs.jsonl"]
-    yield "workers", ["tests/workers.py", psmax, "--runs", "100"]
-    yield "records", ["tests/records.py", psmax, "--seeded", "20", "--damaged", "1000"]
-    yield "lemmas", ["tests/lemmas.py", psprove, "--damaged", "200"]
-    yield "searches", ["tests/searches.py", psmax, psprove, "--seeded", "200", "--large", "10"]
-    yield "books", ["tests/books.py", book_events]
+    yield "cases", run.verdicts, [psmax]
+    yield "cases of psprove", run.verdicts, [psprove, "--cases", str(TOP / "tests" / "proofs.jsonl")]
+    yield "workers", workers.verdicts, [psmax, "--runs", "100"]
+    yield "records", records.verdicts, [psmax, "--seeded", "20", "--damaged", "1000"]
+    yield "lemmas", lemmas.verdicts, [psprove, "--damaged", "200"]
+    yield "searches", searches.verdicts, [psmax, psprove, "--seeded", "200", "--large", "10"]
+    yield "books", books.verdicts, [book_events]
     if shutil.which(os.environ.get("CC", "cc")):
-        yield "events", ["tests/events.py", book_events]
-        yield "refused growths", ["tests/growths.py", psmax]
-        yield "those of psprove", ["tests/growths.py", psprove, "--proofs"]
-        yield "threads", ["tests/threads.py", psmax]
+        yield "events", events.verdicts, [book_events]
+        yield "refused growths", growths.verdicts, [psmax]
+        yield "those of psprove", growths.verdicts, [psprove, "--proofs"]
+        yield "threads", threads.verdicts, [psmax]
         if with_tests:
-            yield "growths of tests", ["tests/test_growths.py"]
+            yield "growths of tests", test_growths.verdicts, []
     else:
         print("left out, for want of a C compiler: refused growths, threads, and growths of lists of events")
-        yield "events", ["tests/events.py", book_events, "--refused", "0"]
-    yield "devices", ["tests/devices.py", psmax]
-    yield "plan", ["planner/tests/run.py"]
-    yield "documents", ["tests/documents.py", str(folder)]
+        yield "events", events.verdicts, [book_events, "--refused", "0"]
+    yield "devices", devices.verdicts, [psmax]
+    yield "plan", planner_tests.verdicts, []
+    yield "documents", documents.verdicts, [str(folder)]
 
 
-def test(parts, folder, with_tests=False):
+def played(script: Callable[[Sequence[str]], Verdicts], words: Sequence[str]) -> Counts:
+    """What a script counts; one failure where it ends by a fault of its own."""
+    try:
+        return harness.count(script(words))
+    except (Exception, SystemExit):
+        traceback.print_exc()
+        return Counts(0, 1)
+
+
+def test(parts: Parts, folder: pathlib.Path, with_tests: bool = False) -> None:
     for name in ("psmax", "psprove"):
         os.environ[name.upper()] = str(folder / name)
-    for name, words in scripts(folder, with_tests):
-        parts.run(name, lambda: counted([sys.executable, *words]))
+    for name, script, words in scripts(folder, with_tests):
+        parts.run(name, lambda: played(script, words))
 
 
-def prove(parts):
+def proved(words: Sequence[str], log: pathlib.Path) -> Counts:
+    """Runs `rt ci`. What its last line 'N passed, M failed' counts; one failure without such a line, or where the status says
+    more than the line."""
+    lines, clock = [""], time.monotonic()
+    ran = subprocess.Popen(words, cwd=TOP, stdin=subprocess.DEVNULL, stdout=subprocess.PIPE, stderr=subprocess.STDOUT,
+                           text=True, errors="replace")
+    with ran, open(log, "w") as copy:
+        for line in ran.stdout or []:
+            lines.append(line)
+            copy.write(line)
+            if STEP.search(line):
+                print(f"{(time.monotonic() - clock) / 60:6.1f} {line}", end="", flush=True)
+    print("".join(lines[-60:]), end="", flush=True)
+    told = re.fullmatch(r"(\d+) passed, (\d+) failed\n?", lines[-1])
+    counts = Counts(*map(int, told.groups())) if told else Counts(0, 1)
+    return counts._replace(failed=counts.failed or int(ran.returncode != 0))
+
+
+def prove(parts: Parts) -> None:
     BUILD.mkdir(exist_ok=True)
     told = subprocess.run(["rt", "help"], stdout=subprocess.PIPE, stderr=subprocess.STDOUT, text=True).stdout
     keeps = "--anew" in told
     words = ["rt", "ci", "--anew"] if keeps and os.environ.get("ANEW") else ["rt", "ci"]
-    parts.run("proofs, tests and edits", lambda: counted(words, BUILD / "ci.log"))
+    parts.run("proofs, tests and edits", lambda: proved(words, BUILD / "ci.log"))
     for name, crate in PROGRAMS.items():
         if (TOP / "crates" / crate / "out" / crate).exists():
             shutil.copy(TOP / "crates" / crate / "out" / crate, BUILD / name)
 
 
-def checksum():
+def checksum() -> str:
     """One checksum over crates.txt, HANDLES and all files of the crates' src and specs, each with its path."""
     files = [TOP / "crates.txt", TOP / "HANDLES"]
     files += [path for part in ("src", "specs") for path in TOP.glob(f"crates/*/{part}/**/*") if path.is_file()]
@@ -137,28 +165,23 @@ def checksum():
     return hashlib.sha256("".join(lines).encode()).hexdigest()
 
 
-def kit():
+def kit() -> str:
     return subprocess.run(["rt", "version"], capture_output=True, text=True, check=True).stdout.strip()
 
 
-def compare():
-    """Counts one for the checksum of the sources, and one for each program that is compared."""
-    bad = []
-    if (RELEASE / "SOURCES").read_text().strip() != checksum():
-        bad.append("release/SOURCES is not the checksum of these sources: make, then make release")
-    released = KIT.search((RELEASE / "README.md").read_text()).group(1)
-    compared = list(PROGRAMS) if released == kit() else []
-    if not compared:
+def compared(_: Sequence[str]) -> Verdicts:
+    is_same = (RELEASE / "SOURCES").read_text().strip() == checksum()
+    yield "release/SOURCES", None if is_same else "it is not the checksum of these sources: make, then make release"
+    [released] = KIT.findall((RELEASE / "README.md").read_text())
+    if released != kit():
         print(f"the released programs are of {released}, so their bytes are not compared")
-    for name in compared:
-        if (BUILD / name).read_bytes() != (RELEASE / name).read_bytes():
-            bad.append(f"release/{name} is not build/{name}: make release")
-    for line in bad:
-        print(f"FAILED {line}")
-    return 1 + len(compared) - len(bad), len(bad)
+        return
+    for name in PROGRAMS:
+        is_same = (BUILD / name).read_bytes() == (RELEASE / name).read_bytes()
+        yield f"release/{name}", None if is_same else f"it is not build/{name}: make release"
 
 
-def release():
+def release() -> None:
     for name in PROGRAMS:
         shutil.copy(BUILD / name, RELEASE / name)
     (RELEASE / "SOURCES").write_text(checksum() + "\n")
@@ -166,19 +189,21 @@ def release():
     page.write_text(KIT.sub(f"    {kit()}", page.read_text()))
 
 
-def main(verb):
+def main(verb: str) -> bool:
+    """Whether something failed."""
     if verb in ("prove", "gate", "release") and not shutil.which("rt"):
         print(f"make {verb} needs the Rattle toolchain: its command rt is not on the PATH")
-        return 1
+        return True
     if verb == "release":
-        return release()
+        release()
+        return False
     parts = Parts()
     if verb in ("prove", "gate"):
         prove(parts)
-    if parts.failed:
+    if parts.all().failed:
         return parts.close()
     if verb in ("compare", "gate"):
-        parts.run("released programs", compare)
+        parts.run("released programs", lambda: played(compared, []))
     if verb == "gate":
         test(parts, BUILD, with_tests=True)
     if verb == "test":
@@ -186,6 +211,7 @@ def main(verb):
     return parts.close()
 
 
-if len(sys.argv) != 2 or sys.argv[1] not in ("test", "prove", "compare", "gate", "release"):
-    sys.exit(__doc__)
-sys.exit(main(sys.argv[1]))
+if __name__ == "__main__":
+    if sys.argv[1:] not in [["test"], ["prove"], ["compare"], ["gate"], ["release"]]:
+        sys.exit(__doc__)
+    sys.exit(main(sys.argv[1]))

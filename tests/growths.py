@@ -6,24 +6,23 @@ next, and the Nth and all after it, from N = 1 until no growth is refused. Each 
 the fault `out of memory` (with workers also `cannot start a thread`), status 1 and empty outputs.
 
 The last line counts the runs."""
-import argparse
 import collections
-import concurrent.futures
-import os
+import functools
 import pathlib
-import sys
-import tempfile
+from collections.abc import Iterator, Sequence
 
-from calls import CALLS, PROOFS
+import harness
+from calls import CALLS, PROOFS, Call
+from harness import Verdict, Verdicts
 from refusing import Refusing, all_from, library, one, two
 
 AFTER = 3  # so many runs without a refusal end a call: by several threads, growths are not the same in each run
+Ends = collections.Counter[str]
 
 
-def runs_of(made, program, call, ends):
-    """What is wrong with each run of a call in which growths are refused, or None. Counts how the runs end."""
-    with tempfile.TemporaryDirectory() as folder:
-        folder = pathlib.Path(folder)
+def runs_of(made: pathlib.Path, program: str, ends: Ends, call: Call) -> Iterator[Verdict]:
+    """The runs of a call in which growths are refused. Counts how they end."""
+    with harness.new_folder() as folder:
         refusing = Refusing(made, [program, *call.words], call.text, folder)
         for refuse in (one, two, all_from):
             growth, without = 0, 0
@@ -31,41 +30,28 @@ def runs_of(made, program, call, ends):
                 growth += 1
                 (folder / "second").write_bytes(call.second)
                 (folder / "record").write_bytes(b"")
-                *ended, refused = refusing.run(refuse(growth))
+                ended, refused = refusing.run(refuse(growth))
                 record = (folder / "record").read_bytes()
                 without = 0 if refused else without + 1
-                usual = call.is_usual(tuple(ended), record)
-                well = usual or refused and call.is_want(tuple(ended), record)
+                usual = call.is_usual(ended, record)
+                well = usual or refused and call.is_want(ended, record)
                 ends["as usual" if usual else ended[2].decode().strip()] += 1
-                yield None if well else f"growth {refuse(growth)}: {ended} {record}"
+                yield f"{call.name}, growth {refuse(growth)}", None if well else f"{ended} {record!r}"
 
 
-def judged(made, program, call, ends):
-    """How many runs of a call were as they have to be, and what was wrong with the others."""
-    runs = list(runs_of(made, program, call, ends))
-    wrong = [run for run in runs if run is not None]
-    return len(runs) - len(wrong), wrong
-
-
-def main():
-    parser = argparse.ArgumentParser()
-    parser.add_argument("program")
+def verdicts(words: Sequence[str]) -> Verdicts:
+    parser = harness.Words(__doc__, "program")
     parser.add_argument("--proofs", action="store_true")
     parser.add_argument("--only", default="")
-    options = parser.parse_args()
-    program = str(pathlib.Path(options.program).resolve())
-    passed = failed = 0
-    calls = [call for call in (PROOFS if options.proofs else CALLS) if options.only in " ".join(call.words)]
-    ends = collections.Counter()
-    with tempfile.TemporaryDirectory() as folder, concurrent.futures.ThreadPoolExecutor(os.cpu_count()) as pool:
-        made = library(folder)
-        for call, (well, wrong) in zip(calls, pool.map(lambda call: judged(made, program, call, ends), calls)):
-            passed, failed = passed + well, failed + len(wrong)
-            for run in wrong[:10]:
-                print(f"FAILED {' '.join(call.words)}: {run}")
+    o = parser.parse_args(words)
+    calls = [call for call in (PROOFS if o.proofs else CALLS) if o.only in call.name]
+    ends: Ends = collections.Counter()
+    with harness.new_folder() as folder:
+        judge = functools.partial(runs_of, library(folder), o.program, ends)
+        for runs in harness.side_by_side(lambda call: [*judge(call)], calls):
+            yield from runs
     print(f"{len(calls)} calls: " + ", ".join(f"{end} {count}" for end, count in sorted(ends.items())))
-    print(f"{passed} passed, {failed} failed")
-    return failed > 0
 
 
-sys.exit(main())
+if __name__ == "__main__":
+    harness.run(verdicts)

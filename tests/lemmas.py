@@ -7,33 +7,23 @@ planner/projects; -bound after a project's name is left out. Then the rows of fa
 record, `/` for LF, and what is said of it. Last N records (200 by default), each with one to three damages, made of those
 that are small. These may prove nothing that is false by what the whole records claim. Without a PROGRAM (the word -) the
 script is judged alone. The last line counts all."""
-import argparse
 import functools
 import json
-import pathlib
 import random
-import subprocess
-import sys
+from collections.abc import Callable, Iterator, Sequence
+from pathlib import Path
 
-import damages
+import harness
+import judges
 import verify
-import verify_lemmas
+from damages import DAMAGES_OF_LEMMAS, damaged
+from harness import TOP, Ended, Verdicts
 
-TOP = pathlib.Path(__file__).resolve().parent.parent
 SMALL = 40_000
-DAMAGES = (damages.other_number, damages.without_line, damages.line_twice, damages.lines_swapped)
+Wrong = Callable[[Ended], str | None]  # what is wrong with what the script says of a record
 
 
-def damaged(text, seed):
-    """The record with one to three of its lines changed in a number, left out, doubled or exchanged."""
-    rng, lines = random.Random(seed), text.split(b"\n")
-    for _ in range(rng.randint(1, 3)):
-        if len(lines) > 2:
-            rng.choice(DAMAGES)(rng, lines)
-    return b"\n".join(lines)
-
-
-def project_of(record):
+def project_of(record: Path) -> Path:
     for name in (record.stem, record.stem.removesuffix("-bound")):
         for path in (record.parent / f"{name}.sch", TOP / "planner/projects" / f"{name}.sch"):
             if path.exists():
@@ -42,25 +32,11 @@ def project_of(record):
 
 
 @functools.cache
-def project_in(path):
+def project_in(path: Path) -> verify.Project:
     return verify.Project(path.read_bytes())
 
 
-def said_by_script(path, text):
-    """The exit status, and the line that is printed or the fault."""
-    try:
-        return 0, verify_lemmas.verify(project_in(path), *verify_lemmas.read_record(text))
-    except verify.Fault as fault:
-        return fault.status, str(fault)
-
-
-def said_by_program(program, path, text):
-    told = subprocess.run([program, "verify", "--project", path], input=text, capture_output=True, timeout=600)
-    said = told.stderr.decode().partition(": ")[2] if told.returncode else told.stdout.decode()
-    return told.returncode, said.removesuffix("\n")
-
-
-def contradicts(said, known):
+def contradicts(said: str, known: str) -> bool:
     """Whether what is proved of a project can't be true with something else that is."""
     words, others = said.split(), known.split()
     if words[:2] == others[:2]:
@@ -71,65 +47,52 @@ def contradicts(said, known):
     return int(bound[2]) > int(optimum[2])
 
 
-def difference(want, _, said):
-    return None if said == want else f"the script says {said}, not {want}"
+def difference(want: str, said: Ended) -> str | None:
+    """The same but for the program's name before a fault."""
+    told = (said[2].partition(b": ")[2] or said[1]).decode().removesuffix("\n")
+    return None if told == want else f"the script says {told}, not {want}"
 
 
-def falsehood(known, status, said):
+def falsehood(known: Sequence[str], said: Ended) -> str | None:
     """What is wrong with what is said of a project, where so much of it is known."""
-    return f"{said} is false" if status == 0 and any(contradicts(said, other) for other in known) else None
+    status, out, _ = said
+    false = status == 0 and any(contradicts(out.decode(), other) for other in known)
+    return f"{out.decode()} is false" if false else None
 
 
-class Play:
-    """What both say of records, and how many were as they have to be."""
-
-    def __init__(self, program):
-        self.program, self.passed, self.failed = program, 0, 0
-
-    def judge(self, name, path, text, wrong):
-        """Counts a record; `wrong` tells what is wrong with what the script says of it, or None."""
-        said = said_by_script(path, text)
-        fault = wrong(*said)
-        if fault is None and self.program:
-            told = said_by_program(self.program, path, text)
-            fault = None if told == said else f"the program says {told}, the script {said}"
-        self.passed, self.failed = self.passed + (fault is None), self.failed + (fault is not None)
-        if fault:
-            print(f"{name}: {fault}")
-
-
-def claimed(text):
+def claimed(text: bytes) -> str:
     """What a right record prints."""
     return "proved " + text.split(b"\n")[1].decode()
 
 
-def play(program, folder, count):
-    judged = Play(program)
+def trials(folder: Path, count: int) -> Iterator[tuple[str, Path, bytes, Wrong]]:
+    """The records, each with its name, its project and what has to be said of it."""
     records = [(path, project_of(path), path.read_bytes()) for path in sorted(folder.glob("*.rec"))]
     for path, project, text in records:
-        judged.judge(path.name, project, text, functools.partial(difference, claimed(text)))
+        yield path.name, project, text, functools.partial(difference, claimed(text))
     faults = folder / "faults.jsonl"
     for row in map(json.loads, faults.read_text().splitlines() if faults.exists() else []):
         text = row["record"].replace("/", "\n").encode()
-        judged.judge(row["record"], folder / row["project"], text, functools.partial(difference, row["says"]))
+        yield row["record"], folder / row["project"], text, functools.partial(difference, row["says"])
     small = [record for record in records if len(record[2]) < SMALL]
     for seed in range(count):
         path, project, text = random.Random(seed).choice(small)
         known = [claimed(other) for _, same, other in records if same == project]
-        judged.judge(f"{path.name}, damage {seed}", project, damaged(text, seed), functools.partial(falsehood, known))
-    return judged
+        text = damaged(random.Random(seed), text, DAMAGES_OF_LEMMAS)
+        yield f"{path.name}, damage {seed}", project, text, functools.partial(falsehood, known)
 
 
-def main():
-    parser = argparse.ArgumentParser()
-    parser.add_argument("program")
-    parser.add_argument("folder", nargs="?", type=pathlib.Path, default=TOP / "tests/lemmas")
+def verdicts(words: Sequence[str]) -> Verdicts:
+    parser = harness.Words(__doc__)
+    parser.add_argument("program", type=lambda word: None if word == "-" else harness.resolved(word))
+    parser.add_argument("folder", nargs="?", type=Path, default=TOP / "tests/lemmas")
     parser.add_argument("--damaged", type=int, default=200)
-    options = parser.parse_args()
-    program = None if options.program == "-" else str(pathlib.Path(options.program).resolve())
-    judged = play(program, options.folder, options.damaged)
-    print(f"{judged.passed} passed, {judged.failed} failed")
-    return judged.failed > 0
+    o = parser.parse_args(words)
+    for name, project, text, wrong in trials(o.folder, o.damaged):
+        said = judges.by_script_of_lemmas(project_in(project), text)
+        told = judges.by_program(o.program, project, text) if o.program else said
+        yield name, wrong(said) or (None if told == said else f"the program says {told}, the script {said}")
 
 
-sys.exit(main())
+if __name__ == "__main__":
+    harness.run(verdicts)

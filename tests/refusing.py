@@ -2,62 +2,64 @@
 import os
 import pathlib
 import subprocess
+from collections.abc import Sequence
 
-SOURCE = pathlib.Path(__file__).resolve().parent / "refusal.c"
-TIMEOUT = 60
+import harness
+from harness import TOP, Ended
+
+SOURCE = TOP / "tests" / "refusal.c"
 
 
-def library(folder):
+def library(folder: pathlib.Path) -> pathlib.Path:
     """The library that refuses, built into a folder."""
-    made = pathlib.Path(folder) / "refusal.so"
+    made = folder / "refusal.so"
     compiler = os.environ.get("CC", "cc")
     subprocess.run([compiler, "-O2", "-Wall", "-shared", "-fPIC", "-o", made, SOURCE], check=True)
     return made
 
 
-def one(growth):
+def one(growth: int) -> str:
     return f"{growth}"
 
 
-def two(growth):
+def two(growth: int) -> str:
     return f"{growth}-{growth + 1}"
 
 
-def all_from(growth):
+def all_from(growth: int) -> str:
     return f"{growth}-"
 
 
 class Refusing:
     """Runs one program with one input: how it ends where some growths are refused."""
 
-    def __init__(self, made, words, text=b"", folder=None):
+    def __init__(self, made: pathlib.Path, words: Sequence[object], text: bytes = b"",
+                 folder: pathlib.Path | None = None) -> None:
         self.made, self.words, self.text, self.folder = made, words, text, folder
 
-    def run(self, growths):
-        """Status, output, faults, and whether a growth was refused: the growths of a range, or none for None."""
+    def run(self, growths: str | None) -> tuple[Ended, bool]:
+        """How it ends, and whether a growth was refused: the growths of a range, or none for None."""
         told, teller = os.pipe()
-        env = {"PATH": os.environ["PATH"]}
-        if growths is not None:
-            env |= {"LD_PRELOAD": str(self.made), "REFUSE": growths, "REFUSE_TO": str(teller)}
-        try:
-            ran = subprocess.run(self.words, input=self.text, capture_output=True, cwd=self.folder, env=env,
-                                 pass_fds=(teller,), timeout=TIMEOUT)
-        except subprocess.TimeoutExpired:
-            return None, b"", b"no answer", True
-        finally:
-            os.close(teller)
-            refused = os.read(told, 1) != b""
-            os.close(told)
-        return ran.returncode, ran.stdout, ran.stderr, refused
+        env = {} if growths is None else {"REFUSE": growths, "REFUSE_TO": str(teller)}
+        ended = self.ended(env, pass_fds=(teller,))
+        os.close(teller)
+        refused = os.read(told, 1) != b""
+        os.close(told)
+        return ended, refused or ended[0] is None
 
-    def count(self):
+    def ended(self, env: dict[str, str], seconds: float = harness.TIMEOUT, pass_fds: tuple[int, ...] = ()) -> Ended:
+        """How it ends with the library told so much; without a word it is not there."""
+        env = {"PATH": os.environ["PATH"], **env, **({"LD_PRELOAD": str(self.made)} if env else {})}
+        return harness.ended(self.words, self.text, seconds, cwd=self.folder, env=env, pass_fds=pass_fds)
+
+    def count(self) -> int:
         """How many growths there are in a run with ample memory: no more than the first so many can be refused."""
         low, high = 0, 1
-        while self.run(one(high))[3]:
+        while self.run(one(high))[1]:
             low, high = high, 2 * high
         while high - low > 1:
             middle = (low + high) // 2
-            if self.run(one(middle))[3]:
+            if self.run(one(middle))[1]:
                 low = middle
             else:
                 high = middle

@@ -29,43 +29,40 @@ os.fsdecode gives them. An input is one of
 and one of the files may be
   {"link": NAME}            a symbolic link to another file
   {"second_name": NAME}     another file under a second name"""
-import argparse
+import contextlib
+import functools
 import json
 import os
-import pathlib
-import subprocess
 import sys
-import tempfile
-import threading
+from collections.abc import Iterator, Mapping, Sequence
+from pathlib import Path
+from typing import Any
 
-from channels import give, limit_files
+import harness
+from channels import given, limit_files
+from harness import TOP, Verdicts
 
-TOP = pathlib.Path(__file__).resolve().parent.parent
-TIMEOUT = 60
+Spec = Mapping[str, Any]
 
 
-def content(spec, inputs):
+def content(spec: Spec | None, inputs: Path) -> bytes:
     if spec is None:
         return b""
     if "text" in spec:
-        return spec["text"].encode()
+        return str(spec["text"]).encode()
     if "concat" in spec:
         return b"".join(content(part, inputs) for part in spec["concat"])
     if "made" in spec:
         name, word = spec["made"]
-        return subprocess.run([sys.executable, inputs / name, word], stdout=subprocess.PIPE, check=True).stdout
+        return harness.ended([sys.executable, inputs / name, word])[1]
     if "repeat" in spec:
         text, times = spec["repeat"]
-        return text.encode() * times
-    data = (inputs / spec["file"]).read_bytes()
-    return data[: spec.get("cut", len(data))] + spec.get("append", "").encode()
+        return str(text).encode() * int(times)
+    data: bytes = (inputs / spec["file"]).read_bytes()
+    return data[:spec.get("cut", len(data))] + str(spec.get("append", "")).encode()
 
 
-def wanted(spec, inputs):
-    return spec.encode() if isinstance(spec, str) else content(spec, inputs)
-
-
-def make(path, spec, inputs):
+def make(path: Path, spec: Spec, inputs: Path) -> None:
     if "link" in spec:
         path.symlink_to(spec["link"])
     elif "second_name" in spec:
@@ -74,26 +71,29 @@ def make(path, spec, inputs):
         path.write_bytes(content(spec, inputs))
 
 
-def verified(program, folder, inputs, project, record, out):
+def otherwise(what: str, got: bytes, wanted: str | Spec, inputs: Path) -> Iterator[str]:
+    want = wanted.encode() if isinstance(wanted, str) else content(wanted, inputs)
+    if got != want:
+        yield f"{what} {got[:300]!r}, not {want[:300]!r}"
+
+
+def unverified(program: str, folder: Path, inputs: Path, out: bytes, project: Spec, record: str) -> Iterator[str]:
     """What is wrong with a record: the program and a checker that shares nothing with it must accept it with the verdict, which
     for a search that was stopped is its bound."""
     if not (folder / record).exists():
-        return [f"no {record}"]
+        yield f"no {record}"
+        return
     (folder / ".project").write_bytes(content(project, inputs))
-    answer = out.split(b"\n")[0]
+    answer, shown = out.split(b"\n")[0], (folder / record).read_bytes()
     want = b"proved " + answer[max(answer.find(b"bound "), 0):] + b"\n"
-    is_of_lemmas = (folder / record).read_bytes().startswith(b"record 2\n")
-    checker = [sys.executable, TOP / "tests" / ("verify_lemmas.py" if is_of_lemmas else "verify.py"), ".project", record]
-    bad = []
-    for words in ([program, "verify", "--project", ".project"], checker):
-        with open(folder / record, "rb") as shown:
-            ran = subprocess.run(words, stdin=shown, capture_output=True, cwd=folder, timeout=TIMEOUT)
-        if (ran.returncode, ran.stdout, ran.stderr) != (0, want, b""):
-            bad.append(f"{words[1]}: exit {ran.returncode}, {ran.stdout!r}, {ran.stderr!r}, not {want!r}")
-    return bad
+    checker = TOP / "tests" / ("verify_lemmas.py" if shown.startswith(b"record 2\n") else "verify.py")
+    judges: list[list[object]] = [[program, "verify", "--project", ".project"], [sys.executable, checker, ".project", record]]
+    for words in judges:
+        if (said := harness.ended(words, shown, cwd=folder)) != (0, want, b""):
+            yield f"{words[1]}: {said}, not {want!r}"
 
 
-def other_members(out, members):
+def other_members(out: bytes, members: Spec) -> Spec:
     """The members that a line of JSON has otherwise; all of them where it is no line of JSON."""
     try:
         found = json.loads(out)
@@ -102,81 +102,70 @@ def other_members(out, members):
     return {name: found.get(name, "missing") for name, value in members.items() if found.get(name, "missing") != value}
 
 
-def failures(program, case, inputs):
-    with tempfile.TemporaryDirectory() as folder:
-        folder = pathlib.Path(folder)
+@contextlib.contextmanager
+def standard_input(case: Spec, folder: Path, inputs: Path) -> Iterator[int]:
+    spec = case.get("stdin")
+    giver = None
+    if spec and "path" in spec:
+        source = os.open(folder / spec["path"], os.O_RDONLY)  # may be a folder, which `open` refuses
+    elif "stdin_pieces" in case:
+        source, giver = given(content(spec, inputs), case["stdin_pieces"])
+    else:
+        (folder / ".stdin").write_bytes(content(spec, inputs))
+        source = os.open(folder / ".stdin", os.O_RDONLY)
+        (folder / ".stdin").unlink()
+    try:
+        yield source
+    finally:
+        os.close(source)
+        if giver:
+            giver.join()
+
+
+def ended(program: str, case: Spec, folder: Path, inputs: Path) -> harness.Ended:
+    words, limit = [program, *case["args"]], case.get("stdout_limit")
+    to = case.get("stdout_to") if limit is None else folder / ".stdout"
+    limited: dict[str, Any] = {} if limit is None else {"preexec_fn": functools.partial(limit_files, limit)}
+    with standard_input(case, folder, inputs) as stdin:
+        if not to:
+            return harness.ended(words, stdin=stdin, cwd=folder)
+        with open(to, "wb") as stdout:
+            status, out, fault = harness.ended(words, stdin=stdin, stdout=stdout, cwd=folder, **limited)
+    return status, to.read_bytes() if limit is not None else out, fault
+
+
+def faults(program: str, case: Spec, inputs: Path) -> Iterator[str]:
+    """What is wrong with a case."""
+    with harness.new_folder() as folder:
         for name, spec in case.get("files", {}).items():
             make(folder / name, spec, inputs)
-        spec = case.get("stdin")
-        if spec and "path" in spec:
-            stdin = os.open(folder / spec["path"], os.O_RDONLY)  # may be a folder, which `open` refuses
-        elif "stdin_pieces" in case:
-            stdin, pipe = os.pipe()
-            giver = threading.Thread(target=give, args=(pipe, content(spec, inputs), case["stdin_pieces"]))
-        else:
-            (folder / ".stdin").write_bytes(content(spec, inputs))
-            stdin = os.open(folder / ".stdin", os.O_RDONLY)
-            (folder / ".stdin").unlink()
-        limit = case.get("stdout_limit")
-        to = folder / ".stdout" if limit is not None else case.get("stdout_to")
-        stdout = open(to, "wb") if to else subprocess.PIPE
-        try:
-            ran = subprocess.Popen([program, *case["args"]], stdin=stdin, stdout=stdout,
-                                   stderr=subprocess.PIPE, cwd=folder,
-                                   preexec_fn=(lambda: limit_files(limit)) if limit is not None else None)
-        finally:
-            os.close(stdin)
-        if "stdin_pieces" in case:
-            giver.start()
-        try:
-            out, err = ran.communicate(timeout=TIMEOUT)
-        except subprocess.TimeoutExpired:
-            ran.kill()
-            ran.communicate()
-            return [f"no answer in {TIMEOUT} s"]
-        if limit is not None:
-            out = to.read_bytes()
-        bad = []
+        status, out, fault = ended(program, case, folder, inputs)
         for name, spec in case.get("out_files", {}).items():
             got = (folder / name).read_bytes() if (folder / name).exists() else b"no such file"
-            if got != wanted(spec, inputs):
-                bad.append(f"{name} {got[:300]!r}, not {wanted(spec, inputs)[:300]!r}")
+            yield from otherwise(name, got, spec, inputs)
         if "verified" in case:
-            bad += verified(program, folder, inputs, *case["verified"], out)
-    if ran.returncode != case["exit"]:
-        bad.append(f"exit {ran.returncode}, not {case['exit']}")
-    for name, got in (("stdout", out or b""), ("stderr", err)):
-        if name in case and got != wanted(case[name], inputs):
-            bad.append(f"{name} {got[:300]!r}, not {wanted(case[name], inputs)[:300]!r}")
-    if "stdout_first" in case and (out or b"").split(b"\n")[0] != case["stdout_first"].encode():
-        bad.append(f"first line {(out or b'')[:100]!r}, not {case['stdout_first']!r}")
-    if other := other_members(out or b"", case.get("stdout_json", {})):
-        bad.append(f"members {other}, not {case['stdout_json']}")
-    return bad
+            yield from unverified(program, folder, inputs, out, *case["verified"])
+    if status != case["exit"]:
+        yield f"exit {status}, not {case['exit']}"
+    for name, got in (("stdout", out), ("stderr", fault), ("stdout_first", out.split(b"\n")[0])):
+        if name in case:
+            yield from otherwise(name, got, case[name], inputs)
+    if other := other_members(out, case.get("stdout_json", {})):
+        yield f"members {other}, not {case['stdout_json']}"
 
 
-def main():
-    parser = argparse.ArgumentParser()
-    parser.add_argument("program")
+def verdicts(words: Sequence[str]) -> Verdicts:
+    parser = harness.Words(__doc__, "program")
     parser.add_argument("--only", default="")
-    parser.add_argument("--cases", nargs="+", type=pathlib.Path, default=[TOP / "tests/cases.jsonl", TOP / "examples/cases.jsonl"])
-    options = parser.parse_args()
-    program = str(pathlib.Path(options.program).resolve())
-    passed = failed = 0
-    for cases in map(pathlib.Path.resolve, options.cases):
+    parser.add_argument("--cases", nargs="+", type=Path, default=[TOP / "tests/cases.jsonl", TOP / "examples/cases.jsonl"])
+    o = parser.parse_args(words)
+    for cases in (path.resolve() for path in o.cases):
         inputs = cases.parent if cases.parent.name == "examples" else cases.parent / "inputs"
-        for line in cases.read_text().splitlines():
-            case = json.loads(line)
-            if options.only not in case["name"]:
-                continue
-            bad = failures(program, case, inputs)
-            passed, failed = passed + (not bad), failed + bool(bad)
-            if bad:
-                print(f"FAILED {case['name']}: {' '.join(case['args'])}")
-                for reason in bad:
-                    print("   ", reason)
-    print(f"{passed} passed, {failed} failed")
-    return failed > 0
+        for case in map(json.loads, cases.read_text().splitlines()):
+            if o.only in case["name"]:
+                found = "".join(f"\n    {fault}" for fault in faults(o.program, case, inputs))
+                yield f"{case['name']}: {' '.join(case['args'])}", found or None
 
 
-sys.exit(main())
+if __name__ == "__main__":
+    harness.run(verdicts)

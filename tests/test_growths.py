@@ -8,19 +8,16 @@ changed. Of a test with more than N growths (300 by default) so many are refused
 long.
 
 Prints which tests are covered in part. The last line counts the runs."""
-import argparse
-import concurrent.futures
-import os
+import functools
 import pathlib
 import re
-import subprocess
-import sys
-import tempfile
 import time
+from collections.abc import Sequence
 
+import harness
+from harness import TOP, Verdict, Verdicts
 from refusing import Refusing, library, one, two
 
-ROOT = pathlib.Path(__file__).resolve().parent.parent
 # What a run is told to have answered where memory ran out: its status and fault and nothing on either output, or, since an
 # output of the tests is memory too, a beginning of what it writes.
 TOLD = (
@@ -41,55 +38,58 @@ CRATES = ("words", "best_word", "node_tests", "run_tests")
 SECONDS = 10  # so long may the runs of one test take together
 
 
-def tests_of(program):
-    told = subprocess.run([program, "--list"], capture_output=True, check=True).stdout.decode()
-    return [line.removesuffix(": test") for line in told.splitlines() if line.endswith(": test")]
+Test = tuple[pathlib.Path, str]  # a program, and one of its tests
 
 
-def spread(count, most):
+def tests_of(program: pathlib.Path) -> list[Test]:
+    status, out, _ = harness.ended([program, "--list"])
+    lines = out.decode().splitlines()
+    tests = [(program, line.removesuffix(": test")) for line in lines if line.endswith(": test")]
+    if status != 0 or not tests:
+        raise SystemExit(f"{program} lists no tests")
+    return tests
+
+
+def spread(count: int, most: int) -> list[int]:
     """The numbers from 1 to the count, or so many of them at most."""
     return sorted({1 + place * count // min(count, most) for place in range(min(count, most))})
 
 
-def judged(made, program, test, most):
-    """How many growths a test has, which were refused, and what was wrong with some runs."""
-    refusing = Refusing(made, [program, test])
+def judged(made: pathlib.Path, most: int, test: Test) -> tuple[int, int, list[Verdict]]:
+    """How many growths a test has, how many of them were refused, and the runs."""
+    program, name = test
+    refusing = Refusing(made, test)
     start = time.monotonic()
     refusing.run(None)
     affordable = int(SECONDS / (time.monotonic() - start) / 2)
-    count = refusing.count()
-    numbers, wrong = spread(count, max(10, min(most, affordable))), []
+    count, runs = refusing.count(), list[Verdict]()
+    numbers = spread(count, max(10, min(most, affordable)))
     for growth in numbers:
         for refuse in (one, two):
-            status, out, fault, _ = refusing.run(refuse(growth))
-            if status != 0 and not ENDS.fullmatch(fault):
-                wrong.append(f"growth {refuse(growth)}: {status} {fault.decode()}")
-    return count, numbers, wrong
+            (status, _, fault), _ = refusing.run(refuse(growth))
+            well = status == 0 or ENDS.fullmatch(fault)
+            told = f"{program.name} {name}, growth {refuse(growth)}"
+            runs.append((told, None if well else f"{status} {fault.decode(errors='replace')}"))
+    return count, len(numbers), runs
 
 
-def main():
-    parser = argparse.ArgumentParser()
+def verdicts(words: Sequence[str]) -> Verdicts:
+    parser = harness.Words(__doc__)
     parser.add_argument("--only", default="")
     parser.add_argument("--most", type=int, default=300)
-    options = parser.parse_args()
-    passed = failed = 0
+    o = parser.parse_args(words)
+    programs = [TOP / "crates" / crate / "out" / f"{crate}_tests" for crate in CRATES]
+    tests = [test for program in programs for test in tests_of(program) if o.only in f"{program.name} {test[1]}"]
     growths = covered = 0
-    programs = [ROOT / "crates" / crate / "out" / f"{crate}_tests" for crate in CRATES]
-    cases = [(program, test) for program in programs for test in tests_of(program)
-             if options.only in f"{program.name} {test}"]
-    with tempfile.TemporaryDirectory() as folder, concurrent.futures.ThreadPoolExecutor(os.cpu_count()) as pool:
-        made = library(folder)
-        told = pool.map(lambda case: judged(made, *case, options.most), cases)
-        for (program, test), (count, numbers, wrong) in zip(cases, told):
-            passed, failed = passed + 2 * len(numbers) - len(wrong), failed + len(wrong)
-            growths, covered = growths + count, covered + len(numbers)
-            if len(numbers) < count:
-                print(f"{program.name} {test}: {len(numbers)} of {count} growths")
-            for run in wrong[:3]:
-                print(f"FAILED {program.name} {test}: {run}")
-    print(f"{len(cases)} tests: {covered} of {growths} growths")
-    print(f"{passed} passed, {failed} failed")
-    return failed > 0
+    with harness.new_folder() as folder:
+        judge = functools.partial(judged, library(folder), o.most)
+        for (program, name), (count, refused, runs) in zip(tests, harness.side_by_side(judge, tests)):
+            growths, covered = growths + count, covered + refused
+            if refused < count:
+                print(f"{program.name} {name}: {refused} of {count} growths")
+            yield from runs
+    print(f"{len(tests)} tests: {covered} of {growths} growths")
 
 
-sys.exit(main())
+if __name__ == "__main__":
+    harness.run(verdicts)

@@ -10,112 +10,97 @@ Counts the threads of searches by workers, and refuses them.
   of N workers as for one, one after another. For every other growth `out of memory` comes, or the usual answer.
 
 The last line counts the runs."""
-import argparse
+import itertools
 import os
 import pathlib
 import re
 import subprocess
-import sys
-import tempfile
 import time
+from collections.abc import Iterator, Sequence
 
+import harness
 from calls import STARTS, TWO, TWO_SOLVED
+from harness import TOP, Ended, Verdicts
 from refusing import Refusing, library, one
 
-TOP = pathlib.Path(__file__).resolve().parent.parent
 LONG = TOP / "planner" / "projects" / "vaccine-lots.sch"  # psmax doesn't solve it in minutes
 NODES = ["--nodes", "1000000000"]
 SECONDS = 20
 THREAD, MEMORY = b"psmax: cannot start a thread\n", b"psmax: out of memory\n"
+Tried = Iterator[tuple[str, bool, object]]  # what was tried, whether it went as it has to, and how it went
 
 
-def long_starts(program, folder):
+def long_starts(program: str, folder: pathlib.Path) -> str:
     """A file with a feasible schedule of the long project."""
-    with open(LONG, "rb") as project, open(folder / "long.starts", "wb") as starts:
-        subprocess.run([program, "solve", "--nodes", "3000"], stdin=project, stdout=starts, timeout=SECONDS)
+    _, starts, _ = harness.ended([program, "solve", "--nodes", "3000"], LONG.read_bytes(), SECONDS)
+    (folder / "long.starts").write_bytes(starts)
     return "long.starts"
 
 
-def most_threads(process, wanted):
+def threads_of(process: subprocess.Popen[bytes]) -> int:
+    return len(os.listdir(f"/proc/{process.pid}/task")) if process.poll() is None else 0
+
+
+def most_threads(process: subprocess.Popen[bytes], wanted: int) -> int:
     """How many threads a process has at most, until it has as many as wanted or time is up."""
     most, end = 0, time.monotonic() + SECONDS
     while most < wanted and process.poll() is None and time.monotonic() < end:
-        most = max(most, len(os.listdir(f"/proc/{process.pid}/task")))
+        most = max(most, threads_of(process))
     return most
 
 
-def counted(program, folder):
+def numbered(program: str, folder: pathlib.Path) -> Tried:
     start, record, json = ["--start", long_starts(program, folder)], ["--record", "record"], ["--json"]
-    beside = [[], start, record, json, start + record, start + json, record + json]
-    for workers, more in [(1, []), (64, []), *((5, more) for more in beside)]:
+    beside: list[list[str]] = [[], start, record, json, start + record, start + json, record + json]
+    for workers, more in [(1, beside[0]), (64, beside[0]), *((5, more) for more in beside)]:
         words = [program, "solve", *NODES, "--workers", str(workers), *more]
         with open(LONG, "rb") as project:
             ran = subprocess.Popen(words, stdin=project, stdout=subprocess.PIPE, stderr=subprocess.PIPE, cwd=folder)
         most = most_threads(ran, workers + 1)
         time.sleep(0.05)
-        later = len(os.listdir(f"/proc/{ran.pid}/task")) if ran.poll() is None else 0
+        later = threads_of(ran)
         ran.kill()
         ran.communicate()
         yield f"{workers} workers {more}", most == later == workers + 1, f"{most} and then {later} threads"
 
 
-def refused(program, made, folder):
+def refused(program: str, made: pathlib.Path, folder: pathlib.Path) -> Tried:
+    def ended(words: list[str], text: bytes, first: int) -> Ended:
+        return Refusing(made, [program, "solve", *words], text, folder).ended({"REFUSE_THREADS": str(first)}, SECONDS)
+
     for workers, first in [(1, 1), (2, 1), (2, 2), (5, 3)]:
-        words = [program, "solve", *NODES, "--workers", str(workers)]
-        ended = run_refusing(words, made, first, LONG.read_bytes(), folder)
-        yield f"{workers} workers, thread {first} refused", ended == (1, b"", THREAD), ended
-    words = [program, "solve", "--workers", "1"]
-    ended = run_refusing(words, made, 2, TWO, folder)
-    yield "only the thread refused that drops nodes", ended == (0, TWO_SOLVED, b""), ended
+        got = ended([*NODES, "--workers", str(workers)], LONG.read_bytes(), first)
+        yield f"{workers} workers, thread {first} refused", got == (1, b"", THREAD), got
+    got = ended(["--workers", "1"], TWO, 2)
+    yield "only the thread refused that drops nodes", got == (0, TWO_SOLVED, b""), got
 
 
-def run_refusing(words, made, first, text, folder):
-    env = {"PATH": os.environ["PATH"], "LD_PRELOAD": str(made), "REFUSE_THREADS": str(first)}
-    try:
-        ran = subprocess.run(words, input=text, capture_output=True, cwd=folder, env=env, timeout=SECONDS)
-    except subprocess.TimeoutExpired:
-        return "no answer"
-    return ran.returncode, ran.stdout, ran.stderr
-
-
-def grown(program, made, folder, workers):
+def grown(program: str, made: pathlib.Path, folder: pathlib.Path, workers: int) -> str:
     """A letter for each growth that is refused alone: a thread, memory, the usual answer, or something else. A start that is
     shortest leaves the workers nothing to do, so that the growths are the same in each run."""
     (folder / "second").write_bytes(STARTS)
-    refusing = Refusing(made, [program, "solve", "--start", "second", "--workers", str(workers)], TWO, folder)
-    letters = {(1, b"", THREAD): "T", (1, b"", MEMORY): "M", (0, b"optimal 7\n" + STARTS, b""): "u"}
-    ends, growth = "", 1
-    *ended, is_refused = refusing.run(one(growth))
-    while is_refused:
-        ends, growth = ends + letters.get(tuple(ended), "?"), growth + 1
-        *ended, is_refused = refusing.run(one(growth))
-    return ends
+    refusing = Refusing(made, [program, "solve", "--start", "second", "--workers", workers], TWO, folder)
+    letters: dict[Ended, str] = {(1, b"", THREAD): "T", (1, b"", MEMORY): "M", (0, b"optimal 7\n" + STARTS, b""): "u"}
+    runs = (refusing.run(one(growth)) for growth in itertools.count(1))
+    return "".join(letters.get(ended, "?") for ended, _ in itertools.takewhile(lambda run: run[1], runs))
 
 
-def told_apart(program, made, folder):
+def told_apart(program: str, made: pathlib.Path, folder: pathlib.Path) -> Tried:
     alone = grown(program, made, folder, 1).count("T")
     for workers in (1, 2, 5):
         ends = grown(program, made, folder, workers)
         well = alone > 0 and re.fullmatch("[Mu]*M[Mu]*T{%d}[Mu]*M[Mu]*" % (workers * alone), ends)
-        yield f"growths of {workers} workers", well is not None, ends
+        yield f"growths of {workers} workers", bool(well), ends
 
 
-def main():
-    parser = argparse.ArgumentParser()
-    parser.add_argument("program")
-    options = parser.parse_args()
-    program = str(pathlib.Path(options.program).resolve())
-    passed = failed = 0
-    with tempfile.TemporaryDirectory() as folder:
-        folder = pathlib.Path(folder)
+def verdicts(words: Sequence[str]) -> Verdicts:
+    program = harness.Words(__doc__, "program").parse_args(words).program
+    with harness.new_folder() as folder:
         made = library(folder)
-        for runs in (counted(program, folder), refused(program, made, folder), told_apart(program, made, folder)):
-            for name, well, told in runs:
-                passed, failed = passed + well, failed + (not well)
-                if not well:
-                    print(f"FAILED {name}: {told}")
-    print(f"{passed} passed, {failed} failed")
-    return failed > 0
+        tried = numbered(program, folder), refused(program, made, folder), told_apart(program, made, folder)
+        for name, well, told in itertools.chain(*tried):
+            yield name, None if well else str(told)
 
 
-sys.exit(main())
+if __name__ == "__main__":
+    harness.run(verdicts)

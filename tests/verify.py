@@ -11,7 +11,10 @@ to be right.
 import os
 import re
 import sys
+from collections.abc import Callable, Sequence
 
+Rows = list[list[int]]  # the greatest weights of walks between any two activities
+TreeLine = tuple[int, str, list[int]]  # a line's number, kind and numbers
 MAX_BYTES = 268_435_456
 NUMBER = re.compile(rb"0|[1-9][0-9]{0,9}")
 # No walk: below any sum of weights. What is less than half of it is no walk either.
@@ -20,7 +23,7 @@ LOW = NONE // 2
 
 
 class Fault(Exception):
-    def __init__(self, line, why, status):
+    def __init__(self, line: int, why: str, status: int) -> None:
         super().__init__(why if line == 0 else f"line {line}: {why}")
         self.status = status
 
@@ -31,40 +34,35 @@ class Fault(Exception):
 class Project:
     """Durations, demands by activity, capacities, and all arcs, those of the start and the end among them."""
 
-    def __init__(self, text):
+    def __init__(self, text: bytes) -> None:
         words = iter(int(word) for word in re.split(rb"[ \t\r\n\[\]]+", text) if word)
         count, resources = next(words) + 2, next(words)
         next(words), next(words)
-        self.arcs = []
+        self.arcs: list[tuple[int, int, int]] = []
         for activity in range(count):
             next(words), next(words)
             ends = [next(words) for _ in range(next(words))]
             self.arcs += [(activity, end, next(words)) for end in ends]
-        self.durations, self.demands = [], []
-        for _ in range(count):
-            next(words), next(words)
-            self.durations.append(next(words))
-            self.demands.append([next(words) for _ in range(resources)])
+        rows = [[next(words) for _ in range(3 + resources)] for _ in range(count)]
+        self.durations, self.demands = [row[2] for row in rows], [row[3:] for row in rows]
         self.capacities = [next(words) for _ in range(resources)]
         self.count, self.end = count, count - 1
         self.arcs += [(0, activity, 0) for activity in range(1, count)]
         self.arcs += [(activity, self.end, self.durations[activity]) for activity in range(self.end)]
 
-    def takes_time(self, activity):
+    def takes_time(self, activity: int) -> bool:
         return activity < self.count and self.durations[activity] > 0
 
-    def exceeds(self, resource, activities):
+    def exceeds(self, resource: int, activities: Sequence[int]) -> bool:
         return sum(self.demands[i][resource] for i in activities) > self.capacities[resource]
 
-    def is_feasible(self, starts):
+    def is_feasible(self, starts: Sequence[int]) -> bool:
         if len(starts) != self.count or starts[0] != 0:
             return False
         if any(starts[a] + weight > starts[b] for a, b, weight in self.arcs):
             return False
         for time in set(starts):
-            running = [
-                i for i in range(self.count) if starts[i] <= time < starts[i] + self.durations[i]
-            ]
+            running = [i for i in range(self.count) if starts[i] <= time < starts[i] + self.durations[i]]
             if any(self.exceeds(k, running) for k in range(len(self.capacities))):
                 return False
         return True
@@ -73,7 +71,7 @@ class Project:
 # ---- the record's text
 
 
-def numbers(row, word):
+def numbers(row: bytes, word: bytes) -> list[int] | None:
     """The numbers after a word, or None where the row is another."""
     fields = row.split(b" ")
     if fields[0] != word or not all(NUMBER.fullmatch(field) for field in fields[1:]):
@@ -81,7 +79,7 @@ def numbers(row, word):
     return [int(field) for field in fields[1:]]
 
 
-def tree_line(row):
+def tree_line(row: bytes) -> tuple[str, list[int]] | None:
     """The kind of a line of the tree and its numbers, or None."""
     if row in (b"solved", b"cut", b"dead"):
         return row.decode(), []
@@ -94,13 +92,13 @@ def tree_line(row):
     return None
 
 
-def read_record(text):
+def read_record(text: bytes) -> tuple[int | None, list[int], list[TreeLine]]:
     """The makespan that is claimed (None: no schedule), the starts, and the tree's lines with their numbers."""
     if len(text) > MAX_BYTES:
         raise Fault(0, "too long", 2)
     *rows, tail = text.split(b"\n")
 
-    def row(line):
+    def row(line: int) -> bytes:
         if line > len(rows):
             raise Fault(line, "form" if tail else "short", 2)
         return rows[line - 1]
@@ -112,12 +110,11 @@ def read_record(text):
         claimed = numbers(row(2), b"optimal")
         if claimed is None or len(claimed) != 1:
             raise Fault(2, "form", 2)
-        makespan = claimed[0]
-        starts = numbers(row(3), b"starts")
+        makespan, starts, line = claimed[0], numbers(row(3), b"starts") or [], 4
         if not starts:
             raise Fault(3, "form", 2)
-        line = 4
-    tree, due = [], 1
+    tree: list[TreeLine] = []
+    due = 1
     while due > 0:
         found = tree_line(row(line))
         if found is None:
@@ -138,7 +135,7 @@ def read_record(text):
 # ---- greatest weights of walks
 
 
-def root_matrix(project):
+def root_matrix(project: Project) -> Rows | None:
     """The greatest weights of walks over the project's arcs, or None where a closed walk is positive."""
     size = range(project.count)
     rows = [[0 if a == b else NONE for b in size] for a in size]
@@ -156,7 +153,7 @@ def root_matrix(project):
     return rows
 
 
-def with_pair(project, rows, pair):
+def with_pair(project: Project, rows: Rows | None, pair: Sequence[int]) -> Rows | None:
     """The weights with the arc of one pair more, or None. Rows that stay are shared."""
     if rows is None:
         return None
@@ -172,15 +169,12 @@ def with_pair(project, rows, pair):
         first = row[before]
         if first > LOW and first + weight > row[after]:
             first += weight
-            row = [
-                first + last if last > LOW and first + last > old else old
-                for old, last in zip(row, ways)
-            ]
+            row = [first + last if last > LOW and first + last > old else old for old, last in zip(row, ways)]
         made.append(row)
     return made
 
 
-def bound(project, rows):
+def bound(project: Project, rows: Rows) -> int:
     """The greatest of the critical weight and all numbers a + b + ceil(W / R)."""
     best = rows[0][project.end]
     for resource, capacity in enumerate(project.capacities):
@@ -204,7 +198,7 @@ def bound(project, rows):
 # ---- each line
 
 
-def is_forced(project, rows, pair):
+def is_forced(project: Project, rows: Rows, pair: Sequence[int]) -> bool:
     before, after = pair
     if before == after or not project.takes_time(before) or not project.takes_time(after):
         return False
@@ -213,7 +207,7 @@ def is_forced(project, rows, pair):
     return rows[before][after] > LOW and rows[before][after] > -project.durations[after]
 
 
-def is_right_set(project, resource, members):
+def is_right_set(project: Project, resource: int, members: Sequence[int]) -> bool:
     if resource >= len(project.capacities):
         return False
     if any(a >= b for a, b in zip(members, members[1:])):
@@ -221,7 +215,7 @@ def is_right_set(project, resource, members):
     return all(map(project.takes_time, members)) and project.exceeds(resource, members)
 
 
-def is_right(project, rows, makespan, kind, fields):
+def is_right(project: Project, rows: Rows | None, makespan: int | None, kind: str, fields: list[int]) -> bool:
     """Whether a line is right in a node with these weights, None for a dead one."""
     if rows is None or kind == "dead":
         return rows is None and kind == "dead"
@@ -239,11 +233,11 @@ def is_right(project, rows, makespan, kind, fields):
 WHY = {"force": "force", "split": "set", "solved": "leaf", "cut": "leaf", "dead": "leaf"}
 
 
-def verify(project, makespan, starts, tree):
+def verify(project: Project, makespan: int | None, starts: Sequence[int], tree: Sequence[TreeLine]) -> str:
     if makespan is not None and not (project.is_feasible(starts) and starts[-1] == makespan):
         raise Fault(3, "start", 4)
     # The nodes that are due: the weights of the node above, and the pair that is added, the next node last.
-    due = [(root_matrix(project), None)]
+    due: list[tuple[Rows | None, Sequence[int] | None]] = [(root_matrix(project), None)]
     for line, kind, fields in tree:
         rows, pair = due.pop()
         if pair is not None:
@@ -259,7 +253,7 @@ def verify(project, makespan, starts, tree):
     return "proved no schedule" if makespan is None else f"proved optimal {makespan}"
 
 
-def read(path):
+def read(path: str) -> bytes:
     try:
         with open(path, "rb") as file:
             return file.read()
@@ -267,7 +261,7 @@ def read(path):
         raise Fault(0, f"cannot read {path}: {fault.strerror}", 1) from None
 
 
-def read_project(path):
+def read_project(path: str) -> Project:
     text = read(path)
     try:
         project = Project(text)
@@ -278,7 +272,7 @@ def read_project(path):
     raise Fault(0, f"{path}: not a project", 2)
 
 
-def run(program, words, verdict):
+def run(program: str, words: Sequence[str], verdict: Callable[[Project, bytes], str]) -> int:
     """Prints the verdict on PROJECT.sch and RECORD, or the fault as the program names it; the exit status."""
     try:
         if len(words) != 2:

@@ -98,7 +98,7 @@ class InFolder(unittest.TestCase):
 
     def hard(self) -> pathlib.Path:
         """A project that no search here settles in a minute, and of which psprove finds a schedule at once."""
-        made = "import projects; print(projects.text(*projects.job_shop(20, 15, 1)))"
+        made = "import projects, sys; sys.stdout.buffer.write(projects.job_shop(20, 15, 1).text())"
         ran = subprocess.run([sys.executable, "-c", made], cwd=TOP / "bench", capture_output=True, check=True)
         return self.file("hard.sch", ran.stdout)
 

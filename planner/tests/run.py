@@ -3,16 +3,27 @@
 import pathlib
 import sys
 import unittest
+from collections.abc import Iterator, Sequence
 
 TOP = pathlib.Path(__file__).resolve().parents[2]
 
 
-def main() -> int:
+def names(tests: unittest.TestSuite | unittest.TestCase) -> list[str]:
+    if isinstance(tests, unittest.TestCase):
+        return [tests.id()]
+    return [name for test in tests for name in names(test)]
+
+
+def verdicts(_: Sequence[str] = ()) -> Iterator[tuple[str, str | None]]:
+    """Each test, and whether it failed as is shown above."""
     tests = unittest.TestLoader().discover(str(TOP / "planner" / "tests"), top_level_dir=str(TOP))
+    told = names(tests)
     result = unittest.TextTestRunner(stream=sys.stdout, verbosity=1).run(tests)
-    bad = len({test.id().split(" ")[0] for test, _ in [*result.failures, *result.errors]})
-    print(f"{result.testsRun - bad} passed, {bad} failed")
-    return int(bad > 0)
+    bad = {test.id().split(" ")[0] for test, _ in [*result.failures, *result.errors]}
+    yield from ((name, "as above" if name in bad else None) for name in sorted({*told, *bad}))
 
 
-sys.exit(main())
+if __name__ == "__main__":
+    faults = [fault for _, fault in verdicts()]
+    print(f"{faults.count(None)} passed, {len(faults) - faults.count(None)} failed")
+    sys.exit(faults.count(None) < len(faults))

@@ -33,7 +33,8 @@ class Faults(InFolder):
                 with self.subTest(program=program, command=command):
                     called = {"psprove" if command == "solve" else "psmax": program}
                     self.refused(self.called(command, **called), 1, text)
-        self.refused(plan("solve", SITE, psprove=self.program("killed", "kill -9 $$")), 1, "psprove solve was ended by signal 9")
+        killed = self.program("killed", "kill -9 $$")
+        self.refused(plan("solve", SITE, psprove=killed), 1, "psprove solve was ended by signal 9")
 
     def called(self, command: str, **programs: str) -> Ran:
         return plan(command, SITE, given=b"0 0\n", **programs)

@@ -179,5 +179,3 @@ class Ends(InFolder):
         time.sleep(0.05)
         child.send_signal(signal.SIGHUP) if shutil.which("nohup") else None
         self.assertIn("optimal 36", child.communicate(timeout=30)[0])
-
-

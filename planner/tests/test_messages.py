@@ -88,7 +88,7 @@ class Why(InFolder):
         self.assertEqual(text.count("These lags contradict each other:"), 2)
         self.assertIn("4 (e) starts at most 7 after 1 (a) starts (2 after it ends)", text)
         self.assertIn("3 (d) starts at most 10 after 2 (c) starts (6 after it ends)", text)
-        self.assertIn("No greatest lag, taken out alone, opens a schedule.", text)
+        self.assertIn("No maximum lag, taken out alone, opens a schedule.", text)
 
     def test_a_circle_without_a_greatest_lag(self) -> None:
         text = self.told(f"{LAGS}a,5,b,,\nb,3,a,,\n")

@@ -45,8 +45,8 @@ class Replanning(InFolder):
         ran = self.replanned(4)
         self.assertEqual((ran.returncode, ran.stdout), (0, "optimal 13\n"), ran.stderr)
         self.assertIn("2 of 4 activities start before 4 in", ran.stderr)
-        self.assertIn("old.csv: 3 (lift roof) must start at least 4 after 2 (bolt beams) starts (0 after it ends), and starts 2 ",
-                      ran.stderr)
+        self.assertIn("old.csv: 3 (lift roof) must start at least 4 after 2 (bolt beams) starts (0 after it ends), "
+                      "and starts 2 ", ran.stderr)
         self.assertIn("old.csv, repaired", ran.stderr)
         self.assertEqual(self.starts(self.new), {"lift beams": 0, "bolt beams": 3, "lift roof": 7, "cover roof": 11})
 

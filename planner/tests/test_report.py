@@ -92,8 +92,8 @@ class Report(InFolder):
         """What a browser of this width makes of the page, once something is chosen and sorted."""
         assert CHROMIUM is not None
         path = self.file("asked.html", page.replace("</body>", ASK))
-        ran = subprocess.run([CHROMIUM, "--headless", "--no-sandbox", "--disable-gpu", f"--user-data-dir={self.folder}/chromium",
-                              f"--window-size={width},900", "--dump-dom", path.as_uri()], capture_output=True, timeout=60)
+        words = ["--headless", "--no-sandbox", "--disable-gpu", f"--user-data-dir={self.folder}/chromium", "--dump-dom"]
+        ran = subprocess.run([CHROMIUM, *words, f"--window-size={width},900", path.as_uri()], capture_output=True, timeout=60)
         return html.unescape(ran.stdout.decode())
 
     @unittest.skipUnless(CHROMIUM, "Chromium isn't here")
@@ -105,7 +105,8 @@ class Report(InFolder):
             self.assertIn('"sideways":false', told)
             self.assertIn('"rows":["1","2","3"]', told)
             self.assertIn('"shown":2,"chosen":["3 cure & \\"wait\\""]', told)
-            self.assertIn('"lags":["3 (cure & \\"wait\\") starts at least 1 after 2 (pour {{title}}) starts (0 after it ends): tight', told)
+            self.assertIn('"lags":["3 (cure & \\"wait\\") starts at least 1 after 2 (pour {{title}}) starts '
+                          '(0 after it ends): tight', told)
 
     @unittest.skipUnless(CHROMIUM, "Chromium isn't here")
     def test_sorted(self) -> None:

@@ -162,7 +162,8 @@ class Records(InFolder):
         path, record = self.hard(), self.folder / "record"
         ran = plan("solve", path, "--record", record, "--seconds", "1")
         bound = ran.stdout.partition("\n")[0].split()[-1]
-        self.assertEqual(self.verified(path, record), (0, f"{record} proves that no schedule of {path} is shorter than {bound}."))
+        told = f"{record} proves that no schedule of {path} is shorter than {bound}."
+        self.assertEqual(self.verified(path, record), (0, told))
 
     def test_a_record_of_psmax(self) -> None:
         path, record = INPUTS / "two-jobs.sch", self.folder / "record"

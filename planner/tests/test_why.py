@@ -28,8 +28,9 @@ class Why(InFolder):
 
     def test_deadline_too_short(self) -> None:
         """By hand: two jobs of 3 and 4 on one machine take 7, which the deadline of 6 forbids: that and the machine."""
-        self.told(INPUTS / "two-jobs-deadline-6.sch", f"{THESE}  resource 0, of which there is 1\n"
-                  "  3 (the end) starts at most 6 after the start\n", "a schedule of 7: 3 (the end) starts at most 6 after the start")
+        lag = "3 (the end) starts at most 6 after the start"
+        self.told(INPUTS / "two-jobs-deadline-6.sch", f"{THESE}  resource 0, of which there is 1\n  {lag}\n",
+                  f"a schedule of 7: {lag}")
 
     def test_either_lag(self) -> None:
         """2 starts from 0 to 2 after 1, so neither can go first: without either lag one of them can."""
@@ -39,7 +40,7 @@ class Why(InFolder):
     def test_no_lag_alone(self) -> None:
         """By hand: the deadline of 6 stands twice, so taking one out leaves the other."""
         text = TWO_JOBS.replace("3 1 0\n", "3 1 2 0 0 [-6] [-5]\n", 1)
-        self.told(self.file("p.sch", text), "No greatest lag, taken out alone, opens a schedule.")
+        self.told(self.file("p.sch", text), "No maximum lag, taken out alone, opens a schedule.")
 
     def test_names(self) -> None:
         """By hand: the ground stays firm for 3 days, and excavating takes 5."""
@@ -53,8 +54,8 @@ class Why(InFolder):
 
     def test_within(self) -> None:
         """By hand: two jobs of 3 and 4 on one machine take 7, so 6 is too early by the machine, and 3 by a lag."""
-        for deadline, told in ((6, f"{THESE}  resource 0, of which there is 1\nNo greatest lag"),
-                               (3, "The least lags alone contradict each other, by a proof of psprove.\nThese lags contradict")):
+        lags = "The minimum lags alone contradict each other, by a proof of psprove.\nThese lags contradict"
+        for deadline, told in ((6, f"{THESE}  resource 0, of which there is 1\nNo maximum lag"), (3, lags)):
             ran = plan("why", INPUTS / "two-jobs.sch", "--within", deadline)
             self.assertIn(f"There is no schedule that ends by {deadline}.\n{told}", ran.stdout)
         ran = plan("why", INPUTS / "two-jobs.sch", "--within", 7)

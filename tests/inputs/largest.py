@@ -6,13 +6,14 @@ resources, 100,000 arcs of weight 1,000,000, and blanks up to 16,777,216 bytes. 
 the 100 after it, or to the end, so that one can start only when the one before has ended: activity i starts at
 1,000,000 (i - 1) and the end at 1,000,000,000, and no other schedule is shorter.
 
-`project` prints its text, `canonical` its canonical text, `starts` the starts, another word that word, the makespan and the starts."""
+`project` prints its text, `canonical` its canonical text, `starts` the starts, another word that word, the makespan and
+the starts."""
 import sys
 
 N, K, SUCCESSORS, MOST, BYTES = 1_000, 32, 100, 1_000_000, 16_777_216
 
 
-def rows_of_words():
+def rows_of_words() -> list[str]:
     rows = [f"{N} {K} 0 0", "0 1 0"]
     for i in range(1, N + 1):
         after = [min(i + 1 + k, N + 1) for k in range(SUCCESSORS)]
@@ -26,23 +27,21 @@ def rows_of_words():
     return rows
 
 
-def project():
+def project() -> str:
     text = "\n".join(rows_of_words())
     return text + "\n" * (BYTES - len(text))
 
 
-def canonical():
+def canonical() -> str:
     return "".join(row.replace(" ", "\t") + "\n" for row in rows_of_words())
 
 
-def starts():
+def starts() -> str:
     return "".join(f"{i} {max(i - 1, 0) * MOST}\n" for i in range(N + 2))
 
 
-word = sys.argv[1]
-if word == "project":
-    sys.stdout.write(project())
-elif word == "canonical":
-    sys.stdout.write(canonical())
-else:
-    sys.stdout.write(starts() if word == "starts" else f"{word} {N * MOST}\n{starts()}")
+TEXTS = {"project": project, "canonical": canonical, "starts": starts}
+
+if __name__ == "__main__":
+    word = sys.argv[1]
+    sys.stdout.write(TEXTS[word]() if word in TEXTS else f"{word} {N * MOST}\n{starts()}")

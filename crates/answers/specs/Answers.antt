@@ -1,5 +1,5 @@
 -- The texts of answers.
-use Rattle.std.specs.Prelude.{◌≡◌, ℕ, ◌+◌, Bool, true, false, Some, None, List, [], ◌∷◌, ◌++◌, ℤ, ◌<ℤ◌, codes, ◌⊎◌}
+use Rattle.std.specs.Prelude.{◌≡◌, ℕ, ◌+◌, Bool, true, false, Option, Some, None, List, [], ◌∷◌, ◌++◌, ℤ, ◌<ℤ◌, ◌≤ℤ◌, codes, ◌⊎◌}
 use Rattle.std.specs.List.{flat_map}
 use Rattle.std.specs.Fmt.{decimal, signed_decimal}
 use Rattle.network.specs.Problem.{Problem, rules}
@@ -163,7 +163,24 @@ IsSolveText p alone json exit written =
     ⊎ (IsFeasibleBoundText p alone json exit written
     ⊎ IsUnknownText p json exit written))
 
--- what it says where starts were handed in: all that they violate, or, where they are a feasible
--- schedule, what a search by workers has found
+-- where a search from a schedule was stopped: a feasible schedule that is no longer, and a number that no makespan is below
+pub record IsImprovedText (p : Problem) (from : List ℤ) (json : Bool) (exit : ℕ) (written : List ℕ) : Type 0 where
+  pub starts : List ℤ
+  pub bound : ℤ
+  pub feasible : IsFeasible p starts
+  pub no_longer : makespan starts ≤ℤ makespan from
+  pub holds : IsLowerBound p bound
+  pub text : written ≡ feasible_text json bound starts
+  pub status : exit ≡ 3
+
+-- what workers say, who may have begun with a feasible schedule
+abbrev pub IsFoundText : Problem → Option (List ℤ) → Bool → ℕ → List ℕ → Type 0
+IsFoundText p None json exit written = IsSolveText p false json exit written
+IsFoundText p (Some from) json exit written =
+    IsOptimalText p json exit written ⊎ IsImprovedText p from json exit written
+
+-- what is said where starts were handed in: all that they violate, or, where they are a feasible schedule, what workers have
+-- found from it
 abbrev pub IsStartedText : Problem → List ℤ → Bool → ℕ → List ℕ → Type 0
-IsStartedText p starts json exit written = IsViolationsText p starts exit written ⊎ (IsFeasible p starts × IsSolveText p false json exit written)
+IsStartedText p starts json exit written =
+    IsViolationsText p starts exit written ⊎ (IsFeasible p starts × IsFoundText p (Some starts) json exit written)

@@ -1,4 +1,4 @@
-//! What can go wrong in a run of psmax, with the line it is told by and its exit status.
+//! What can go wrong in a run of psmax, with its line and its exit status.
 
 ghost use Rattle.std.specs.Prelude.{◌≡◌};
 
@@ -72,8 +72,7 @@ impl Fault {
     ghost use Rattle.std.specs.Prelude.{◌≡◌};
     ghost use Rattle.answers.specs.Faults.{exit_of};
 
-    /// The exit status: 1 for memory, threads and devices, 2 for a text that isn't what it should be, 4 for
-    /// a record that isn't right.
+    /// The exit status: 1 for memory, threads and devices, 2 for a text with a fault, 4 for a record that is wrong.
     pub fn exit(self) -> u8
         ensures { result ≡ exit_of self }
     {

@@ -1,5 +1,4 @@
-//! The answers of psmax: their texts, as plain lines or as JSON, their exit statuses, and the faults that come in their
-//! place.
+//! The answers of psmax: their texts, as plain lines or as JSON, and their exit statuses. Faults come in their place.
 #![tactic(auto)]
 
 mod answer;

@@ -4,7 +4,7 @@
 pub(crate) struct View {
     /// The least number that the seat found in the word or offered.
     pub(crate) known: u64,
-    /// The least number that the seat offered. What the word was opened with counts as offered by its first
-    /// seat, and what a seat offered before it was split counts as offered by both.
+    /// The least number that the seat offered. What the word was opened with counts as offered by its first seat. What
+    /// a seat offered before it was split counts as offered by both.
     pub(crate) offered: u64,
 }

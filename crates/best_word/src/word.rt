@@ -10,7 +10,7 @@ use atomic_table::Table;
 use std::alloc::{AllocError, Global};
 use std::marker::Model;
 
-/// The shared number. Contracts see which word it is, and not what it holds, which any thread may lower at any time.
+/// The shared number. Contracts see which word it is, and not what it holds. Any thread may lower that at any time.
 #[derive(Drop)]
 pub struct BestWord {
     table: Table<(), View, u64, Least, Global>,
@@ -59,8 +59,8 @@ impl BestWord {
         shared.fetch_min::<Offer>(&mut seat.seat, 0, number);
     }
 
-    /// A second seat, for another thread: one look, after which both seats know what it found. The new seat is told
-    /// by a second load, whose answer nobody reads.
+    /// A second seat, for another thread. It takes one look, after which both seats know what it found. The new seat is
+    /// told by a second load, whose answer nobody reads.
     #[tactic(auto, using(crate::proofs::Steps::splits))]
     pub fn split(&self, seat: &mut BestSeat) -> BestSeat
         requires { seat.old.word ≡ self.now }

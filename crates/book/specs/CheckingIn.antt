@@ -4,6 +4,8 @@ use Rattle.std.specs.List.{All}
 use Rattle.std.specs.List.Sorted.{IsPermutation}
 use Rattle.branching.specs.Subproblem.{Subproblem}
 use Rattle.branching.specs.Fair.{Expansion}
+use Rattle.branching.specs.ReportView.{AreListsOf}
+use Rattle.branching.specs.declared.branches.Branches.{Branches}
 use Rattle.book.specs.State.{Named, node_named, Holds, BookState, in_hand, best_makespan}
 use Rattle.book.specs.Below.{kids_below}
 use Rattle.book.specs.Recording.{checked_in}
@@ -81,6 +83,12 @@ abbrev pub ChecksIn : BookState → ℕ → Expansion → Result CheckedIn (Expa
 ChecksIn old name report (Ok done) new =
     (worker : ℕ) × MayCheckIn old worker name report × Accepts old worker name report done new
 ChecksIn old name report (Err refused) new = Refuses old name report refused.1 × (refused.0 ≡ report) × (new ≡ old)
+
+-- the same, and the lists of an accepted report come back
+abbrev pub ChecksInForReuse :
+    BookState → ℕ → Expansion → Result (CheckedIn × Branches) (Expansion × CheckFault) → BookState → Type 0
+ChecksInForReuse old name report (Ok done) new = ChecksIn old name report (Ok done.0) new × AreListsOf report done.1
+ChecksInForReuse old name report (Err refused) new = ChecksIn old name report (Err refused) new
 
 -- the worker whose node the report is on, or why there is none
 abbrev pub Judges : BookState → ℕ → Expansion → Result ℕ CheckFault → Type 0

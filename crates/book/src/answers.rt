@@ -37,7 +37,7 @@ pub struct Ticket {
     pub ceiling: Option<i64>,
 }
 
-/// What a worker that asks for a node is told.
+/// The answer to a worker that asks for a node.
 #[derive(Drop, Debug)]
 pub enum Take {
     /// The book has no worker of this number.
@@ -75,7 +75,8 @@ pub enum CheckFault {
     OtherNode,
     /// The report is on a node of another project.
     OtherProject,
-    /// The report's ceiling is below the best makespan, which is told here: it may have left out what is still looked for.
+    /// The report's ceiling is below the best makespan, which this tells. The report may have left out schedules that
+    /// are still wanted.
     AheadOfBook { best: Option<i64> },
     /// Memory ran out.
     Memory,

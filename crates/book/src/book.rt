@@ -1,12 +1,13 @@
 //! The search book: the state of a search as a machine that workers ask for nodes.
 
-ghost use Rattle.std.specs.Prelude.{◌≡◌, ◌↔◌, ◌<◌, IsTrue, true, false, length, Ok, Err, IfOk, IfErr, IfSome, option_map};
+ghost use Rattle.std.specs.Prelude.{◌≡◌, ◌↔◌, ◌<◌, IsTrue, true, false, length, IfOk, IfErr, IfSome, option_map};
 ghost use Rattle.std.specs.Arc.{arc_value};
+ghost use Rattle.branching.specs.ReportView.{AreListsOf};
 ghost use Rattle.book.specs.Sound.{IsSound, IsWithinLimits};
 ghost use Rattle.book.specs.Opening.{AreAllowed, AreFirst, Opens, OpensRecorded};
 ghost use Rattle.book.specs.Offering.{Offers};
 ghost use Rattle.book.specs.Taking.{IsFull, Cuts, HandsOut, Takes};
-ghost use Rattle.book.specs.CheckingIn.{MayCheckIn, Judges, Accepts, ChecksIn};
+ghost use Rattle.book.specs.CheckingIn.{MayCheckIn, Judges, Accepts, ChecksIn, ChecksInForReuse};
 ghost use Rattle.book.specs.GivingBack.{GivesBack};
 ghost use Rattle.book.specs.Counts.{counts_of};
 ghost use Rattle.book.specs.Recorded.{IsRecorded, EndsWhole};
@@ -32,8 +33,8 @@ use std::alloc::{AllocError, Global};
 use std::marker::Model;
 use std::sync::Arc;
 
-/// The book of a search. Its workers are 0 to one less than their number; the nodes that it opened have the names 0, 1,
-/// 2 and so on, in the order in which they were opened.
+/// The book of a search. Its workers are numbered from 0. Its nodes have the names 0, 1, 2 and so on, in the order in
+/// which it opened them.
 #[derive(Drop, Debug)]
 pub struct Book {
     project: SharedProject,
@@ -68,7 +69,7 @@ pub fn are_allowed(workers: usize, takes: u64) -> bool
     (1..=MAX_WORKERS).contains(&workers) && (1..=MAX_TAKES).contains(&takes)
 }
 
-/// The root of a project under name 0; no node where a closed walk of the project's rules has positive weight.
+/// The root of a project under name 0. No node if a closed walk of the project's rules has positive weight.
 fn first_nodes(alloc: Global, project: &Arc<Project>) -> Result<OpenNodes, AllocError>
     ensures { IfOk result (AreFirst (arc_value project.now)) }
 {
@@ -90,8 +91,8 @@ pub fn is_same_project(left: &Project, right: &Project) -> bool
 }
 
 impl Book {
-    /// A book for a project, with 1 to [`MAX_WORKERS`] workers, that allows 1 to [`MAX_TAKES`] takes. Its root is open;
-    /// where the project's rules have a closed walk of positive weight, so that there is no schedule, nothing is.
+    /// A book for a project, with 1 to [`MAX_WORKERS`] workers, that allows 1 to [`MAX_TAKES`] takes. Its root is open.
+    /// If the project's rules have a closed walk of positive weight, there is no schedule and no open node.
     pub fn open(
         alloc: Global,
         project: Arc<Project>,
@@ -144,8 +145,8 @@ impl Book {
         Ok(book)
     }
 
-    /// Offers a schedule: whether it was strictly shorter than the best, and so became the best. One of another project is
-    /// handed back.
+    /// Offers a schedule. It becomes the best if it is strictly shorter; the result says whether it did. One of another
+    /// project is handed back.
     pub fn offer(&mut self, schedule: Schedule) -> Result<bool, (Schedule, OtherProject)>
         ensures step { Offers self.old schedule result self.new }
         ensures sound { IsSound self.new }
@@ -168,7 +169,7 @@ impl Book {
         self.halted = true;
     }
 
-    /// Cuts the open nodes where none of them can lead to a schedule shorter than the best.
+    /// Cuts the open nodes if none of them can lead to a schedule shorter than the best.
     fn cut_settled(&mut self)
         ensures { Cuts self.old self.new }
     {
@@ -203,8 +204,8 @@ impl Book {
         }
     }
 
-    /// The next node for a worker: that of least bound, among these that of the greatest name. The answers that are no
-    /// node come in the order of [`Take`]. It takes no memory.
+    /// The next node for a worker: the one of least bound, and among these the one of the greatest name. The answers
+    /// that are no node come in the order of [`Take`]. It takes no memory.
     pub fn take(&mut self, worker: usize) -> Take
         ensures step { Takes self.old worker result self.new }
         ensures sound { IsSound self.new }
@@ -263,6 +264,7 @@ impl Book {
     ) -> Result<(CheckedIn, Branches), Report>
         requires { MayCheckIn self.old worker name report }
         ensures ok { IfOk result (λ done. Accepts self.old worker name report done.0 self.new) }
+        ensures lists { IfOk result (λ done. AreListsOf report done.1) }
         ensures err { IfErr result (λ back. (back ≡ report) × (self.new ≡ self.old)) }
         ensures sound { IsSound self.new }
     {
@@ -293,8 +295,8 @@ impl Book {
         Ok((CheckedIn { opened, improved }, made))
     }
 
-    /// Checks in the report on the node in hand under a name, whichever worker holds it: what was found becomes the best
-    /// where it is strictly shorter, and then the kids whose bounds are below the best are opened, in their order.
+    /// Checks in the report on the node in hand under a name, whichever worker holds it. The schedule found becomes the
+    /// best if it is strictly shorter. Then the kids whose bounds are below the best are opened, in their order.
     ///
     /// A refused report is handed back, and the book is as it was. Faults are tested in the order of [`CheckFault`].
     pub fn check_in(&mut self, name: u64, report: Report) -> Result<CheckedIn, (Report, CheckFault)>
@@ -307,15 +309,14 @@ impl Book {
         }
     }
 
-    /// The same, and the report's lists come back: who holds a lock doesn't drop them under it, and the next expansion can
-    /// use their memory again.
+    /// The same, and the report's lists come back. So a caller who holds a lock need not drop them under it, and the
+    /// next expansion can use their memory again.
     pub fn check_in_for_reuse(
         &mut self,
         name: u64,
         report: Report,
     ) -> Result<(CheckedIn, Branches), (Report, CheckFault)>
-        ensures ok { IfOk result (λ done. ChecksIn self.old name report (Ok done.0) self.new) }
-        ensures err { IfErr result (λ refused. ChecksIn self.old name report (Err refused) self.new) }
+        ensures step { ChecksInForReuse self.old name report result self.new }
         ensures sound { IsSound self.new }
     {
         let worker = match self.judge(name, &report) {
@@ -377,8 +378,8 @@ impl Book {
         self.best.as_ref()
     }
 
-    /// What became of each node, where the book was opened by [`Book::open_recorded`]. Once no node is open or in hand, it is a
-    /// whole tree.
+    /// What became of each node, where the book was opened by [`Book::open_recorded`]. Once no node is open or in hand,
+    /// it is a whole tree.
     pub fn trail(&self) -> Option<&Trail>
         ensures trail { option_map (λ trail. trail.now) result
             ≡ option_map (trail_for self.now.project) self.now.trail }
@@ -402,6 +403,7 @@ impl Book {
     pub fn into_parts(self) -> (Option<Schedule>, Option<Trail>, NodesLeft)
         ensures best { result.0 ≡ self.best }
         ensures trail { result.1 ≡ option_map (trail_for self.project) self.trail }
+        ensures left { (result.2.waiting ≡ self.waiting) × (result.2.hands ≡ self.hands) }
         ensures sound { IsSound self }
         ensures recorded { IfSome self.trail (IsRecorded self) }
         ensures whole { EndsWhole self }
@@ -416,7 +418,7 @@ impl Book {
         (best, trail, NodesLeft { waiting, hands })
     }
 
-    /// The least of the best makespan and the bounds of the nodes open or in hand, in periods: no feasible schedule is
+    /// The least of the best makespan and the bounds of the nodes open or in hand, in periods. No feasible schedule is
     /// shorter. None where there is none of these, and then there is no feasible schedule.
     pub fn lower_bound(&self) -> Option<i64>
         ensures least { IsLeast (known_bounds self.now) result }

@@ -76,7 +76,7 @@ impl Counts {
         self.checked
     }
 
-    /// How many open nodes were cut, since none of them could lead to a schedule shorter than the best.
+    /// How many open nodes were cut because none of them could lead to a schedule shorter than the best.
     pub fn cut(&self) -> u64
         ensures cut { result ≡ self.now.cut }
         ensures add_up { AddUp self.now }

@@ -52,8 +52,8 @@ fn apply(book: &mut Book, event: Event) -> Reply
     }
 }
 
-/// Puts the events to a book, one after the other, whatever they are. Where there is no room for all replies, none was put.
-/// An event that is itself refused for want of memory has that as its reply.
+/// Puts the events to a book, one after the other, whatever they are. Where there is no room for all replies, none was
+/// put. An event that is itself refused for want of memory has that as its reply.
 pub fn run_events(
     alloc: Global,
     book: &mut Book,

@@ -1,10 +1,9 @@
-//! The book of a branch and bound search: the best schedule so far, the nodes that are open or in the hands of workers,
-//! and counts.
+//! The book of a branch and bound search: the best schedule, the nodes that are open or in hand, and counts.
 //!
-//! A [`Book`] is a machine: a worker takes a node, expands it, and checks its report in. Whatever is called, and in
-//! whatever order, the book is sound: its best is a feasible schedule, each shorter feasible schedule is one that some
-//! node open or in hand stands for, and nodes opened are those checked in, cut, open and in hand. So a book with no node
-//! open or in hand proves that its best is a shortest schedule, or that there is none.
+//! A [`Book`] is a machine: a worker takes a node, expands it, and checks its report in. The book is sound whatever is
+//! called, in whatever order. Its best is a feasible schedule. Some node that is open or in hand stands for each
+//! shorter feasible schedule. The nodes opened are those checked in, cut, open and in hand. So a book with no node open
+//! or in hand proves that its best is a shortest schedule, or that there is none.
 #![tactic(auto)]
 
 mod answers;

@@ -3,8 +3,8 @@
 use crate::hands::Hands;
 use crate::open_nodes::OpenNodes;
 
-/// The nodes that were open or in hand when their book was given up. Where they are many, dropping them takes a
-/// while, which another thread may do while somebody waits for the answer.
+/// The nodes that were open or in hand when their book was given up. To drop many of them takes a while. Another thread
+/// can do it while somebody waits for the answer.
 #[derive(Drop, Debug)]
 pub struct NodesLeft {
     pub(crate) waiting: OpenNodes,

@@ -26,8 +26,7 @@ struct Rank {
     name: Reverse<u64>,
 }
 
-/// An open node. It has two owners, one for the hand that it goes into and one for the ticket, so that to take it needs
-/// no memory.
+/// An open node. It has two owners, one for the hand and one for the ticket. So to take it needs no memory.
 #[derive(Drop, Debug)]
 struct OpenNode {
     node: Arc<Lean>,
@@ -101,7 +100,7 @@ impl OpenNodes {
         Ok(())
     }
 
-    /// Puts those kids in whose bounds are below the limit, in their order, under the names from the first on. Where
+    /// Puts in the kids whose bounds are below the limit, in their order, under the names from the first on. Where
     /// memory runs out, nothing changes.
     pub(crate) fn insert_kids(
         &mut self,

@@ -42,7 +42,7 @@ pub enum NodeEnding {
     Cut,
     /// Its least schedule is feasible.
     Solved,
-    /// These members of a forbidden set can't all run together, and each ordered pair of them has its fate, by the place of
+    /// These members of a forbidden set can't all run together. Each ordered pair of them has its fate, by the place of
     /// the first and then by that of the second.
     Split {
         resource: usize,
@@ -140,7 +140,7 @@ fn name_after(limit: Option<i64>, next: u64, kid: &Lean) -> u64
     next
 }
 
-/// The fates of a split's pairs, where the kids below the limit are opened under the names from the first on.
+/// The fates of a split's pairs. The kids below the limit are opened under the names from the first on.
 fn fates_of_pairs(
     alloc: Global,
     limit: Option<i64>,
@@ -180,7 +180,7 @@ fn fates_of_pairs(
     Ok(all)
 }
 
-/// How the node of a report ended, where the kids below the limit are opened under the names from the first on.
+/// How the node of a report ended. The kids below the limit are opened under the names from the first on.
 fn ending_of_report(
     alloc: Global,
     limit: Option<i64>,
@@ -292,7 +292,7 @@ impl Trail {
         self.entries.append(more)
     }
 
-    /// Notes a report on the node under a name: how that node ended, and the kids that are opened, those below the limit.
+    /// Notes a report on the node under a name: how that node ended, and the kids below the limit, which are opened.
     /// Where memory runs out, nothing changes.
     pub(crate) fn check_in(
         &mut self,

@@ -1,7 +1,7 @@
 //! Measures the search book: one worker searches the project of standard input until so many nodes are open.
 //!
-//! The words are that number and, if times are wanted, how many nodes are taken after that. The counts are printed, and
-//! with a second word the nanoseconds of a take and of a check-in among those nodes, on average.
+//! The words are that number and, to measure times, how many nodes to take after that. It prints the counts. With a
+//! second word it also prints the mean nanoseconds of a take and of a check-in among those nodes.
 #![tactic(auto)]
 
 use anyhow::{Context, bail};

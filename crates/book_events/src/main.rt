@@ -1,7 +1,7 @@
-//! Plays lists of events on search books, for tests that compare the replies with those of a model.
+//! Plays lists of events on search books. Tests compare the replies with those of a model.
 //!
-//! Standard input is two projects, with a semicolon between. Each word is a step. The nodes are those roots, 0 and 1, and
-//! what `expand` finds from them, numbered on; the book is one of the first project.
+//! Standard input is two projects, with a semicolon between. Each word is a step. The nodes are numbered: 0 and 1 are
+//! the roots, and `expand` adds what it finds from them. The book is one of the first project.
 //!
 //! | Step | Does | Prints |
 //! |---|---|---|
@@ -14,8 +14,9 @@
 //! | `best`, `verdict`, `trail` | asks the book | the starts of its best schedule; its verdict; its trail |
 //! | `close` | gives the book up for a new one | its trail |
 //!
-//! `check` checks in a report on a node, under a ceiling unless that is empty; `offer` offers a schedule of the first project,
-//! `other` one of the second. The counts are: opened, checked in, cut, taken, open, in hand, best makespan, lower bound.
+//! `check` checks in a report on a node, under a ceiling unless that is empty; `offer` offers a schedule of the first
+//! project, `other` one of the second. The counts are: opened, checked in, cut, taken, open, in hand, best makespan,
+//! lower bound.
 #![tactic(auto)]
 
 ghost use Rattle.std.specs.Prelude.{IsTrue};
@@ -204,7 +205,7 @@ fn reused(alloc: Global, book: &mut Book, name: u64, report: Report) -> anyhow::
     }
 }
 
-/// Lets the worker 0 take nodes, and checks the reports on them in, until it is told something else.
+/// Lets worker 0 take nodes, and checks the reports on them in, until it gets another answer.
 fn searched(alloc: Global, book: &mut Book) -> anyhow::Result<Take> {
     for _ in 0..100 {
         let ticket = match book.take(0) {
@@ -249,7 +250,7 @@ fn asked(alloc: Global, book: &Book, kind: &str) -> anyhow::Result<String> {
     }
 }
 
-/// What is said of a step that changes the book or asks it.
+/// The reply to a step that changes the book or asks it.
 fn answered(alloc: Global, table: &mut Table, kind: &str, rest: &str) -> anyhow::Result<String> {
     match kind {
         "starts" => least(alloc, &table.nodes, rest),

@@ -47,7 +47,7 @@ fn ticket_text(alloc: Global, ticket: &Ticket) -> Result<String, AllocError> {
     format!(in alloc; "ticket {} {ceiling} {bound}{pairs}", ticket.name)
 }
 
-/// What a worker that asks for a node is told.
+/// The answer to a worker that asks for a node.
 pub fn take_text(alloc: Global, answer: &Take) -> Result<String, AllocError> {
     let word = match answer {
         Take::Ticket(ticket) => return ticket_text(alloc, ticket),

@@ -13,4 +13,3 @@ pub record IsRoom (s : Inside) : Type 0 where
   pub loads_long : length s.loads.items ≡ length s.tasks.items
   pub line_long : length s.line.items ≡ length s.tasks.items + 1
   pub rooms_long : length s.rooms.items ≡ length s.tasks.items
-  pub skips_long : length s.skips.items ≡ length s.tasks.items

@@ -16,13 +16,6 @@ abbrev pub AreRoomsOf : List ℕ → List ℕ → Type 0
 AreRoomsOf line rooms =
     (q : ℕ) → q < length line → slice_index line 0 + room_before rooms q ≡ slice_index line q
 
--- each skip leads to a later slot, or to the end, and all slots that it leaves out are full
-pub record AreSkips (rooms skips : List ℕ) : Type 0 where
-  pub count : length skips ≡ length rooms
-  pub later : (q : ℕ) → q < length rooms → q < slice_index skips q
-  pub inside : (q : ℕ) → q < length rooms → slice_index skips q ≤ length rooms
-  pub full : (q k : ℕ) → q < length rooms → q < k → k < slice_index skips q → slice_index rooms k ≡ 0
-
 -- the work took the room from slot start on, up to slot last, which isn't full
 pub record IsFilled (start work last : ℕ) (old new : List ℕ) : Type 0 where
   pub count : length new ≡ length old

@@ -9,12 +9,12 @@ use longest_path::Matrix;
 use network::Project;
 use std::alloc::{AllocError, Global};
 
-/// The energy value of a matrix in periods: for each resource, each head a and each tail b, the
-/// work of the activities with at least this head and this tail, shared out over the capacity, has
-/// to fit between a and the makespan less b. 0 where no resource has a capacity.
+/// The energy value of a matrix in periods. It takes each resource, head a and tail b, and the work of the activities
+/// with at least this head and this tail. This work, shared out over the capacity, has to fit between a and the
+/// makespan less b.
 ///
-/// For each resource the activities that have work for it fill a line of slots between their tails, by
-/// falling head: a few steps each, beside the repair of their two orders.
+/// For each resource the activities that use it fill a line of slots between their tails, by falling head. An activity
+/// costs a few steps, besides the repair of their two orders.
 pub fn energy(alloc: Global, project: &Project, matrix: &Matrix) -> Result<i64, AllocError>
     requires { IsMatrixFor project.now matrix.now }
     ensures value { IfOk result (λ energy. IsEnergyOf project.now matrix.now energy) }

@@ -1,10 +1,9 @@
 //! Lower bounds of the makespans of the schedules that a node stands for.
 //!
-//! [`critical`] is the greatest weight from the start to the end, [`energy`] looks at how much work
-//! of one resource has to be done between a head and a tail, by the activities that lie there whole
-//! (in the manner of Carlier's bound by heads, work and tails of subsets: The one-machine sequencing
-//! problem, 1982), and [`bound`] is the greater of both. [`bound_with`] is the bound with
-//! one pair more, and [`Workspace::bound_under`] stops at a ceiling.
+//! [`critical`] is the greatest weight from the start to the end. [`energy`] looks at the work of one resource between
+//! a head and a tail, by the activities that lie there whole (in the manner of Carlier's bound by heads, work and tails
+//! of subsets: The one-machine sequencing problem, 1982). [`bound`] is the greater of both. [`bound_with`] is the bound
+//! with one pair more, and [`Workspace::bound_under`] stops at a ceiling.
 #![tactic(auto)]
 
 ghost use Rattle.std.specs.Prelude.{◌≡◌, IfOk};
@@ -28,8 +27,8 @@ use std::alloc::{AllocError, Global};
 pub use with_pair::bound_with;
 pub use workspace::Workspace;
 
-/// The greatest weight from the start to the end in periods: the least makespan where resources
-/// don't count. Takes no memory.
+/// The greatest weight from the start to the end in periods: the least makespan without regard to resources. Takes no
+/// memory.
 pub fn critical(matrix: &Matrix) -> i64
     ensures value { result ≡ critical_weight matrix.now }
     ensures holds { (p : Problem) → IsTrueBoundFor p matrix.now result }

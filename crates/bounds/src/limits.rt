@@ -9,7 +9,7 @@ pub(crate) const MAX_CAPACITY: u64 = 1_000_000;
 /// The greatest work of an activity: a duration times a demand.
 pub(crate) const MAX_WORK: u64 = 1_000_000_000_000;
 
-/// What no share is beyond: a capacity times a head and a tail, and the work of all activities.
+/// No share is beyond this: a capacity times a head and a tail, and the work of all activities.
 pub(crate) const MAX_SHARE: u64 = 4_000_000_000_000_000;
 
 /// A mark in a line of slots that no work reaches.

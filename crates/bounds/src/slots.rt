@@ -1,15 +1,15 @@
 //! The greatest energy of one resource over all heads and tails: work fills slots between tails.
 
-ghost use Rattle.std.specs.Prelude.{◌≡◌, ◌+◌, ◌<◌, ◌≤◌, ℕ, List, length, slice_index};
+ghost use Rattle.std.specs.Prelude.{◌≡◌, ◌+◌, ◌<◌, ◌≤◌, length};
 ghost use Rattle.std.specs.List.{All};
 ghost use Rattle.std.specs.List.Sorted.{IsNonDecreasing};
 ghost use Rattle.bounds.specs.Loads.{AreLoads, IsGreatestShare};
-ghost use Rattle.bounds.specs.Slots.{line_of, room_before, AreRoomsOf, AreSkips, IsFilled};
+ghost use Rattle.bounds.specs.Slots.{line_of, room_before, AreRoomsOf, IsFilled};
 
 use crate::limits::{FAR_MARK, MAX_CAPACITY, MAX_END, MAX_SHARE};
 use crate::load::Load;
 
-/// Puts the capacity times each tail, and a mark that no work reaches, in place of other marks.
+/// Replaces the marks by the capacity times each tail, and a last mark that no work reaches.
 fn take_line(line: &mut [u64], capacity: u64, tails: &[u64])
     requires room { length line.old ≡ length tails.now + 1 }
     requires capacity { capacity ≤ MAX_CAPACITY }
@@ -33,67 +33,38 @@ fn take_rooms(rooms: &mut [u64], line: &[u64])
     }
 }
 
-/// Puts skips from each slot to the next in place of others.
-fn take_skips(skips: &mut [usize])
-    ensures { (rooms : List ℕ) → length rooms ≡ length skips.new → AreSkips rooms skips.new }
-{
-    for place in 0..skips.len() {
-        skips[place] = place + 1;
-    }
-}
-
-/// The slot to which the skip of a slot leads. Where that one is full, the skip leads on from now on.
-fn hop(rooms: &[u64], skips: &mut [usize], place: usize) -> usize
-    requires skips { AreSkips rooms.now skips.old }
-    requires place { place < length rooms.now }
-    requires next { slice_index skips.old place < length rooms.now }
-    ensures skips { AreSkips rooms.now skips.new }
-    ensures next { result ≡ slice_index skips.old place }
-{
-    let next = skips[place];
-    if rooms[next] == 0 {
-        skips[place] = skips[next];
-    }
-    next
-}
-
 /// Fills the slots from `start` on with the work. The last slot that it reaches, which isn't full.
-fn fill(rooms: &mut [u64], skips: &mut [usize], start: usize, work: u64) -> usize
-    requires skips { AreSkips rooms.old skips.old }
+fn fill(rooms: &mut [u64], start: usize, work: u64) -> usize
     requires start { start < length rooms.old }
     requires enough { room_before rooms.old start + work < room_before rooms.old (length rooms.old) }
-    ensures skips { AreSkips rooms.new skips.new }
-    ensures filled { IsFilled start work result rooms.old rooms.new }
+    ensures { IsFilled start work result rooms.old rooms.new }
 {
     let mut place = start;
     let mut left = work;
     while rooms[place] <= left {
         left -= rooms[place];
         rooms[place] = 0;
-        place = hop(rooms, skips, place);
+        place += 1;
     }
     rooms[place] -= left;
     place
 }
 
-/// The greatest of `capacity * (head + tail) + work`, for the head of each load and each tail that
-/// is at most the load's: `work` is that of the loads with at least this head and this tail.
+/// The greatest of `capacity * (head + tail) + work`, for the head of each load and each tail up to the load's: `work`
+/// is that of the loads with at least this head and this tail.
 ///
-/// The loads come by falling head. Slot q lies between the capacity times tail q and that times the
-/// next tail, and each load's work fills slots from that of its own tail on. Where the fill ends is
-/// the greatest of `capacity * tail + work` so far. A full slot is hardly ever looked at twice, since
-/// the skips lead over it.
+/// The loads come by falling head. Slot q lies between the capacity times tail q and the capacity times the next tail.
+/// The work of a load fills slots from that of its own tail on. Where the fill ends is the greatest of
+/// `capacity * tail + work` so far.
 pub(crate) fn greatest_share(
     loads: &[Load],
     capacity: u64,
     tails: &[u64],
     line: &mut [u64],
     rooms: &mut [u64],
-    skips: &mut [usize],
 ) -> u64
     requires line { length line.old ≡ length tails.now + 1 }
     requires rooms { length rooms.old ≡ length tails.now }
-    requires skips { length skips.old ≡ length tails.now }
     requires loads { AreLoads tails.now loads.now }
     requires capacity { capacity ≤ MAX_CAPACITY }
     requires tails { All (λ b. b ≤ MAX_END) tails.now }
@@ -103,11 +74,10 @@ pub(crate) fn greatest_share(
 {
     take_line(line, capacity, tails);
     take_rooms(rooms, line);
-    take_skips(skips);
     let mut filled = 0;
     let mut greatest = 0;
     for load in loads {
-        let last = fill(rooms, skips, load.rank - 1, load.work);
+        let last = fill(rooms, load.rank - 1, load.work);
         let end = line[last + 1] - rooms[last];
         filled = filled.max(end);
         greatest = greatest.max(capacity * load.head + filled);

@@ -32,7 +32,6 @@ pub(crate) struct TaskRoom {
     /// One mark more than there are tasks.
     line: Vec<u64>,
     rooms: Vec<u64>,
-    skips: Vec<usize>,
 }
 
 impl Model for TaskRoom {
@@ -72,7 +71,6 @@ impl TaskRoom {
         let loads = vec![in alloc; load; tasks.len()]?;
         let line = vec![in alloc; 0; tasks.len() + 1]?;
         let rooms = vec![in alloc; 0; tasks.len()]?;
-        let skips = vec![in alloc; 0; tasks.len()]?;
         Ok(TaskRoom {
             tasks,
             by_head,
@@ -83,7 +81,6 @@ impl TaskRoom {
             loads,
             line,
             rooms,
-            skips,
         })
     }
 
@@ -120,7 +117,6 @@ impl TaskRoom {
             count,
             self.line.as_mut_slice(),
             self.rooms.as_mut_slice(),
-            self.skips.as_mut_slice(),
         )
     }
 }
@@ -133,12 +129,10 @@ fn share_under(
     count: usize,
     line: &mut [u64],
     rooms: &mut [u64],
-    skips: &mut [usize],
 ) -> u64
     requires count { count ≤ length rising.now }
     requires line { length line.old ≡ length rising.now + 1 }
     requires rooms { length rooms.old ≡ length rising.now }
-    requires skips { length skips.old ≡ length rising.now }
     requires loads { AreLoads (take count rising.now) loads.now }
     requires capacity { capacity ≤ MAX_CAPACITY }
     requires tails { All (λ b. b ≤ MAX_END) (take count rising.now) }
@@ -148,12 +142,5 @@ fn share_under(
 {
     let tails = &rising[..count];
     let line = &mut line[..count + 1];
-    greatest_share(
-        loads,
-        capacity,
-        tails,
-        line,
-        &mut rooms[..count],
-        &mut skips[..count],
-    )
+    greatest_share(loads, capacity, tails, line, &mut rooms[..count])
 }

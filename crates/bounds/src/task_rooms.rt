@@ -2,7 +2,7 @@
 
 ghost use Rattle.std.specs.Prelude.{◌≡◌, ◌<◌, ◌≤◌, length, IfOk};
 ghost use Rattle.network.specs.Problem.{activity_count, resource_count};
-ghost use Rattle.bounds.specs.Energy.{IsResourceEnergy, IsEnergyWhereAny, IsEnergyUnder};
+ghost use Rattle.bounds.specs.Energy.{IsResourceEnergy, IsEnergyUnder};
 ghost use Rattle.bounds.specs.Ends.{AreEnds, IsGreatestEnds};
 ghost use Rattle.bounds.specs.Tasks.{all_tasks};
 
@@ -27,19 +27,10 @@ fn greatest_ends(heads: &[i64], tails: &[i64]) -> u64
     greatest
 }
 
-/// A resource and its energy.
-#[derive(Drop)]
-struct Known {
-    resource: usize,
-    energy: u64,
-}
-
 /// The rooms of all resources. Its value is the tasks of each resource.
 #[derive(Drop, Debug)]
 pub(crate) struct TaskRooms {
     rooms: Vec<TaskRoom>,
-    /// The resource whose energy reached a ceiling last: it is the likeliest to do so again.
-    last_over: usize,
 }
 
 impl Model for TaskRooms {
@@ -60,10 +51,7 @@ impl TaskRooms {
         for resource in 0..project.resource_count() {
             rooms.push(TaskRoom::new(alloc, project, resource)?)?;
         }
-        Ok(TaskRooms {
-            rooms,
-            last_over: 0,
-        })
+        Ok(TaskRooms { rooms })
     }
 
     /// The greatest energy term of a resource in periods; 0 where it has no capacity.
@@ -92,66 +80,6 @@ impl TaskRooms {
         ends.max(share.div_ceil(capacity))
     }
 
-    /// The same where the energy of one resource is known.
-    fn energy_at(
-        &mut self,
-        project: &Project,
-        resource: usize,
-        heads: &[i64],
-        tails: &[i64],
-        ends: u64,
-        known: &Known,
-    ) -> u64
-        requires resource { resource < resource_count project.now }
-        requires heads { AreEnds (activity_count project.now) heads.now }
-        requires tails { AreEnds (activity_count project.now) tails.now }
-        requires ends { IsGreatestEnds heads.now tails.now ends }
-        requires known { IsEnergyWhereAny project.now heads.now tails.now known.now.resource known.now.energy }
-        requires limit { known.now.energy ≤ MAX_SHARE }
-        requires rooms { self.old ≡ all_tasks project.now }
-        ensures rooms { self.new ≡ self.old }
-        ensures value { IsResourceEnergy project.now heads.now tails.now resource result }
-        ensures limit { result ≤ MAX_SHARE }
-    {
-        if resource == known.resource {
-            known.energy
-        } else {
-            self.resource_energy(project, resource, heads, tails, ends)
-        }
-    }
-
-    /// The energy value of heads and tails in periods, or a lower number that is at least the ceiling. The
-    /// energy of one resource is known.
-    fn energy_beside(
-        &mut self,
-        project: &Project,
-        heads: &[i64],
-        tails: &[i64],
-        ends: u64,
-        known: &Known,
-        ceiling: u64,
-    ) -> u64
-        requires heads { AreEnds (activity_count project.now) heads.now }
-        requires tails { AreEnds (activity_count project.now) tails.now }
-        requires ends { IsGreatestEnds heads.now tails.now ends }
-        requires known { IsEnergyWhereAny project.now heads.now tails.now known.now.resource known.now.energy }
-        requires limit { known.now.energy ≤ MAX_SHARE }
-        requires rooms { self.old ≡ all_tasks project.now }
-        ensures rooms { self.new ≡ self.old }
-        ensures value { IsEnergyUnder project.now heads.now tails.now ceiling result }
-        ensures limit { result ≤ MAX_SHARE }
-    {
-        let mut energy = 0;
-        for resource in 0..project.resource_count() {
-            energy = energy.max(self.energy_at(project, resource, heads, tails, ends, known));
-            if energy >= ceiling {
-                self.last_over = resource;
-                return energy;
-            }
-        }
-        energy
-    }
-
     /// The energy value of heads and tails in periods, or a lower number that is at least the ceiling. It
     /// takes no memory.
     pub(crate) fn energy_under(
@@ -170,16 +98,13 @@ impl TaskRooms {
     {
         prove!(0 < project.activity_count());
         let ends = greatest_ends(heads, tails);
-        let resource = self.last_over;
-        let energy = if resource < project.resource_count() {
-            self.resource_energy(project, resource, heads, tails, ends)
-        } else {
-            0
-        };
-        if energy >= ceiling {
-            return energy;
+        let mut energy = 0;
+        for resource in 0..project.resource_count() {
+            energy = energy.max(self.resource_energy(project, resource, heads, tails, ends));
+            if energy >= ceiling {
+                return energy;
+            }
         }
-        let known = Known { resource, energy };
-        self.energy_beside(project, heads, tails, ends, &known, ceiling)
+        energy
     }
 }

@@ -48,8 +48,8 @@ fn take_tails_with(project: &Project, matrix: &Matrix, arc: Lag, tails: &mut [i6
     }
 }
 
-/// The bound of the matrix with the pair's arc in periods, by entries of the matrix without it, over
-/// memory that is used again; or a lower number that is at least the ceiling.
+/// The bound of the matrix with the pair's arc in periods, by entries of the matrix without it. Or a lower number that
+/// is at least the ceiling. It works in the memory of these buffers.
 pub(crate) fn bound_over(
     project: &Project,
     matrix: &Matrix,

@@ -49,8 +49,8 @@ impl Workspace {
         })
     }
 
-    /// [`bound_with`](crate::bound_with) in periods, or where that is at least the ceiling, any true bound
-    /// that is at least the ceiling and no greater: who cuts by it needs no more. Takes no memory.
+    /// [`bound_with`](crate::bound_with) in periods. If that is at least the ceiling, any true bound between the
+    /// ceiling and it: whoever cuts by it needs no more. Takes no memory.
     pub fn bound_under(
         &mut self,
         project: &Project,

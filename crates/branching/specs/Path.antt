@@ -7,6 +7,7 @@ use Rattle.network.specs.ProjectMatrix.{IsProjectMatrix}
 use Rattle.longest_path.specs.Marked.{Marked}
 use Rattle.longest_path.specs.declared.fault.PathFault.{PathFault}
 use Rattle.longest_path.specs.declared.fault.PathFault.TheVariants.{PositiveCycle, Memory}
+use Rattle.branching.specs.Subproblem.{Subproblem}
 
 -- a project, and the pairs that were added
 pub record Path : Type 0 where
@@ -16,6 +17,15 @@ pub record Path : Type 0 where
 -- all pairs but the last
 abbrev pub front : List Pair → List Pair
 front pairs = take (length pairs - 1) pairs
+
+-- the first so many of these pairs
+abbrev pub IsFrontOf : List Pair → List Pair → Type 0
+IsFrontOf pairs all = pairs ≡ take (length pairs) all
+
+-- it is at the node
+pub record IsAt (path : Path) (node : Subproblem) : Type 0 where
+  pub project : path.project ≡ node.project
+  pub pairs : path.pairs ≡ node.pairs
 
 -- a mark for each pair, the last one first, leads back to the matrix without that pair and those after it
 abbrev pub LeadBack : Problem → List Pair → List Rows → Type 0

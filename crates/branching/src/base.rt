@@ -13,8 +13,8 @@ use std::alloc::{AllocError, Global};
 use std::marker::Model;
 use std::sync::Arc;
 
-/// What all nodes of a search share: the project, its matrix without pairs, and which of its
-/// activities can't run at the same time.
+/// What all nodes of a search share: the project, its matrix without pairs, and its activities that can't run at the
+/// same time.
 #[derive(Drop, Debug)]
 pub(crate) struct Base {
     project: SharedProject,

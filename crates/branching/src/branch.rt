@@ -57,8 +57,8 @@ fn is_dead_with(node: &Lean, matrix: &Matrix, pair: Pair) -> bool
     }
 }
 
-/// What a schedule that keeps the pair lasts at least by the walks to its first activity and from its
-/// second, which are two entries of the node's matrix: at most the critical weight with the pair.
+/// How long a schedule that keeps the pair lasts at least, by the walks to its first activity and from its second.
+/// These are two entries of the node's matrix. It is at most the critical weight with the pair.
 fn least_with(node: &Lean, matrix: &Matrix, pair: Pair) -> i64
     requires tied { IsTiedTo node.now matrix.now }
     requires named { NameActivities node.now.project (pair ∷ []) }
@@ -70,8 +70,7 @@ fn least_with(node: &Lean, matrix: &Matrix, pair: Pair) -> i64
     head + node.project().duration(pair.before) + rest
 }
 
-/// What a pair gives whose forced pairs were added: a kid, or nothing where its bound is at least the
-/// ceiling.
+/// What a pair gives once its forced pairs were added: a kid, or nothing if its bound is at least the ceiling.
 fn bounded(
     node: &Lean,
     matrix: &Matrix,
@@ -119,7 +118,7 @@ fn branch_at(
     }
 }
 
-/// What a pair gives that forces others: their arcs are added to the matrix, which then goes back.
+/// What a pair gives that forces others. It adds their arcs to the matrix, which then goes back.
 fn branch_with_forced(
     alloc: Global,
     node: &Lean,
@@ -145,9 +144,8 @@ fn branch_with_forced(
     branch
 }
 
-/// What a pair gives under a ceiling. Where the node's own matrix tells it, nothing is inserted: at any node
-/// but the root all pairs were added that its matrix forces, so that only ways over the pair's arc can
-/// force more.
+/// What a pair gives under a ceiling. It inserts nothing if the node's own matrix tells it. At any node but the root
+/// all pairs that its matrix forces were added, so only ways over the pair's arc can force more.
 pub(crate) fn branch_of(
     alloc: Global,
     node: &Lean,

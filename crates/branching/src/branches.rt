@@ -16,7 +16,8 @@ use network::Pair;
 use std::alloc::{AllocError, Global};
 use std::sync::Arc;
 
-/// What the ordered pairs of a set give. [`Searcher::reuse`](crate::Searcher::reuse) uses the memory of both lists again.
+/// What the ordered pairs of a set give. [`Searcher::reuse`](crate::Searcher::reuse) uses the memory of both lists
+/// again.
 #[derive(Drop, Debug)]
 pub struct Branches {
     /// The kids, by rising pairs.

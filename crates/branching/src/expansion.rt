@@ -75,7 +75,7 @@ fn report_split(
     Ok(Report::new(node, ceiling, None, Some(set), made.fates, made.kids))
 }
 
-/// What a node gives below a ceiling, by the matrix of its project and pairs, which is left as it was.
+/// What a node gives below a ceiling, by the matrix of its project and pairs. The matrix stays as it was.
 pub(crate) fn expand_by(
     alloc: Global,
     node: &Arc<Lean>,
@@ -109,17 +109,16 @@ pub(crate) fn expand_by(
     }
 }
 
-/// What a node gives below a ceiling, which is a makespan in periods, or none where none is known.
+/// What a node gives below a ceiling. The ceiling is a makespan in periods, or none.
 ///
-/// Where the node's bound is at least the ceiling: nothing. Where the node's least schedule overloads no
-/// resource: that schedule. Else a kid for each ordered pair of a minimal forbidden set of the
-/// activities that run at the first overload, but for pairs that no schedule keeps and kids whose bound
-/// is at least the ceiling. In a feasible schedule the members can't all run at the greatest of their
-/// starts, so that it keeps one of the pairs.
+/// If the node's bound is at least the ceiling: nothing. If the node's least schedule overloads no resource: that
+/// schedule. Otherwise a kid for each ordered pair of a minimal forbidden set of the activities that run at the first
+/// overload. Pairs that no schedule keeps give none, nor do kids whose bound is at least the ceiling. In a feasible
+/// schedule the members can't all run at the greatest of their starts, so it keeps one of the pairs.
 ///
-/// A kid also gets the pairs that are forced by immediate selection (after Carlier and Pinson 1989): of two
-/// activities that can't run at the same time, one goes first where the other can't. The least such pair,
-/// by its first activity and then its second, is added again and again until there is none.
+/// A kid also gets the pairs that immediate selection forces (after Carlier and Pinson 1989). Of two activities that
+/// can't run at the same time, one goes first if the other can't. The least such pair, by its first activity and then
+/// its second, is added until there is none.
 pub fn expand(alloc: Global, node: &Arc<Node>, ceiling: Option<i64>) -> Result<Report, AllocError>
     ensures report { IfOk result (IsReportOn (arc_value node.now) ceiling) }
     ensures over { IfOk result (FindsNothingOver (arc_value node.now) ceiling) }

@@ -24,8 +24,8 @@ pub(crate) enum Forcing {
     Dead(Vec<Pair>),
 }
 
-/// Whether this greatest weight from a pair's first activity to its second forces the pair: the second
-/// can't end before the first starts, and doesn't wait yet until the first has ended.
+/// Whether this greatest weight from a pair's first activity to its second forces the pair. It does if the second can't
+/// end before the first starts, and doesn't wait yet until the first has ended.
 fn is_forced_at(project: &Project, pair: Pair, greatest: Option<i64>) -> bool
     requires named { NameActivities project.now (pair ∷ []) }
     requires small { IfSome greatest (λ w. IsWithin MAX_WAY_WITH w) }
@@ -74,8 +74,8 @@ fn next_forced(project: &Project, matrix: &Matrix, incompatible: &[Incompatible]
     None
 }
 
-/// Whether some pair of one activity with others is forced by a way over the arc of one pair more, by
-/// entries of the matrix without that.
+/// Whether a way over the arc of one pair more forces some pair of one activity with others. It looks at entries of the
+/// matrix without that arc.
 fn forces_in_row(project: &Project, matrix: &Matrix, row: &Incompatible, added: Pair) -> bool
     requires size { length matrix.now ≡ activity_count project.now }
     requires row { IsRowOf project.now row.now }
@@ -122,8 +122,8 @@ pub(crate) fn forces_some(
     false
 }
 
-/// Adds the first pair that is forced, again and again until none is, or until one closes a walk of
-/// positive weight. A pair that was added isn't forced again.
+/// Adds the first forced pair, again and again, until there is none or one closes a walk of positive weight. A pair
+/// that was added isn't forced again.
 pub(crate) fn force(
     alloc: Global,
     node: &Lean,

@@ -28,8 +28,8 @@ fn last_of(alloc: Global, first: Pair, forced: Vec<Pair>) -> Result<Last, AllocE
     Ok(Last::Several(last))
 }
 
-/// A node as it is kept while it waits: a project, the pairs that were added to its rules, and a lower
-/// bound. It stands for the feasible schedules that keep its pairs.
+/// A node while it waits: a project, the pairs added to its rules, and a lower bound. It stands for the feasible
+/// schedules that keep its pairs.
 #[derive(Drop, Debug)]
 pub struct Lean {
     parent: Arc<Parent>,

@@ -1,11 +1,10 @@
 //! Nodes of a branch and bound search over ordered pairs of activities, and what the expansion of a
 //! node gives (Bartusch, Möhring and Radermacher 1988).
 //!
-//! A node stands for the feasible schedules of a project that keep its pairs. It waits as a [`Lean`],
-//! without a matrix; a [`Node`] has its own, and a [`Searcher`] moves one matrix from node to node.
-//! [`expand`] finds a node's least schedule; where that overloads a resource, the members of a minimal
-//! forbidden set can't all run together, so every feasible schedule keeps an ordered pair of two of
-//! them: each such pair gives a kid, with the pairs that it forces.
+//! A node stands for the feasible schedules of a project that keep its pairs. It waits as a [`Lean`], without a matrix;
+//! a [`Node`] has its own, and a [`Searcher`] moves one matrix from node to node. [`expand`] finds a node's least
+//! schedule. If that overloads a resource, the members of a minimal forbidden set can't all run together. So every
+//! feasible schedule keeps an ordered pair of two of them. Each such pair gives a kid, with the pairs that it forces.
 #![tactic(auto)]
 
 mod base;

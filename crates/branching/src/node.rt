@@ -37,7 +37,11 @@ impl Model for Node {
 
 impl Node {
     /// The node of these parts, to be shared.
-    fn shared(alloc: Global, lean: Arc<Lean>, matrix: Matrix) -> Result<Arc<Node>, AllocError>
+    pub(crate) fn shared(
+        alloc: Global,
+        lean: Arc<Lean>,
+        matrix: Matrix,
+    ) -> Result<Arc<Node>, AllocError>
         requires { IsTiedTo (arc_value lean) matrix }
         ensures { IfOk result (λ node. arc_value node ≡ arc_value lean) }
     {
@@ -89,8 +93,8 @@ pub fn root(alloc: Global, project: Arc<Project>) -> Result<Arc<Node>, PathFault
     Ok(Node::shared(alloc, lean, matrix)?)
 }
 
-/// Adds the arcs of the pairs to the matrix of the project without pairs, the last pair first: most of
-/// the earlier ones then change nothing, and cost one look.
+/// Adds the arcs of the pairs to the matrix of the project without pairs, the last pair first. Most of the earlier ones
+/// then change nothing, and cost one look.
 fn insert_pairs(matrix: &mut Matrix, project: &Project, pairs: &[Pair])
     requires base { IsProjectMatrix project.now [] matrix.old }
     requires named { NameActivities project.now pairs.now }

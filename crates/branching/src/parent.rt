@@ -12,15 +12,15 @@ use std::sync::Arc;
 
 /// What the kids of a node have of it: what all nodes of the search share, and the node's pairs.
 ///
-/// Workers at different nodes so count the owners of different parents, and not all of them at the one thing
-/// that all nodes share, which each of them reads all the time.
+/// So workers at different nodes count the owners of different parents. They do not all count at the one thing that all
+/// nodes share, which each of them reads all the time.
 #[derive(Drop, Debug)]
 pub(crate) struct Parent {
     pub(crate) base: Arc<Base>,
     pub(crate) pairs: Vec<Pair>,
 }
 
-/// What the kids of a node have of it, which is made where it isn't yet.
+/// What the kids of a node have of it. It is made if it isn't there yet.
 pub(crate) fn parent_of(
     alloc: Global,
     node: &Lean,

@@ -17,11 +17,10 @@ pub const MAX_KIDS: usize = 999_000;
 
 /// What the expansion of a node gave: a schedule, or kids that stand for all that is left.
 ///
-/// A report is fair: what is found is a schedule that the node stands for; each kid adds a pair at the
-/// end of the node's that the node's least schedule doesn't keep, and then forced pairs; and each schedule
-/// that the node stands for, below the ceiling and shorter than what is found, is one that some kid stands
-/// for. There are at most [`MAX_KIDS`] kids. A report tells how it came about: by the set that was split,
-/// and the fate of each ordered pair of its members.
+/// A report is fair. What is found is a schedule that the node stands for. Each kid adds a pair that the node's least
+/// schedule doesn't keep, and then forced pairs. If a schedule of the node is below the ceiling and shorter than what
+/// is found, some kid stands for it. There are at most [`MAX_KIDS`] kids. A report tells how it came about: by the set
+/// that was split, and the fate of each ordered pair of its members.
 #[derive(Drop, Debug)]
 pub struct Report {
     node: Arc<Lean>,
@@ -95,8 +94,8 @@ impl Report {
         self.found.as_ref()
     }
 
-    /// The set whose ordered pairs gave the kids. Where there is none, the node's least schedule is found, or
-    /// its bound is at least the ceiling.
+    /// The set whose ordered pairs gave the kids. If there is none, the node's least schedule is found, or its bound is
+    /// at least the ceiling.
     pub fn split(&self) -> Option<&ForbiddenSet>
         ensures split { option_map (λ set. set.now) result ≡ self.now.split }
         ensures report { IsReport self.now }

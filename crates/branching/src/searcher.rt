@@ -7,11 +7,12 @@ ghost use Rattle.network.specs.Problem.{arcs_of, NameActivities};
 ghost use Rattle.network.specs.Walk.{HasNoPositiveCycle};
 ghost use Rattle.network.specs.ProjectMatrix.{IsProjectMatrix};
 ghost use Rattle.branching.specs.Fair.{IsReportOn, FindsNothingOver};
-ghost use Rattle.branching.specs.Path.{front, IsPairFault, IsShared};
+ghost use Rattle.branching.specs.Path.{front, IsAt, IsFrontOf, IsPairFault, IsShared};
 
 use crate::branches::Branches;
 use crate::expansion::expand_by;
 use crate::lean::Lean;
+use crate::node::Node;
 use crate::pair_list::PairList;
 use crate::report::Report;
 use crate::workspace::Workspace;
@@ -43,8 +44,8 @@ fn shared_count(left: &[Pair], right: &PairList) -> usize
     left.len()
 }
 
-/// The matrix of a project and the pairs of the node that a search is at. It moves from node to node: back
-/// to where the pairs of both part, and then on by one insert a pair.
+/// The matrix of a project and the pairs of the node that a search is at. It moves from node to node. It goes back to
+/// where the pairs of both part, and then inserts one pair after the other.
 #[derive(Drop, Debug)]
 pub struct Searcher {
     project: SharedProject,
@@ -163,6 +164,7 @@ impl Searcher {
         requires live { HasNoPositiveCycle (arcs_of self.old.project pairs.now) }
         ensures project { self.new.project ≡ self.old.project }
         ensures pairs { OnOk result (self.new.pairs ≡ pairs.now) }
+        ensures front { IsFrontOf self.new.pairs pairs.now }
     {
         while let Some(pair) = pairs.get(self.pairs.len()) {
             match self.add(pair) {
@@ -174,12 +176,13 @@ impl Searcher {
         Ok(())
     }
 
-    /// Moves to the node of these pairs. Where memory runs out, the searcher stays at a node on the way.
+    /// Moves to the node of these pairs. Where memory runs out, the searcher has the first so many of them.
     pub fn move_to(&mut self, pairs: &PairList) -> Result<(), AllocError>
         requires named { NameActivities self.old.project pairs.now }
         requires live { HasNoPositiveCycle (arcs_of self.old.project pairs.now) }
         ensures project { self.new.project ≡ self.old.project }
         ensures pairs { OnOk result (self.new.pairs ≡ pairs.now) }
+        ensures front { IsFrontOf self.new.pairs pairs.now }
     {
         let shared = shared_count(self.pairs.as_slice(), pairs);
         self.keep(shared);
@@ -193,7 +196,33 @@ impl Searcher {
         self.workspace.made = made.emptied();
     }
 
-    /// Moves to a node and expands it under a ceiling, as [`expand`](crate::expand) does.
+    /// The node that the searcher is at, with a copy of its matrix.
+    pub fn node(&self, alloc: Global, lean: &Arc<Lean>) -> Result<Arc<Node>, AllocError>
+        requires { IsAt self.now (arc_value lean.now) }
+        ensures { IfOk result (λ node. arc_value node ≡ arc_value lean.now) }
+    {
+        let _is_node = lean.pairs();
+        let matrix = self.matrix().try_copy(alloc)?;
+        Node::shared(alloc, Arc::try_clone(lean)?, matrix)
+    }
+
+    /// Expands the node that the searcher is at under a ceiling, as [`expand`](crate::expand) does, and stays there.
+    pub fn expand_here(
+        &mut self,
+        alloc: Global,
+        node: &Arc<Lean>,
+        ceiling: Option<i64>,
+    ) -> Result<Report, AllocError>
+        requires { IsAt self.old (arc_value node.now) }
+        ensures stays { self.new ≡ self.old }
+        ensures report { IfOk result (IsReportOn (arc_value node.now) ceiling) }
+        ensures over { IfOk result (FindsNothingOver (arc_value node.now) ceiling) }
+    {
+        let _is_node = node.pairs();
+        expand_by(alloc, node, &mut self.matrix, &mut self.workspace, ceiling)
+    }
+
+    /// Moves to a node and expands it there. Where memory runs out, the searcher is at the node or on the way.
     pub fn expand(
         &mut self,
         alloc: Global,
@@ -202,10 +231,12 @@ impl Searcher {
     ) -> Result<Report, AllocError>
         requires { self.old.project ≡ (arc_value node.now).project }
         ensures project { self.new.project ≡ self.old.project }
+        ensures at { OnOk result (IsAt self.new (arc_value node.now)) }
+        ensures front { IsFrontOf self.new.pairs (arc_value node.now).pairs }
         ensures report { IfOk result (IsReportOn (arc_value node.now) ceiling) }
         ensures over { IfOk result (FindsNothingOver (arc_value node.now) ceiling) }
     {
         self.move_to(node.pairs())?;
-        expand_by(alloc, node, &mut self.matrix, &mut self.workspace, ceiling)
+        self.expand_here(alloc, node, ceiling)
     }
 }

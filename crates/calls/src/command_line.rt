@@ -14,7 +14,7 @@ use runs::{Job, ONE_WORKER};
 use std::alloc::{AllocError, Global};
 use thiserror::Error;
 
-/// How many are taken where nothing else is said.
+/// How many nodes are taken by default.
 const DEFAULT_TAKES: &str = "1000000";
 
 /// Why words are no call. The texts are those of `clap`, and are printed as they are.
@@ -60,7 +60,7 @@ fn subcommand<'a>(alloc: Global, name: &'a str, about: &'a str, more: &'a str) -
 }
 
 fn earliest_command<'a>(alloc: Global) -> Command<'a> {
-    let about = "Print the least schedule of a project's time lags alone";
+    let about = "Print the earliest starts by a project's time lags alone";
     subcommand(alloc, "earliest", about, help::EARLIEST)
 }
 
@@ -68,18 +68,18 @@ fn solve_command<'a>(alloc: Global) -> Result<Command<'a>, AllocError> {
     let nodes = Arg::new(alloc, "nodes")
         .long("nodes")
         .value_name("L")
-        .help("Stop once L nodes of the search were taken")
+        .help("Stop after L nodes")
         .default_value(DEFAULT_TAKES)
         .value_parser(value_parser!(u64).range(1..=MAX_TAKES as i64));
     let workers = Arg::new(alloc, "workers")
         .long("workers")
         .value_name("N")
-        .help("Search with N workers, each in a thread of its own")
+        .help("Search with N threads, 1 to 64")
         .value_parser(value_parser!(u64).range(1..=MAX_WORKERS as i64));
     let start = Arg::new(alloc, "start")
         .long("start")
         .value_name("FILE")
-        .help("Starts of a feasible schedule, from which workers search")
+        .help("Start from the feasible schedule in FILE")
         .action(ArgAction::Set);
     let json = Arg::new(alloc, "json")
         .long("json")
@@ -103,7 +103,7 @@ fn check_command<'a>(alloc: Global) -> Result<Command<'a>, AllocError> {
     let project = Arg::new(alloc, "project")
         .long("project")
         .value_name("FILE")
-        .help("The project that the starts are checked against")
+        .help("Check against the project in FILE")
         .action(ArgAction::Set)
         .required(true);
     let about = "Check starts against a project in a file";
@@ -114,7 +114,7 @@ fn verify_command<'a>(alloc: Global) -> Result<Command<'a>, AllocError> {
     let project = Arg::new(alloc, "project")
         .long("project")
         .value_name("FILE")
-        .help("The project that the record is checked against")
+        .help("Check against the project in FILE")
         .action(ArgAction::Set)
         .required(true);
     let about = "Check the record of a search against a project in a file";
@@ -164,7 +164,7 @@ pub fn file_name(
     }
 }
 
-/// The call of a search; none where its numbers are out of their ranges, which `clap` doesn't let pass.
+/// The call of a search. None if its numbers are out of their ranges, which `clap` doesn't let pass.
 fn solve_call(alloc: Global, matches: &ArgMatches<'_>) -> Result<Option<Call>, AllocError>
     ensures { IfOk result (λ call. IfSome call IsCall) }
 {
@@ -188,8 +188,8 @@ fn solve_call(alloc: Global, matches: &ArgMatches<'_>) -> Result<Option<Call>, A
     }))
 }
 
-/// The call of a job that reads a project from a file and has no more to be said; none where the file isn't
-/// named, which `clap` doesn't let pass.
+/// The call of a job that reads a project from a file and has no more words. None if the file isn't named, which `clap`
+/// doesn't let pass.
 fn project_call(
     alloc: Global,
     job: Job,
@@ -220,8 +220,7 @@ fn tidy_call() -> Call
     }
 }
 
-/// The call that the matches make; none where `clap` lets words pass that make none, which it
-/// doesn't.
+/// The call that the matches make. None if words make no call, which `clap` doesn't let pass.
 fn found_call(alloc: Global, matches: &ArgMatches<'_>) -> Result<Option<Call>, AllocError>
     ensures { IfOk result (λ call. IfSome call IsCall) }
 {

@@ -15,13 +15,13 @@ const STANDARD_INPUT: &str = "/dev/stdin";
 /// Why the files of a call are not open.
 #[derive(Clone, Copy, Debug, PartialEq, Eq)]
 pub enum FileFault {
-    /// The record's file is that of the project on standard input: to open it would lose the project.
+    /// The record's file is that of the project on standard input. To open it would lose the project.
     LosesProject,
     /// The record's file is that of the starts.
     LosesStarts,
     /// The second input can't be opened.
     Second,
-    /// The record's file can't be looked at or made.
+    /// The program can't look at the record's file, or can't make it.
     Record,
     /// Memory ran out.
     Memory,
@@ -134,8 +134,8 @@ impl<'a, R: Files> Opener<'a, R> {
         }
     }
 
-    /// Opens the files that a call names: its second input, and last the file of its record. Where that is a file which the
-    /// call reads, by whatever name, nothing is opened.
+    /// Opens the files that a call names: its second input, and last the file of its record. Where that is a file which
+    /// the call reads, by whatever name, nothing is opened.
     pub fn open(&mut self, call: &Call) -> Result<Opened<R::File>, FileFault>
         ensures second { IfOk result (λ files. is_some files.second ≡ is_some call.now.second) }
         ensures record_file { IfOk result (λ files. is_some files.record_file ≡ is_some call.now.record_file) }

@@ -7,37 +7,44 @@ pub(crate) const VERSION: &str = "0.9.0";
 pub(crate) const HEADING: &str = "psmax 0.9.0";
 
 pub(crate) const PROGRAM: &str = "\
-Projects, starts and answers are texts; docs/FORMAT.md describes them, and 'man psmax' in short.
-'psmax COMMAND --help' says what the command reads and answers, with an example.
+Projects, starts, records and answers are texts. docs/FORMAT.md and 'man psmax' describe them.
+'psmax COMMAND --help' says what the command reads and prints, with an example.
+Faults go to standard error.
 
-Exit status: 0 answered; 1 memory ran out, a thread could not be started, or a device failed;
-2 the words or a text are not what they should be; 3 the search was stopped at its limit; 4 the
-starts are no feasible schedule, or the record is not right. A fault is one line on standard
-error.";
+Exit status:
+  0  answered
+  1  memory, a thread or a device failed
+  2  the words of the command or a text have a fault
+  3  the search stopped at its limit
+  4  the starts are not a feasible schedule, or the record is wrong";
 
 pub(crate) const EARLIEST: &str = "\
-Looks at the time lags alone, as if all resources were free: the schedule may overload them.
-Reads a project on standard input. Answers 'earliest C' and a line 'activity start' for each
-activity, or 'positive cycle M': the lags among the activities 0 to M contradict each other.
+Reads a project on standard input. Prints 'earliest C' and a line 'activity start' for each
+activity. These are the earliest starts by the time lags alone; they may overload resources.
+Prints 'positive cycle M' if the lags among the activities 0 to M contradict each other.
 
 Example:
   psmax earliest < project.sch
 
-Exit status: 0 answered; 1 memory ran out, or a device failed; 2 the words or the text are not
-what they should be.";
+Exit status:
+  0  answered
+  1  memory or a device failed
+  2  the words of the command or the text have a fault";
 
 pub(crate) const SOLVE: &str = "\
-Reads a project on standard input. Answers one of these, the first and the third with a line
-'activity start' for each activity:
+Reads a project on standard input. Prints one of these answers. If it has a schedule, a line
+'activity start' for each activity follows.
   optimal C           no feasible schedule is shorter
-  no schedule         there is none at all
-  feasible C bound B  stopped at the limit: no feasible schedule is shorter than B
-  unknown bound B     the same, and no schedule was found
-Reads the starts of --start after the project. Where they are no feasible schedule it answers as
-'psmax check' does, and searches nothing. With --record the file is made empty first, and once
-the answer is 'optimal C' or 'no schedule' and printed, a record of the search is written into
-it, which 'psmax verify' checks. --start or --record alone is one worker; with neither of them
-nor --workers one thread searches by itself.
+  no schedule         the project has no feasible schedule
+  feasible C bound B  the search stopped; no feasible schedule is shorter than B
+  unknown bound B     the search stopped before it found a schedule; B is as above
+
+--start reads the starts after the project. If they are not a feasible schedule, psmax prints
+their violations as 'psmax check' does, and does not search.
+--record empties FILE first. After the answer 'optimal C' or 'no schedule' it writes a record of
+the search into FILE, which 'psmax verify' checks.
+--start and --record use one worker unless --workers is given. Without these three options, one
+thread searches depth first.
 
 Examples:
   psmax solve < project.sch
@@ -45,51 +52,62 @@ Examples:
   psmax solve --workers 4 --start plan.starts < project.sch
   psmax solve --record project.record < project.sch
 
-Exit status: 0 answered; 1 memory ran out, a thread could not be started, or a device failed;
-2 the words or a text are not what they should be; 3 the search was stopped at its limit; 4 the
-starts of --start are no feasible schedule.";
+Exit status:
+  0  answered
+  1  memory, a thread or a device failed
+  2  the words of the command or a text have a fault
+  3  the search stopped at its limit
+  4  the starts of --start are not a feasible schedule";
 
 pub(crate) const CHECK: &str = "\
-Reads the project in FILE, and then starts on standard input: a line 'activity start' for each
-activity, or an answer of psmax as it is. Answers 'feasible C', or each violation on a line:
+Reads the project in FILE, then starts on standard input: a line 'activity start' for each
+activity, or an answer of psmax. Prints 'feasible C', or a line for each violation:
   start V             the project starts at V and not at 0
   lag I J W           J starts less than W after I
-  overload T RES USE  at the time T more of the resource RES is in use than there is
+  overload T RES USE  at time T activities use USE units of resource RES, which has fewer
 
 Example:
   psmax check --project project.sch < plan.starts
 
-Exit status: 0 feasible; 1 memory ran out, or a device failed; 2 the words or a text are not
-what they should be; 4 there are violations.";
+Exit status:
+  0  the schedule is feasible
+  1  memory or a device failed
+  2  the words of the command or a text have a fault
+  4  the schedule has violations";
 
 pub(crate) const TIDY: &str = "\
-Reads a project on standard input. Answers the same project, a line for each row, with one tab
-between words and lags in brackets.
+Reads a project on standard input. Prints it in its canonical text: a line for each row, one tab
+between words, lags in brackets.
 
 Example:
   psmax tidy < project.sch
 
-Exit status: 0 answered; 1 memory ran out, or a device failed; 2 the words or the text are not
-what they should be.";
+Exit status:
+  0  answered
+  1  memory or a device failed
+  2  the words of the command or the text have a fault";
 
 pub(crate) const VERIFY: &str = "\
-Reads the project in FILE, and then a record of a search on standard input: what was claimed of
-the project, and a tree that shows why. docs/RECORD.md describes it. Looks at each line for
-itself, and trusts nothing of the search. Where all are right it answers what is so proved:
+Reads the project in FILE, then a record of a search on standard input: a claim about the project,
+and a tree that shows it. docs/RECORD.md describes the record. verify checks each line by itself,
+and does not trust the search. If all lines are right, it prints what they prove:
   proved optimal C    the shortest feasible schedule takes C
-  proved no schedule  there is none at all
-Else the first line L that is wrong is told on standard error. A text that is no record:
-  line L: form        the line is not one that may stand there
+  proved no schedule  the project has no feasible schedule
+Otherwise the first wrong line L goes to standard error. If the text is not a record:
+  line L: form        this line may not stand there
   line L: short       the text ends before this line
   line L: trailing    the record ends before this line
-And a record that is not right:
-  line L: start       the starts are no feasible schedule of the makespan that is claimed
+If the record is wrong:
+  line L: start       the starts are not a feasible schedule of the claimed makespan
   line L: force       the pair is not forced
   line L: set         the members may run together, or the node is dead
-  line L: leaf        the node is not solved, cut or dead, as the line says
+  line L: leaf        the node is not solved, cut or dead, as the line claims
 
 Example:
   psmax verify --project project.sch < project.record
 
-Exit status: 0 proved; 1 memory ran out, or a device failed; 2 the words or a text are not what
-they should be; 4 the record is not right.";
+Exit status:
+  0  proved
+  1  memory or a device failed
+  2  the words of the command or a text have a fault
+  4  the record is wrong";

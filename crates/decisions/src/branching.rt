@@ -198,7 +198,7 @@ impl Brancher {
         best
     }
 
-    /// The better of the best start so far and those of activities that run at a time and overload a resource.
+    /// The better of the best start so far and those of the activities that overload a resource at a time.
     fn better_starts_at(
         &mut self,
         rules: &Rules,

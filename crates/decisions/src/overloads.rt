@@ -12,7 +12,7 @@ struct ByDemand {
     activity: u32,
 }
 
-/// A set of activities that need too much of a resource, as few as do, and what speaks for branching at it.
+/// A smallest set of activities that need too much of a resource, and what speaks for branching at it.
 #[derive(Clone, Copy)]
 struct Rating {
     resource: u32,
@@ -139,7 +139,7 @@ impl Overloads {
         Ok(true)
     }
 
-    /// The members are those that run, but those of least demand as far as the others need too much.
+    /// The members are those that run, less those of least demand as long as the others need too much.
     fn pick_members(&mut self, rules: &Rules, resource: u32) -> Result<(), AllocError> {
         self.by_demand.clear();
         let mut sum = 0i64;

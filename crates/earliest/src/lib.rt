@@ -42,8 +42,8 @@ pub fn heads(alloc: Global, matrix: &Matrix) -> Result<Vec<i64>, AllocError>
     least_starts(alloc, matrix)
 }
 
-/// The tail of each activity, for which a schedule that keeps the matrix's pairs lasts at least after
-/// the activity's end, in periods: the greatest weight from the activity to the end, less its duration.
+/// The tail of each activity in periods: how long a schedule that keeps the matrix's pairs lasts at least after the
+/// activity's end. It is the greatest weight from the activity to the end, less its duration.
 pub fn tails(alloc: Global, project: &Project, matrix: &Matrix) -> Result<Vec<i64>, AllocError>
     requires { length matrix.now ≡ activity_count project.now }
     ensures weights { IfOk result (λ tails. tails.items ≡ tail_weights project.now matrix.now) }

@@ -1,5 +1,5 @@
-//! Minimal forbidden sets: activities that together need more of a resource than there is, while
-//! any of them could be spared (Bartusch, Möhring and Radermacher 1988).
+//! Minimal forbidden sets: activities that together need more of a resource than there is, but not without any one of
+//! them (Bartusch, Möhring and Radermacher 1988).
 #![tactic(auto)]
 
 mod set;

@@ -7,9 +7,8 @@ ghost use Rattle.std.specs.List.Sorted.{IsStrictlyIncreasing};
 use smallvec::SmallVec;
 use std::marker::Model;
 
-/// Activities that together need more of a resource than there is, and without any one of them do not: a
-/// minimal forbidden set of Bartusch, Möhring and Radermacher (1988), but minimal for this one resource,
-/// where they mean all.
+/// Activities that together need more of a resource than there is, but not without any one of them. A minimal forbidden
+/// set of Bartusch, Möhring and Radermacher (1988) is minimal for all resources; this one is minimal for one.
 #[derive(Drop, Debug)]
 pub struct ForbiddenSet {
     resource: usize,

@@ -61,8 +61,8 @@ fn total(loads: &[Load]) -> u64
     total
 }
 
-/// How many of the loads, from the first on, can be spared together where the rest is to exceed the
-/// capacity. As the demands rise, no other can be spared then.
+/// How many of the loads, from the first on, can go together while the rest still exceeds the capacity. As the demands
+/// rise, no other can be spared then.
 fn spared(loads: &[Load], capacity: u64) -> usize
     requires few { length loads.now ≤ MAX_ACTIVITIES }
     requires small { All (λ load. pos load.demand ≤ℤ MAX_AMOUNT) loads.now }
@@ -132,10 +132,9 @@ fn demands_of(
     Ok(demands)
 }
 
-/// A minimal forbidden set of activities that are forbidden for a resource. They are gone through by rising
-/// demand for it, ties by rising number, and one is dropped wherever the rest still exceeds the capacity; so
-/// at most as many are looked at as there are. Where up to 16 of them need the resource and up to 8 are left,
-/// it takes no memory.
+/// A minimal forbidden set of activities that are forbidden for a resource. It goes through them by rising demand for
+/// it, ties by rising number, and drops one if the rest still exceeds the capacity. So it looks at each activity at
+/// most once. If up to 16 of them need the resource and up to 8 are left, it takes no memory.
 pub fn shrink_activities(
     alloc: Global,
     project: &Project,

@@ -5,7 +5,7 @@ use crate::literal::Literal;
 use std::alloc::AllocError;
 
 impl History {
-    /// The change that first made an entry so great, of those up to a time; 0 where none had to. Gives what the entry was
+    /// The change up to a time that first made an entry at least so much; 0 if none had to. Gives what the entry was
     /// after it.
     #[inline(always)]
     fn first_change(&self, at: usize, least: i32, time: u32) -> (u32, i32) {
@@ -25,7 +25,7 @@ impl History {
         (change, value)
     }
 
-    /// The two ways of the step that first made the entry so much are tasks now. Gives the value where no step is needed.
+    /// Makes tasks of the two ways of the step that first made the entry so much. Gives the value if no step is needed.
     fn split_entry(
         &mut self,
         from: u32,
@@ -72,7 +72,7 @@ impl History {
         self.split_entry(step.arc.to, to, rest, step.start)
     }
 
-    /// Marks a step for what both ways leave to it; gives what the three are together.
+    /// Marks a step for what both ways leave to it. Gives what the three make together.
     fn mark_own(&mut self, index: u32, least: i32, ways: i32) -> Result<i32, AllocError> {
         let need = if self.lifts {
             least.wrapping_sub(ways)
@@ -83,7 +83,8 @@ impl History {
         Ok(need.wrapping_add(ways))
     }
 
-    /// Marks steps that make the matrix's own entry at least so much, as of some time; gives what these steps make sure of.
+    /// Marks steps that make the matrix's own entry at least so much, as of some time. Gives what these steps
+    /// guarantee.
     fn explain_entry(
         &mut self,
         from: u32,
@@ -115,7 +116,7 @@ impl History {
         Ok(found)
     }
 
-    /// Marks steps that make the greatest walk weigh at least so much, as of some time; gives what they make sure of.
+    /// Marks steps that make the greatest walk weigh at least so much, as of some time. Gives what they guarantee.
     pub fn explain(
         &mut self,
         from: u32,
@@ -160,7 +161,7 @@ impl History {
         self.marks.clear();
     }
 
-    /// What was marked and raised so far can't be taken back; gives how many marks there are.
+    /// Fixes what was marked and raised so far. Gives how many marks there are.
     pub fn keep_marks(&mut self) -> usize {
         self.marks.keep_raised();
         self.marks.all().len()

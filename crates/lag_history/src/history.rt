@@ -15,8 +15,8 @@ pub fn is_there(entry: i32) -> bool {
     entry > -250_000_000
 }
 
-/// A change of an entry: its place, 1 + the index of the change before or 0, the step that made it, and
-/// what the entry was.
+/// A change of an entry: its place, 1 + the index of the change before (or 0), the step that made it, and the old
+/// entry.
 #[derive(Clone, Copy)]
 pub(crate) struct Change {
     pub(crate) at: u32,
@@ -56,7 +56,8 @@ pub(crate) enum Task {
     },
 }
 
-/// The matrix of greatest weights of walks that have no 0 inside but at first, with the history of its changes.
+/// The matrix of the greatest weights of walks, with the history of its changes. Walks by literals do not pass through
+/// activity 0; those of the first matrix may.
 #[derive(Drop)]
 pub struct History {
     pub(crate) count: usize,
@@ -95,8 +96,8 @@ fn cells_of(alloc: Global, matrix: &Matrix) -> Result<Table<i32>, AllocError> {
 }
 
 impl History {
-    /// The history that begins with a matrix. Where it lifts, the weight that is needed of a marked step is as small as
-    /// it can be, and else it is its own.
+    /// The history that begins with a matrix. If it lifts, a marked step needs the smallest weight that is enough;
+    /// otherwise it needs its own.
     pub fn new(alloc: Global, matrix: &Matrix, lifts: bool) -> Result<History, AllocError> {
         let cells = cells_of(alloc, matrix)?;
         let last = Table::filled(alloc, cells.len(), 0, 0)?;

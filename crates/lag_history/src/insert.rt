@@ -72,7 +72,8 @@ impl History {
         Ok(())
     }
 
-    /// Adds a literal whose reverse doesn't hold. One to the start changes only latest starts, and one from it only heads.
+    /// Adds a literal whose reverse doesn't hold. One to the start changes only latest starts, and one from it only
+    /// heads.
     pub fn insert(&mut self, arc: Literal) -> Result<(), AllocError> {
         let step = self.step_count();
         let start = self.now();

@@ -1,5 +1,5 @@
 -- What a loop over a list that stops at the first element without a property knows.
-use Rattle.std.proofs.Common.{◌≡◌, refl, ◌+◌, ◌<◌, ◌≤◌, ⊎_elim, arith, ℕ, List, length, get_or, take, true, false}
+use Rattle.std.proofs.Common.{◌≡◌, refl, ◌+◌, ◌<◌, ◌≤◌, ◌⊎◌, inl, inr, ⊎_elim, arith, Bool, ℕ, List, length, get_or, take, true, false}
 use Rattle.std.specs.Prelude.{◌↔◌, IsTrue, slice_index}
 use Rattle.std.specs.List.{All, AllPairs}
 use Rattle.std.proofs.lemmas.List.{take_all, get_or-take, get_or_default, length-take-le}
@@ -11,6 +11,13 @@ refused P never = (λ t. absurd (false≢true t), λ h. absurd (never h))
 
 pub granted : (P : Type 0) → P → IsTrue true ↔ P
 granted P h = (λ _. h, λ _. refl)
+
+-- of three the last decides, where neither of the others holds
+pub third_decides : {A B C : Type 0} {b : Bool} → ¬ A → ¬ B → IsTrue b ↔ C → IsTrue b ↔ (A ⊎ (B ⊎ C))
+third_decides first second third = (
+  λ yes. inr (inr (third.0 yes)),
+  λ one. ⊎_elim (λ a. absurd (first a)) (λ rest. ⊎_elim (λ b. absurd (second b)) (λ c. third.1 c) rest) one,
+)
 
 -- one of them hasn't it
 pub some_fails : {X : Type 0} (P : X → Type 0) (xs : List X) (i : ℕ) (d : X) → i < length xs → ¬ P (get_or xs i d) → IsTrue false ↔ All P xs

@@ -1,5 +1,5 @@
 -- Activities of which no two can run at the same time, all in one window: together they take no longer than it is.
-use Rattle.std.proofs.Common.{◌≡◌, ℕ, suc, ◌*◌, ◌<◌, ◌≤◌, Bool, true, false, cond, List, [], ◌∷◌, get_or, length, arith, ℤ, pos, ◌+ℤ◌, ◌-ℤ◌, ◌≤ℤ◌, refl}
+use Rattle.std.proofs.Common.{◌≡◌, ℕ, suc, ◌*◌, ◌<◌, ◌≤◌, inl, inr, Bool, true, false, cond, List, [], ◌∷◌, get_or, length, arith, ℤ, pos, ◌+ℤ◌, ◌-ℤ◌, ◌≤ℤ◌, refl}
 use Rattle.std.specs.Prelude.{◌<ℤ◌, ◌&&◌, int_le, int_lt, unsigned_abs}
 use Rattle.std.specs.List.{All, AllPairs, sum_by}
 use Rattle.std.proofs.lemmas.Int.{ints}
@@ -13,7 +13,7 @@ use Rattle.bounds.proofs.Between.{abs_is}
 use Rattle.bounds.proofs.Units.{over, over-const, over-sum_by, sum_by-le-each}
 use Rattle.rivals.specs.Incompatible.{AreIncompatible}
 use Rattle.rivals.proofs.Apart.{apart}
-use Rattle.lemma_check.specs.Reasons.{pair_of, RunsWithin, IsClique}
+use Rattle.lemma_check.specs.Reasons.{pair_of, RunsWithin, StartsAfterEnd, RunApart, IsClique}
 use Rattle.lemma_check.proofs.Implied.{MeetsAll, implied_met}
 use Rattle.lemma_check.proofs.Windows.{gap, part_in_window}
 
@@ -57,14 +57,27 @@ starts_when s u e h = grind (arith, ints)
 ends_when : (s u e : ℤ) → (int_le s u && int_lt u e) ≡ true → u <ℤ e
 ends_when s u e h = grind (arith, ints)
 
+-- of two in an order, one has ended before the other starts
+in_order : (p : Problem) (arcs : List Lag) (s : List ℤ) (u : ℤ) (i j : ℕ) → MeetsAll s arcs → StartsAfterEnd p arcs i j → NotBoth (is_running p s u) i j
+in_order p arcs s u i j met order runs_i runs_j =
+    let after : (start s i +ℤ duration p i) ≤ℤ start s j = implied_met arcs s met (arc_of i j (duration p i)) order in
+    let begun = starts_when (start s j) u (start s j +ℤ duration p j) runs_j in
+    let going = ends_when (start s i) u (start s i +ℤ duration p i) runs_i in
+    omega (arith, ints)
+
 -- rivals don't run in one unit
-not_both : (p : Problem) (s : List ℤ) (u : ℤ) (i j : ℕ) → IsFeasible p s → AreIncompatible p (pair_of i j) → NotBoth (is_running p s u) i j
-not_both p s u i j feasible rivals runs_i runs_j =
+rivals_apart : (p : Problem) (s : List ℤ) (u : ℤ) (i j : ℕ) → IsFeasible p s → AreIncompatible p (pair_of i j) → NotBoth (is_running p s u) i j
+rivals_apart p s u i j feasible rivals runs_i runs_j =
     let late_i = starts_when (start s i) u (start s i +ℤ duration p i) runs_i in
     let late_j = starts_when (start s j) u (start s j +ℤ duration p j) runs_j in
     let early_i = ends_when (start s i) u (start s i +ℤ duration p i) runs_i in
     let early_j = ends_when (start s j) u (start s j +ℤ duration p j) runs_j in
     apart p s (pair_of i j) feasible rivals (omega (arith, ints)) (omega (arith, ints))
+
+not_both : (p : Problem) (arcs : List Lag) (s : List ℤ) (u : ℤ) (i j : ℕ) → IsFeasible p s → MeetsAll s arcs → RunApart p arcs i j → NotBoth (is_running p s u) i j
+not_both p arcs s u i j feasible met (inl rivals) = rivals_apart p s u i j feasible rivals
+not_both p arcs s u i j feasible met (inr (inl first)) = in_order p arcs s u i j met first
+not_both p arcs s u i j feasible met (inr (inr second)) = λ runs_i runs_j. in_order p arcs s u j i met second runs_j runs_i
 
 -- an activity that runs within the window asks for each of its units there
 runs_there : (p : Problem) (arcs : List Lag) (s : List ℤ) (from to : ℤ) (units i : ℕ) → start s 0 ≡ pos 0 → MeetsAll s arcs → to ≡ from +ℤ pos units → pos 0 <ℤ duration p i → RunsWithin p arcs from to i →
@@ -97,7 +110,7 @@ clique_refuted p arcs from to members s clique feasible met = in_window (gap fro
         let all : ℕ → ℕ = λ i. unsigned_abs (duration p i) in
         let each : sum_by all members ≤ sum_by (λ i. over (λ u. g u i) m) members = sum_by-le-each all (λ i. over (λ u. g u i) m) members (λ k d l. runs_there p arcs s from to m (get_or members k d) feasible.schedule.from_zero met window (clique.are_members.take_time k d l).long (clique.inside k d l)) in
         let swapped : over (λ u. sum_by (g u) members) m ≡ sum_by (λ i. over (λ u. g u i) m) members = over-sum_by g m members in
-        let one : (u : ℕ) → sum_by (g u) members ≤ 1 = λ u. one_passes (is_running p s (from +ℤ pos u)) members (λ i j d lt l. not_both p s (from +ℤ pos u) (get_or members i d) (get_or members j d) feasible (clique.rivals i j d lt l)) in
+        let one : (u : ℕ) → sum_by (g u) members ≤ 1 = λ u. one_passes (is_running p s (from +ℤ pos u)) members (λ i j d lt l. not_both p arcs s (from +ℤ pos u) (get_or members i d) (get_or members j d) feasible met (clique.apart i j d lt l)) in
         let most : over (λ u. sum_by (g u) members) m ≤ m * 1 = over-const (λ u. sum_by (g u) members) 1 m one in
         let exceeds : to <ℤ (from +ℤ pos (sum_by all members)) = clique.over in
         omega (arith, ints, each, swapped, most, exceeds)

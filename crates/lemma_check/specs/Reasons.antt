@@ -64,11 +64,19 @@ pub record RunsWithin (p : Problem) (arcs : List Lag) (from to : ℤ) (i : ℕ) 
   pub late : Implies arcs (arc_of 0 i from)
   pub early : Implies arcs (arc_of i 0 (duration p i -ℤ to))
 
+-- activity j starts once i has ended
+abbrev pub StartsAfterEnd : Problem → List Lag → ℕ → ℕ → Type 0
+StartsAfterEnd p arcs i j = Implies arcs (arc_of i j (duration p i))
+
+-- the two don't run at the same time: they are rivals, or in an order
+abbrev pub RunApart : Problem → List Lag → ℕ → ℕ → Type 0
+RunApart p arcs i j = AreIncompatible p (pair_of i j) ⊎ (StartsAfterEnd p arcs i j ⊎ StartsAfterEnd p arcs j i)
+
 -- the members run one at a time, all within the window, and take longer than it is
 pub record IsClique (p : Problem) (arcs : List Lag) (from to : ℤ) (members : List ℕ) : Type 0 where
   pub several : 2 ≤ length members
   pub are_members : AreMembers p members
-  pub rivals : AllPairs (λ i j. AreIncompatible p (pair_of i j)) members
+  pub apart : AllPairs (RunApart p arcs) members
   pub inside : All (RunsWithin p arcs from to) members
   pub over : to <ℤ (from +ℤ pos (sum_by (λ i. unsigned_abs (duration p i)) members))
 

@@ -5,8 +5,7 @@ ghost use Rattle.std.specs.List.{All, AllPairs, sum_by};
 ghost use Rattle.network.specs.declared.lag.Lag.{Lag};
 ghost use Rattle.network.specs.Limits.{IsTime};
 ghost use Rattle.network.specs.Problem.{activity_count, duration};
-ghost use Rattle.rivals.specs.Incompatible.{AreIncompatible};
-ghost use Rattle.lemma_check.specs.Reasons.{AreMembers, pair_of, RunsWithin, IsClique};
+ghost use Rattle.lemma_check.specs.Reasons.{AreMembers, RunsWithin, StartsAfterEnd, RunApart, IsClique};
 ghost use Rattle.lemma_check.specs.Weights.{TellsWhether};
 
 use crate::members::are_members;
@@ -14,28 +13,67 @@ use crate::weights::Weights;
 use network::{Lag, Pair, Project};
 use rivals::are_incompatible;
 
-/// Whether an activity is a rival of each of these.
-fn is_rival_of_all(project: &Project, others: &[usize], activity: usize) -> bool
-    ensures { IsTrue result ↔ All (λ i. AreIncompatible project.now (pair_of i activity)) others.now }
+/// Whether the second activity starts once the first has ended.
+fn starts_after_end(project: &Project, weights: &Weights, first: usize, second: usize) -> bool
+    requires size { length weights.now ≡ activity_count project.now }
+    requires first { first < activity_count project.now }
+    requires second { second < activity_count project.now }
+    ensures { TellsWhether (activity_count project.now) weights.now result
+        (λ arcs. StartsAfterEnd project.now arcs first second) }
+{
+    weights.implies(Lag {
+        from: first,
+        to: second,
+        weight: project.duration(first),
+    })
+}
+
+/// Whether two activities don't run at the same time.
+fn run_apart(project: &Project, weights: &Weights, one: usize, other: usize) -> bool
+    requires size { length weights.now ≡ activity_count project.now }
+    requires one { one < activity_count project.now }
+    requires other { other < activity_count project.now }
+    ensures { TellsWhether (activity_count project.now) weights.now result
+        (λ arcs. RunApart project.now arcs one other) }
+{
+    let pair = Pair {
+        before: one,
+        after: other,
+    };
+    if are_incompatible(project, pair) {
+        return true;
+    }
+    if starts_after_end(project, weights, one, other) {
+        return true;
+    }
+    starts_after_end(project, weights, other, one)
+}
+
+/// Whether none of these activities runs at the same time as this one.
+fn all_run_apart(project: &Project, weights: &Weights, others: &[usize], activity: usize) -> bool
+    requires size { length weights.now ≡ activity_count project.now }
+    requires others { All (λ i. i < activity_count project.now) others.now }
+    requires activity { activity < activity_count project.now }
+    ensures { TellsWhether (activity_count project.now) weights.now result
+        (λ arcs. All (λ i. RunApart project.now arcs i activity) others.now) }
 {
     for other in others {
-        let pair = Pair {
-            before: *other,
-            after: activity,
-        };
-        if !are_incompatible(project, pair) {
+        if !run_apart(project, weights, *other, activity) {
             return false;
         }
     }
     true
 }
 
-/// Whether each two of the members are rivals.
-fn are_rivals(project: &Project, members: &[usize]) -> bool
-    ensures { IsTrue result ↔ AllPairs (λ i j. AreIncompatible project.now (pair_of i j)) members.now }
+/// Whether the members run one at a time.
+fn run_one_at_a_time(project: &Project, weights: &Weights, members: &[usize]) -> bool
+    requires size { length weights.now ≡ activity_count project.now }
+    requires members { AreMembers project.now members.now }
+    ensures { TellsWhether (activity_count project.now) weights.now result
+        (λ arcs. AllPairs (RunApart project.now arcs) members.now) }
 {
     for place in 0..members.len() {
-        if !is_rival_of_all(project, &members[..place], members[place]) {
+        if !all_run_apart(project, weights, &members[..place], members[place]) {
             return false;
         }
     }
@@ -125,7 +163,7 @@ pub(crate) fn is_clique(
     if !all_run_within(project, weights, from, to, members) {
         return false;
     }
-    if !are_rivals(project, members) {
+    if !run_one_at_a_time(project, weights, members) {
         return false;
     }
     to < from + total_duration(project, members) as i64

@@ -3,8 +3,8 @@
 ghost use Rattle.lemma_check.specs.Proves.{RightIsTrue};
 ghost use Rattle.lemma_check.specs.Faults.{FaultIsWrong, FirstFaultIsOne};
 
-/// What a right record claims is true, and a record with a first fault is not right and has no other
-/// first fault: laws over the definitions.
+/// Laws over the definitions. What a right record claims is true. A record with a first fault is not right, and has no
+/// other first fault.
 pub fn right_law()
     ensures holds { RightIsTrue }
     ensures wrong { FaultIsWrong }

@@ -1,4 +1,4 @@
-//! Whether a record of lemmas is right for a project, line by line, so that what it claims is true.
+//! Checks whether a record of lemmas is right for a project, line by line. If it is, its claim is true.
 #![tactic(auto)]
 
 mod clique;

@@ -56,8 +56,8 @@ fn is_forced(project: &Project, matrix: &Matrix, pair: Pair) -> bool
     })
 }
 
-/// Whether the arc is implied by the matrix of its block, or the reason ends the block with the reverse of
-/// the arc, which is not inserted.
+/// Whether the matrix of its block implies the arc, or the reason ends the block with the arc's reverse, which is not
+/// inserted.
 fn is_shown(project: &Project, matrix: &Matrix, lemmas: &Lemmas, arc: Lag, reason: &Reason) -> bool
     requires size { length matrix.now ≡ activity_count project.now }
     requires named { All (All (JoinsActivities project.now)) lemmas.now }

@@ -22,8 +22,8 @@ use std::alloc::{AllocError, Global};
 /// What is kept of a line's place.
 #[derive(Drop)]
 pub(crate) struct State {
-    /// Of the arcs of the block, or of those before the one that closes a walk of positive weight; in a lemma with a
-    /// mark at the record's own.
+    /// The matrix of the arcs of the block, or of those before the one that closes a walk of positive weight. In a
+    /// lemma it has a mark at the record's own arcs.
     matrix: MarkedMatrix,
     /// Whether the arcs of the block close a walk of positive weight.
     is_dead: bool,
@@ -72,8 +72,8 @@ pub(crate) fn ends_dead(line: &Line) -> bool
 impl State {
     ghost use Rattle.lemma_check.specs.State.{GoesOn, IsAt, IsRightSomewhere, IsSomewhere, Leads};
 
-    /// The state at the first line of a record with this claim; none where the project's own rules close a
-    /// walk of positive weight.
+    /// The state at the first line of a record with this claim. None if the project's own rules close a walk of
+    /// positive weight.
     pub(crate) fn first(
         alloc: Global,
         project: &Project,

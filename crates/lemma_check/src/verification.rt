@@ -44,12 +44,12 @@ fn has_right_starts(alloc: Global, project: &Project, claim: &Claim) -> Result<b
     Ok(found.is_empty())
 }
 
-/// What a record proves of a project, where it is right; else its first fault: the starts, and then the
-/// first line of the blocks that is not right. [`Why::Memory`] says nothing of the record.
+/// What a right record proves of a project. Otherwise its first fault: of the starts, then of the first line of the
+/// blocks that is not right. [`Why::Memory`] says nothing of the record.
 ///
-/// Each line is looked at with the matrix of the greatest weights of walks over its block's arcs. There is one
-/// matrix, which takes each arc that a line adds, and goes back where a lemma ends (the matrix by Floyd 1962
-/// and Warshall 1962). A lemma that has ended takes one number of memory.
+/// It checks each line with the matrix of the greatest weights of walks over its block's arcs. There is one matrix (by
+/// Floyd 1962 and Warshall 1962). It takes each arc that a line adds, and goes back where a lemma ends. A lemma that
+/// has ended takes one number of memory.
 pub fn verify(alloc: Global, project: &Project, shown: &LemmaRecord) -> Result<Proved, LemmaFault>
     ensures right { OnOk result (IsRight project.now shown.now) }
     ensures proved { IfOk result (λ proved. proved ≡ proved_of shown.now.claim) }

@@ -165,9 +165,9 @@ fn suppose(history: &mut History, lemmas: &Lemmas, number: u32) -> Result<bool, 
     Ok(false)
 }
 
-/// The blocks of what is told, given from the last to the first: without literals that hold already, and each up to the
-/// first that closes a positive walk. The history has the deadline of the claim; where that closes a walk, `is_dead`, the
-/// record ends at once.
+/// The blocks of what is told, given from the last to the first. They leave out literals that hold already. Each ends
+/// with the first line that closes a positive walk. The history has the deadline of the claim. If that closes a walk,
+/// `is_dead`, the record ends at once.
 pub fn blocks_of(
     alloc: Global,
     history: &mut History,

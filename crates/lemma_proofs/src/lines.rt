@@ -13,7 +13,7 @@ use tables::{Span, Table};
 /// The greatest weight of an arc of a record in periods; the least is its negative.
 const MAX_WEIGHT: i32 = 1_000_000;
 
-/// Makes lines of blocks. Lemmas are numbered anew.
+/// Makes lines of blocks, with new numbers for the lemmas.
 #[derive(Drop)]
 struct LineWriter {
     lines: Vec<Line>,

@@ -120,8 +120,8 @@ impl Proofs {
         Ok(Span { from, to })
     }
 
-    /// One more proof: of literals that follow, given from the last to the first, of the end, where it isn't that a walk is
-    /// closed, and of the steps of the root that are marked. Gives its number.
+    /// One more proof. It has the literals that follow, from the last to the first, and the marked steps of the root.
+    /// It has the end, if that isn't a closed walk. Gives its number.
     pub fn push(
         &mut self,
         trail: &Trail,
@@ -145,7 +145,8 @@ impl Proofs {
         Ok(number)
     }
 
-    /// One more proof that needs no step of the root: of links from the first to the last, and the end. Gives its number.
+    /// One more proof that needs no step of the root: of links from the first to the last, and the end. Gives its
+    /// number.
     pub fn push_links(&mut self, links: &[Link], end: Why) -> Result<u32, AllocError> {
         let from = self.links.count();
         for link in links {
@@ -194,7 +195,7 @@ impl Proofs {
         Span { from: to, to: at }
     }
 
-    /// The members of a reason move up to the place that is given, which moves on.
+    /// Moves the members of a reason up to the given place, and gives the next place.
     fn move_why(&mut self, why: Why, next: u32) -> (Why, u32) {
         match why {
             Why::Set { resource, members } => {
@@ -209,7 +210,7 @@ impl Proofs {
         }
     }
 
-    /// Links move up to a place, and their members to one; gives where the links stand, and where the members end.
+    /// Moves links up to a place, and their members to another. Gives where the links stand, and where the members end.
     fn move_links(&mut self, links: Span, to: u32, members: u32) -> (Span, u32) {
         let mut at = to;
         let mut next = members;

@@ -95,8 +95,8 @@ impl Needs {
     }
 }
 
-/// What the last proof needs, from the last to the first: steps of the root between the lemmas as they were made. The trail
-/// is at its root.
+/// What the last proof needs, from the last to the first. Steps of the root stand between the lemmas as they were made.
+/// The trail is at its root.
 pub fn outline(
     alloc: Global,
     rules: &Rules,

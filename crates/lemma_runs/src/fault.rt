@@ -25,8 +25,7 @@ impl VerifyFault {
     ghost use Rattle.std.specs.Prelude.{◌≡◌};
     ghost use Rattle.lemma_runs.specs.Faults.{exit_of};
 
-    /// The exit status: 1 for memory and devices, 2 for a text that isn't what it should be, 4 for a record that isn't
-    /// right.
+    /// The exit status: 1 for memory and devices, 2 for a text with a fault, 4 for a record that is wrong.
     pub fn exit(self) -> u8
         ensures { result ≡ exit_of self }
     {

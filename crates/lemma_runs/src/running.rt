@@ -76,9 +76,9 @@ fn write_proof<O: Output>(out: &mut O, text: &[u8]) -> Ended
     }
 }
 
-/// Reads a project from the second input and then a record of lemmas from the first, and writes what the record proves of the
-/// project and nothing else: `proved optimal C`, `proved bound C` or `proved no schedule`, and LF. After a failure a device
-/// isn't called again.
+/// Reads a project from the second input and then a record of lemmas from the first. Writes what the record proves of
+/// the project and nothing else: `proved optimal C`, `proved bound C` or `proved no schedule`, and LF. After a failure
+/// a device isn't called again.
 pub fn run<I: Input, S: Input, O: Output>(
     alloc: Global,
     input: &mut I,

@@ -45,7 +45,7 @@ fn proof_of(alloc: Global, project: &Project, shown: &LemmaRecord) -> Result<Vec
     Ok(text.into_bytes())
 }
 
-/// What the record in a text proves of a project; or the first fault of the text, and else of what the record says.
+/// What the record in a text proves of a project. Otherwise the first fault of the text, or of the record.
 pub(crate) fn verified(
     alloc: Global,
     project: &Project,

@@ -28,7 +28,7 @@ const FIRST_DIVE: u64 = 10_000;
 /// What the search does next.
 #[derive(Clone, Copy)]
 pub(crate) enum Next {
-    /// It looks at all rivals anew, at the root: another schedule is the best.
+    /// At the root it looks at all rivals again: another schedule is the best.
     Rescan,
     /// It learns from a conflict.
     Learn(Conflict),
@@ -36,7 +36,7 @@ pub(crate) enum Next {
     Decide,
 }
 
-/// When the search begins anew at the root, and how many lemmas it keeps.
+/// When the search restarts at the root, and how many lemmas it keeps.
 #[derive(Clone, Copy)]
 struct Pace {
     restarts: u64,
@@ -108,7 +108,7 @@ impl Engine {
             energy: options.parts.energy,
             cliques: options.parts.cliques,
         };
-        let propagators = Propagators::new(alloc, &rules, chosen)?;
+        let propagators = Propagators::new(alloc, &rules, &history, chosen)?;
         Ok(Engine {
             rules,
             trail: Trail::new(alloc, history),
@@ -142,13 +142,13 @@ impl Engine {
         self.trail.history.value_at(0, self.rules.end(), changes)
     }
 
-    /// Goes back to a level, where all was looked at.
+    /// Goes back to a level at which propagation was complete.
     pub(crate) fn go_back(&mut self, level: u32) {
         self.trail.go_back(level);
         self.propagators.skip(&self.trail);
     }
 
-    /// Goes back to the root and looks at all anew.
+    /// Goes back to the root and looks at all again.
     fn rescan(&mut self) -> Result<(), Stop> {
         self.next = Next::Decide;
         self.go_back(0);
@@ -316,7 +316,7 @@ impl Engine {
         Ok(())
     }
 
-    /// How many bytes lemmas and proofs take, and the changes of the matrix, which can't be given up.
+    /// How many bytes lemmas and proofs take, and the changes of the matrix, which must stay.
     fn bytes(&self) -> u64 {
         let changes = (self.trail.history.now() as u64).wrapping_mul(16);
         self.lemmas
@@ -343,8 +343,8 @@ impl Engine {
         Ok(())
     }
 
-    /// Makes room where lemmas and proofs take too much: gives up idle ones, and then half of the watched ones, some times.
-    /// Stops where that doesn't help.
+    /// Makes room if lemmas and proofs take too much. Gives up idle lemmas, and then half of the watched ones, several
+    /// times. Stops where that doesn't help.
     fn make_room(&mut self, alloc: Global) -> Result<(), AllocError> {
         if self.bytes() <= self.options.memory {
             return Ok(());

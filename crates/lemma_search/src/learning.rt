@@ -55,7 +55,8 @@ impl Learner {
         self.levels.push(level)
     }
 
-    /// A step is a literal of the lemma, as weak as is needed. Of two rivals an order that overlaps is as good as the whole.
+    /// A step is a literal of the lemma, as weak as is needed. Of two rivals an order that overlaps is as good as the
+    /// whole.
     fn keep_step(&mut self, rules: &Rules, trail: &Trail, step: u32) -> Result<(), AllocError> {
         let arc = trail.history.step(step).arc;
         let need = trail.history.need(step);

@@ -1,9 +1,11 @@
 //! The search of psprove: it learns lemmas from conflicts, and shows what it found by a record of lemmas.
 //!
-//! Nothing here needs to be trusted. What a search says is shown by [`Search::into_record`], and whoever asks has that checked.
+//! Nothing here needs to be trusted. [`Search::into_record`] shows what a search says, and whoever asks has that
+//! checked.
 //!
-//! It branches over orders of rivals and over starts, in lazy clause generation of Ohrimenko, Stuckey and Codish (2009) as
-//! Schutt, Feydy, Stuckey and Wallace (2013) have it for time lags; but its literals are arcs between any two activities.
+//! It branches over orders of rivals and over starts. It is lazy clause generation of Ohrimenko, Stuckey and Codish
+//! (2009), as Schutt, Feydy, Stuckey and Wallace (2013) have it for time lags. But its literals are arcs between any
+//! two activities.
 #![tactic(auto)]
 
 mod engine;

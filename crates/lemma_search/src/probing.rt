@@ -1,7 +1,7 @@
-//! Probes for the bound: deadlines that are tried at the root, and left where propagation alone doesn't refute them.
+//! Probes for the bound. They try deadlines at the root, and take back those that propagation alone doesn't refute.
 
-/// A deadline on trial, and how far above the bound the next one lies, in periods. It lies twice as far after each that is
-/// refuted, up to the first that isn't; from there on half as far.
+/// A deadline on trial, and how far above the bound the next one lies, in periods. The distance doubles after each
+/// refuted deadline up to the first that stands; from then on it halves.
 #[derive(Clone, Copy)]
 pub(crate) struct Probe {
     step: i32,
@@ -29,7 +29,7 @@ impl Probe {
         self.is_on
     }
 
-    /// The deadline to try next, from the bound on and below one that is known to hold; it is on trial then.
+    /// The deadline to try next, from the bound on and below one that is known to hold. It is then on trial.
     pub(crate) fn next(&mut self, bound: i32, deadline: i32) -> Option<i32> {
         self.step = self.step.min(deadline.wrapping_sub(bound));
         if self.step <= 0 {

@@ -12,8 +12,8 @@ use std::alloc::{AllocError, Global};
 /// How many decisions a call makes at most, for each conflict that it may meet.
 const DECISIONS_A_CONFLICT: u64 = 16;
 
-/// A search for a shortest schedule of a project. Where the project's arcs close a walk of positive weight there is nothing
-/// to search.
+/// A search for a shortest schedule of a project. Where the project's arcs close a walk of positive weight there is
+/// nothing to search.
 #[derive(Drop)]
 pub struct Search {
     engine: Option<Engine>,
@@ -36,8 +36,8 @@ impl Search {
         })
     }
 
-    /// Searches until it ends, or for so many conflicts; for fewer, where few of many decisions meet one. Where memory runs
-    /// out, the search can't go on.
+    /// Searches until it ends, or for so many conflicts. It stops earlier if many decisions meet few conflicts. If
+    /// memory runs out, the search can't go on.
     pub fn advance(&mut self, alloc: Global, conflicts: u64) -> Result<State, AllocError> {
         if let Some(engine) = &mut self.engine {
             let decisions = conflicts.saturating_mul(DECISIONS_A_CONFLICT);
@@ -49,8 +49,9 @@ impl Search {
         Ok(self.state())
     }
 
-    /// Takes a feasible schedule by its starts in periods, from another search say. One that isn't shorter than the best, or
-    /// whose makespan is above 1,000,000, is left; and each, once the search ended. It ends where the bound is reached.
+    /// Takes a feasible schedule by its starts in periods, from another search say. It ignores one that isn't shorter
+    /// than the best, or whose makespan is above 1,000,000. Once the search ended it ignores all. The search ends if
+    /// the makespan reaches the bound.
     pub fn lower_ceiling(
         &mut self,
         alloc: Global,
@@ -114,8 +115,8 @@ impl Search {
         }
     }
 
-    /// A claim and the lines that show it. After [`State::Ended`] the best schedule is a shortest one, or there is none; else
-    /// no schedule is shorter than the bound. None where a number is larger than a record may have.
+    /// A claim and the lines that show it. After [`State::Ended`] the best schedule is a shortest one, or there is
+    /// none. Otherwise no schedule is shorter than the bound. None where a number is larger than a record may have.
     pub fn into_record(self, alloc: Global) -> Result<Option<Shown>, AllocError> {
         match self.engine {
             Some(mut engine) => engine.show(alloc),

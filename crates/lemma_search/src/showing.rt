@@ -52,7 +52,7 @@ impl Engine {
         self.proofs.push(&self.trail, &[], None)
     }
 
-    /// The lines that show the claim; none where a number is larger than a record may have.
+    /// The lines that show the claim. None if a number is larger than a record may have.
     fn lines(&mut self, alloc: Global, claim: &Claim) -> Result<Option<Vec<Line>>, AllocError> {
         self.go_back(0);
         let last = self.proof_of_claim()?;

@@ -3,13 +3,12 @@
 ghost use Rattle.lemma_text.specs.Shape.{BlocksComplete};
 ghost use Rattle.lemma_text.specs.TextFaults.{RecordIsOne, FirstFaultIsOne, FaultIsNoRecord};
 
-/// A list of lines is that of a block exactly where it completes one end: a law over the definitions.
+/// A law over the definitions: a list of lines is that of a block exactly if it completes one end.
 pub fn shape_law()
     ensures { BlocksComplete }
 {}
 
-/// A text is that of one record at most or has one first fault at most, and not both: laws over the
-/// definitions.
+/// Laws over the definitions. A text is that of one record at most, or has one first fault at most, but not both.
 pub fn text_law()
     ensures record { RecordIsOne }
     ensures fault { FirstFaultIsOne }

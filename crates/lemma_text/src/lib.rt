@@ -1,8 +1,8 @@
 //! The text of a record of lemmas: a claim about a project, and the lines that show it.
 //!
-//! A [`LemmaRecord`] is a claim and the lines of its blocks, and has one text, which
-//! [`LemmaRecord::write`] makes and [`LemmaRecord::read`] takes. Whether a record's lines are right, and so
-//! its claim is true of a project, is no matter of this crate.
+//! A [`LemmaRecord`] is a claim and the lines of its blocks. It has one text, which [`LemmaRecord::write`] makes and
+//! [`LemmaRecord::read`] takes. This crate does not say whether a record's lines are right, and its claim true of a
+//! project.
 #![tactic(auto)]
 
 mod claim;

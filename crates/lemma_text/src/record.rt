@@ -32,8 +32,8 @@ pub fn text_of(alloc: Global, claim: &Claim, lines: &[Line]) -> Result<Vec<u8>, 
     Ok(out.into_bytes())
 }
 
-/// A claim, and the lines that show it, in order. Numbers are below 10,000,000,000, a makespan and a bound
-/// at most 1,000,000, weights of arcs within 1,000,000, and starts and windows at least 0.
+/// A claim, and the lines that show it, in order. Numbers are below 10,000,000,000. A makespan and a bound are at most
+/// 1,000,000, weights of arcs within 1,000,000, starts and windows at least 0.
 #[derive(Drop, Debug)]
 pub struct LemmaRecord {
     claim: Claim,

@@ -9,8 +9,8 @@ pub struct Part {
     pub time: i32,
 }
 
-/// Why a literal was added, or why the literals can't all hold. Windows are from a period to a period; parts are places of
-/// a trail.
+/// Why a literal was added, or why the literals can't all hold. Windows are from a period to a period; parts are places
+/// of a trail.
 #[derive(Clone, Copy, PartialEq, Eq, Debug)]
 pub enum Cause {
     /// It is tried.

@@ -25,7 +25,7 @@ pub struct Lemmas {
     bump: u64,
 }
 
-/// What a lemma counts for when it is needed: at first, at most, and by how much all counts fall then.
+/// What a need adds to a lemma's weight: at first, at most, and by how much all weights fall then.
 const FIRST_BUMP: u64 = 1_000_000;
 
 const LAST_BUMP: u64 = 1_000_000_000_000_000;
@@ -152,7 +152,7 @@ impl Lemmas {
         self.watched = self.watched.wrapping_sub(1);
     }
 
-    /// Watches no longer the half of the lemmas of three literals and more that were needed the least.
+    /// Stops watching half of the lemmas of three literals and more, those needed the least.
     pub fn reduce(&mut self, alloc: Global) -> Result<(), AllocError> {
         let mut idle = self.idle(alloc)?;
         idle.sort_unstable();

@@ -1,4 +1,4 @@
-//! What a search for schedules supposes and what follows: a trail of literals with their causes, and lemmas that are watched.
+//! What a search for schedules supposes and what follows: a trail of literals with their causes, and watched lemmas.
 #![tactic(auto)]
 
 mod cause;

@@ -8,7 +8,7 @@ use lag_history::Literal;
 use std::alloc::{AllocError, Global};
 use tables::{Table, narrow};
 
-/// A literal's watch over a lemma: the weight of the literal, and the name of the next watch of the same entry or 0.
+/// A literal's watch over a lemma: the weight of the literal, and the name of the next watch of the same entry, or 0.
 #[derive(Clone, Copy)]
 struct Watch {
     lemma: u32,

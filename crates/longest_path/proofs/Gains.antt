@@ -1,20 +1,19 @@
 -- The columns in which the row of an arc's start gains.
-use Rattle.std.proofs.Common.{◌≡◌, refl, sym, ◌∙◌, ap, ℕ, ◌+◌, ◌-◌, ◌<◌, ◌≤◌, Bool, true, false, None, Some, inl, inr, arith, ℤ, pos, ◌*◌, ◌+ℤ◌, ◌≤ℤ◌, ◌<ℤ◌, List, length, take, drop, length-drop, neg_ℤ}
+use Rattle.std.proofs.Common.{◌≡◌, refl, sym, ◌∙◌, ap, ℕ, ◌+◌, ◌-◌, ◌<◌, ◌≤◌, Bool, true, false, None, Some, inl, inr, arith, ℤ, ◌+ℤ◌, ◌≤ℤ◌, ◌<ℤ◌, List, length, take, drop, length-drop, neg_ℤ}
 use Rattle.std.proofs.lemmas.Int.{ints}
-use Rattle.std.proofs.lemmas.Bool.{cases_eq, cases_lt}
+use Rattle.std.proofs.lemmas.Bool.{cases_eq}
 use Rattle.std.proofs.lemmas.List.{get_or-take, get_or-drop, length-take-le}
-use Rattle.std.specs.Prelude.{int_lt, if◌then◌else◌, FitsSigned, ◌-ℤ◌}
-use Rattle.std.specs.Int.{w32, w64}
+use Rattle.std.specs.Prelude.{int_lt, if◌then◌else◌}
 use Rattle.std.specs.Bool.{MatchBool}
 use Rattle.network.specs.declared.lag.Lag.{Lag}
-use Rattle.network.specs.declared.limits.TheConstants.{MAX_ACTIVITIES, MAX_LAG_WEIGHT}
+use Rattle.network.specs.declared.limits.TheConstants.{MAX_LAG_WEIGHT}
 use Rattle.network.specs.Walk.{Rows}
-use Rattle.longest_path.specs.Relax.{joined, greater}
+use Rattle.longest_path.specs.Relax.{joined}
 use Rattle.longest_path.specs.Grid.{IsRow, GainsNothingAt, HasSmallSums, nothing, weight_of, weight_at, placed_at}
 use Rattle.longest_path.specs.Insert.{IsReady, StartGainsNothing}
 use Rattle.longest_path.proofs.Cells.{column_cases, placed_inside, placed_outside, weight_at_far}
 use Rattle.longest_path.proofs.Over.{HoldsGains, small_over}
-use Rattle.longest_path.proofs.Reach.{int_lt-true, int_lt-false, joined-parts, same_some, greater-more}
+use Rattle.longest_path.proofs.Reach.{int_lt-true, int_lt-false, joined-parts, same_some}
 
 -- what a cell says, by the test
 said_by : (z w : ℤ) (t : Bool) → int_lt nothing z ≡ t → (if t then Some z else None) ≡ Some w → (z ≡ w) × (nothing <ℤ z)
@@ -62,28 +61,6 @@ one_less end first via row some after here k le = elim (cases_eq k (end - 1)) [ 
 
 pub none_after : (first : ℤ) (via row : List ℤ) → length row ≡ length via → (k : ℕ) → length row ≤ k → GainsNothingAt first via row k
 none_after first via row wide k far = λ y e. let bad : None ≡ Some y = sym (weight_at_far via k (omega arith)) ∙ e in cc
-
-pub none_anywhere : (b : ℕ) (first : ℤ) (via row : List ℤ) → length row ≡ length via → length row ≤ b → ((k : ℕ) → k < b → GainsNothingAt first via row k) → (k : ℕ) → GainsNothingAt first via row k
-none_anywhere b first via row wide end h k = elim (cases_lt k b) [ inl lt ↦ h k lt | inr ge ↦ none_after first via row wide k (omega arith) ]
-
--- a cell that the better of it and the way's is
-pub no_better : (first : ℤ) (via row : List ℤ) (b : ℕ) (x z : ℤ) → weight_of x ≡ weight_at row b → weight_of z ≡ joined (Some first) (weight_at via b) → weight_of x ≡ greater (weight_of x) (weight_of z) → GainsNothingAt first via row b
-no_better first via row b x z here is same = λ y e.
-    let way : weight_of z ≡ Some (first +ℤ y) = is ∙ ap (joined (Some first)) e in
-    let more = greater-more (first +ℤ y) (weight_of x) (weight_of z) (first +ℤ y, way, omega (arith, ints)) in
-    rw (← here) (rw (← same) at more)
-
-pub gain_fits : (x y : ℤ) → FitsSigned w32 x → FitsSigned w32 y → FitsSigned w64 (x -ℤ y)
-gain_fits x y p q = omega (arith, ints, p.sfits, q.sfits)
-
-pub no_gain : (x y : ℤ) → x -ℤ y ≡ pos 0 → y ≡ x
-no_gain x y e = omega (arith, ints)
-
-pub total_fits : (b : ℕ) (x y : ℤ) → pos 0 ≤ℤ x → x ≤ℤ pos (b * 4294967295) → pos 0 ≤ℤ y → y ≤ℤ pos 4294967295 → b < MAX_ACTIVITIES → FitsSigned w64 (x +ℤ y)
-total_fits b x y p q r s few = omega (arith, ints)
-
-pub both_none : (x y : ℤ) → pos 0 ≤ℤ x → pos 0 ≤ℤ y → x +ℤ y ≡ pos 0 → (x ≡ pos 0) × (y ≡ pos 0)
-both_none x y p q e = (omega (arith, ints), omega (arith, ints))
 
 pub small_arc : (e : Lag) (via : List ℤ) (rows : Rows) → IsReady e rows → IsRow e.to rows via → HasSmallSums e.weight via
 small_arc e via rows ready is =

@@ -11,10 +11,8 @@ pub mod Over
 pub mod Gains
 pub mod Inserted
 pub mod OneMatrix
-pub mod Redundant
 pub mod PutBack
 pub mod Saving
 pub mod Marking
 pub mod RowsOver
-pub mod Parts
 pub mod WithArc

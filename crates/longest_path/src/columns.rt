@@ -1,13 +1,12 @@
-//! The columns in which rows gain by the way over one arc: none but those in which the row of the arc's
-//! start gains.
+//! The columns in which rows gain by the way over one arc. They are among those in which the row of the arc's start
+//! gains.
 
-ghost use Rattle.std.specs.Prelude.{◌≡◌, ◌<◌, ◌≤◌, ◌≤ℤ◌, ℕ, pos, length};
+ghost use Rattle.std.specs.Prelude.{◌≡◌, ◌<◌, ◌≤◌, ℕ, length};
 ghost use Rattle.std.specs.Bool.{MatchBool};
 ghost use Rattle.longest_path.specs.Grid.{IsRow, GainsNothingAt, HasSmallSums};
 ghost use Rattle.longest_path.specs.Insert.{IsReady, StartGainsNothing};
-ghost use Rattle.network.specs.declared.limits.TheConstants.{MAX_ACTIVITIES};
 
-use crate::grid::{Grid, better, sum};
+use crate::grid::{Grid, sum};
 use network::Lag;
 
 /// Whether column `b` of a row gains by the way that begins with a walk of weight `first` and goes on
@@ -19,35 +18,6 @@ fn gains(row: &[i32], first: i32, via: &[i32], b: usize) -> bool
     ensures { MatchBool result (GainsNothingAt first via.now row.now b → ⊥) (GainsNothingAt first via.now row.now b) }
 {
     row[b] < sum(first, via[b])
-}
-
-/// How much column `b` of a row gains. A column with nothing gains from the least cell on.
-fn gain(row: &[i32], first: i32, via: &[i32], b: usize) -> i64
-    requires column { b < length row.now }
-    requires wide { length row.now ≡ length via.now }
-    requires fits { HasSmallSums first via.now }
-    ensures low { pos 0 ≤ℤ result }
-    ensures high { result ≤ℤ pos 4294967295 }
-    ensures none { result ≡ pos 0 → GainsNothingAt first via.now row.now b }
-{
-    better(row[b], sum(first, via[b])) as i64 - row[b] as i64
-}
-
-/// How much a row gains in all its columns together.
-///
-/// A sum over all columns, with no way out before the end: in this form the loop is compiled to vector
-/// code.
-pub(crate) fn total_gain(row: &[i32], first: i32, via: &[i32]) -> i64
-    requires few { length row.now ≤ MAX_ACTIVITIES }
-    requires wide { length row.now ≡ length via.now }
-    requires fits { HasSmallSums first via.now }
-    ensures { result ≡ pos 0 → (b : ℕ) → GainsNothingAt first via.now row.now b }
-{
-    let mut total = 0;
-    for b in 0..row.len() {
-        total += gain(row, first, via, b);
-    }
-    total
 }
 
 /// The first column that gains, and the row's length where none does.

@@ -34,7 +34,7 @@ fn weight(cell: i32) -> Option<i64>
 }
 
 /// The greater of two cells.
-pub(crate) fn better(x: i32, y: i32) -> i32
+fn better(x: i32, y: i32) -> i32
     ensures value { weight_of result ≡ greater (weight_of x) (weight_of y) }
     ensures low { x ≤ℤ result }
 {
@@ -53,8 +53,8 @@ pub(crate) fn sum(first: i32, last: i32) -> i32
     }
 }
 
-/// Takes for each cell of a row the way that begins with a walk of weight `first` and goes on by
-/// `via`, where that is greater.
+/// Takes for each cell of a row the way that begins with a walk of weight `first` and goes on by `via`, if that is
+/// greater.
 ///
 /// Two slices of one length, an index, and a store for every cell: in this form the loop is compiled
 /// to vector code.

@@ -1,10 +1,10 @@
 //! Takes the walks over a new arc into a matrix.
 
-ghost use Rattle.std.specs.Prelude.{◌≡◌, ◌<◌, ℕ, ℤ, ◌+ℤ◌, length, Some, FitsSigned, IfSome};
+ghost use Rattle.std.specs.Prelude.{◌≡◌, ◌<◌, ℕ, ℤ, pos, ◌+ℤ◌, ◌≤ℤ◌, length, Some, FitsSigned, IfSome};
 ghost use Rattle.std.specs.Int.{w64};
 ghost use Rattle.std.specs.Bool.{MatchBool};
 ghost use Rattle.network.specs.Walk.{entry};
-ghost use Rattle.longest_path.specs.Relax.{joined, Reaches};
+ghost use Rattle.longest_path.specs.Relax.{joined, Reaches, IfSomeAbove};
 ghost use Rattle.longest_path.specs.Rows.{IsSquare};
 ghost use Rattle.longest_path.specs.Grid.{placed_at};
 ghost use Rattle.longest_path.specs.Passes.{IsRowOver};
@@ -37,8 +37,18 @@ pub(crate) fn is_reached(weight: i64, entry: Option<i64>) -> bool
     }
 }
 
-/// The weight of the way from `a` over an arc, unless the arc's end gains nothing by it: then no
-/// other entry of the row does.
+/// Whether the entry is there and above 0.
+pub(crate) fn is_positive(entry: Option<i64>) -> bool
+    ensures { MatchBool result (IfSomeAbove entry) ((w : ℤ) → entry ≡ Some w → w ≤ℤ pos 0) }
+{
+    match entry {
+        Some(weight) => weight > 0,
+        None => false,
+    }
+}
+
+/// The weight of the way from `a` over an arc. None if the arc's end gains nothing by it: then no other entry of the
+/// row does.
 pub(crate) fn first_over(grid: &Grid, a: usize, arc: Lag) -> Option<i64>
     requires row { a < length grid.now }
     requires from_vertex { arc.from < length grid.now }

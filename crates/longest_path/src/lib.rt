@@ -1,11 +1,10 @@
 //! Greatest weights of walks between the activities of a project.
 //!
-//! [`longest`] makes the [`Matrix`] of a project and pairs by the recurrence of Floyd (1962) and
-//! Warshall (1962), and [`Matrix::insert`] adds one arc to it. A [`MarkedMatrix`] goes back to what it was.
+//! [`longest`] makes the [`Matrix`] of a project and pairs by the recurrence of Floyd (1962) and Warshall (1962).
+//! [`Matrix::insert`] adds one arc to it. A [`MarkedMatrix`] goes back to what it was.
 #![tactic(auto)]
 
 mod columns;
-mod effect;
 mod fault;
 mod grid;
 mod insert;

@@ -17,8 +17,7 @@ use std::marker::Model;
 /// A matrix that goes back to marks. Its value is its rows now and the rows at each mark, the last
 /// mark first.
 ///
-/// What it keeps for the way back are the parts of rows that may have gained since the first mark, and
-/// no copy of the matrix.
+/// For the way back it keeps the parts of rows that may have gained since the first mark, and no copy of the matrix.
 #[derive(Drop, Debug)]
 pub struct MarkedMatrix {
     matrix: Matrix,
@@ -90,9 +89,9 @@ impl MarkedMatrix {
     /// Adds the arc of weight `w` from activity `i` to activity `j`, as [`Matrix::insert`] does. The
     /// marks stay.
     ///
-    /// [`PathFault::PositiveCycle`] comes where the arc closes a walk of positive weight, and names
-    /// `i`. [`PathFault::Memory`] comes where there was none for what may gain, and only where there is a
-    /// mark: else nothing is saved. A fault leaves the matrix as it was.
+    /// [`PathFault::PositiveCycle`] comes where the arc closes a walk of positive weight, and names `i`.
+    /// [`PathFault::Memory`] comes only if there is a mark, and no memory for what may gain: without a mark nothing is
+    /// saved. A fault leaves the matrix as it was.
     pub fn insert(&mut self, i: usize, j: usize, w: i64) -> Result<(), PathFault>
         requires from_activity { i < length self.old.rows }
         requires to_activity { j < length self.old.rows }

@@ -2,15 +2,16 @@
 
 ghost use Rattle.std.specs.Prelude.{◌≡◌, ◌<◌, ◌≤◌, pos, length, Some, IfSome, IfOk, IfErr, OnOk, OnErr};
 ghost use Rattle.network.specs.Walk.{entry, Rows};
+ghost use Rattle.std.specs.Bool.{MatchBool};
 ghost use Rattle.longest_path.specs.Insert.{arc_of, AddsArc, ClosesCycle};
+ghost use Rattle.longest_path.specs.Effect.{TakesArc};
 ghost use Rattle.network.specs.declared.limits.TheConstants.{MAX_ACTIVITIES, MAX_LAG_WEIGHT, MAX_WALK_WEIGHT};
 ghost use Rattle.network.specs.Limits.{IsWithin};
 ghost use Rattle.longest_path.specs.Matrix.{IsMatrix};
 
-use crate::effect::Effect;
 use crate::fault::PathFault;
 use crate::grid::Grid;
-use crate::insert::go_over;
+use crate::insert::{go_over, is_positive, sum};
 use network::Lag;
 use std::alloc::{AllocError, Global};
 use std::marker::Model;
@@ -66,9 +67,18 @@ impl Matrix {
         Ok(Matrix { grid, via })
     }
 
-    /// Adds the arc of weight `w` from activity `i` to activity `j`: an entry is then the greater of
-    /// what it was and the way over the arc. It returns at once where the entry of `i` and `j` is at
-    /// least `w` already, since nothing changes then.
+    /// Whether one arc more closes a walk of positive weight, by the way back.
+    pub(crate) fn closes_cycle(&self, arc: Lag) -> bool
+        requires from_activity { arc.from < length self.now }
+        requires to_activity { arc.to < length self.now }
+        requires light { IsWithin MAX_LAG_WEIGHT arc.weight }
+        ensures { MatchBool result (ClosesCycle arc self.now) (TakesArc arc self.now) }
+    {
+        is_positive(sum(self.grid.get(arc.to, arc.from), Some(arc.weight)))
+    }
+
+    /// Adds the arc of weight `w` from activity `i` to activity `j`. An entry is then the greater of what it was and
+    /// the way over the arc.
     ///
     /// [`PathFault::PositiveCycle`] comes where the arc closes a walk of positive weight, and names
     /// `i`. It is the only fault, and leaves the matrix as it was.
@@ -87,13 +97,10 @@ impl Matrix {
             to: j,
             weight: w,
         };
-        match self.effect_of(arc) {
-            Effect::ClosesCycle => Err(PathFault::PositiveCycle { at: i }),
-            Effect::Nothing => Ok(()),
-            Effect::Gains => {
-                go_over(&mut self.grid, self.via.as_mut_slice(), arc);
-                Ok(())
-            }
+        if self.closes_cycle(arc) {
+            return Err(PathFault::PositiveCycle { at: i });
         }
+        go_over(&mut self.grid, self.via.as_mut_slice(), arc);
+        Ok(())
     }
 }

@@ -1,10 +1,8 @@
 //! Computes the matrix of a project and pairs, as Floyd and Warshall do.
 
-ghost use Rattle.std.specs.Prelude.{◌≡◌, ◌<◌, ◌≤◌, ℤ, pos, ◌≤ℤ◌, length, Some, IfSome, IfOk, IfErr};
-ghost use Rattle.std.specs.Bool.{MatchBool};
+ghost use Rattle.std.specs.Prelude.{◌≡◌, ◌<◌, ◌≤◌, length, Some, IfSome, IfOk, IfErr};
 ghost use Rattle.network.specs.Problem.{activity_count, arcs_of, NameActivities};
 ghost use Rattle.network.specs.Walk.{IsMatrixOf, HaveOneMatrix, AreInside, AreLight};
-ghost use Rattle.longest_path.specs.Relax.{IfSomeAbove};
 ghost use Rattle.longest_path.specs.Rows.{IsSquare};
 ghost use Rattle.longest_path.specs.Grid.{IsRow, HasSmallSums};
 ghost use Rattle.longest_path.specs.Passes.{IsSpanned, IsRowOver, IsThrough};
@@ -16,19 +14,10 @@ ghost use Rattle.longest_path.specs.declared.grid.TheConstants.{MAX_FIRST_WEIGHT
 
 use crate::fault::PathFault;
 use crate::grid::Grid;
+use crate::insert::is_positive;
 use crate::matrix::Matrix;
 use network::{Lag, Pair, Project};
 use std::alloc::{AllocError, Global};
-
-/// Whether the entry is there and above 0.
-pub(crate) fn is_positive(entry: Option<i64>) -> bool
-    ensures { MatchBool result (IfSomeAbove entry) ((w : ℤ) → entry ≡ Some w → w ≤ℤ pos 0) }
-{
-    match entry {
-        Some(weight) => weight > 0,
-        None => false,
-    }
-}
 
 /// The greatest weights of the walks of at most one arc.
 fn spanned(alloc: Global, n: usize, arcs: &[Lag]) -> Result<Grid, AllocError>
@@ -105,8 +94,8 @@ fn greatest_weights(
 /// The greatest weights of walks over the rules of a project and an arc for each pair, by the
 /// recurrence of Floyd (1962) and Warshall (1962).
 ///
-/// [`PathFault::PositiveCycle`] comes where a closed walk has positive weight, and names the least
-/// activity such that one visits only the activities up to it.
+/// [`PathFault::PositiveCycle`] comes if a closed walk has positive weight. It names the least activity such that one
+/// visits only the activities up to it.
 pub fn longest(alloc: Global, project: &Project, pairs: &[Pair]) -> Result<Matrix, PathFault>
     requires { NameActivities project.now pairs.now }
     ensures matrix { IfOk result (λ m. IsMatrixOf (activity_count project.now) (arcs_of project.now pairs.now) m) }

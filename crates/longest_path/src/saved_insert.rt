@@ -1,19 +1,18 @@
 //! The steps of an insert that saves the cells that may gain.
 
-ghost use Rattle.std.specs.Prelude.{◌≡◌, ◌<◌, ◌≤◌, ℕ, ℤ, ◌+ℤ◌, length, take, drop, IfErr, OnOk, OnErr};
+ghost use Rattle.std.specs.Prelude.{◌≡◌, ◌<◌, ◌≤◌, ℕ, length, take, drop, IfErr, OnOk, OnErr};
 ghost use Rattle.network.specs.Walk.{entry};
 ghost use Rattle.longest_path.specs.Rows.{IsSquare};
-ghost use Rattle.longest_path.specs.Grid.{placed_at, IsRelaxed};
+ghost use Rattle.longest_path.specs.Grid.{placed_at};
 ghost use Rattle.longest_path.specs.Passes.{IsRowOver};
 ghost use Rattle.longest_path.specs.Matrix.{IsMatrix};
-ghost use Rattle.longest_path.specs.Insert.{arc_of, AddsArc, weight_over, IsOver, IsReadyPart, IsReadyRow};
+ghost use Rattle.longest_path.specs.Insert.{arc_of, AddsArc, weight_over, IsOver, IsReadyRow};
 ghost use Rattle.longest_path.specs.Fault.{IsInsertFault};
 ghost use Rattle.longest_path.specs.Saved.{LeadsBack, MayGoOver, undone};
 ghost use Rattle.network.specs.declared.limits.TheConstants.{MAX_LAG_WEIGHT};
 ghost use Rattle.network.specs.Limits.{IsWithin};
 
-use crate::columns::{gaining_columns, total_gain};
-use crate::effect::Effect;
+use crate::columns::gaining_columns;
 use crate::fault::PathFault;
 use crate::grid::Grid;
 use crate::insert::first_over;
@@ -22,83 +21,7 @@ use crate::saves::Saves;
 use network::Lag;
 use std::alloc::AllocError;
 
-/// How many columns of a row are looked at and saved at a time.
-const PART: usize = 128;
-
-/// Row `a` takes the way that begins with a walk of weight `first` and goes on by `via`, from column
-/// `from` on, and these columns are saved before.
-#[inline(always)]
-fn relax_row_saved(
-    grid: &mut Grid,
-    a: usize,
-    from: usize,
-    first: i64,
-    via: &[i32],
-    saves: &mut Saves,
-) -> Result<(), AllocError>
-    requires part { IsReadyPart a from first via.now grid.old }
-    requires width { saves.old.width ≡ length grid.old }
-    ensures square { IsSquare (length grid.old) grid.new }
-    ensures width { saves.new.width ≡ saves.old.width }
-    ensures relaxed { OnOk result (IsRelaxed a first (placed_at from via.now) grid.old grid.new) }
-    ensures back { LeadsBack saves.old.saves saves.new.saves grid.old grid.new }
-{
-    saves.push(a, from, &grid.row(a)[from..from + via.len()])?;
-    grid.relax_row(a, from, first, via);
-    Ok(())
-}
-
-/// As `relax_row_saved`, but saves nothing where none of these columns gains.
-fn relax_part_saved(
-    grid: &mut Grid,
-    a: usize,
-    from: usize,
-    first: i64,
-    via: &[i32],
-    saves: &mut Saves,
-) -> Result<(), AllocError>
-    requires part { IsReadyPart a from first via.now grid.old }
-    requires width { saves.old.width ≡ length grid.old }
-    ensures square { IsSquare (length grid.old) grid.new }
-    ensures width { saves.new.width ≡ saves.old.width }
-    ensures relaxed { OnOk result (IsRelaxed a first (placed_at from via.now) grid.old grid.new) }
-    ensures back { LeadsBack saves.old.saves saves.new.saves grid.old grid.new }
-{
-    prove!(a < grid.size());
-    if total_gain(&grid.row(a)[from..from + via.len()], first as i32, via) == 0 {
-        return Ok(());
-    }
-    relax_row_saved(grid, a, from, first, via, saves)
-}
-
-/// As `relax_row_saved`, part by part, so that parts that gain nothing aren't saved.
-#[inline(never)]
-fn relax_parts_saved(
-    grid: &mut Grid,
-    a: usize,
-    from: usize,
-    first: i64,
-    via: &[i32],
-    saves: &mut Saves,
-) -> Result<(), AllocError>
-    requires part { IsReadyPart a from first via.now grid.old }
-    requires width { saves.old.width ≡ length grid.old }
-    ensures square { IsSquare (length grid.old) grid.new }
-    ensures width { saves.new.width ≡ saves.old.width }
-    ensures relaxed { OnOk result (IsRelaxed a first (placed_at from via.now) grid.old grid.new) }
-    ensures back { LeadsBack saves.old.saves saves.new.saves grid.old grid.new }
-{
-    prove!(a < grid.size());
-    let mut done = 0;
-    while done < via.len() {
-        let end = (done + PART).min(via.len());
-        relax_part_saved(grid, a, from + done, first, &via[done..end], saves)?;
-        done = end;
-    }
-    Ok(())
-}
-
-/// As `go_over_row` of an insert, and saves the parts of the row that gain.
+/// As `go_over_row` of an insert, and saves the columns from `from` on before.
 fn go_over_row_saved(
     grid: &mut Grid,
     a: usize,
@@ -117,11 +40,9 @@ fn go_over_row_saved(
     let Some(first) = first_over(grid, a, arc) else {
         return Ok(());
     };
-    if via.len() <= PART {
-        relax_row_saved(grid, a, from, first, via, saves)
-    } else {
-        relax_parts_saved(grid, a, from, first, via, saves)
-    }
+    saves.push(a, from, &grid.row(a)[from..from + via.len()])?;
+    grid.relax_row(a, from, first, via);
+    Ok(())
 }
 
 /// As `go_over` of an insert, and saves what may gain of each row that gains. Where there is no memory
@@ -174,8 +95,8 @@ fn go_over_or_stay(
 impl Matrix {
     /// As [`Matrix::insert`], and saves what may gain of each row that gains.
     ///
-    /// A fault leaves the matrix and what is saved as they were: a positive cycle as there, or no
-    /// memory for what is saved.
+    /// A fault leaves the matrix and the saves as they were. It is a positive cycle as there, or want of memory for the
+    /// saves.
     pub(crate) fn insert_saved(
         &mut self,
         i: usize,
@@ -201,11 +122,10 @@ impl Matrix {
             to: j,
             weight: w,
         };
-        match self.effect_of(arc) {
-            Effect::ClosesCycle => return Err(PathFault::PositiveCycle { at: i }),
-            Effect::Nothing => {}
-            Effect::Gains => go_over_or_stay(&mut self.grid, self.via.as_mut_slice(), arc, saves)?,
+        if self.closes_cycle(arc) {
+            return Err(PathFault::PositiveCycle { at: i });
         }
+        go_over_or_stay(&mut self.grid, self.via.as_mut_slice(), arc, saves)?;
         Ok(())
     }
 

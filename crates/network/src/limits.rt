@@ -15,7 +15,7 @@ pub const MAX_AMOUNT: i64 = 1_000_000;
 /// The greatest weight of an arc in periods; the least is its negative.
 pub const MAX_LAG_WEIGHT: i64 = 1_000_000;
 
-/// The greatest start that can be handed in, in periods; the least is its negative.
+/// The greatest start of a text, in periods; the least is its negative.
 pub const MAX_START: i64 = 9_999_999_999;
 
 /// What no greatest weight of a walk is beyond, in periods: a walk that visits no activity twice has

@@ -15,9 +15,8 @@ use crate::parts::{Parts, ProjectFault};
 use std::alloc::{AllocError, Global};
 use std::marker::Model;
 
-/// A project within the limits: at most 1,000 activities besides the start and the end, 32
-/// resources and 100,000 given arcs; durations, demands and capacities from 0 to 1,000,000, lags
-/// from -1,000,000 to 1,000,000.
+/// A project within the limits. It has at most 1,000 activities besides the start and the end, 32 resources and 100,000
+/// given arcs. Durations, demands and capacities are 0 to 1,000,000, lags -1,000,000 to 1,000,000.
 #[derive(Drop, Debug)]
 pub struct Project {
     parts: Parts,
@@ -40,8 +39,8 @@ impl Project {
     ghost use Rattle.network.specs.Parts.{problem_of};
     ghost use Rattle.network.specs.Faults.{first_fault};
 
-    /// The project of the parts, or their first fault. The order of tests: the shape of the lists,
-    /// how many there are of each, the start, the end, the amounts, and the given arcs in order.
+    /// The project of the parts, or their first fault. The tests are in this order: the shape of the lists, their
+    /// lengths, the start, the end, the amounts, the given arcs in order.
     pub fn new(parts: Parts) -> Result<Self, ProjectFault>
         ensures project { IfOk result (λ p. p ≡ problem_of parts) }
         ensures limits { IfOk result (λ p. IsProject p) }
@@ -147,8 +146,7 @@ impl Project {
         }
     }
 
-    /// The rules, which are the given arcs and then the arcs from the start and to the end, and
-    /// after them an arc for each pair.
+    /// The rules: the given arcs, the arcs from the start and to the end, and then an arc for each pair.
     pub fn arcs(&self, alloc: Global, pairs: &[Pair]) -> Result<Vec<Lag>, AllocError>
         requires { NameActivities self.now pairs.now }
         ensures value { IfOk result (λ v. v.items ≡ arcs_of self.now pairs.now) }

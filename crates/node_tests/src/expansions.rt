@@ -1,7 +1,7 @@
 //! Expansions, searches and matrices of nodes, played from lines.
 
 use bounds::bound;
-use branching::{Fate, Lean, Report, Searcher, expand, ordered_pairs, rebuild, root};
+use branching::{Branches, Fate, Lean, Report, Searcher, expand, ordered_pairs, rebuild, root};
 use earliest::least_starts;
 use longest_path::{MarkedMatrix, Matrix, PathFault, longest};
 use network::{Pair, Project, SharedProject};
@@ -60,8 +60,8 @@ fn node_text(alloc: Global, lean: &Arc<Lean>) -> Result<String, AllocError> {
     format!(in alloc; "{pairs} bound {bound} starts {starts:?}")
 }
 
-/// The bound of the node that was expanded, how many kids it has, the starts that were found, the set that
-/// was split, and what became of each pair of that.
+/// The bound of the expanded node, how many kids it has, the starts found, the split set, and what became of each pair
+/// of that set.
 fn report_text(alloc: Global, report: &Report) -> Result<String, AllocError> {
     let (bound, mut kids) = (report.node().bound(), report.kids().iter());
     let mut text = format!(in alloc; "bound {bound}, kids {}", report.kids().len())?;
@@ -257,8 +257,8 @@ fn longest_of(alloc: Global, node: &Lean) -> Result<Matrix, Fail> {
     Ok(longest(alloc, node.project(), pairs.as_slice())?)
 }
 
-/// The kids of a node. The matrix that is rebuilt and that of a searcher have to be the one that the
-/// recurrence makes, and the node's bound that of the matrix.
+/// The kids of a node. The rebuilt matrix and that of a searcher have to be the one of the recurrence. The node's bound
+/// has to be that of the matrix.
 fn kids_of(
     rt: &impl Abort,
     alloc: Global,
@@ -304,6 +304,24 @@ fn matrices_are_those_of_the_recurrence(rt: HostRuntime) -> Result<(), Fail> {
     ] {
         assert_eq!(rt; tree_size(&rt, rt.alloc(), name)?, wanted, "{name}");
     }
+    Ok(())
+}
+
+/// For how many kids and fates the lists of a report have room, where lists for so many were handed back before.
+fn room_after(alloc: Global, count: usize) -> Result<[usize; 2], Fail> {
+    let root = root(alloc, project_of(alloc, "one machine")?)?;
+    let mut searcher = Searcher::for_node(alloc, root.lean())?;
+    searcher.reuse(Branches {
+        kids: Vec::with_capacity(alloc, count)?,
+        fates: Vec::with_capacity(alloc, count)?,
+    });
+    let (_, made) = searcher.expand(alloc, root.lean(), None)?.into_parts();
+    Ok([made.kids.capacity(), made.fates.capacity()])
+}
+
+#[test]
+fn lists_are_used_again(rt: HostRuntime) -> Result<(), Fail> {
+    assert_eq!(rt; room_after(rt.alloc(), 100)?, [100, 100]);
     Ok(())
 }
 

@@ -1,6 +1,7 @@
 //! Tests of what a node is made of: matrices, least starts, overloads, sets, bounds and expansions.
 //!
-//! They stand apart from the crates that they test, through what these have public: a crate with tests is proved twice.
+//! They stand apart from the crates that they test, and use what these have public, since a crate with tests is proved
+//! twice.
 #![tactic(auto)]
 
 #[cfg(test)]

@@ -117,9 +117,9 @@ fn values(
     Ok(Some([critical(&matrix), energy, bound]))
 }
 
-/// That the bound with the second pair more is found by the matrix with the first pairs, where there are
-/// both matrices, and under a ceiling above it; and else a number between both. The ceiling is given by
-/// how far it is above the bound.
+/// Asserts that the matrix with the first pairs gives the bound with the second pair more. This holds if both matrices
+/// are there and the ceiling is above the bound. Otherwise it gives a number between both. `above` says how far the
+/// ceiling is above the bound.
 fn assert_same_with(
     rt: &impl Abort,
     alloc: Global,
@@ -210,8 +210,7 @@ fn bounds_of_projects(rt: HostRuntime) -> Result<(), Fail> {
     Ok(())
 }
 
-/// By all two pairs with one workspace, and by no pair and up to three without: a pair that comes twice
-/// adds nothing.
+/// Tries any two pairs with one workspace, and up to three pairs without one. A pair that comes twice adds nothing.
 #[test]
 fn all_small_lists_of_pairs(rt: HostRuntime) -> Result<(), Fail> {
     let alloc = rt.alloc();

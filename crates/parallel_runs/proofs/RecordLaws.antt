@@ -3,17 +3,19 @@ use Rattle.std.proofs.Common.{◌≡◌, ℕ, Bool, true, false, List, Option, N
 use Rattle.std.specs.Prelude.{IfSome, IsSome, ◌↔◌, Result, Ok, Err, IfOk, IfErr}
 use Rattle.network.specs.Problem.{Problem}
 use Rattle.network.specs.Limits.{IsProject}
-use Rattle.plain_search.specs.Verdicts.{IsTrueOf}
+use Rattle.network.specs.Schedule.{ScheduleOf, makespan}
+use Rattle.plain_search.specs.Verdicts.{IsNoLongerThan, IsTrueOf}
 use Rattle.plain_search.specs.declared.outcome.Outcome.{Outcome}
 use Rattle.plain_search.specs.declared.outcome.Outcome.TheVariants.{Optimal, NoSchedule, Stopped}
 use Rattle.sch_reader.specs.Text.{Spells}
-use Rattle.answers.proofs.OutcomeLaws.{said_is_true}
+use Rattle.answers.proofs.OutcomeLaws.{found_is_true}
+use Rattle.answers.specs.Answers.{IsFoundText}
 use Rattle.answers.specs.Outcomes.{SaysOutcome, IsRightRecord, claim_text}
 use Rattle.runs.specs.declared.job.Job.{Job}
 use Rattle.runs.specs.Jobs.{answers_json, writes_record}
 use Rattle.runs.specs.Outcome.{SpellsOne}
 use Rattle.runs.specs.Runs.{ReplyOf}
-use Rattle.parallel_runs.specs.Searches.{IsOutcomeRecord, IsSearchReply}
+use Rattle.parallel_runs.specs.Searches.{IsOutcomeRecord, IsSearchReply, starts_from}
 
 -- a record of what is claimed is one of what the answer says
 abbrev Kept : Problem → Bool → ℕ → List ℕ → Option (List ℕ) → Type 0
@@ -46,14 +48,32 @@ kept_of p (Stopped (Some best) bound) json exit text None said is = (((λ (e : f
 kept_of p (Stopped None bound) json exit text None said is = (((λ (e : false ≡ true). cc), (λ zero. let three = said.0 in cc)), tt)
 kept_of p (Stopped best bound) json exit text (Some r) said is = cc
 
+-- what is said of an outcome that is no longer than the start
+pub said_from : (p : Problem) (start : Option ScheduleOf) (outcome : Outcome) (json : Bool) (exit : ℕ) (text : List ℕ) →
+    SaysOutcome outcome json exit text → IsTrueOf p outcome → IfSome start (λ s. IsNoLongerThan (makespan s.starts) outcome) →
+    IsFoundText p (starts_from start) json exit text
+said_from p None outcome json exit text says is within = found_is_true p None outcome json exit text is tt says
+said_from p (Some start) outcome json exit text says is within = found_is_true p (Some start.starts) outcome json exit text is within says
+
+-- a reply without a record
+pub replies_alone : (job : Job) (p : Problem) (start : Option ScheduleOf) (outcome : Outcome) (reply : ReplyOf) (exit : ℕ) (text : List ℕ) →
+    SaysOutcome outcome (answers_json job) exit text → IsTrueOf p outcome → IfSome start (λ s. IsNoLongerThan (makespan s.starts) outcome) →
+    writes_record job ≡ false → reply.exit ≡ exit → reply.text ≡ text → reply.recorded ≡ None → IsSearchReply job p start reply
+replies_alone job p start outcome reply exit text says is within off exit_is text_is kept_is = record {
+  said = rw (exit_is, text_is) (said_from p start outcome (answers_json job) exit text says is within);
+  records = rw kept_is ((λ (some : false ≡ true). cc), (λ asked. let on = asked.0 in cc));
+  recorded = rw kept_is tt;
+}
+
 -- and with one
-pub replies_recorded : (job : Job) (p : Problem) (outcome : Outcome) (reply : ReplyOf) (exit : ℕ) (text : List ℕ) (kept : Option (List ℕ)) →
-    SaysOutcome outcome (answers_json job) exit text → IsTrueOf p outcome → writes_record job ≡ true → IsOutcomeRecord p outcome kept →
-    reply.exit ≡ exit → reply.text ≡ text → reply.recorded ≡ kept → IsSearchReply job p reply
-replies_recorded job p outcome reply exit text kept says is on shows exit_is text_is kept_is =
+pub replies_recorded : (job : Job) (p : Problem) (start : Option ScheduleOf) (outcome : Outcome) (reply : ReplyOf) (exit : ℕ) (text : List ℕ) (kept : Option (List ℕ)) →
+    SaysOutcome outcome (answers_json job) exit text → IsTrueOf p outcome → IfSome start (λ s. IsNoLongerThan (makespan s.starts) outcome) →
+    writes_record job ≡ true → IsOutcomeRecord p outcome kept →
+    reply.exit ≡ exit → reply.text ≡ text → reply.recorded ≡ kept → IsSearchReply job p start reply
+replies_recorded job p start outcome reply exit text kept says is within on shows exit_is text_is kept_is =
     let found = kept_of p outcome (answers_json job) exit text kept says shows in
     record {
-      said = rw (exit_is, text_is) (said_is_true p outcome false (answers_json job) exit text is (λ (e : false ≡ true). cc) says);
+      said = rw (exit_is, text_is) (said_from p start outcome (answers_json job) exit text says is within);
       records = rw (exit_is, kept_is) ((λ some. (on, found.0.0 some)), (λ asked. found.0.1 asked.1));
       recorded = rw (text_is, kept_is) found.1;
     }

@@ -1,6 +1,7 @@
 -- What a search by workers replies.
-use Rattle.std.specs.Prelude.{◌≡◌, ℕ, List, Option, Some, None, IfSome, IsSomeAnd, false}
+use Rattle.std.specs.Prelude.{◌≡◌, ℕ, ℤ, List, Option, Some, None, IfSome, IsSomeAnd, option_map, vec_len}
 use Rattle.network.specs.Problem.{Problem}
+use Rattle.network.specs.Schedule.{ScheduleOf}
 use Rattle.plain_search.specs.declared.outcome.Outcome.{Outcome}
 use Rattle.plain_search.specs.declared.outcome.Outcome.TheVariants.{Optimal, NoSchedule, Stopped}
 use Rattle.record_text.specs.declared.line.Claim.{Claim}
@@ -8,11 +9,18 @@ use Rattle.record_text.specs.SearchRecord.{SearchRecord}
 use Rattle.record_text.specs.Text.{record_text}
 use Rattle.search_record.specs.Claims.{claim_of}
 use Rattle.search_record.specs.Right.{IsRight}
-use Rattle.answers.specs.Answers.{IsSolveText}
+use Rattle.answers.specs.declared.fault.Fault.{Fault}
+use Rattle.answers.specs.declared.fault.Fault.TheVariants as faults
+use Rattle.answers.specs.Answers.{IsFoundText}
 use Rattle.answers.specs.Outcomes.{IsRightRecord}
 use Rattle.runs.specs.declared.job.Job.{Job}
-use Rattle.runs.specs.Jobs.{answers_json}
+use Rattle.runs.specs.declared.job.Job.TheVariants as jobs
+use Rattle.runs.specs.Jobs.{answers_json, worker_count}
 use Rattle.runs.specs.Runs.{ReplyOf, RecordsWhereAsked}
+use Rattle.worker.specs.Solving.{IsStopped}
+use Rattle.worker.specs.declared.fault.SolveFault.{SolveFault}
+use Rattle.worker.specs.declared.fault.SolveFault.TheVariants as solve_faults
+use Rattle.worker.specs.declared.solution.Solved.{Solved}
 
 -- the text is that of a record that is right for the project and claims this
 pub record IsTextOf (p : Problem) (claim : Claim) (recorded : List ℕ) : Type 0 where
@@ -27,8 +35,27 @@ IsOutcomeRecord p (Optimal best) kept = IsSomeAnd kept (IsTextOf p (claim_of (So
 IsOutcomeRecord p NoSchedule kept = IsSomeAnd kept (IsTextOf p (claim_of None))
 IsOutcomeRecord p (Stopped best bound) kept = kept ≡ None
 
+-- as many workers have searched as the job asks for, and a stopped search has taken as many nodes as the job allows
+abbrev pub IsAskedFor : Job → Solved → Type 0
+IsAskedFor (jobs.Solve workers takes start json recorded) solved =
+    (vec_len solved.per_worker ≡ worker_count workers) × (IsStopped solved.outcome → solved.counts.taken ≡ takes)
+-- no other job has workers
+IsAskedFor other solved = ⊥
+
+-- the fault of the program for that of a search that may have so many workers and takes
+abbrev pub IsSearchFaultOf : SolveFault → Fault → Type 0
+IsSearchFaultOf solve_faults.Limit fault = ⊥
+IsSearchFaultOf solve_faults.Memory fault = fault ≡ faults.Memory
+IsSearchFaultOf solve_faults.Thread fault = fault ≡ faults.Thread
+IsSearchFaultOf solve_faults.OtherProject fault = fault ≡ faults.OtherProject
+IsSearchFaultOf (solve_faults.Refused why) fault = fault ≡ faults.Refused
+
+-- the starts of a schedule that workers began with
+abbrev pub starts_from : Option ScheduleOf → Option (List ℤ)
+starts_from start = option_map (λ (s : ScheduleOf). s.starts) start
+
 -- the answer of workers about the project, and a right record exactly where the job asks for one and the answer is final
-pub record IsSearchReply (job : Job) (p : Problem) (reply : ReplyOf) : Type 0 where
-  pub said : IsSolveText p false (answers_json job) reply.exit reply.text
+pub record IsSearchReply (job : Job) (p : Problem) (start : Option ScheduleOf) (reply : ReplyOf) : Type 0 where
+  pub said : IsFoundText p (starts_from start) (answers_json job) reply.exit reply.text
   pub records : RecordsWhereAsked job reply
   pub recorded : IfSome reply.recorded (IsRightRecord p (answers_json job) reply.text)

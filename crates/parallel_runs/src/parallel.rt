@@ -50,9 +50,9 @@ fn searched_reply<I: Input, S: Input, G: Gate, R: Threads + Wait + Sync>(
     searched_from(rt, alloc, job, project, &starts, gate)
 }
 
-/// Runs a job: reads what it needs, and writes its answer, then the record of a search where that is asked
-/// for, and nothing else. A search by workers passes the gate. An input or output that the job doesn't use is
-/// handed an empty one. After a failure a device isn't called again.
+/// Runs a job. It reads what the job needs, and writes its answer and then the record of a search, if that is asked
+/// for, and nothing else. A search by workers passes the gate. An input or output that the job doesn't use is handed an
+/// empty one. After a failure a device isn't called again.
 pub fn run_parallel<I: Input, S: Input, O: Output, D: Output, G: Gate, R: Threads + Wait + Sync>(
     rt: &R,
     alloc: Global,

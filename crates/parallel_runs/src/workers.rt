@@ -1,4 +1,4 @@
-//! `solve` by workers: what it says of a project, and of starts that are handed in.
+//! `solve` by workers: what it says of a project, and of the starts of a file.
 
 ghost use Rattle.std.specs.Prelude.{◌≡◌, ◌≢◌, true, IfOk, IfErr, IfSome};
 ghost use Rattle.std.specs.Arc.{arc_value};
@@ -7,25 +7,26 @@ ghost use Rattle.worker.specs.Faults.{IsWithinLimits};
 ghost use Rattle.answers.specs.declared.fault.Fault.TheVariants as faults;
 ghost use Rattle.answers.specs.Answers.{IsStartedText};
 ghost use Rattle.answers.specs.Faults.{exit_of, IsNoDeviceFault, IsSearchFault};
-ghost use Rattle.answers.specs.Outcomes.{IsRightRecord};
+ghost use Rattle.answers.specs.Outcomes.{IsRightRecord, SaysOutcome};
 ghost use Rattle.runs.specs.Jobs.{answers_json, IsJob, has_workers};
 ghost use Rattle.runs.specs.Outcome.{GivesStarts, IsFirstStartsFault};
 ghost use Rattle.runs.specs.Runs.{RecordsWhereAsked};
-ghost use Rattle.parallel_runs.specs.Searches.{IsSearchReply};
+ghost use Rattle.parallel_runs.specs.Searches.{IsAskedFor, IsSearchFaultOf, IsSearchReply};
 
 use crate::recorded::outcome_record;
 use answers::{Answer, Fault, solved_answer, violations_text};
 use network::{Project, Schedule};
 use runs::{Job, ONE_WORKER, Reply};
 use schedule_check::{AcceptFault, accept, read_starts};
-use std::alloc::Global;
+use std::alloc::{AllocError, Global};
 use std::sync::{Arc, Wait};
 use std::thread::Threads;
-use worker::{Gate, SolveFault, search};
+use worker::{Gate, SolveFault, Solved, search};
 
 /// The fault of a search that may have so many workers and takes.
 fn search_fault(fault: SolveFault) -> Fault
     requires { IsWithinLimits fault }
+    ensures becomes { IsSearchFaultOf fault result }
     ensures status { exit_of result ≡ 1 }
     ensures cause { IsNoDeviceFault result }
 {
@@ -38,8 +39,19 @@ fn search_fault(fault: SolveFault) -> Fault
     }
 }
 
-/// What workers have found of a project, from a schedule of it that may be handed in, and the record of the search,
-/// where the job asks for one and the search wasn't stopped.
+/// The answer about what so many workers and takes as the job asks for have found.
+fn asked_answer(alloc: Global, job: Job, solved: &Solved) -> Result<Answer, AllocError>
+    requires { IsAskedFor job solved.now }
+    ensures { IfOk result (λ a. SaysOutcome solved.now.outcome (answers_json job) a.exit a.text.items) }
+{
+    let Job::Solve { json, .. } = job else {
+        unreachable!()
+    };
+    solved_answer(alloc, &solved.outcome, json)
+}
+
+/// What workers have found of a project, perhaps from a schedule of it. With it comes the record of the search, if the
+/// job asks for one and no limit stopped the search.
 pub(crate) fn searched<G: Gate, R: Threads + Wait + Sync>(
     rt: &R,
     alloc: Global,
@@ -50,14 +62,13 @@ pub(crate) fn searched<G: Gate, R: Threads + Wait + Sync>(
 ) -> Result<Reply, Fault>
     requires job { IsJob job }
     requires workers { has_workers job ≡ true }
-    ensures found { IfOk result (IsSearchReply job (arc_value project)) }
+    ensures found { IfOk result (IsSearchReply job (arc_value project) start) }
     ensures status { IfErr result (λ fault. exit_of fault ≡ 1) }
     ensures cause { IfErr result IsNoDeviceFault }
 {
     let Job::Solve {
         workers,
         takes,
-        json,
         recorded,
         ..
     } = job
@@ -69,7 +80,7 @@ pub(crate) fn searched<G: Gate, R: Threads + Wait + Sync>(
         Ok(found) => found,
         Err(fault) => return Err(search_fault(fault)),
     };
-    let answer = solved_answer(alloc, &solved.outcome, json)?;
+    let answer = asked_answer(alloc, job, &solved)?;
     let Some(trail) = trail else {
         return Ok(Reply::new(answer, None));
     };
@@ -77,8 +88,8 @@ pub(crate) fn searched<G: Gate, R: Threads + Wait + Sync>(
     Ok(Reply::new(answer, recorded))
 }
 
-/// What the starts in a text violate, where they are no feasible schedule of the project, and then nothing
-/// is searched; else what workers have found from them, and its record.
+/// If the starts in a text are not a feasible schedule of the project, what they violate, without a search. Otherwise
+/// what workers have found from them, and its record.
 pub(crate) fn searched_from<G: Gate, R: Threads + Wait + Sync>(
     rt: &R,
     alloc: Global,

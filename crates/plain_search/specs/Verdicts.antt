@@ -1,5 +1,5 @@
 -- When the outcome of a search is true of its project.
-use Rattle.std.specs.Prelude.{ℤ, ◌≤ℤ◌, ◌<ℤ◌, Option, IfSome, List}
+use Rattle.std.specs.Prelude.{ℤ, ◌≤ℤ◌, ◌<ℤ◌, Option, IfSome, IsSomeAnd, List}
 use Rattle.network.specs.Problem.{Problem}
 use Rattle.network.specs.Schedule.{ScheduleOf, IsFeasible, makespan}
 use Rattle.network.specs.Verdict.{IsShortest, HasNoSchedule}
@@ -23,6 +23,12 @@ abbrev pub IsTrueOf : Problem → Outcome → Type 0
 IsTrueOf p (Optimal best) = IsOptimal p best
 IsTrueOf p NoSchedule = HasNoSchedule p
 IsTrueOf p (Stopped best bound) = IsStoppedAt p best bound
+
+-- a schedule is told, and it takes at most so many periods
+abbrev pub IsNoLongerThan : ℤ → Outcome → Type 0
+IsNoLongerThan length (Optimal best) = makespan best.starts ≤ℤ length
+IsNoLongerThan length NoSchedule = ⊥
+IsNoLongerThan length (Stopped best bound) = IsSomeAnd best (λ s. makespan s.starts ≤ℤ length)
 
 -- where the search was stopped, its bound is below the best's makespan
 abbrev pub StopsBelowBest : Outcome → Type 0

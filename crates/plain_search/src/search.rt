@@ -126,8 +126,8 @@ impl Search {
         self.stack.is_empty()
     }
 
-    /// Takes the last node below the best and puts its kids in its place, so that the last of them is
-    /// taken first. Where no node is below the best, none is left.
+    /// Takes the last node below the best and puts its kids in its place. So the last kid comes next. Where no node is
+    /// below the best, none is left.
     fn take(self, alloc: Global, searcher: &mut Searcher) -> Result<Search, AllocError>
         requires { searcher.old.project ≡ self.project }
         ensures searcher { searcher.new.project ≡ searcher.old.project }
@@ -162,7 +162,7 @@ impl Search {
         })
     }
 
-    /// What is known at the end: where a node below the best is left, the least bound, else the verdict.
+    /// What is known at the end. If a node below the best is left, the least bound; else the verdict.
     fn into_outcome(self) -> Outcome
         ensures outcome { IsOutcomeOf self result }
         ensures true_of { IsTrueOf self.project result }
@@ -193,10 +193,10 @@ impl Search {
 
 /// Searches for a shortest schedule in one thread, depth first, with at most `takes` nodes expanded.
 ///
-/// The last node on a stack is taken; one whose bound is at least the best makespan is dropped and isn't
-/// counted; any other is expanded under the best makespan, and its kids are put on in order.
-/// [`Outcome::Stopped`] comes only where the takes are used up while a node with a bound below the best
-/// makespan is left; its bound is the least on the stack, and below the best makespan.
+/// It takes the last node on a stack. It drops a node whose bound is at least the best makespan, and doesn't count it.
+/// It expands any other under the best makespan, and puts the kids on in order. [`Outcome::Stopped`] comes only if the
+/// takes are used up while a node with a bound below the best makespan is left. Its bound is the least on the stack,
+/// and below the best makespan.
 pub fn search_alone(
     alloc: Global,
     project: &Arc<Project>,

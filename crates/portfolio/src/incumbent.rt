@@ -29,7 +29,7 @@ impl Incumbent {
         }
     }
 
-    /// Takes a schedule that may be handed in, if it is shorter.
+    /// Takes a schedule from elsewhere, if it is shorter.
     pub(crate) fn take(&mut self, alloc: Global, starts: Option<&[i64]>) -> Result<(), AllocError> {
         let Some(starts) = starts else {
             return Ok(());

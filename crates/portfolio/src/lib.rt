@@ -1,5 +1,5 @@
-//! Searches that take turns for short schedules of large projects: a search on the bounds of starts, a serial scheme,
-//! and neighbourhoods of the best schedule. What one finds is the ceiling of all.
+//! Searches that take turns for short schedules of large projects. They are a search on the bounds of starts, a serial
+//! scheme, and neighbourhoods of the best schedule. What one finds is the ceiling of all.
 //!
 //! Nothing here needs to be trusted: whoever takes a schedule has it checked.
 #![tactic(auto)]

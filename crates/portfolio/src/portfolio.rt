@@ -12,8 +12,11 @@ use std::alloc::{AllocError, Global};
 /// How many conflicts the search on bounds meets in a turn.
 const CONFLICTS: u64 = 512;
 
-/// How many neighbourhoods are searched in a turn.
-const ROUNDS: u64 = 32;
+/// How many neighbourhoods are searched in a turn: the most where the last turn's had a shorter schedule, and an eighth fewer
+/// after each turn in vain, down to the least.
+const MOST_ROUNDS: u64 = 32;
+
+const LEAST_ROUNDS: u64 = 8;
 
 /// How many passes the serial scheme makes in a turn.
 const PASSES: u64 = 4;
@@ -25,14 +28,16 @@ pub struct Portfolio {
     /// It is there from its first turn on.
     scheme: Option<Scheme>,
     neighbourhoods: Neighbourhoods,
+    /// How many of them are searched in the next turn.
+    rounds: u64,
     incumbent: Incumbent,
     seed: u64,
     is_over: bool,
 }
 
 impl Portfolio {
-    /// A portfolio that has done nothing yet. The search on bounds, its proofs, and the search of a neighbourhood may take so
-    /// many bytes each.
+    /// A portfolio that has done nothing yet. The search on bounds, its proofs, and the search of a neighbourhood may
+    /// take so many bytes each.
     pub fn new(
         alloc: Global,
         project: &Project,
@@ -44,6 +49,7 @@ impl Portfolio {
             search: Search::new(alloc, project, options)?,
             scheme: None,
             neighbourhoods: Neighbourhoods::new(alloc, project, seed, memory)?,
+            rounds: MOST_ROUNDS,
             incumbent: Incumbent::new(alloc),
             seed,
             is_over: false,
@@ -74,7 +80,15 @@ impl Portfolio {
     fn search_neighbourhoods(&mut self, alloc: Global) -> Result<State, AllocError> {
         self.incumbent
             .tell_neighbourhoods(&mut self.neighbourhoods)?;
-        let state = self.neighbourhoods.advance(alloc, ROUNDS);
+        let better = self.neighbourhoods.counts().better;
+        let state = self.neighbourhoods.advance(alloc, self.rounds);
+        self.rounds = if self.neighbourhoods.counts().better > better {
+            MOST_ROUNDS
+        } else {
+            self.rounds
+                .saturating_sub(self.rounds / 8)
+                .max(LEAST_ROUNDS)
+        };
         self.incumbent.take(alloc, self.neighbourhoods.best())?;
         Ok(state)
     }

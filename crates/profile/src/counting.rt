@@ -34,8 +34,8 @@ fn add_demands(project: &Project, totals: &mut [u64], activity: usize)
     }
 }
 
-/// Counts the activities of an order whose keys are at most `time`, from place `passed` on, and tells
-/// how many there are from the first on.
+/// Counts the activities of an order whose keys are at most `time`, from place `passed` on. Gives how many there are
+/// from the first place on.
 pub(crate) fn pass(
     project: &Project,
     order: &[usize],

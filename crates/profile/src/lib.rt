@@ -1,8 +1,8 @@
 //! How much of each resource is in use, and which resources are overloaded.
 //!
 //! The use of a resource at a unit of time is the joint demand of the activities that run then
-//! (Bartusch, Möhring and Radermacher 1988). It rises only where an activity starts, so the start
-//! times alone are looked at.
+//! (Bartusch, Möhring and Radermacher 1988). It rises only where an activity starts, so it
+//! looks at the start times alone.
 #![tactic(auto)]
 
 mod counting;

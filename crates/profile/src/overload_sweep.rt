@@ -14,9 +14,9 @@ use orders::first_order;
 use std::alloc::{AllocError, Global};
 use std::marker::Model;
 
-/// The workspace of a search for overloads, made once and used for one list of starts after another. It
-/// keeps two orders of the activities, by start and by end, from one list to the next: where a few
-/// activities have moved, they are soon in order again.
+/// The workspace of a search for overloads, made once and used for one list of starts after another. It keeps two
+/// orders of the activities, by start and by end, from one list to the next. If few activities have moved, the orders
+/// are soon right again.
 #[derive(Drop, Debug)]
 pub struct OverloadSweep {
     by_start: Vec<usize>,
@@ -66,13 +66,11 @@ impl OverloadSweep {
         })
     }
 
-    /// The first overload of a list of starts, if there is one: the least unit of time at which a
-    /// resource is overloaded, and then the least such resource. [`OverloadSweep::running`] then lends
-    /// the activities that run at that time.
+    /// The first overload of a list of starts, if there is one: at the least unit of time with an overload, of the
+    /// least such resource. [`OverloadSweep::running`] then lends the activities that run at that time.
     ///
-    /// A sweep over the starts and ends in their order of time, up to the overload, without memory. With
-    /// n activities and K resources it takes of the order of `n K` steps, and those that bring both
-    /// orders up to date.
+    /// A sweep over the starts and ends in their order of time, up to the overload, without memory. With n activities
+    /// and K resources it takes of the order of `n K` steps, and the steps that repair both orders.
     pub fn first(&mut self, project: &Project, starts: &[i64]) -> Option<Excess>
         requires sweep { IsSweepFor project.now self.old }
         requires starts { AreStarts project.now starts.now }

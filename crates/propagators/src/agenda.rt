@@ -1,10 +1,10 @@
-//! What is to be looked at: changes of the matrix, and rivals of activities whose windows moved.
+//! What to look at next: changes of the matrix, and rivals of activities whose windows moved.
 
 use lemma_trail::{Cause, Conflict, Lemmas, Rules, Stop, Trail};
 use std::alloc::{AllocError, Global};
 use tables::Table;
 
-/// What is to be looked at: changes of the matrix, heads and latest starts.
+/// What to look at next: changes of the matrix, heads and latest starts.
 #[derive(Drop)]
 pub(crate) struct Agenda {
     next: u32,
@@ -21,7 +21,7 @@ impl Agenda {
         }
     }
 
-    /// All that the trail has was looked at.
+    /// Counts all of the trail as seen.
     pub(crate) fn skip(&mut self, trail: &Trail) {
         self.next = trail.history.now();
         self.heads.clear();
@@ -62,7 +62,7 @@ impl Agenda {
         Ok(())
     }
 
-    /// What follows from all changes that weren't looked at.
+    /// What follows from all changes that propagation has not seen.
     pub(crate) fn follow_changes(
         &mut self,
         rules: &Rules,

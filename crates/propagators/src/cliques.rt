@@ -1,5 +1,6 @@
-//! Cliques of rivals, which run one at a time.
+//! Cliques of activities, which run one at a time.
 
+use crate::apart::Apart;
 use crate::clique_search::CliqueSearch;
 use lemma_trail::{Cause, Conflict, Rules, Stop, Trail};
 use std::alloc::{AllocError, Global};
@@ -22,7 +23,7 @@ pub(crate) struct ByEnd {
     pub(crate) duration: i32,
 }
 
-/// Cliques of rivals over all resources: their members run one at a time.
+/// Cliques over all resources: their members run one at a time.
 #[derive(Drop)]
 pub(crate) struct Cliques {
     members: Table<u32>,
@@ -37,8 +38,8 @@ pub(crate) struct Cliques {
 
 impl Cliques {
     /// The cliques that were found, or none.
-    pub(crate) fn new(alloc: Global, rules: &Rules) -> Result<Cliques, AllocError> {
-        let search = CliqueSearch::cliques_of(alloc, rules)?;
+    pub(crate) fn new(alloc: Global, rules: &Rules, apart: &Apart) -> Result<Cliques, AllocError> {
+        let search = CliqueSearch::cliques_of(alloc, rules, apart)?;
         let has_moved = Table::filled(alloc, search.spans.len(), true, false)?;
         let mut cliques = Cliques {
             members: search.members,

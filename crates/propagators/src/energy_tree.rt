@@ -17,7 +17,7 @@ const NO_NODE: Node = Node {
     top: -4_000_000_000_000_000_000,
 };
 
-/// The tree of Vilím (2004, 2009) for overloads: its leaves are activities by rising head, and those that were added count.
+/// The tree of Vilím (2004, 2009) for overloads. Its leaves are activities by rising head; those that were added count.
 #[derive(Drop)]
 pub(crate) struct EnergyTree {
     nodes: Table<Node>,

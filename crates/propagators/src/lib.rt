@@ -1,8 +1,9 @@
-//! What follows from the literals of a trail, by rivals, by lemmas, by time tables, by energy and by cliques of rivals. Each
-//! literal that is forced, and each conflict, has its cause.
+//! What follows from the literals of a trail, by rivals, by lemmas, by time tables, by energy and by cliques of rivals.
+//! Each literal that is forced, and each conflict, has its cause.
 #![tactic(auto)]
 
 mod agenda;
+mod apart;
 mod clique_orders;
 mod clique_search;
 mod cliques;

@@ -1,10 +1,11 @@
 //! All propagators of the search on pairs.
 
 use crate::agenda::{Agenda, find_alone, follow_head, follow_latest, follow_rivals};
+use crate::apart::Apart;
 use crate::cliques::Cliques;
 use crate::energy::Energy;
 use crate::time_table::TimeTable;
-use lemma_trail::{Lemmas, Rules, Stop, Trail};
+use lemma_trail::{History, Lemmas, Rules, Stop, Trail};
 use std::alloc::{AllocError, Global};
 
 /// Which propagators are on, besides rivals and lemmas.
@@ -15,29 +16,43 @@ pub struct Chosen {
     pub cliques: bool,
 }
 
+/// Up to this level of decisions wide cliques are looked at: a deadline may be decided.
+const DEADLINE_LEVEL: u32 = 1;
+
 /// All propagators.
 #[derive(Drop)]
 pub struct Propagators {
     agenda: Agenda,
     time_table: TimeTable,
     energy: Energy,
+    /// Of rivals.
     cliques: Cliques,
+    /// Of rivals, and of activities that the project's lags bring in an order.
+    wide_cliques: Cliques,
     chosen: Chosen,
 }
 
 impl Propagators {
-    /// The propagators of a project.
-    pub fn new(alloc: Global, rules: &Rules, chosen: Chosen) -> Result<Propagators, AllocError> {
+    /// The propagators of a project, by the history of a trail at its beginning.
+    pub fn new(
+        alloc: Global,
+        rules: &Rules,
+        history: &History,
+        chosen: Chosen,
+    ) -> Result<Propagators, AllocError> {
+        let rivals = Apart::new(alloc, rules, None)?;
+        let rivals_and_ordered = Apart::new(alloc, rules, Some(history))?;
         Ok(Propagators {
             agenda: Agenda::new(alloc),
             time_table: TimeTable::new(alloc, rules)?,
             energy: Energy::new(alloc, rules)?,
-            cliques: Cliques::new(alloc, rules)?,
+            cliques: Cliques::new(alloc, rules, &rivals)?,
+            wide_cliques: Cliques::new(alloc, rules, &rivals_and_ordered)?,
             chosen,
         })
     }
 
-    /// The trail went back to where all was looked at.
+    /// The trail went back to where propagation was complete.
     pub fn skip(&mut self, trail: &Trail) {
         self.agenda.skip(trail);
     }
@@ -47,6 +62,7 @@ impl Propagators {
         self.time_table.users.touch(rules, activity);
         self.energy.users.touch(rules, activity);
         self.cliques.touch(activity);
+        self.wide_cliques.touch(activity);
     }
 
     /// What follows for rivals from heads that moved.
@@ -73,6 +89,18 @@ impl Propagators {
         Ok(())
     }
 
+    /// What follows from cliques, until something changes.
+    fn follow_cliques(&mut self, rules: &Rules, trail: &mut Trail) -> Result<(), Stop> {
+        if !self.agenda.is_behind(trail) && self.chosen.cliques {
+            self.cliques.propagate(rules, trail)?;
+        }
+        let is_wide = self.chosen.cliques && trail.level() <= DEADLINE_LEVEL;
+        if !self.agenda.is_behind(trail) && is_wide {
+            self.wide_cliques.propagate(rules, trail)?;
+        }
+        Ok(())
+    }
+
     /// What follows from windows, until something changes.
     fn follow_windows(&mut self, rules: &Rules, trail: &mut Trail) -> Result<(), Stop> {
         self.follow_heads(rules, trail)?;
@@ -83,13 +111,10 @@ impl Propagators {
         if !self.agenda.is_behind(trail) && self.chosen.energy {
             self.energy.propagate(rules, trail)?;
         }
-        if !self.agenda.is_behind(trail) && self.chosen.cliques {
-            self.cliques.propagate(rules, trail)?;
-        }
-        Ok(())
+        self.follow_cliques(rules, trail)
     }
 
-    /// Forces literals until nothing more follows. Windows are looked at once there is a deadline.
+    /// Forces literals until nothing more follows. It looks at windows once there is a deadline.
     pub fn propagate(
         &mut self,
         rules: &Rules,
@@ -111,11 +136,12 @@ impl Propagators {
         Ok(())
     }
 
-    /// Looks at all rivals anew, and at activities that need too much alone.
+    /// Looks at all rivals again, and at activities that need too much alone.
     pub fn rescan(&mut self, rules: &Rules, trail: &mut Trail) -> Result<(), Stop> {
         self.time_table.users.touch_all();
         self.energy.users.touch_all();
         self.cliques.touch_all();
+        self.wide_cliques.touch_all();
         for a in 0..rules.activity_count() {
             follow_rivals(rules, trail, a)?;
             find_alone(rules, trail, a)?;

@@ -1,10 +1,10 @@
-//! The users of each resource, and which resources are to be looked at.
+//! The users of each resource, and which resources to look at next.
 
 use lemma_trail::Rules;
 use std::alloc::{AllocError, Global};
 use tables::{NO_SPAN, Span, Table};
 
-/// The activities that use each resource of a list, and the resources whose users moved since they were looked at.
+/// The activities that use each resource of a list, and the resources whose users moved since the last look at them.
 #[derive(Drop)]
 pub(crate) struct Users {
     resources: Table<u32>,
@@ -61,7 +61,7 @@ impl Users {
         self.has_moved.push(true)
     }
 
-    /// The users of resources where there is some of them, or only of those where a time table says more than rivals do.
+    /// The users of the resources with a capacity, or only of those where a time table says more than rivals do.
     pub(crate) fn new(alloc: Global, rules: &Rules, only_mixed: bool) -> Result<Users, AllocError> {
         let mut users = Users::none(alloc);
         for k in 0..rules.resource_count() {

@@ -6,19 +6,19 @@ use clap::{Arg, ArgAction, ArgMatches, Command, value_parser};
 use solve_runs::{Asked, MAX_JOBS};
 use std::alloc::{AllocError, Global};
 
-/// For how many seconds is searched where nothing else is said.
+/// How many seconds a search has by default.
 const DEFAULT_SECONDS: &str = "60";
 
-/// How many searches go on side by side where nothing else is said.
+/// How many searches run side by side by default.
 const DEFAULT_JOBS: &str = "1";
 
-/// How many MiB lemmas and their proofs take at most where nothing else is said.
+/// How many MiB lemmas and their proofs may take by default.
 const DEFAULT_MEMORY: &str = "512";
 
-/// How many MiB can be asked for at most: 1 TiB.
+/// The most MiB of `--memory`: 1 TiB.
 const MAX_MEMORY: i64 = 1_048_576;
 
-/// How many conflicts, and how many seconds, can be asked for at most.
+/// The most conflicts and the most seconds of the options.
 const MAX_LIMIT: i64 = 1_000_000_000;
 
 /// What words ask for.
@@ -42,7 +42,7 @@ fn verify_command<'a>(alloc: Global) -> Result<Command<'a>, AllocError> {
     let project = Arg::new(alloc, "project")
         .long("project")
         .value_name("FILE")
-        .help("The project that the record is checked against")
+        .help("Check against the project in FILE")
         .action(ArgAction::Set)
         .required(true);
     let about = "Check a record of lemmas against a project in a file";
@@ -67,11 +67,11 @@ fn number<'a>(
 
 /// The options that say how far a search goes.
 fn with_limits<'a>(alloc: Global, command: Command<'a>) -> Result<Command<'a>, AllocError> {
-    let seconds = "Stop once S seconds have passed";
-    let conflicts = "Stop each search once it had N conflicts";
-    let jobs = "Search in N ways side by side, each in a thread of its own";
-    let seed = "Break ties from K";
-    let memory = "Lemmas of each search and their proofs may take so many MiB";
+    let seconds = "Stop after S seconds";
+    let conflicts = "Stop each search after N conflicts";
+    let jobs = "Run N searches side by side, each in its own thread, 1 to 64";
+    let seed = "Break ties by the seed K";
+    let memory = "Limit the lemmas of each search and their proofs to MIB MiB";
     command
         .arg(number(alloc, "seconds", "S", seconds, 0, MAX_LIMIT).default_value(DEFAULT_SECONDS))?
         .arg(number(alloc, "conflicts", "N", conflicts, 0, MAX_LIMIT))?
@@ -92,14 +92,14 @@ fn solve_command<'a>(alloc: Global) -> Result<Command<'a>, AllocError> {
     let start = Arg::new(alloc, "start")
         .long("start")
         .value_name("FILE")
-        .help("Starts of a feasible schedule, from which is searched")
+        .help("Start from the feasible schedule in FILE")
         .action(ArgAction::Set);
     let record = Arg::new(alloc, "record")
         .long("record")
         .value_name("FILE")
         .help("Write the record that proves the answer into FILE")
         .action(ArgAction::Set);
-    let about = "Print a shortest schedule of a project, proved by a record of lemmas";
+    let about = "Print a shortest schedule of a project, with a record of lemmas that proves it";
     with_limits(alloc, subcommand(alloc, "solve", about, help::SOLVE))?
         .arg(start)?
         .arg(flag(alloc, "json", "Print the answer as one line of JSON"))?
@@ -107,7 +107,7 @@ fn solve_command<'a>(alloc: Global) -> Result<Command<'a>, AllocError> {
         .arg(flag(
             alloc,
             "progress",
-            "Tell each shorter schedule and greater bound on standard error",
+            "Report each shorter schedule and greater bound on standard error",
         ))
 }
 
@@ -116,7 +116,7 @@ fn command<'a>(alloc: Global) -> Result<Command<'a>, AllocError> {
         .bin_name("psprove")?
         .version(help::VERSION)
         .before_help(help::HEADING)
-        .about("Solve projects with resources and time lags, and check what is claimed of them")
+        .about("Solve projects with resources and time lags, and check records of lemmas")
         .after_help(help::PROGRAM)
         .subcommand_required(true)
         .disable_help_subcommand(true)
@@ -152,7 +152,7 @@ fn solve_work(alloc: Global, matches: &ArgMatches<'_>) -> Result<Work, AllocErro
     Ok(Work::Solve { asked, call })
 }
 
-/// What the matches ask for; none where `clap` lets words pass that ask for nothing, which it doesn't.
+/// What the matches ask for. None if words ask for nothing, which `clap` doesn't let pass.
 fn found_work(alloc: Global, matches: &ArgMatches<'_>) -> Result<Option<Work>, AllocError> {
     match matches.subcommand() {
         Some(("solve", found)) => Ok(Some(solve_work(alloc, found)?)),

@@ -7,34 +7,40 @@ pub(crate) const VERSION: &str = "0.9.0";
 pub(crate) const HEADING: &str = "psprove 0.9.0";
 
 pub(crate) const PROGRAM: &str = "\
-Projects, starts, answers and records are texts; docs/FORMAT.md and docs/LEMMAS.md describe them,
-and 'man psprove' in short. 'psprove COMMAND --help' says what the command reads and answers, with
-an example.
+Projects, starts, records and answers are texts. docs/FORMAT.md, docs/LEMMAS.md and 'man psprove'
+describe them. 'psprove COMMAND --help' says what the command reads and prints, with an example.
+Faults go to standard error.
 
-Exit status: 0 proved; 1 memory ran out, a thread could not be started, a device failed, or the
-search was refused; 2 the words or a text are not what they should be; 3 the search was stopped at
-a limit; 4 the starts are no feasible schedule, or the record is not right. A fault is one line on
-standard error.";
+Exit status:
+  0  answered or proved
+  1  memory, a thread or a device failed, or the record of the search was refused
+  2  the words of the command or a text have a fault
+  3  the search stopped at a limit
+  4  the starts are not a feasible schedule, or the record is wrong";
 
 pub(crate) const SOLVE: &str = "\
-Reads a project on standard input, and searches by lemmas that it learns. Nothing that the search
-says is trusted: its record is checked as 'psprove verify' checks one, and the answer is what the
-record proves. It is one of these, the first and the third with a line 'activity start' for each
-activity:
+Reads a project on standard input, and searches by lemmas that it learns. You need not trust the
+search: psprove checks its record as 'psprove verify' does, and the answer is what the record
+proves. Prints one of these answers. If it has a schedule, a line 'activity start' for each activity
+follows.
   optimal C           no feasible schedule is shorter
-  no schedule         there is none at all
-  feasible C bound B  stopped at a limit: no feasible schedule is shorter than B
-  unknown bound B     the same, and no schedule was found
-From 61 activities on, searches for large projects get most of the time, above 120 nearly all. The
-clock is looked at after each turn. The same seed and --conflicts give the same answer and record
-where neither the clock nor the memory stops the search first, and --jobs is 1. With --jobs N the
-searches differ in seeds and in parts that are switched off; a schedule that one finds is a ceiling
-for all, and the first that ends gives the record. Where lemmas fill the memory, or a
-makespan is above 1,000,000, standard error says that the search stopped for that.
-Reads the starts of --start after the project. Where they are no feasible schedule it answers as
-'psmax check' does, and searches nothing. With --record the file is made empty first, and once
-the answer is printed, also that of a stopped search, its record is written into it.
-Where the record is not right, 'search refused' is told on standard error, and nothing is answered.
+  no schedule         the project has no feasible schedule
+  feasible C bound B  the search stopped; no feasible schedule is shorter than B
+  unknown bound B     the search stopped before it found a schedule; B is as above
+
+Limits: psprove looks at the clock after each turn of a search. A makespan above 1,000,000, or
+lemmas that fill the memory, also stop a search; standard error then says so.
+Large projects: from 61 activities on, the searches for large projects get most of the time, and
+above 120 nearly all.
+Repeated runs: the same --seed and --conflicts give the same answer and record with one job, if
+neither the clock nor the memory stops the search.
+--jobs runs searches with different seeds and different parts switched off. A schedule that one
+finds is an upper bound for all. The first that ends gives the record.
+--start reads the starts after the project. If they are not a feasible schedule, psprove prints
+their violations as 'psmax check' does, and does not search.
+--record empties FILE first. After the answer it writes the record into FILE, even if the search
+stopped at a limit.
+If the record is wrong, psprove prints 'search refused' on standard error, and no answer.
 
 Examples:
   psprove solve < project.sch
@@ -42,23 +48,26 @@ Examples:
   psprove solve --conflicts 10000 --json --start plan.starts < project.sch
   psprove solve --jobs 4 --seconds 600 < project.sch
 
-Exit status: 0 answered; 1 memory ran out, a thread could not be started, a device failed, or the
-search was refused; 2 the words or a text are not what they should be; 3 the search was stopped at
-a limit; 4 the starts of --start are no feasible schedule.";
+Exit status:
+  0  answered
+  1  memory, a thread or a device failed, or the record of the search was refused
+  2  the words of the command or a text have a fault
+  3  the search stopped at a limit
+  4  the starts of --start are not a feasible schedule";
 
 pub(crate) const VERIFY: &str = "\
-Reads the project in FILE, and then a record of lemmas on standard input: what is claimed of the
-project, and lines that show why. Any program may have made it. Looks at each line for itself,
-and trusts nothing of that program. Where all are right it answers what is so proved:
+Reads the project in FILE, then a record of lemmas on standard input: a claim about the project,
+and lines that show it. Any program may have written it. verify checks each line by itself, and
+does not trust that program. If all lines are right, it prints what they prove:
   proved optimal C    the shortest feasible schedule takes C
   proved bound C      no feasible schedule is shorter than C
-  proved no schedule  there is none at all
-Else the first line L that is wrong is told on standard error. A text that is no record:
-  line L: form        the line is not one that may stand there
+  proved no schedule  the project has no feasible schedule
+Otherwise the first wrong line L goes to standard error. If the text is not a record:
+  line L: form        this line may not stand there
   line L: short       the text ends before this line
   line L: trailing    the record ends before this line
-And a record that is not right:
-  line L: start       the starts are no feasible schedule of the makespan that is claimed
+If the record is wrong:
+  line L: start       the starts are not a feasible schedule of the claimed makespan
   line L: lemma       an arc names no activity, or the record's own arcs are dead
   line L: force       the pair is not forced
   line L: add         the arc is not implied, and the reason does not end its reverse
@@ -67,5 +76,8 @@ And a record that is not right:
 Example:
   psprove verify --project project.sch < project.rec
 
-Exit status: 0 proved; 1 memory ran out, or a device failed; 2 the words or a text are not what
-they should be; 4 the record is not right.";
+Exit status:
+  0  proved
+  1  memory or a device failed
+  2  the words of the command or a text have a fault
+  4  the record is wrong";

@@ -1,5 +1,5 @@
-//! `psprove`: projects with resources and time lags, solved by a search before a checker that is proved, and what others claim
-//! of them.
+//! `psprove`: solves projects with resources and time lags by an untrusted search before a proved checker, and checks
+//! what others claim of them.
 #![tactic(auto)]
 
 mod command_line;
@@ -111,7 +111,7 @@ fn search<R: Runtime + Threads + Wait + Sync>(
 /// What stands in for a standard device that is closed: a folder gives no bytes, and takes none.
 const FOLDER: &str = "/";
 
-/// Does the work once no standard device is closed: a file that is opened in the place of one would be taken for it.
+/// Does the work once no standard device is closed. Otherwise a file could open in the place of one.
 fn perform_apart<R: Runtime + Threads + Wait + Sync>(
     rt: &R,
     alloc: Global,

@@ -30,8 +30,8 @@ pub enum Why {
     TooLong,
 }
 
-/// Why a text could not be read: its length, then the first fault of its lines; or why a record is not
-/// right. Lines count from 1; where no line is at fault the line is 0.
+/// Why a text is not a record: its length, or the first fault of its lines. Or why a record is not right. Lines count
+/// from 1; where no line is at fault the line is 0.
 #[derive(Clone, Copy, PartialEq, Eq, Debug)]
 pub struct RecordFault {
     pub line: usize,

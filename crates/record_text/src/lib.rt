@@ -1,7 +1,7 @@
 //! The text of a search record: a claim about a project, and the tree of a search that shows it.
 //!
-//! A [`Record`] is a claim and the lines of a tree, and has one text, which [`Record::write`] makes and
-//! [`Record::read`] takes. Whether a record's claim is true of a project is no matter of this crate.
+//! A [`Record`] is a claim and the lines of a tree. It has one text, which [`Record::write`] makes and [`Record::read`]
+//! takes. Whether a record's claim is true of a project is no matter of this crate.
 #![tactic(auto)]
 
 mod fault;

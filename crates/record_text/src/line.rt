@@ -25,7 +25,7 @@ pub enum Line {
     Cut,
     /// No schedule keeps the node's pairs.
     Dead,
-    /// The members need more of the resource than there is. A node follows for each ordered pair of two
-    /// of them, by their places in the list: q * (q - 1) nodes for q members.
+    /// The members need more of the resource than there is. A node follows for each ordered pair of two of them, by
+    /// their places in the list. With q members these are q * (q - 1) nodes.
     Split { resource: usize, members: Members },
 }

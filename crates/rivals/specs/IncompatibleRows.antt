@@ -1,15 +1,19 @@
 -- The ordered pairs of activities that can't run at the same time, activity by activity.
 use Rattle.std.specs.Prelude.{ℕ, ◌<◌, List, map}
-use Rattle.std.specs.List.{All, flat_map}
+use Rattle.std.specs.List.{All, Contains, flat_map}
 use Rattle.network.specs.declared.lag.Pair.{Pair}
 use Rattle.network.specs.Problem.{Problem, activity_count}
 use Rattle.network.specs.Pairs.{pair_of}
-use Rattle.rivals.specs.Incompatible.{AllIncompatible}
+use Rattle.rivals.specs.Incompatible.{AllIncompatible, AreIncompatible}
 use Rattle.rivals.specs.declared.incompatible.Incompatible.{Incompatible}
 
 -- an activity first, with each of the others
 abbrev pub pairs_before : ℕ → List ℕ → List Pair
 pairs_before i others = map (pair_of i) others
+
+-- the others are all that can't run at the same time as the activity
+abbrev pub AreAllRivals : Problem → ℕ → List ℕ → Type 0
+AreAllRivals p i others = (j : ℕ) → AreIncompatible p (pair_of i j) → Contains others j
 
 -- the activity of a row first, with each of the others
 abbrev pub pairs_of_row : Incompatible → List Pair

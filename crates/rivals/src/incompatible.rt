@@ -3,7 +3,7 @@
 ghost use Rattle.std.specs.Prelude.{◌<◌, IfOk};
 ghost use Rattle.network.specs.Problem.{activity_count};
 ghost use Rattle.rivals.specs.Incompatible.{AllIncompatible};
-ghost use Rattle.rivals.specs.IncompatibleRows.{pairs_before, AreRowsOf};
+ghost use Rattle.rivals.specs.IncompatibleRows.{pairs_before, AreAllRivals, AreRowsOf};
 
 use crate::pair::are_incompatible;
 use network::{Pair, Project};
@@ -23,7 +23,8 @@ fn incompatible_with(
     activity: usize,
 ) -> Result<Vec<usize>, AllocError>
     requires { activity < activity_count project.now }
-    ensures { IfOk result (λ others. AllIncompatible project.now (pairs_before activity others.items)) }
+    ensures rivals { IfOk result (λ others. AllIncompatible project.now (pairs_before activity others.items)) }
+    ensures whole { IfOk result (λ others. AreAllRivals project.now activity others.items) }
 {
     let mut others = Vec::new(alloc);
     for other in 0..project.activity_count() {

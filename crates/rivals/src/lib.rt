@@ -1,5 +1,4 @@
-//! Two activities that can't run at the same time, since together they ask for more of some resource than
-//! there is.
+//! Two activities that can't run at the same time, since together they need more of some resource than there is.
 #![tactic(auto)]
 
 mod incompatible;

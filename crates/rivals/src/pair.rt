@@ -20,8 +20,8 @@ fn exceed_some(project: &Project, pair: Pair) -> bool
     false
 }
 
-/// Whether the two are different activities that can't run at the same time: both take time, and together
-/// they ask for more of some resource than there is.
+/// Whether the two are different activities that can't run at the same time. Both take time, and together they need
+/// more of some resource than there is.
 pub fn are_incompatible(project: &Project, pair: Pair) -> bool
     ensures { IsTrue result ↔ AreIncompatible project.now pair }
 {

@@ -1,9 +1,6 @@
 //! A gate that watches, holds and counts workers.
 
-ghost use Rattle.std.specs.Prelude.{◌≡◌};
-ghost use Rattle.std.specs.Arc.{arc_value};
-
-use branching::{Lean, Report, Searcher};
+use branching::{Node, Report, expand};
 use network::Schedule;
 use std::alloc::{AllocError, Global};
 use std::sync::atomic::{AtomicU64, Ordering};
@@ -20,8 +17,13 @@ pub(crate) enum Holds {
     Second,
     /// The worker with node 6 until node 5 is taken, and the one with node 5 until the report on node 6 was accepted.
     Fifth,
+    /// Each at its end, until so many have come to theirs.
+    Ended(u64),
     /// It has no memory for any node.
     WithoutMemory,
+    /// The workers with the nodes 5 and 6 until both are taken. This one of them makes reports under a ceiling of 1, and
+    /// there is no memory for the other.
+    Fails(usize),
 }
 
 impl Holds {
@@ -31,7 +33,18 @@ impl Holds {
             "holds second" => Holds::Second,
             "holds fifth" => Holds::Fifth,
             "without memory" => Holds::WithoutMemory,
+            "refuses first" => Holds::Fails(0),
+            "refuses second" => Holds::Fails(1),
             _ => Holds::Nobody,
+        }
+    }
+
+    /// Whether a search that called the gate so often ends with want of memory because of the gate.
+    pub(crate) fn lacks_memory(self, calls: u64) -> bool {
+        match self {
+            Holds::WithoutMemory => calls > 0,
+            Holds::Fails(1) => calls == 4,
+            _ => false,
         }
     }
 }
@@ -44,20 +57,24 @@ pub(crate) struct Watch {
     calls: AtomicU64,
     accepted: AtomicU64,
     of_first: AtomicU64,
+    ended: AtomicU64,
     fifth_taken: AtomicU64,
+    sixth_taken: AtomicU64,
     sixth_accepted: AtomicU64,
+    holder_of_sixth: AtomicU64,
     gave_up: AtomicU64,
     ceiling: AtomicU64,
 }
 
-/// What a gate counted: the moments that workers passed, the calls of `expand`, the reports that were accepted, and those of worker 0, the holds that it gave
-/// up, and the ceiling of the third call.
+/// What a gate counted: the moments that workers passed, the calls of `expand`, the reports that were accepted, and those
+/// of worker 0, the workers that ended, the holds that it gave up, and the ceiling of the third call.
 #[derive(Clone, Copy, Debug, PartialEq, Eq)]
 pub(crate) struct Seen {
     pub(crate) moments: u64,
     pub(crate) calls: u64,
     pub(crate) accepted: u64,
     pub(crate) of_first: u64,
+    pub(crate) ended: u64,
     pub(crate) gave_up: u64,
     pub(crate) ceiling: u64,
 }
@@ -70,8 +87,11 @@ impl Watch {
             calls: AtomicU64::new(0),
             accepted: AtomicU64::new(0),
             of_first: AtomicU64::new(0),
+            ended: AtomicU64::new(0),
             fifth_taken: AtomicU64::new(0),
+            sixth_taken: AtomicU64::new(0),
             sixth_accepted: AtomicU64::new(0),
+            holder_of_sixth: AtomicU64::new(0),
             gave_up: AtomicU64::new(0),
             ceiling: AtomicU64::new(0),
         }
@@ -83,6 +103,7 @@ impl Watch {
             calls: self.calls.load(Ordering::SeqCst),
             accepted: self.accepted.load(Ordering::SeqCst),
             of_first: self.of_first.load(Ordering::SeqCst),
+            ended: self.ended.load(Ordering::SeqCst),
             gave_up: self.gave_up.load(Ordering::SeqCst),
             ceiling: self.ceiling.load(Ordering::SeqCst),
         }
@@ -107,7 +128,46 @@ impl Watch {
         self.accepted.fetch_add(1, Ordering::SeqCst);
     }
 
-    /// Holds the workers with the nodes 5 and 6.
+    /// Holds the workers with the nodes 5 and 6 until both are taken.
+    fn hold_both(&self, worker: usize, moment: Moment) {
+        match moment {
+            Moment::Taken { name: 6 } => {
+                let holder = worker as u64;
+                self.holder_of_sixth.store(holder, Ordering::SeqCst);
+                self.sixth_taken.fetch_add(1, Ordering::SeqCst);
+                self.wait_for(&self.fifth_taken, 1);
+            }
+            Moment::Taken { name: 5 } => {
+                self.fifth_taken.fetch_add(1, Ordering::SeqCst);
+                self.wait_for(&self.sixth_taken, 1);
+            }
+            _ => {}
+        }
+    }
+
+    /// The report of a worker that is refused, if this one of two is that of the node, which adds 3 before 2 under the name 6.
+    fn fail(&self, alloc: Global, refused: usize, node: &Arc<Node>) -> Result<Report, AllocError> {
+        let is_sixth = match node.lean().pairs().get(0) {
+            Some(pair) => pair.before == 3 && pair.after == 2,
+            None => return expand(alloc, node, None),
+        };
+        let is_first = self.holder_of_sixth.load(Ordering::SeqCst) == 0;
+        let worker = if is_sixth == is_first { 0 } else { 1 };
+        if worker == refused {
+            return expand(alloc, node, Some(1));
+        }
+        Err(AllocError)
+    }
+
+    /// Counts the worker that ends here, and holds it.
+    fn end(&self) {
+        self.ended.fetch_add(1, Ordering::SeqCst);
+        if let Holds::Ended(count) = self.holds {
+            self.wait_for(&self.ended, count);
+        }
+    }
+
+    /// Holds the workers with the nodes 5 and 6: the first until the fifth is taken, and that until the sixth is accepted.
     fn hold_fifth(&self, moment: Moment) {
         match moment {
             Moment::Taken { name: 6 } => self.wait_for(&self.fifth_taken, 1),
@@ -126,11 +186,15 @@ impl Watch {
 impl Gate for Watch {
     fn pass<R: Wait>(&self, _rt: &R, worker: usize, moment: Moment) {
         self.moments.fetch_add(1, Ordering::SeqCst);
-        if let Moment::CheckedIn { .. } = moment {
-            self.count(worker);
+        match moment {
+            Moment::CheckedIn { .. } => self.count(worker),
+            Moment::Ended => self.end(),
+            Moment::Taken { .. } => {}
         }
-        if self.holds == Holds::Fifth {
-            self.hold_fifth(moment);
+        match self.holds {
+            Holds::Fifth => self.hold_fifth(moment),
+            Holds::Fails(_) => self.hold_both(worker, moment),
+            _ => {}
         }
     }
 
@@ -138,8 +202,7 @@ impl Gate for Watch {
         &self,
         _rt: &R,
         alloc: Global,
-        searcher: &mut Searcher,
-        node: &Arc<Lean>,
+        node: &Arc<Node>,
         ceiling: Option<i64>,
     ) -> Result<Report, AllocError> {
         let call = self.calls.fetch_add(1, Ordering::SeqCst);
@@ -149,34 +212,60 @@ impl Gate for Watch {
         }
         match self.holds {
             Holds::WithoutMemory => return Err(AllocError),
+            Holds::Fails(refused) => return self.fail(alloc, refused, node),
             Holds::Second if call == 1 => self.wait_for(&self.accepted, 2),
             _ => {}
         }
-        searcher.expand(alloc, node, ceiling)
+        expand(alloc, node, ceiling)
     }
 }
 
-/// A gate that, as soon as the root is taken, gives it back behind its worker's back or offers a schedule, and that makes
-/// the first report under a ceiling of its own.
+/// The number of an answer.
+fn answer(is: bool) -> u64 {
+    if is { 1 } else { 2 }
+}
+
+/// A gate that acts once the root is taken: it gives the root back behind its worker's back, or offers a schedule. It
+/// makes the first reports under a ceiling of its own.
 #[derive(Drop)]
 pub(crate) struct Meddler<'a, L: Ledger> {
     pub(crate) shared: &'a Shared<L>,
-    pub(crate) gives_back: bool,
+    /// The node that is given back.
+    pub(crate) gives_back: Option<u64>,
     pub(crate) start: Mutex<Option<Schedule>>,
     pub(crate) ceiling: Option<i64>,
+    /// How many reports have that ceiling.
+    pub(crate) lowered: u64,
+    pub(crate) without_memory: bool,
     pub(crate) calls: AtomicU64,
+    /// What an offer and a node that was given back were answered with: 1 for yes, 2 for no, and 0 where there was none.
+    pub(crate) offered: AtomicU64,
+    pub(crate) given_back: AtomicU64,
+}
+
+impl<'a, L: Ledger> Meddler<'a, L> {
+    /// What it was answered, and how often it was called.
+    pub(crate) fn heard(&self, alloc: Global) -> Result<String, AllocError> {
+        let offered = self.offered.load(Ordering::SeqCst);
+        let given_back = self.given_back.load(Ordering::SeqCst);
+        let calls = self.calls.load(Ordering::SeqCst);
+        format!(in alloc; "offered {offered}; given back {given_back}; calls {calls}")
+    }
 }
 
 impl<'a, L: Ledger + Sync> Gate for Meddler<'a, L> {
     fn pass<R: Wait>(&self, rt: &R, _worker: usize, moment: Moment) {
-        if let Moment::Taken { name: 0 } = moment {
-            if self.gives_back {
-                let _ = self.shared.give_back(rt, 0);
-            }
-            let start = self.start.lock(rt).take();
-            if let Some(start) = start {
-                let _ = self.shared.offer(rt, start);
-            }
+        let Moment::Taken { name } = moment else {
+            return;
+        };
+        if self.gives_back == Some(name) {
+            let given = self.shared.give_back(rt, name).is_ok();
+            self.given_back.store(answer(given), Ordering::SeqCst);
+        }
+        let start = self.start.lock(rt).take();
+        if let Some(start) = start {
+            let improved = matches!(self.shared.offer(rt, start), Ok(true));
+            self.offered.store(answer(improved), Ordering::SeqCst);
         }
     }
 
@@ -184,12 +273,44 @@ impl<'a, L: Ledger + Sync> Gate for Meddler<'a, L> {
         &self,
         _rt: &R,
         alloc: Global,
-        searcher: &mut Searcher,
-        node: &Arc<Lean>,
+        node: &Arc<Node>,
         ceiling: Option<i64>,
     ) -> Result<Report, AllocError> {
-        let first = self.calls.fetch_add(1, Ordering::SeqCst) == 0;
-        let own = if first { self.ceiling } else { None };
-        searcher.expand(alloc, node, own.or(ceiling))
+        let call = self.calls.fetch_add(1, Ordering::SeqCst);
+        if self.without_memory {
+            return Err(AllocError);
+        }
+        let own = if call < self.lowered {
+            self.ceiling
+        } else {
+            None
+        };
+        expand(alloc, node, own.or(ceiling))
+    }
+}
+
+/// A gate that gives the root back behind the back of its first worker, once the other had turns to wait for a node, and
+/// holds that worker until a report was accepted.
+#[derive(Drop)]
+pub(crate) struct Waker<'a, L: Ledger> {
+    pub(crate) shared: &'a Shared<L>,
+    pub(crate) taken: AtomicU64,
+    pub(crate) watch: Watch,
+}
+
+impl<'a, L: Ledger + Sync> Gate for Waker<'a, L> {
+    fn pass<R: Wait>(&self, rt: &R, worker: usize, moment: Moment) {
+        self.watch.pass(rt, worker, moment);
+        let Moment::Taken { name: 0 } = moment else {
+            return;
+        };
+        if self.taken.fetch_add(1, Ordering::SeqCst) > 0 {
+            return;
+        }
+        for _ in 0..100_000u32 {
+            thread::yield_now();
+        }
+        let _ = self.shared.give_back(rt, 0);
+        self.watch.wait_for(&self.watch.accepted, 1);
     }
 }

@@ -60,8 +60,8 @@ fn text_of(name: &str) -> &str {
     }
 }
 
-/// Plays the call of each row through devices that don't fail. Behind the arrow stands the beginning of what is to be told,
-/// with a gate that holds workers also what that saw.
+/// Plays the call of each row through devices that don't fail. Behind the arrow stands the beginning of what the call
+/// has to tell. With a gate that holds workers, what the gate saw follows.
 fn plays<R: Threads + Wait + Sync + Abort>(
     rt: &R,
     alloc: Global,
@@ -143,6 +143,45 @@ fn gates_see_what_workers_do(rt: HostRuntime) -> Result<(), Fail> {
     plays(&rt, rt.alloc(), &rows, Holds::Second)
 }
 
+/// So many workers search as are asked for, whatever else is asked for. Each is held at its end until all have come to it.
+#[test]
+fn workers_are_as_many_as_asked_for(rt: HostRuntime) -> Result<(), Fail> {
+    let rows = [
+        "solve --workers 8; close lags -> 10 moments, 1 calls, gave up 0: 0|no schedule\n||",
+        "solve --workers 8 --json; close lags -> 10 moments, 1 calls, gave up 0: \
+            0|{\"bound\":null,\"makespan\":null,\"starts\":null,\"status\":\"no schedule\"}\n||",
+        "solve --workers 8 --record r; close lags -> 10 moments, 1 calls, gave up 0: \
+            0|no schedule\n|record 1\nno schedule\nsplit 0 1 2\ndead\ndead\n|",
+        "solve --workers 8 --json --record r; close lags -> 10 moments, 1 calls, gave up 0: \
+            0|{\"bound\":null,\"makespan\":null,\"starts\":null,\"status\":\"no schedule\"}\n\
+            |record 1\nno schedule\nsplit 0 1 2\ndead\ndead\n|",
+        "solve --workers 8 --start s; two jobs; starts -> 8 moments, 0 calls, gave up 0: \
+            0|optimal 7\n0 0\n1 0\n2 3\n3 7\n||",
+        "solve --workers 8 --start s --record r; two jobs; starts -> 8 moments, 0 calls, gave up 0: \
+            0|optimal 7\n0 0\n1 0\n2 3\n3 7\n|record 1\noptimal 7\nstarts 0 0 3 7\ncut\n|",
+        "solve --workers 8 --start s --json; two jobs; starts -> 8 moments, 0 calls, gave up 0: \
+            0|{\"bound\":7,\"makespan\":7,\"starts\":[0,0,3,7],\"status\":\"optimal\"}\n||",
+    ];
+    plays(&rt, rt.alloc(), &rows, Holds::Ended(8))
+}
+
+/// Two threads that expand at the same time give a record that proves their answer.
+#[test]
+fn records_of_two_threads_are_right(rt: HostRuntime) -> Result<(), Fail> {
+    let row = Row::of("solve --nodes 100 --workers 2 --record r; three on two -> 0|optimal 4\n");
+    let gate = Watch::new(Holds::Second);
+    let told = row.told(&rt, rt.alloc(), Limits::NONE, &gate)?;
+    assert!(&rt; told.starts_with(row.wanted), "{row:?} -> : {told}");
+    assert_eq!(&rt; gate.seen().gave_up, 0);
+    let verify = Row::verifying(&told, "three on two");
+    let proved = verify.told(&rt, rt.alloc(), Limits::NONE, &Watch::new(Holds::Nobody))?;
+    assert!(&rt;
+        proved.as_str() == "0|proved optimal 4\n||",
+        "{verify:?} -> : {proved}"
+    );
+    Ok(())
+}
+
 #[test]
 fn devices_go_in_pieces_and_fail_at_each_byte(rt: HostRuntime) -> Result<(), Fail> {
     for text in [
@@ -177,6 +216,16 @@ fn words_make_calls(rt: HostRuntime) -> Result<(), Fail> {
             recorded: false }, second false, record false",
         "solve --workers 64 -> Solve { workers: Some(64), takes: 1000000, start: false, \
             json: false, recorded: false }, second false, record false",
+        "solve --nodes 1000000000 --workers 3 -> Solve { workers: Some(3), takes: 1000000000, \
+            start: false, json: false, recorded: false }, second false, record false",
+        "solve --workers 3 --start s -> Solve { workers: Some(3), takes: 1000000, start: true, \
+            json: false, recorded: false }, second true, record false",
+        "solve --workers 3 --json -> Solve { workers: Some(3), takes: 1000000, start: false, \
+            json: true, recorded: false }, second false, record false",
+        "solve --workers 3 --record r -> Solve { workers: Some(3), takes: 1000000, start: false, \
+            json: false, recorded: true }, second false, record true",
+        "solve --start s --json --record r -> Solve { workers: None, takes: 1000000, start: true, \
+            json: true, recorded: true }, second true, record true",
         "solve --start s -> Solve { workers: None, takes: 1000000, start: true, json: false, \
             recorded: false }, second true, record false",
         "solve --record r -> Solve { workers: None, takes: 1000000, start: false, json: false, \

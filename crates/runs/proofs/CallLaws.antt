@@ -10,7 +10,8 @@ use Rattle.std.proofs.KnownBytes.{Consumes-nil}
 use Rattle.runs.specs.Devices.{Span, span, GaveUpTo}
 use Rattle.runs.specs.Runs.{HasRead, IsNoReply, RecordsWhereAsked}
 use Rattle.answers.specs.Faults.{exit_of, IsSearchFault}
-use Rattle.answers.specs.Answers.{IsSolveText, IsStartedText}
+use Rattle.answers.specs.Answers.{IsFoundText, IsStartedText}
+use Rattle.answers.specs.Outcomes.{IsAloneText}
 use Rattle.runs.specs.Jobs.{has_workers, project_is_second, reads_second, writes_record}
 use Rattle.runs.specs.Outcome.{SpellsOne, GivesStarts, HasFault, IsFirstStartsFault, IsAnswer, IsRefusal}
 
@@ -26,11 +27,19 @@ records_none (jobs.Solve (Some n) takes start json recorded) alone = cc
 
 -- what a search in one thread by itself answers is an answer of a job without workers
 pub answers_alone : (job : Job) (workers : Option ℕ) (takes : ℕ) (start json recorded : Bool) (text more : List ℕ) (exit : ℕ) (written : List ℕ) →
-    job ≡ jobs.Solve workers takes start json recorded → has_workers job ≡ false → SpellsOne text (λ p. IsSolveText p true json exit written) → IsAnswer job text more exit written
+    job ≡ jobs.Solve workers takes start json recorded → has_workers job ≡ false → SpellsOne text (λ p. IsAloneText p takes json exit written) → IsAnswer job text more exit written
 answers_alone job None takes false json false text more exit written is alone h = rw is h
 answers_alone job None takes false json true text more exit written is alone h = let no : true ≡ false = rw is at alone in cc
 answers_alone job None takes true json recorded text more exit written is alone h = let no : true ≡ false = rw is at alone in cc
 answers_alone job (Some n) takes start json recorded text more exit written is alone h = let no : true ≡ false = rw is at alone in cc
+
+-- what workers answer without a start is an answer of a job with workers
+pub answers_unstarted : (job : Job) (workers : Option ℕ) (takes : ℕ) (start json recorded : Bool) (text more : List ℕ) (exit : ℕ) (written : List ℕ) →
+    job ≡ jobs.Solve workers takes start json recorded → start ≡ false → has_workers job ≡ true → SpellsOne text (λ p. IsFoundText p None json exit written) → IsAnswer job text more exit written
+answers_unstarted job None takes false json true text more exit written is off has h = rw is h
+answers_unstarted job None takes false json false text more exit written is off has h = let no : false ≡ true = rw is at has in cc
+answers_unstarted job (Some n) takes false json recorded text more exit written is off has h = rw is h
+answers_unstarted job workers takes true json recorded text more exit written is off has h = cc
 
 -- what workers answer from a start is an answer of a job with a start
 pub answers_started : (job : Job) (workers : Option ℕ) (takes : ℕ) (start json recorded : Bool) (text more : List ℕ) (exit : ℕ) (written : List ℕ) →

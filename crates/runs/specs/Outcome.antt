@@ -1,5 +1,5 @@
 -- What a job answers to the texts that it reads, and why it has no answer.
-use Rattle.std.specs.Prelude.{◌≡◌, ℕ, List, ℤ, Option, None, Some, true, false, not, is_some, ◌||◌, ◌⊎◌}
+use Rattle.std.specs.Prelude.{◌≡◌, ℕ, List, ℤ, Option, None, Some, true, false, is_some, ◌||◌, ◌⊎◌}
 use Rattle.network.specs.Problem.{Problem, activity_count}
 use Rattle.network.specs.Limits.{IsProject}
 use Rattle.network.specs.Schedule.{IsFeasible}
@@ -15,7 +15,8 @@ use Rattle.search_record.specs.Faults as wrongs
 use Rattle.runs.specs.declared.job.Job.{Job}
 use Rattle.runs.specs.declared.job.Job.TheVariants as jobs
 use Rattle.answers.specs.declared.fault.Fault.{Fault}
-use Rattle.answers.specs.Answers.{IsEarliestText, IsCheckText, IsSolveText, IsStartedText, IsTidyText, IsProvedText}
+use Rattle.answers.specs.Answers.{IsEarliestText, IsCheckText, IsStartedText, IsTidyText, IsProvedText}
+use Rattle.answers.specs.Outcomes.{IsUnstartedText}
 use Rattle.runs.specs.Jobs.{reads_second}
 use Rattle.answers.specs.Faults.{fault_of, starts_fault_of, record_fault_of}
 
@@ -73,7 +74,7 @@ IsNoProof p text fault = IsRecordTextFault text fault ⊎ GivesRecord text (λ s
 -- what a job writes for its two texts, and the exit status
 abbrev pub IsAnswer : Job → List ℕ → List ℕ → ℕ → List ℕ → Type 0
 IsAnswer jobs.Earliest text second exit written = SpellsOne text (λ p. IsEarliestText p exit written)
-IsAnswer (jobs.Solve workers takes false json recorded) text second exit written = SpellsOne text (λ p. IsSolveText p (not (is_some workers || recorded)) json exit written)
+IsAnswer (jobs.Solve workers takes false json recorded) text second exit written = SpellsOne text (λ p. IsUnstartedText p (is_some workers || recorded) takes json exit written)
 IsAnswer (jobs.Solve workers takes true json recorded) text second exit written = SpellsOne text (λ p. GivesStarts p second (λ starts. IsStartedText p starts json exit written))
 IsAnswer jobs.Check text second exit written = SpellsOne second (λ p. GivesStarts p text (λ starts. IsCheckText p starts exit written))
 IsAnswer jobs.Tidy text second exit written = SpellsOne text (λ p. IsTidyText p exit written)

@@ -1,6 +1,6 @@
 //! The jobs of psmax.
 
-/// How many workers search where their number isn't said.
+/// How many workers search by default.
 pub const ONE_WORKER: usize = 1;
 
 /// What the program is to do.
@@ -8,11 +8,10 @@ pub const ONE_WORKER: usize = 1;
 pub enum Job {
     /// Print the least schedule of the time lags of a project, or the positive cycle.
     Earliest,
-    /// Print the shortest schedule of a project, or that there is none, or, once so many nodes were
-    /// taken, what is known by then; as plain lines or as one line of JSON. With neither workers nor a
-    /// start nor a record, one thread searches by itself; else so many workers do, one if not said, and
-    /// first they are handed the starts of a file, if there is one. A search that isn't stopped is
-    /// recorded, where that is asked for.
+    /// Print a shortest schedule of a project, or that there is none. Once so many nodes were taken, print what is
+    /// known by then. The answer is plain lines or one line of JSON. With neither workers nor a start nor a record, one
+    /// thread searches by itself. Otherwise so many workers do, one by default, from the starts of a file if there is
+    /// one. A search that no limit stops has a record, if that is asked for.
     Solve {
         workers: Option<usize>,
         takes: u64,

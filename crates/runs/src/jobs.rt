@@ -1,11 +1,12 @@
 //! What each job says of the project and the text that it is given.
 
-ghost use Rattle.std.specs.Prelude.{◌≡◌, ◌≢◌, ◌≤◌, true, IfOk, IfErr};
+ghost use Rattle.std.specs.Prelude.{◌≡◌, ◌≢◌, ◌≤◌, IfOk, IfErr};
 ghost use Rattle.plain_search.specs.declared.search.TheConstants.{MAX_TAKES};
 ghost use Rattle.answers.specs.declared.fault.Fault.{Fault};
 ghost use Rattle.answers.specs.declared.fault.Fault.TheVariants as faults;
-ghost use Rattle.answers.specs.Answers.{IsEarliestText, IsCheckText, IsSolveText, IsTidyText};
+ghost use Rattle.answers.specs.Answers.{IsEarliestText, IsCheckText, IsTidyText};
 ghost use Rattle.answers.specs.Faults.{exit_of, IsTextFault};
+ghost use Rattle.answers.specs.Outcomes.{IsAloneText};
 ghost use Rattle.runs.specs.Outcome.{GivesStarts, IsFirstStartsFault};
 
 use answers::{
@@ -36,8 +37,8 @@ pub(crate) fn earliest(alloc: Global, project: &Project) -> Result<Answer, Alloc
     Ok(Answer::of(text, 0))
 }
 
-/// The shortest schedule of a project, or what is known where so many nodes were taken before that,
-/// by a search in this thread alone.
+/// A shortest schedule of a project, by a search in this thread alone. What is known, if so many nodes are taken
+/// before.
 pub(crate) fn solve(
     alloc: Global,
     project: Project,
@@ -46,7 +47,7 @@ pub(crate) fn solve(
 ) -> Result<Answer, AllocError>
     requires some { 1 ≤ takes }
     requires limit { takes ≤ MAX_TAKES }
-    ensures { IfOk result (λ a. IsSolveText project true json a.exit a.text.items) }
+    ensures { IfOk result (λ a. IsAloneText project takes json a.exit a.text.items) }
 {
     let project = Arc::new(alloc, project)?;
     let outcome = search_alone(alloc, &project, takes)?;

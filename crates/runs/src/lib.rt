@@ -1,7 +1,8 @@
 //! Runs of psmax over devices: what a job reads, answers and writes.
 //!
-//! [`run`] does a job in one thread. It reads its [`Input`]s to their ends, within limits, and writes its whole answer to its
-//! [`Output`], or says why there is none. Devices count their failures, so that a run which lost something can't look whole.
+//! [`run`] does a job in one thread. It reads its [`Input`]s to their ends, within limits. It writes its whole answer
+//! to its [`Output`], or says why there is none. Devices count their failures, so that a run which lost something can't
+//! look whole.
 #![tactic(auto)]
 
 mod device;

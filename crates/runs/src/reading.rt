@@ -21,10 +21,10 @@ use words::MAX_TEXT_BYTES;
 /// How many bytes are read at once, at most.
 const CHUNK: usize = 16_384;
 
-/// Reads a whole text of so many bytes at most, and of a longer one no more than one byte beyond that.
+/// Reads a whole text of at most so many bytes. Of a longer one it reads one byte beyond that.
 ///
-/// std's `read_to_end` under a `take` says neither how far the reader itself was read nor whether
-/// it failed or memory ran out.
+/// std's `read_to_end` under a `take` does not say how far the reader itself was read. Nor does it say whether it
+/// failed or memory ran out.
 pub fn read_text<I: Input>(alloc: Global, most: usize, input: &mut I) -> Result<Vec<u8>, Fault>
     requires most { most ≤ MAX_RECORD_BYTES }
     requires input { I.failed input.old < u64.MAX }

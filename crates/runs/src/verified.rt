@@ -32,8 +32,7 @@ fn proof_of(alloc: Global, project: &Project, shown: &Record) -> Result<Answer, 
     Ok(Answer::of(text, 0))
 }
 
-/// What the record in a text proves of a project; or the first fault of the text, and else of what the
-/// record says.
+/// What the record in a text proves of a project. Otherwise the first fault of the text, or of the record.
 pub(crate) fn verified(alloc: Global, project: &Project, text: &[u8]) -> Result<Answer, Fault>
     ensures said { IfOk result
         (λ a. GivesRecord text.now (λ shown. IsProvedText project.now shown a.exit a.text.items)) }

@@ -149,9 +149,8 @@ fn canonical_string(alloc: Global, project: &Project) -> Result<String, AllocErr
     Ok(out)
 }
 
-/// The canonical text of a project: one line for each row, ended by LF, its words separated by one
-/// tab; numbers without leading zeros; lags in brackets. Without resources there is no line of
-/// capacities.
+/// The canonical text of a project. Each row is one line, ended by LF, with one tab between words. Numbers have no
+/// leading zeros, and lags stand in brackets. Without resources there is no line of capacities.
 ///
 /// [`SchFault::Memory`] is the only fault. The time is linear in the text, which has less than 3 MB.
 pub fn write_sch(alloc: Global, project: &Project) -> Result<Vec<u8>, SchFault>

@@ -5,8 +5,8 @@ ghost use Rattle.sch_reader.specs.declared.fault.SchFault.TheVariants.{Memory};
 
 use std::alloc::{AllocError, AllocFailed};
 
-/// Why a text could not be read: the first fault in the order of its words. Words and rows count
-/// from 0; a network row has the number of its activity, and request rows go on from there.
+/// Why a text could not be read: the first fault in the order of its words. Words and rows count from 0. A network row
+/// has the number of its activity, and request rows go on from there.
 #[derive(Clone, Copy, PartialEq, Eq, Debug)]
 pub enum SchFault {
     /// The text has more than 16,777,216 bytes, whatever it holds.

@@ -1,8 +1,8 @@
 //! Reads and writes projects as texts, in a layout made after PSPLIB's single-mode ProGen/max files.
 //!
-//! Space, tab, CR, LF, `[` and `]` are blanks, and a word is a longest run of other bytes; words are
-//! counted from 0. Each word has to be a token: a minus or nothing, and then 1 to 9 digits. With n
-//! activities between the start and the end, and K resources, the words are, in this order:
+//! Space, tab, CR, LF, `[` and `]` are blanks. A word is a longest run of other bytes; words count from 0. Each word
+//! has to be a token: a minus or nothing, and then 1 to 9 digits. With n activities between the start and the end, and
+//! K resources, the words are, in this order:
 //!
 //! 1. the header: n, K, 0, 0;
 //! 2. for each activity a network row: the activity, 1, how many given arcs lead from it, their ends,
@@ -12,8 +12,8 @@
 //!
 //! Rows are numbered through: network rows from 0 to n + 1, request rows from n + 2 to 2n + 3.
 //!
-//! Of all the texts that spell a project one is canonical, which [`write_sch`] gives: a line for each
-//! row, its words separated by one tab, its lags in brackets.
+//! One of the texts that spell a project is canonical, and [`write_sch`] gives it. It has a line for each row, one tab
+//! between words, and lags in brackets.
 #![tactic(auto)]
 
 mod canonical;

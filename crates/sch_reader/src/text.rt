@@ -202,9 +202,9 @@ fn whole_text(alloc: Global, text: &[u8]) -> Result<Parts, SchFault>
 
 /// The project that a text spells, or the first fault of a text that spells none.
 ///
-/// A text of more than 16,777,216 bytes is [`SchFault::TooLong`]; else the fault is the first one in
-/// the order of words. [`SchFault::Memory`] comes only where memory ran out. The time is linear in
-/// the text, and what is kept besides the project is one row. Room is made for no more than the text
+/// A text of more than 16,777,216 bytes is [`SchFault::TooLong`]. Otherwise the fault is the first one in the order of
+/// words. [`SchFault::Memory`] comes only if memory ran out. The
+/// time is linear in the text, and what is kept besides the project is one row. It makes room for no more than the text
 /// can hold: no allocation is larger than 12 bytes for each byte of the text.
 pub fn read_sch(alloc: Global, text: &[u8]) -> Result<Project, SchFault>
     ensures found { IfOk result (λ p. IsProject p × Spells text.now p) }

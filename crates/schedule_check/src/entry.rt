@@ -19,7 +19,7 @@ const START_DIGITS: usize = 10;
 /// What a line says.
 #[derive(Clone, Copy, PartialEq, Eq, Debug)]
 pub(crate) enum Entry {
-    /// The line has spaces and tabs alone, or is passed over.
+    /// The line has spaces and tabs alone, or is skipped.
     Nothing,
     /// The activity starts at this time.
     Gives { activity: usize, start: i64 },

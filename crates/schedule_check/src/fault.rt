@@ -5,12 +5,12 @@ ghost use Rattle.schedule_check.specs.declared.fault.StartsFault.TheVariants.{Me
 
 use std::alloc::{AllocError, AllocFailed};
 
-/// Why a text of starts could not be read: its length, then the first fault of its lines, then the
-/// first activity without a start. Lines count from 1, activities from 0.
+/// Why a text of starts could not be read: its length, the first fault of its lines, or the first activity without a
+/// start. Lines count from 1, activities from 0.
 #[derive(Clone, Copy, PartialEq, Eq, Debug)]
 pub enum StartsFault {
-    /// This line is not an activity of 1 to 4 digits and a start of a minus or nothing and 1 to 10
-    /// digits, with spaces or tabs between them.
+    /// This line is not an activity and a start, with spaces or tabs between them. An activity has 1 to 4 digits. A
+    /// start is a minus or nothing, and 1 to 10 digits.
     Token { line: usize },
     /// No line gives this activity a start, but one each activity before it.
     Missing { activity: usize },

@@ -70,10 +70,9 @@ fn read_lines(
     Ok(table)
 }
 
-/// Reads a text that gives each of so many activities a start: lines of an activity, spaces or tabs,
-/// and its start in periods, in any order, ended by LF or CRLF. Lines of spaces and tabs alone are
-/// passed over, and so is the first line of an answer of the program, which begins with `optimal `,
-/// `feasible ` or `earliest `.
+/// Reads a text that gives each of so many activities a start. Its lines are an activity, spaces or tabs, and its start
+/// in periods, in any order, ended by LF or CRLF. It skips lines of spaces and tabs alone. It also skips the first line
+/// of an answer of the program, which begins with `optimal `, `feasible ` or `earliest `.
 ///
 /// Besides what it hands out it takes 16 bytes for each activity, whatever the text holds.
 pub fn read_starts(alloc: Global, text: &[u8], activities: usize) -> Result<Vec<i64>, StartsFault>

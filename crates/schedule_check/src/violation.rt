@@ -25,8 +25,8 @@ pub enum Violation {
         to: usize,
         weight: i64,
     },
-    /// At this unit of time, at which some activity starts, `used` units of the resource are in use,
-    /// which is more than there are.
+    /// At this unit of time, at which some activity starts, `used` units of the resource are in use, more than there
+    /// are.
     Overload {
         time: i64,
         resource: usize,
@@ -100,9 +100,9 @@ fn push_overloads(
     Ok(())
 }
 
-/// All that keeps the starts from being a feasible schedule of the project: the start, where it is
-/// not at 0; then each rule that they break, in the order of the rules, one that stands twice listed
-/// twice; then each overload at a start time, by time and then by resource.
+/// All that keeps the starts from being a feasible schedule of the project. First comes the start, if it is not at 0.
+/// Then comes each broken rule, in the order of the rules, one that stands twice listed twice. Last comes each overload
+/// at a start time, by time and then by resource.
 ///
 /// With n activities, e given arcs and K resources it takes of the order of `n log n + n K + e`
 /// steps.

@@ -1,8 +1,8 @@
-//! Whether a search record is right for a project, line by line, so that what it claims is true.
+//! Checks whether a search record is right for a project, line by line. If it is, its claim is true.
 //!
-//! A [`Record`] is a claim and the tree of a search. [`verify`] looks at each line with a matrix and a
-//! bound of its own, and trusts nothing of the search that made the record. [`of_trail`] makes the record of a search
-//! from what its book kept of each node.
+//! A [`Record`] is a claim and the tree of a search. [`verify`] checks each line with a matrix and a bound of its own,
+//! and does not trust the search that made the record. [`of_trail`] makes the record of a search from what its book
+//! kept of each node.
 #![tactic(auto)]
 
 mod due;

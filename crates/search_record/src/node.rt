@@ -37,8 +37,8 @@ impl<'a> Model for Node<'a> {
     ghost invariant = { λ s. IsAlong s.project.now s.pairs.items s.matrix };
 }
 
-/// Adds the arc of one pair more under a mark, where the matrix is that of all pairs before it and the arc
-/// closes no walk of positive weight. Where memory runs out, nothing changes.
+/// Adds the arc of one pair more under a mark. The matrix is that of all pairs before it, and the arc closes no walk of
+/// positive weight. Where memory runs out, nothing changes.
 fn go_along(
     matrix: &mut MarkedMatrix,
     project: &Project,

@@ -53,12 +53,12 @@ fn has_right_starts(alloc: Global, project: &Project, claim: &Claim) -> Result<b
     Ok(found.is_empty())
 }
 
-/// What a record proves of a project, where it is right; else its first fault: the starts, and then the
-/// first line of the tree that is not right. [`Why::Memory`] says nothing of the record.
+/// What a right record proves of a project. Otherwise its first fault: of the starts, then of the first line of the
+/// tree that is not right. [`Why::Memory`] says nothing of the record.
 ///
-/// Each line is looked at with the matrix of the project and its node's pairs. There is one matrix, which
-/// takes an arc for each pair and goes back where the tree does (the matrix by Floyd 1962 and Warshall
-/// 1962). A node that is still to come takes two numbers of memory and a pair.
+/// It checks each line with the matrix of the project and its node's pairs. There is one matrix (by Floyd 1962 and
+/// Warshall 1962). It takes an arc for each pair, and goes back where the tree does. A node that is still to come takes
+/// two numbers of memory and a pair.
 pub fn verify(alloc: Global, project: &Project, shown: &Record) -> Result<Proved, RecordFault>
     ensures right { OnOk result (IsRight project.now shown.now) }
     ensures proved { IfOk result (λ proved. proved ≡ proved_of shown.now.claim) }

@@ -94,8 +94,8 @@ fn write_kid<'a>(
     }
 }
 
-/// The lines of the tree under the first name. The stack has the fates that are left of each split, so no node is
-/// looked at twice, however deep the tree is.
+/// The lines of the tree under the first name. The stack has the fates that are left of each split. So it looks at no
+/// node twice, however deep the tree is.
 fn tree_lines(alloc: Global, entries: &[TrailEntry]) -> Result<Vec<Line>, AllocError>
     requires some { 0 < length entries.now }
     requires later { KidsAreLater (map trail_entry entries.now) }

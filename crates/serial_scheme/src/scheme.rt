@@ -11,8 +11,7 @@ use std::alloc::{AllocError, Global};
 /// The noise of a pass after the first one, in thousandths of the longest path.
 const NOISES: [i64; 5] = [20, 50, 100, 200, 400];
 
-/// How often a pass tries to place an activity at most, for each activity of the project, so that it doesn't go on for
-/// long.
+/// How often a pass tries to place an activity at most, for each activity of the project. So no pass goes on for long.
 const STEPS: u64 = 200;
 
 /// Whether more passes help.
@@ -20,8 +19,8 @@ const STEPS: u64 = 200;
 pub enum State {
     /// They may.
     Going,
-    /// They don't: the best schedule takes as long as the longest path, or the rules contradict each other: the arcs
-    /// close a walk of positive weight, or an activity needs more than there is.
+    /// They don't. The best schedule takes as long as the longest path, or there is no schedule. There is none if the
+    /// arcs close a walk of positive weight, or if an activity needs more than there is.
     Ended,
 }
 

@@ -9,7 +9,7 @@ pub(crate) const FAR: i64 = 1_000_000_000_000_000;
 
 /// The starts of the activities that are placed, and the windows that they leave to the others.
 ///
-/// A window is found when it is asked for, so that nothing has to be found again where activities are unscheduled.
+/// It finds a window when asked, so nothing has to be found again after activities are unscheduled.
 #[derive(Drop)]
 pub(crate) struct Windows {
     /// Long before any time where an activity isn't placed.

@@ -16,7 +16,7 @@ pub struct Asked {
     pub jobs: u64,
     /// After how many conflicts each search is stopped.
     pub conflicts: u64,
-    /// After how many seconds by the clock all are stopped, which is looked at after each turn of a search.
+    /// After how many seconds by the clock all stop. A job looks at the clock after each turn of a search.
     pub seconds: u64,
     /// From where the first search breaks ties. Each further one begins at the next number.
     pub seed: u64,
@@ -26,7 +26,7 @@ pub struct Asked {
     pub start: bool,
     /// Whether the answer is one line of JSON.
     pub json: bool,
-    /// Whether each shorter schedule and each greater bound is told on standard error while the search goes on.
+    /// Whether the run reports each shorter schedule and each greater bound on standard error while the search goes on.
     pub progress: bool,
 }
 
@@ -44,8 +44,8 @@ impl Asked {
         }
     }
 
-    /// The options of a search. Of those side by side every second leaves dives out, which slow proofs down, and two of four
-    /// leave energy out, which seldom tells more than the time table.
+    /// The options of a search. Every second job leaves dives out, which slow proofs down. Two of four leave energy
+    /// out, which seldom tells more than the time table.
     pub(crate) fn options(self, job: u64) -> Options {
         Options {
             seed: self.seed.wrapping_add(job),

@@ -1,4 +1,4 @@
-//! What is said of an outcome, with the figures of the search before psmax's members where it is a line of JSON.
+//! What is said of an outcome. A line of JSON has the figures of the search before psmax's members.
 
 ghost use Rattle.std.specs.Prelude.{◌≡◌, IfOk, string_bytes};
 ghost use Rattle.solve_runs.specs.Figures.{Says, figures_text, with_figures};

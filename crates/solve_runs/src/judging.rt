@@ -100,7 +100,8 @@ fn check(alloc: Global, project: &Project, shown: &LemmaRecord) -> Result<(), Fa
     }
 }
 
-/// The outcome that a record shows, which the checker finds right; where it claims a bound alone, with the best schedule.
+/// The outcome that a record shows, once the checker finds it right. If it claims a bound alone, the outcome has the
+/// best schedule.
 pub(crate) fn outcome_of(
     alloc: Global,
     project: &Arc<Project>,

@@ -1,8 +1,8 @@
-//! Runs of `psprove solve` over devices: a search that nobody has to trust, and what the checker says of its record.
+//! Runs of `psprove solve` over devices: an untrusted search, and what the checker says of its record.
 //!
-//! [`solve`] reads a project, and perhaps starts, and searches within limits, with as many searches side by side as are asked
-//! for. The record of one of them is read and checked as that of any other program would be. What it proves is written, and then
-//! the record itself.
+//! [`solve`] reads a project, and perhaps starts. It searches within limits, with as many searches side by side as are
+//! asked for. It reads and checks the record of one of them as that of any other program. It writes what the record
+//! proves, and then the record itself.
 #![tactic(auto)]
 
 mod asked;
@@ -11,6 +11,7 @@ mod figures;
 mod jobs;
 mod judging;
 mod progress;
+mod report;
 mod running;
 mod searching;
 mod solving;

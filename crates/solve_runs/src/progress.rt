@@ -1,8 +1,8 @@
-//! The clock of a search, and what is told while it goes on.
+//! The clock of a search, and its reports while it goes on.
 
 use std::time::{Clock, Instant};
 
-/// A clock that was looked at when the search began.
+/// A clock that knows when the search began.
 #[derive(Clone, Copy)]
 pub(crate) struct Watch {
     since: Option<Instant>,

@@ -19,8 +19,8 @@ use std::thread::Threads;
 use std::time::Clock;
 use words::MAX_TEXT_BYTES;
 
-/// The reply of a search to what its inputs hold. The project is read and judged before the starts, and these before anything is
-/// searched.
+/// The reply of a search to what its inputs hold. The project is read and judged before the starts, and these before
+/// anything is searched.
 fn solve_reply<I: Input, S: Input, R: Clock + Eprint + Threads + Wait + Sync>(
     rt: &R,
     alloc: Global,
@@ -46,14 +46,15 @@ fn solve_reply<I: Input, S: Input, R: Clock + Eprint + Threads + Wait + Sync>(
     solved_from(rt, alloc, asked, project, &starts)
 }
 
-/// Searches for a shortest schedule of the project on the first input, from the starts on the second where that is asked for.
-/// Writes the answer and then the record that shows it, and nothing else. A second input that isn't asked for, and an output for
-/// a record that nobody wants, is handed one that is missing. After a failure a device isn't called again.
+/// Searches for a shortest schedule of the project on the first input. The search starts from the starts on the second
+/// input, if that is asked for. Writes the answer and then the record that shows it, and nothing else. The caller hands
+/// over a missing device for a second input that isn't asked for, and for a record that nobody wants. After a failure a
+/// device isn't called again.
 ///
-/// The answer is `optimal C` with starts or `no schedule`, exit status 0, or where a limit stopped the search `feasible C bound B`
-/// with starts or `unknown bound B`, exit status 3; of starts that are no feasible schedule all that they violate, exit status 4,
-/// and no record. What the search says goes to the checker first, as the text of its record: [`Fault::Refused`] comes where that
-/// isn't right, or the best schedule of a stopped search is none.
+/// With exit status 0 the answer is `optimal C` with starts, or `no schedule`. If a limit stopped the search, it is
+/// `feasible C bound B` with starts or `unknown bound B`, exit status 3. For starts that are not a feasible schedule it
+/// is all that they violate, exit status 4, without a record. The checker gets what the search says first, as the text
+/// of its record. [`Fault::Refused`] comes if that isn't right, or if the best schedule of a stopped search is none.
 pub fn solve<I: Input, S: Input, O: Output, D: Output, R: Clock + Eprint + Threads + Wait + Sync>(
     rt: &R,
     alloc: Global,

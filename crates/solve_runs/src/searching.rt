@@ -3,6 +3,7 @@
 use crate::asked::Asked;
 use crate::board::Board;
 use crate::progress::Watch;
+use crate::report::Report;
 use crate::team::Team;
 use lemma_search::State;
 use network::Project;
@@ -42,6 +43,26 @@ fn search_within<R: Clock + Eprint + Wait>(
     Ok(())
 }
 
+/// Leaves a record on the board, where it shows more than the one that is there.
+fn hand_in<R: Wait>(
+    rt: &R,
+    alloc: Global,
+    project: &Project,
+    board: &Mutex<Board>,
+    team: Team,
+) -> Result<(), AllocError> {
+    let (state, bound) = (team.state(), team.bound());
+    if board.lock(rt).leave(team.counts(), state, bound) {
+        let shown = team.into_record(alloc, project)?;
+        board.lock(rt).report(Report {
+            state,
+            bound,
+            shown,
+        });
+    }
+    Ok(())
+}
+
 /// A search within limits, from the schedule that the board knows.
 fn search<R: Clock + Eprint + Wait>(
     rt: &R,
@@ -51,14 +72,14 @@ fn search<R: Clock + Eprint + Wait>(
     project: &Project,
     job: u64,
     board: &Mutex<Board>,
-) -> Result<Team, AllocError> {
+) -> Result<(), AllocError> {
     let mut team = Team::new(alloc, asked, project, job)?;
     team.exchange(alloc, &mut board.lock(rt))?;
     search_within(rt, alloc, asked, watch, project, board, &mut team)?;
-    Ok(team)
+    hand_in(rt, alloc, project, board, team)
 }
 
-/// A search within limits, one of several side by side: where memory runs out, the others stop too.
+/// A search within limits, one of several side by side.
 pub(crate) fn search_beside<R: Clock + Eprint + Wait>(
     rt: &R,
     alloc: Global,
@@ -67,10 +88,8 @@ pub(crate) fn search_beside<R: Clock + Eprint + Wait>(
     project: &Project,
     job: u64,
     board: &Mutex<Board>,
-) -> Result<Team, AllocError> {
-    let found = search(rt, alloc, asked, watch, project, job, board);
-    if found.is_err() {
-        board.lock(rt).is_over = true;
+) {
+    if search(rt, alloc, asked, watch, project, job, board).is_err() {
+        board.lock(rt).give_up();
     }
-    found
 }

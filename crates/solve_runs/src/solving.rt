@@ -1,4 +1,4 @@
-//! What a search replies of a project, and of starts that are handed in.
+//! What a search replies of a project, and of the starts of a file.
 
 ghost use Rattle.std.specs.Prelude.{◌≡◌, ◌≢◌, IfOk, IfErr};
 ghost use Rattle.std.specs.Arc.{arc_value};
@@ -56,7 +56,7 @@ fn shown_reply(
     Ok(Reply::new(answer, Some(found.text)))
 }
 
-/// What a search has found of a project, from a schedule of it that may be handed in, as its record shows.
+/// What a search has found of a project, perhaps from a schedule of it, as its record shows.
 pub(crate) fn solved<R: Clock + Eprint + Threads + Wait + Sync>(
     rt: &R,
     alloc: Global,
@@ -78,7 +78,7 @@ pub(crate) fn solved<R: Clock + Eprint + Threads + Wait + Sync>(
     }
 }
 
-/// What the starts in a text violate, where they are no feasible schedule of the project, and then nothing is searched; else
+/// If the starts in a text are not a feasible schedule of the project, what they violate, without a search. Otherwise
 /// what a search has found from them.
 pub(crate) fn solved_from<R: Clock + Eprint + Threads + Wait + Sync>(
     rt: &R,

@@ -21,13 +21,13 @@ pub(crate) struct Turns {
 /// Up to so many activities most proofs are found by lemmas on pairs. The portfolio gets a tenth of the time.
 const SMALL: usize = 60;
 
-/// Up to so many the portfolio gets more than half of the time. From there on lemmas on pairs do little once the first bounds
-/// are known.
+/// Up to so many the portfolio gets more than half of the time. From there on lemmas on pairs do little once the first
+/// bounds are known.
 const MIDDLE: usize = 120;
 
 impl Turns {
-    /// The turns for a project of so many activities, by the number of a job. Every second job has those of a project of twice
-    /// the size.
+    /// The turns for a project of so many activities, by the number of a job. Every second job has those of a project
+    /// of twice the size.
     pub(crate) fn new(activities: usize, job: u64) -> Turns {
         let size = if job % 2 == 0 {
             activities

@@ -1,4 +1,4 @@
-//! `psmax`: projects with resources and time lags, with every answer proved.
+//! `psmax`: solves projects with resources and time lags, and proves every answer.
 #![tactic(auto)]
 
 ghost use Rattle.calls.specs.Calls.{IsCall};
@@ -53,8 +53,8 @@ fn refuse_file<R: Eprint>(rt: &R, name: Option<&String>) -> ExitCode {
     ExitCode::from(1)
 }
 
-/// Opens the files that the call names, and runs its job on standard input and output, its second input and the output of
-/// its record.
+/// Opens the files that the call names, and runs its job. The devices are standard input and output, the second input
+/// and the output of the record.
 fn perform<R: Runtime + Threads + Wait + Sync>(rt: &R, alloc: Global, call: &Call) -> ExitCode
     requires { IsCall call.now }
 {
@@ -84,8 +84,8 @@ fn perform<R: Runtime + Threads + Wait + Sync>(rt: &R, alloc: Global, call: &Cal
 /// What stands in for a standard device that is closed: a folder gives no bytes, and takes none.
 const FOLDER: &str = "/";
 
-/// Does the call once no standard device is closed: a file that is opened in the place of one would be taken for it, and
-/// the answer be written into the record.
+/// Does the call once no standard device is closed. Otherwise a file could open in the place of one, and the answer
+/// would go into the record.
 fn perform_apart<R: Runtime + Threads + Wait + Sync>(rt: &R, alloc: Global, call: &Call) -> ExitCode
     requires { IsCall call.now }
 {

@@ -5,7 +5,7 @@ use start_trail::{Conflict, Literal, NO_LITERAL, Nogoods, Reason, Rules, Trail};
 use std::alloc::{AllocError, Global};
 use tables::Table;
 
-/// What a literal or a conflict follows from is asked for as of the first so many events.
+/// A question: from what a literal or a conflict follows, as of the first so many events.
 #[derive(Clone, Copy)]
 pub struct Asked {
     pub literal: Literal,
@@ -13,7 +13,7 @@ pub struct Asked {
     pub time: u32,
 }
 
-/// Who is to be found running at a time, beside one activity that may be left out, and above how much.
+/// A question: who must run at a time besides one activity that may be left out, and above which use.
 #[derive(Clone, Copy)]
 struct Crowd {
     resource: u32,
@@ -23,7 +23,7 @@ struct Crowd {
     before: u32,
 }
 
-/// An activity that must run at a time: the event that made it so, none of the root, and minus its demand.
+/// An activity that must run at a time: the event that made it so (none of the root), and minus its demand.
 #[derive(Clone, Copy, PartialEq, Eq, PartialOrd, Ord)]
 struct Member {
     age: u32,
@@ -87,7 +87,7 @@ impl Explainer {
         (count, sum)
     }
 
-    /// Members that need more of a resource at a time than there is room, and of which none can be spared.
+    /// A smallest set of members that need more of a resource at a time than there is room.
     fn explain_crowd(
         &mut self,
         rules: &Rules,

@@ -1,7 +1,7 @@
-//! What follows from starts between bounds: by arcs, by the orders of pairs, by nogoods and by time tables; and which
-//! literals an event or a conflict follows from.
+//! What follows from bounds of starts by arcs, by orders of pairs, by nogoods and by time tables. It also tells from
+//! which literals an event or a conflict follows.
 //!
-//! Reasons are looked for when they are asked for, and for the value that is needed only.
+//! It looks for a reason only when it is asked, and only for the value that is needed.
 #![tactic(auto)]
 
 mod breaks;

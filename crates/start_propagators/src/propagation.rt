@@ -5,14 +5,14 @@ use crate::time_table::{Look, TimeTable};
 use start_trail::{Arcs, Literal, Nogoods, Reason, Rules, Stop, Trail};
 use std::alloc::{AllocError, Global};
 
-/// All propagators, and what they have looked at of a trail.
+/// All propagators, and how much of a trail they have seen.
 #[derive(Drop)]
 pub struct Propagators {
     pub pairs: Pairs,
     /// Arcs beside those of the project.
     arcs: Arcs,
     time_table: TimeTable,
-    /// How many events arcs, pairs and nogoods have looked at, and how many the time table has.
+    /// How many events arcs, pairs and nogoods have seen, and how many the time table has.
     followed: u32,
     tabled: u32,
 }
@@ -38,8 +38,8 @@ fn follow_arcs(arcs: &Arcs, trail: &mut Trail, slot: u32) -> Result<(), Stop> {
 }
 
 impl Propagators {
-    /// The propagators of a project with more arcs, which are laid out, and pairs whose orders are variables; for
-    /// schedules that end by a horizon.
+    /// The propagators of a project with more arcs, which are laid out, and pairs whose orders are variables. Schedules
+    /// end by a horizon.
     pub fn new(
         alloc: Global,
         rules: &Rules,
@@ -146,7 +146,7 @@ impl Propagators {
         }
     }
 
-    /// What follows from all events that weren't looked at.
+    /// What follows from all events that propagation has not seen.
     fn follow_events(
         &mut self,
         rules: &Rules,
@@ -211,7 +211,7 @@ impl Propagators {
         self.time_table.begin_level()
     }
 
-    /// The trail went back to a level, where all was looked at.
+    /// The trail went back to a level at which propagation was complete.
     pub fn go_back(&mut self, rules: &Rules, trail: &Trail, level: u32) -> Result<(), AllocError> {
         self.time_table.go_back(rules, level)?;
         self.followed = trail.now();

@@ -12,7 +12,7 @@ struct Change {
     old: Part,
 }
 
-/// Which ends of an activity's window are to be looked at.
+/// Which ends of an activity's window to look at.
 #[derive(Clone, Copy)]
 pub(crate) struct Look {
     pub(crate) least: bool,
@@ -57,7 +57,7 @@ impl TimeTable {
         })
     }
 
-    /// An end of an activity's window is to be looked at.
+    /// Notes ends of an activity's window to look at.
     pub(crate) fn note(&mut self, activity: u32, look: Look) -> Result<(), AllocError> {
         let known = self.looks.get(activity as usize);
         if !known.least && !known.greatest {
@@ -71,7 +71,7 @@ impl TimeTable {
         Ok(())
     }
 
-    /// The next activity to be looked at.
+    /// The next activity to look at.
     pub(crate) fn next(&mut self) -> Option<(u32, Look)> {
         let activity = self.todo.pop()?;
         let look = self.looks.get(activity as usize);
@@ -244,7 +244,7 @@ impl TimeTable {
         Ok(())
     }
 
-    /// Nothing is to be looked at any more.
+    /// Forgets all that there is to look at.
     fn clear_todo(&mut self) {
         for _ in 0..self.todo.len() {
             if let Some(activity) = self.todo.pop() {

@@ -1,4 +1,4 @@
-//! The record of lemmas of a search on the bounds of starts: its nogoods are lemmas whose literals are arcs from or to
+//! The record of lemmas of a search on the bounds of starts. Its nogoods are lemmas; their literals are arcs from or to
 //! the start of the project.
 //!
 //! Nothing here needs to be trusted: whoever takes a record has it checked.

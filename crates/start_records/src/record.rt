@@ -94,7 +94,7 @@ fn lines(
     }
 }
 
-/// The record that shows that the best schedule of a search is a shortest one. None where the search hasn't ended with
+/// The record that shows that the best schedule of a search is a shortest one. None if the search hasn't ended with
 /// one, keeps no proofs, or has a number that is larger than a record may have.
 pub fn record_of(
     alloc: Global,

@@ -6,7 +6,7 @@ use start_search::{Ground, Proof, Trace};
 use std::alloc::{AllocError, Global};
 use tables::Table;
 
-/// Makes lemmas and their proofs of the nogoods that are needed, and numbers them anew.
+/// Makes lemmas and their proofs of the needed nogoods, with new numbers.
 #[derive(Drop)]
 pub(crate) struct Writer {
     pub(crate) lemmas: Lemmas,

@@ -69,8 +69,8 @@ impl Brancher {
         })
     }
 
-    /// Whether the first activity of a pair runs first in the best schedule; else as it did last; else where it has
-    /// more room.
+    /// Whether the first activity of a pair runs first: as in the best schedule, else as it did last, else by where it
+    /// has more room.
     fn is_first(
         &self,
         rules: &Rules,

@@ -27,7 +27,7 @@ enum Next {
     Decide,
 }
 
-/// When the search begins anew at the root, how many nogoods it keeps, and how many bytes it may take.
+/// When the search restarts at the root, how many nogoods it keeps, and how many bytes it may take.
 #[derive(Clone, Copy)]
 struct Pace {
     since_restart: u64,
@@ -65,7 +65,7 @@ fn luby(place: u64) -> u64 {
     1
 }
 
-/// The values of all slots, where a schedule is to end before a ceiling and so many pairs have no order yet.
+/// The values of all slots at first: a schedule ends before a ceiling, and so many pairs have no order yet.
 fn first_values(
     alloc: Global,
     rules: &Rules,
@@ -168,7 +168,7 @@ impl Engine {
         Ok(())
     }
 
-    /// Goes back to a level, where all was looked at.
+    /// Goes back to a level at which propagation was complete.
     fn go_back(&mut self, rules: &Rules, level: u32) -> Result<(), AllocError> {
         if level >= self.trail.level() {
             return Ok(());
@@ -178,7 +178,7 @@ impl Engine {
         self.propagators.go_back(rules, &self.trail, level)
     }
 
-    /// A schedule is to end before the ceiling: that is looked at next, from the root.
+    /// A schedule has to end before the ceiling. Propagation looks at that next, from the root.
     fn lower_deadline(&mut self, rules: &Rules) -> Result<(), AllocError> {
         self.go_back(rules, 0)?;
         let last = self.incumbent.ceiling().wrapping_sub(1);
@@ -243,13 +243,13 @@ impl Engine {
         self.lower_deadline(rules)
     }
 
-    /// Whether it is time to begin anew.
+    /// Whether it is time to restart.
     fn is_restart_due(&self) -> bool {
         let most = luby(self.counts.restarts.wrapping_add(1)).wrapping_mul(LUBY_UNIT);
         self.pace.since_restart >= most
     }
 
-    /// Begins anew at the root, with fewer nogoods where there are too many.
+    /// Restarts at the root, with fewer nogoods if there are too many.
     fn restart(&mut self, alloc: Global, rules: &Rules) -> Result<(), AllocError> {
         self.pace.since_restart = 0;
         self.counts.restarts = self.counts.restarts.wrapping_add(1);

@@ -32,8 +32,8 @@ impl Incumbent {
         self.ceiling
     }
 
-    /// So many periods in units. All starts of a schedule may be rounded down: arcs between them are whole units, and
-    /// those that run at once then did before.
+    /// So many periods in units. All starts of a schedule may be rounded down. Arcs between them are whole units, and
+    /// activities that then run at once did so before.
     fn units(&self, periods: i64) -> i32 {
         (periods / self.unit.max(1)).clamp(0, 2_000_000_000) as i32
     }

@@ -108,8 +108,9 @@ impl Search {
         }
     }
 
-    /// The proof that the best schedule is a shortest one: the last of the trace. None where the search hasn't ended, or
-    /// keeps no proofs: times are counted in units of several periods, orders of pairs are variables, or there was no room.
+    /// The proof that the best schedule is a shortest one: the last of the trace. None if the search hasn't ended or
+    /// keeps no proofs. It keeps none if times count units of several periods, if orders of pairs are variables, or if
+    /// there was no room.
     pub fn trace(&self) -> Option<&Trace> {
         if self.engine.state == State::Ended && self.engine.incumbent.is_known() {
             self.engine.trace.as_ref()

@@ -29,8 +29,8 @@ const NO_LINK: Link = Link {
     ground: Ground::Walk,
 };
 
-/// Shows that the literals of a nogood can't all hold: literals that follow, and the end. It stands on the first so many
-/// links of the root.
+/// Shows that the literals of a nogood can't all hold: literals that follow, and the end. It stands on the first so
+/// many links of the root.
 #[derive(Clone, Copy)]
 pub struct Proof {
     literals: Span,
@@ -47,7 +47,7 @@ pub struct Trace {
     /// The links of each proof, from the last to the first.
     links: Table<Link>,
     roots: Table<Link>,
-    /// How many events of the root were looked at.
+    /// How many events of the root it has seen.
     seen: u32,
 }
 

@@ -1,6 +1,6 @@
 //! A literal: a bound of one start, or an order of a pair.
 
-/// A slot has at least this value: an activity starts no earlier, or no later, or two activities run in an order.
+/// A slot has at least this value. So an activity starts no earlier, or no later, or two activities run in an order.
 #[derive(Clone, Copy, PartialEq, Eq, Debug)]
 pub struct Literal {
     pub slot: u32,

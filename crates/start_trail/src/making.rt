@@ -98,7 +98,7 @@ pub(crate) fn numbers_of(alloc: Global, project: &Project) -> Result<Numbers, Al
     })
 }
 
-/// The arcs of a project: those that are given, from the start to each activity, and from each activity to the end.
+/// The arcs of a project: the given ones, from the start to each activity, and from each activity to the end.
 pub(crate) fn arcs_of(alloc: Global, project: &Project, unit: i64) -> Result<Arcs, AllocError> {
     let mut arcs = Arcs::new(alloc);
     for lag in project.arcs(alloc, &[])?.iter() {
@@ -118,8 +118,7 @@ fn longest_delay(numbers: &Numbers, arcs: &Arcs, activity: u32) -> i32 {
     longest
 }
 
-/// A time by which a schedule ends, if there is one: each activity in its turn holds up the next one for so long at
-/// most.
+/// A time by which a schedule ends, if there is one: the sum of how long each activity can hold up the next one.
 pub(crate) fn horizon_of(numbers: &Numbers, arcs: &Arcs) -> i32 {
     let mut sum = 0i64;
     for activity in 0..numbers.activity_count() {

@@ -27,7 +27,7 @@ pub struct Nogoods {
     bump: u64,
 }
 
-/// What a nogood counts for when it is needed: at first, at most, and by how much all counts fall then.
+/// What a need adds to a nogood's weight: at first, at most, and by how much all weights fall then.
 const FIRST_BUMP: u64 = 1_000_000;
 
 const LAST_BUMP: u64 = 1_000_000_000_000_000;
@@ -189,7 +189,7 @@ impl Nogoods {
         at
     }
 
-    /// All nogoods are watched anew by their first two literals.
+    /// Watches all nogoods again by their first two literals.
     fn watch_anew(&mut self) -> Result<(), AllocError> {
         self.watches.clear();
         for number in 0..self.list.count() {

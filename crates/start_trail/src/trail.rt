@@ -5,8 +5,8 @@ use crate::reason::{Conflict, Reason, Stop};
 use std::alloc::{AllocError, Global};
 use tables::{Table, narrow};
 
-/// A slot got a greater value: which one, what it was, why, at which level; and the number of the slot's event before,
-/// 0 for none. Events count from 1.
+/// A slot got a greater value: which slot, its old value, the level and the reason. `before` is the number of the
+/// slot's event before, or 0. Events count from 1.
 #[derive(Clone, Copy)]
 pub struct Event {
     pub slot: u32,

@@ -7,8 +7,8 @@ use crate::trail::Trail;
 use std::alloc::{AllocError, Global};
 use tables::{Table, narrow};
 
-/// A literal watches a nogood: its value, a literal of the nogood whose reverse may hold, and the name of the next
-/// watch of the same slot or 0.
+/// A literal watches a nogood. The watch has the literal's value, a literal of the nogood whose reverse may hold, and
+/// the name of the next watch of the same slot, or 0.
 #[derive(Clone, Copy)]
 struct Watch {
     nogood: u32,

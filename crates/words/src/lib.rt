@@ -1,8 +1,7 @@
-//! What every reader of a text is made of: where its bytes are cut, and the numbers that digits spell.
+//! The parts of every reader of a text: where it cuts bytes, and the numbers that digits spell.
 //!
-//! A text is cut at one byte by [`split_once`], which keeps empty pieces, or into words by
-//! [`split_word`], which passes over any run of separators. What a word spells is [`natural`] or, with
-//! a sign, [`integer`].
+//! [`split_once`] cuts a text at one byte, and keeps empty pieces. [`split_word`] cuts it into words, and skips any run
+//! of separators. What a word spells is [`natural`] or, with a sign, [`integer`].
 #![tactic(auto)]
 
 mod numeral;

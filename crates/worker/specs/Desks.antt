@@ -1,5 +1,5 @@
 -- The desks of one shared book, and what they count.
-use Rattle.std.specs.Prelude.{◌≡◌, ◌+◌, ℕ, List, [], ◌∷◌, Result, Ok, Err}
+use Rattle.std.specs.Prelude.{◌≡◌, ◌+◌, ◌≤◌, ℕ, ℤ, pos, List, [], ◌∷◌, Result, Ok, Err}
 use Rattle.best_word.specs.Word.{Word}
 use Rattle.worker.specs.declared.desk.Desk.{Desk}
 use Rattle.worker.specs.declared.desk.Tally.{Tally}
@@ -26,6 +26,11 @@ IsRowAt word first (d ∷ ds) = (d.number ≡ first) × (d.seat.word ≡ word) �
 -- the desks of this shared book, in their order
 abbrev pub IsRow : {L : Type 0} → Shared L → List (Desk L) → Type 0
 IsRow shared desks = IsRowAt shared.best 0 desks
+
+-- the first desk has told the best word of a makespan, or of a lesser one
+abbrev pub HasTold : {L : Type 0} → ℤ → List (Desk L) → Type 0
+HasTold length [] = Unit {0}
+HasTold length (d ∷ ds) = (number : ℕ) → pos number ≡ length → d.seat.view.offered ≤ number
 
 abbrev pub tally_of : {L : Type 0} → Desk L → Tally
 tally_of d = record { accepted = d.accepted; ahead = d.ahead }

@@ -1,8 +1,10 @@
 -- What a search by workers may fail with.
-use Rattle.std.specs.Prelude.{◌≡◌, ◌≢◌, ◌↔◌, ℕ, Result, Ok, Err}
+use Rattle.std.specs.Prelude.{◌≡◌, ◌≢◌, ◌↔◌, ◌⊎◌, ℕ, Result, Ok, Err}
 use Rattle.book.specs.Opening.{AreAllowed}
 use Rattle.book.specs.declared.answers.BookFault.{BookFault}
 use Rattle.book.specs.declared.answers.BookFault.TheVariants as book_fault
+use Rattle.book.specs.declared.answers.CheckFault.{CheckFault}
+use Rattle.book.specs.declared.answers.CheckFault.TheVariants as check_fault
 use Rattle.worker.specs.declared.fault.SolveFault.{SolveFault}
 use Rattle.worker.specs.declared.fault.SolveFault.TheVariants as fault
 use Rattle.worker.specs.declared.fault.WorkFault.{WorkFault}
@@ -21,6 +23,14 @@ IsWorkFault (work_fault.Refused why) found = found ≡ fault.Refused why
 -- a fault of a worker: want of memory, or a refusal of the book
 abbrev pub IsOfWork : SolveFault → Type 0
 IsOfWork found = (why : WorkFault) × IsWorkFault why found
+
+-- a fault of an opening: there may not be so many workers or takes, or memory ran out
+abbrev pub IsOfOpening : SolveFault → Type 0
+IsOfOpening found = (found ≡ fault.Limit) ⊎ (found ≡ fault.Memory)
+
+-- why a node can't be given back
+abbrev pub IsOfGivingBack : CheckFault → Type 0
+IsOfGivingBack found = (found ≡ check_fault.Unknown) ⊎ ((found ≡ check_fault.NotInHand) ⊎ (found ≡ check_fault.Memory))
 
 -- a fault of a search that may have so many workers and takes
 abbrev pub IsWithinLimits : SolveFault → Type 0

@@ -1,3 +1,4 @@
 pub mod Desks
 pub mod Faults
+pub mod Locking
 pub mod Solving

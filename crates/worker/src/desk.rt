@@ -6,8 +6,8 @@ use best_word::BestSeat;
 use branching::Searcher;
 use std::sync::ledger::{Ledger, Share};
 
-/// One worker's place at a [`Shared`](crate::Shared) book: its number, what it counted, its share of the nodes that were
-/// checked in, and its seat at the best word.
+/// One worker's place at a [`Shared`](crate::Shared) book. It has the worker's number and counts, its share of the
+/// nodes checked in, and its seat at the best word.
 #[derive(Drop)]
 pub struct Desk<L: Ledger> {
     pub(crate) number: usize,

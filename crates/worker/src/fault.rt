@@ -6,8 +6,8 @@ use std::alloc::AllocError;
 /// Why a search by workers has no outcome.
 #[derive(Clone, Copy, Debug, PartialEq, Eq)]
 pub enum SolveFault {
-    /// There are not 1 to [`MAX_WORKERS`](book::MAX_WORKERS) workers, or not 1 to [`MAX_TAKES`](plain_search::MAX_TAKES)
-    /// takes.
+    /// There are not 1 to [`MAX_WORKERS`](book::MAX_WORKERS) workers, or not 1 to
+    /// [`MAX_TAKES`](plain_search::MAX_TAKES) takes.
     Limit,
     /// Memory ran out.
     Memory,

@@ -2,8 +2,9 @@
 
 ghost use Rattle.std.specs.Prelude.{◌≡◌};
 ghost use Rattle.std.specs.Arc.{arc_value};
+ghost use Rattle.branching.specs.Path.{IsAt};
 
-use branching::{Lean, Report, Searcher};
+use branching::{Lean, Node, Report, Searcher, expand};
 use std::alloc::{AllocError, Global};
 use std::marker::Sync;
 use std::sync::{Arc, Wait};
@@ -19,25 +20,38 @@ pub enum Moment {
     Ended,
 }
 
-/// What the workers of a search pass and call while they don't hold the lock. A caller's gate may wait, count, or expand
-/// nodes in its own way: a report is fair whoever makes it, so no gate can make an outcome wrong.
+/// What the workers of a search pass and call while they don't hold the lock. A caller's gate may wait, count, or
+/// expand nodes in its own way. A report is fair whoever makes it, so no gate can make an outcome wrong.
 pub trait Gate: Sync {
     /// Called by a worker at each moment.
     fn pass<R: Wait>(&self, rt: &R, worker: usize, moment: Moment);
 
-    /// The report on a node under a ceiling. The worker's searcher has been moved to the node.
+    /// The report on a node under a ceiling.
     fn expand<R: Wait>(
         &self,
         _rt: &R,
+        alloc: Global,
+        node: &Arc<Node>,
+        ceiling: Option<i64>,
+    ) -> Result<Report, AllocError> {
+        expand(alloc, node, ceiling)
+    }
+
+    /// What workers call: the report of `expand` on the node that the worker's searcher is at. A gate that doesn't expand in
+    /// its own way saves the copy of the matrix here.
+    fn expand_at<R: Wait>(
+        &self,
+        rt: &R,
         alloc: Global,
         searcher: &mut Searcher,
         node: &Arc<Lean>,
         ceiling: Option<i64>,
     ) -> Result<Report, AllocError>
-        requires { searcher.old.project ≡ (arc_value node.now).project }
-        ensures { searcher.new.project ≡ searcher.old.project }
+        requires { IsAt searcher.old (arc_value node.now) }
+        ensures { searcher.new ≡ searcher.old }
     {
-        searcher.expand(alloc, node, ceiling)
+        let node = searcher.node(alloc, node)?;
+        self.expand(rt, alloc, &node, ceiling)
     }
 }
 
@@ -46,4 +60,15 @@ pub struct OpenGate;
 
 impl Gate for OpenGate {
     fn pass<R: Wait>(&self, _rt: &R, _worker: usize, _moment: Moment) {}
+
+    fn expand_at<R: Wait>(
+        &self,
+        _rt: &R,
+        alloc: Global,
+        searcher: &mut Searcher,
+        node: &Arc<Lean>,
+        ceiling: Option<i64>,
+    ) -> Result<Report, AllocError> {
+        searcher.expand_here(alloc, node, ceiling)
+    }
 }

@@ -1,9 +1,9 @@
 //! Workers that search one project over one locked book.
 //!
-//! [`search`] does the whole: it opens a book, starts a thread for each worker, joins them and tells what is known then. It
-//! can keep what became of each node, of which a record of the search can be made.
-//! [`Shared`], [`Desk`] and [`work`] are its parts, for callers with threads of their own. Whatever the threads do, the
-//! book is sound whenever its lock is free, so its verdict is true of its project.
+//! [`search`] does the whole. It opens a book, starts a thread for each worker, joins the threads and tells what is
+//! known then. It can keep what became of each node, from which a record of the search is made. [`Shared`], [`Desk`]
+//! and [`work`] are its parts, for callers with threads of their own. Whatever the threads do, the book is sound
+//! whenever its lock is free, so its verdict is true of its project.
 //!
 //! A worker takes a node under the lock, expands it without the lock, and checks its report in under the lock. The
 //! best word tells it of shorter schedules that others found meanwhile.

@@ -2,6 +2,7 @@
 
 ghost use Rattle.std.specs.Prelude.{◌≡◌, ◌≤◌, IfOk, IfErr};
 ghost use Rattle.std.specs.Arc.{arc_value};
+ghost use Rattle.branching.specs.Path.{IsAt};
 ghost use Rattle.worker.specs.Desks.{SeatedAt, StaysAt, CountsAccepted};
 ghost use Rattle.worker.specs.Faults.{IsOfWork};
 
@@ -40,7 +41,7 @@ fn searcher_for(alloc: Global, kept: Option<Searcher>, node: &Lean) -> Result<Se
 
 /// A searcher that is at the node: the kept one, if it is one of the node's project.
 fn searcher_at(alloc: Global, kept: Option<Searcher>, node: &Lean) -> Result<Searcher, AllocError>
-    ensures { IfOk result (λ searcher. searcher.project ≡ node.now.project) }
+    ensures { IfOk result (λ searcher. IsAt searcher node.now) }
 {
     let mut searcher = searcher_for(alloc, kept, node)?;
     searcher.move_to(node.pairs())?;
@@ -58,12 +59,12 @@ impl<L: Ledger> Shared<L> {
         searcher: &mut Searcher,
         ticket: &Ticket,
     ) -> Result<Option<i64>, CheckFault>
-        requires { searcher.old.project ≡ (arc_value ticket.now.node).project }
-        ensures searcher { searcher.new.project ≡ searcher.old.project }
+        requires { IsAt searcher.old (arc_value ticket.now.node) }
+        ensures stays { searcher.new ≡ searcher.old }
         ensures same { (desk.new.number ≡ desk.old.number) × (desk.new.seat ≡ desk.old.seat) }
         ensures counts { CountsAccepted desk.old result desk.new }
     {
-        let Ok(report) = gate.expand(rt, alloc, searcher, &ticket.node, ticket.ceiling) else {
+        let Ok(report) = gate.expand_at(rt, alloc, searcher, &ticket.node, ticket.ceiling) else {
             return Err(CheckFault::Memory);
         };
         let found = report.found().map(|schedule| schedule.makespan());
@@ -76,8 +77,8 @@ impl<L: Ledger> Shared<L> {
         }
     }
 
-    /// Expands a node under the lesser of the ticket's ceiling and the best word. Where the book knows of no schedule so
-    /// short, it is expanded again, under the best that the book has.
+    /// Expands a node under the lesser of the ticket's ceiling and the best word. If the book knows of no schedule so
+    /// short, it expands the node again, under the best that the book has.
     fn settle<G: Gate, R: Wait>(
         &self,
         rt: &R,
@@ -169,8 +170,8 @@ impl<L: Ledger> Shared<L> {
     }
 }
 
-/// The loop of one worker, at a desk of this shared book: it takes nodes, expands them and checks their reports in, until
-/// the search is over or stopped. It ends with [`SolveFault::Memory`] or [`SolveFault::Refused`], and the book is
+/// The loop of one worker, at a desk of this shared book. It takes nodes, expands them and checks their reports in,
+/// until the search is over or stopped. It ends with [`SolveFault::Memory`] or [`SolveFault::Refused`], and the book is
 /// then halted. At the end it passes the gate with [`Moment::Ended`].
 pub fn work<L: Ledger, G: Gate, R: Wait>(
     rt: &R,

@@ -1,9 +1,11 @@
 //! The book that workers share, under its lock.
 
-ghost use Rattle.std.specs.Prelude.{◌≡◌, ◌+◌, ℕ, IfOk, map, sum_by, vec_len};
+ghost use Rattle.std.specs.Prelude.{◌≡◌, ◌+◌, ℕ, IfOk, IfErr, map, sum_by, vec_len};
 ghost use Rattle.best_word.specs.View.{Lowers};
 ghost use Rattle.worker.specs.Desks.{IsRow, IsRowAt, SeatedAt, CountsAccepted, tally_of};
-ghost use Rattle.worker.specs.Faults.{RefusesLimits};
+ghost use Rattle.branching.specs.ReportView.{AreListsOf};
+ghost use Rattle.worker.specs.Faults.{IsOfGivingBack, IsOfOpening, RefusesLimits};
+ghost use Rattle.worker.specs.Locking.{IsEndFor};
 
 use crate::desk::{Desk, Tally};
 use crate::fault::{SolveFault, WorkFault};
@@ -88,9 +90,9 @@ fn gather<L: Ledger>(
 }
 
 impl<L: Ledger> Shared<L> {
-    /// A new book of a project under a new lock, and a desk for each worker, in the order of their numbers. The book allows
-    /// 1 to [`MAX_WORKERS`](book::MAX_WORKERS) workers and 1 to [`MAX_TAKES`](plain_search::MAX_TAKES) takes. The ledger,
-    /// which `blank` becomes, has a part for each worker.
+    /// A new book of a project under a new lock, and a desk for each worker, in the order of their numbers. The book
+    /// allows 1 to [`MAX_WORKERS`](book::MAX_WORKERS) workers and 1 to [`MAX_TAKES`](plain_search::MAX_TAKES) takes.
+    /// The ledger, which `blank` becomes, has a part for each worker.
     pub fn open(
         alloc: Global,
         blank: Blank,
@@ -104,6 +106,7 @@ impl<L: Ledger> Shared<L> {
         ensures desks { IfOk result (λ r. vec_len r.1 ≡ workers) }
         ensures each { IfOk result (λ r. IsRow r.0 r.1.items) }
         ensures limits { RefusesLimits workers takes result }
+        ensures fault { IfErr result IsOfOpening }
     {
         let book = Book::open(alloc, project, workers, takes)?;
         let opened = Shared::around(alloc, blank, book, workers)?;
@@ -149,17 +152,14 @@ impl<L: Ledger> Shared<L> {
         }
     }
 
-    /// The next node for a worker, which waits for one while all nodes are in other hands. None where the book has none
-    /// for it any more: the others are woken up, so that they see that too.
+    /// The next node for a worker, which waits for one while all nodes are in other hands. None if the book has none
+    /// for it any more. The others wake up, so that they see that too.
     pub(crate) fn next_ticket<R: Wait>(&self, rt: &R, worker: usize) -> Option<Ticket> {
         let mut locked = self.locked.lock(rt);
         for _ in rt.forever() {
-            match locked.book.take(worker) {
+            match locked.take(worker) {
                 Take::Ticket(ticket) => return Some(ticket),
-                Take::Idle => {
-                    locked.awaited = true;
-                    locked = self.changed.wait(rt, locked);
-                }
+                Take::Idle => locked = self.changed.wait(rt, locked),
                 _ => break,
             }
         }
@@ -177,6 +177,7 @@ impl<L: Ledger> Shared<L> {
     ) -> Result<Branches, CheckFault>
         ensures same { (desk.new.number ≡ desk.old.number) × (desk.new.seat ≡ desk.old.seat) }
         ensures counts { CountsAccepted desk.old result desk.new }
+        ensures lists { IfOk result (AreListsOf report) }
     {
         let Desk {
             number: _,
@@ -203,17 +204,12 @@ impl<L: Ledger> Shared<L> {
         }
     }
 
-    /// Ends the search after a refusal. For want of memory the node is given back first.
-    pub(crate) fn stop<R: Wait>(&self, rt: &R, name: u64, fault: CheckFault) -> WorkFault {
+    /// Ends the search after a refusal, as [`Locked::stop`] does, and wakes up those who wait.
+    pub(crate) fn stop<R: Wait>(&self, rt: &R, name: u64, fault: CheckFault) -> WorkFault
+        ensures { IsEndFor fault result }
+    {
         let mut locked = self.locked.lock(rt);
-        let ended = match fault {
-            CheckFault::Memory => {
-                let _ = locked.book.give_back(name);
-                WorkFault::Memory
-            }
-            fault => WorkFault::Refused(fault),
-        };
-        locked.book.halt();
+        let ended = locked.stop(name, fault);
         self.wake_up(locked);
         ended
     }
@@ -221,33 +217,37 @@ impl<L: Ledger> Shared<L> {
     /// Ends the search: no node is handed out from now on.
     pub(crate) fn halt<R: Wait>(&self, rt: &R) {
         let mut locked = self.locked.lock(rt);
-        locked.book.halt();
+        locked.halt();
         self.wake_up(locked);
     }
 
     /// Gives the node in hand under a name back, as [`Book::give_back`] does, and wakes up those who wait. Any thread
-    /// may call it at any time; a worker whose node is given back so ends with [`SolveFault::Refused`].
-    pub fn give_back<R: Wait>(&self, rt: &R, name: u64) -> Result<(), CheckFault> {
+    /// may call it at any time. A worker whose node is given back so ends with [`SolveFault::Refused`].
+    pub fn give_back<R: Wait>(&self, rt: &R, name: u64) -> Result<(), CheckFault>
+        ensures { IfErr result IsOfGivingBack }
+    {
         let mut locked = self.locked.lock(rt);
-        let given = locked.book.give_back(name);
+        let given = locked.give_back(name);
         self.wake_up(locked);
         given
     }
 
-    /// Offers a schedule to the book, as [`Book::offer`] does, and wakes up those who wait. Any thread may call it at any
-    /// time.
+    /// Offers a schedule to the book, as [`Book::offer`] does, and wakes up those who wait. One of another project is
+    /// handed back. Any thread may call it at any time.
     pub fn offer<R: Wait>(
         &self,
         rt: &R,
         schedule: Schedule,
-    ) -> Result<bool, (Schedule, OtherProject)> {
+    ) -> Result<bool, (Schedule, OtherProject)>
+        ensures { IfErr result (λ refused. refused.0 ≡ schedule) }
+    {
         let mut locked = self.locked.lock(rt);
-        let offered = locked.book.offer(schedule);
+        let offered = locked.offer(schedule);
         self.wake_up(locked);
         offered
     }
 
-    /// Offers a makespan, in periods, to the best word, through the desk's seat. The book knows nothing of it: a number
+    /// Offers a makespan, in periods, to the best word, through the desk's seat. The book knows nothing of it. A number
     /// that no schedule has costs expansions and no truth.
     pub fn tell(&self, desk: &mut Desk<L>, makespan: u64)
         requires { SeatedAt self.now desk.old }
@@ -258,8 +258,8 @@ impl<L: Ledger> Shared<L> {
         self.best.offer(&mut desk.seat, makespan);
     }
 
-    /// The book, and what the desks counted, in their order. It takes all desks. The nodes that the book has checked in are
-    /// those that were accepted at the desks.
+    /// The book, and what the desks counted, in their order. It takes all desks. The nodes that the book has checked in
+    /// are those that were accepted at the desks.
     pub fn close(self, alloc: Global, desks: Vec<Desk<L>>) -> Result<(Book, Vec<Tally>), AllocError>
         requires { vec_len desks ≡ L.parts }
         ensures shares { IfOk result (λ r. sum_by (λ t. t.accepted) r.1.items ≡ r.0.checked) }

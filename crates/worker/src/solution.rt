@@ -1,13 +1,13 @@
 //! A search by workers, from the first node to its outcome.
 
-ghost use Rattle.std.specs.Prelude.{◌≡◌, ◌+◌, ◌<◌, ◌↔◌, IfOk, IfErr, IfSome, is_some, length, map, sum_by, vec_len};
+ghost use Rattle.std.specs.Prelude.{◌≡◌, ◌+◌, ◌<◌, OnOk, IfOk, IfErr, IfSome, is_some, length, map, sum_by, vec_len};
 ghost use Rattle.std.specs.Arc.{arc_value};
 ghost use Rattle.std.specs.Bool.{OnTrue};
-ghost use Rattle.book.specs.State.{live};
+ghost use Rattle.network.specs.Schedule.{makespan};
 ghost use Rattle.plain_search.specs.Verdicts.{IsTrueOf};
-ghost use Rattle.worker.specs.Desks.{IsRow};
+ghost use Rattle.worker.specs.Desks.{HasTold, IsRow};
 ghost use Rattle.worker.specs.Faults.{IsWithinLimits, RefusesLimits};
-ghost use Rattle.worker.specs.Solving.{IsStopped, IsSolution, IsTrailOf};
+ghost use Rattle.worker.specs.Solving.{HasBestWithin, IsOutcomeOf, IsSolution, IsTrailOf};
 
 use crate::desk::{Desk, Tally};
 use crate::fault::SolveFault;
@@ -38,6 +38,18 @@ fn accepted(alloc: Global, tallies: &[Tally]) -> Result<Vec<u64>, AllocError>
     tallies.iter().map(|tally| tally.accepted).collect(alloc)
 }
 
+/// Offers a makespan to the best word, through the first desk.
+fn tell_first<L: Ledger>(shared: &Shared<L>, desks: &mut Vec<Desk<L>>, makespan: i64)
+    requires { IsRow shared.now desks.old.items }
+    ensures row { IsRow shared.now desks.new.items }
+    ensures count { vec_len desks.new ≡ vec_len desks.old }
+    ensures told { HasTold makespan desks.new.items }
+{
+    if let (Some(desk), Ok(makespan)) = (desks.first_mut(), u64::try_from(makespan)) {
+        shared.tell(desk, makespan);
+    }
+}
+
 /// Offers a schedule to the book, and its makespan to the best word.
 fn offer_start<L: Ledger, R: Wait>(
     rt: &R,
@@ -48,19 +60,43 @@ fn offer_start<L: Ledger, R: Wait>(
     requires { IsRow shared.now desks.old.items }
     ensures row { IsRow shared.now desks.new.items }
     ensures count { vec_len desks.new ≡ vec_len desks.old }
+    ensures told { OnOk result (HasTold (makespan start.starts) desks.new.items) }
     ensures fault { IfErr result IsWithinLimits }
 {
-    let makespan = u64::try_from(start.makespan());
+    let makespan = start.makespan();
     if shared.offer(rt, start).is_err() {
         return Err(SolveFault::OtherProject);
     }
-    if let (Some(desk), Ok(makespan)) = (desks.first_mut(), makespan) {
-        shared.tell(desk, makespan);
-    }
+    tell_first(shared, desks, makespan);
     Ok(())
 }
 
-/// Drops the nodes in a thread of its own, so that nobody waits for it; here, where none can be started.
+/// An equal schedule, if there is one.
+fn copy_of(alloc: Global, start: &Option<Schedule>) -> Result<Option<Schedule>, AllocError>
+    ensures { IfOk result (λ copy. copy ≡ start.now) }
+{
+    match start {
+        Some(start) => Ok(Some(start.try_copy(alloc)?)),
+        None => Ok(None),
+    }
+}
+
+/// Offers the start to the book once more, of which nobody can tell what workers did to it under its lock.
+fn offer_again(book: &mut Book, start: Option<Schedule>) -> Result<(), SolveFault>
+    ensures best { OnOk result (IfSome start (λ s. HasBestWithin (makespan s.starts) book.new)) }
+    ensures only { book.new ≡ record book.old { best = book.new.best } }
+    ensures fault { IfErr result IsWithinLimits }
+{
+    let Some(start) = start else {
+        return Ok(());
+    };
+    match book.offer(start) {
+        Ok(_) => Ok(()),
+        Err(_) => Err(SolveFault::OtherProject),
+    }
+}
+
+/// Drops the nodes in a thread of its own, so that nobody waits for it. Drops them here if no thread can start.
 fn drop_beside<R: Threads>(rt: &R, nodes: NodesLeft) {
     let _ = thread::spawn(rt, move || drop(nodes));
 }
@@ -68,7 +104,7 @@ fn drop_beside<R: Threads>(rt: &R, nodes: NodesLeft) {
 /// What a book says in the end, and its trail, if it kept one.
 fn outcome_of<R: Threads>(rt: &R, book: Book) -> (Outcome, Option<Trail>)
     ensures true_of { IsTrueOf book.project result.0 }
-    ensures left { IsStopped result.0 ↔ (0 < length (live book)) }
+    ensures told { IsOutcomeOf book result.0 }
     ensures trail { IfSome result.1 (IsTrailOf book.project result.0) }
 {
     let verdict = book.verdict();
@@ -90,23 +126,25 @@ fn is_over(counts: &Counts, takes: u64) -> bool
     (counts.waiting() == 0 && counts.hand() == 0) || counts.taken() == takes
 }
 
-/// The outcome of a book whose workers have all ended, and its trail. Its project has to be the one that was handed in.
+/// The outcome of a book whose workers have all ended, and its trail. Its project has to be the given one.
 fn conclude<R: Threads>(
     rt: &R,
     alloc: Global,
     project: &Project,
     takes: u64,
-    book: Book,
+    start: Option<Schedule>,
+    mut book: Book,
     tallies: &[Tally],
 ) -> Result<(Solved, Option<Trail>), SolveFault>
     requires { sum_by (λ t. t.accepted) tallies.now ≡ book.checked }
-    ensures solution { IfOk result (λ r. IsSolution project.now (length tallies.now) takes r.0) }
+    ensures solution { IfOk result (λ r. IsSolution project.now (length tallies.now) takes start r.0) }
     ensures trail { IfOk result (λ r. IfSome r.1 (IsTrailOf project.now r.0.outcome)) }
     ensures fault { IfErr result IsWithinLimits }
 {
     if !is_same_project(book.project(), project) {
         return Err(SolveFault::OtherProject);
     }
+    offer_again(&mut book, start)?;
     let counts = book.counts();
     if !is_over(&counts, takes) {
         return Err(SolveFault::Thread);
@@ -137,26 +175,27 @@ fn search_with<L: Ledger + Send + Sync, G: Gate, R: Threads + Wait + Sync>(
     requires parts { blank.parts ≡ L.parts }
     requires one_each { blank.parts ≡ workers }
     requires unused { book.checked ≡ 0 }
-    ensures solution { IfOk result (λ r. IsSolution project.now workers takes r.0) }
+    ensures solution { IfOk result (λ r. IsSolution project.now workers takes start r.0) }
     ensures trail { IfOk result (λ r. IfSome r.1 (IsTrailOf project.now r.0.outcome)) }
     ensures fault { IfErr result IsWithinLimits }
 {
+    let again = copy_of(alloc, &start)?;
     let (shared, mut desks) = Shared::<L>::around(alloc, blank, book, workers)?;
     if let Some(start) = start {
         offer_start(rt, &shared, &mut desks, start)?;
     }
     let desks = run_workers(rt, alloc, &shared, desks, gate)?;
     let (book, tallies) = shared.close(alloc, desks)?;
-    conclude(rt, alloc, project, takes, book, tallies.as_slice())
+    conclude(rt, alloc, project, takes, again, book, tallies.as_slice())
 }
 
-/// Searches a project with workers in threads of their own: 1 to [`MAX_WORKERS`](book::MAX_WORKERS) of them, which
-/// take 1 to [`MAX_TAKES`](plain_search::MAX_TAKES) nodes in all. A schedule that is known is offered before they start.
-/// A recorded search keeps a trail: what became of each node that was opened. Where it was not stopped, a record of it
-/// can be made of the trail and the shortest schedule.
+/// Searches a project with workers in their own threads: 1 to [`MAX_WORKERS`](book::MAX_WORKERS) of them. They take 1
+/// to [`MAX_TAKES`](plain_search::MAX_TAKES) nodes in all. A schedule that is known is offered before they start, so that no longer one is the outcome. A
+/// recorded search keeps a trail: what became of each node that was opened. If no limit stopped it, the trail and the
+/// shortest schedule give a record of it.
 ///
-/// Workers pass the gate while they don't hold the lock. Where several ended with faults, that of the one of least number
-/// is answered; [`SolveFault::Thread`] where a thread could not be started.
+/// Workers pass the gate while they don't hold the lock. If several ended with faults, it answers the fault of the
+/// worker of least number. [`SolveFault::Thread`] comes if a thread could not start.
 pub fn search<G: Gate, R: Threads + Wait + Sync>(
     rt: &R,
     alloc: Global,
@@ -167,7 +206,7 @@ pub fn search<G: Gate, R: Threads + Wait + Sync>(
     recorded: bool,
     gate: &G,
 ) -> Result<(Solved, Option<Trail>), SolveFault>
-    ensures solution { IfOk result (λ r. IsSolution (arc_value project) workers takes r.0) }
+    ensures solution { IfOk result (λ r. IsSolution (arc_value project) workers takes start r.0) }
     ensures trail { IfOk result (λ r. IfSome r.1 (IsTrailOf (arc_value project) r.0.outcome)) }
     ensures recorded { IfOk result (λ r. is_some r.1 ≡ recorded) }
     ensures limits { RefusesLimits workers takes result }
@@ -201,7 +240,7 @@ pub fn solve<G: Gate, R: Threads + Wait + Sync>(
     start: Option<Schedule>,
     gate: &G,
 ) -> Result<Solved, SolveFault>
-    ensures solution { IfOk result (IsSolution (arc_value project) workers takes) }
+    ensures solution { IfOk result (IsSolution (arc_value project) workers takes start) }
     ensures limits { RefusesLimits workers takes result }
 {
     let (solved, _) = search(rt, alloc, project, workers, takes, start, false, gate)?;
@@ -218,7 +257,7 @@ pub fn solve_recorded<G: Gate, R: Threads + Wait + Sync>(
     start: Option<Schedule>,
     gate: &G,
 ) -> Result<(Solved, Trail), SolveFault>
-    ensures solution { IfOk result (λ r. IsSolution (arc_value project) workers takes r.0) }
+    ensures solution { IfOk result (λ r. IsSolution (arc_value project) workers takes start r.0) }
     ensures trail { IfOk result (λ r. IsTrailOf (arc_value project) r.0.outcome r.1) }
     ensures limits { RefusesLimits workers takes result }
 {

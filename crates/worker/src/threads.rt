@@ -39,7 +39,7 @@ fn join_all<L: Ledger, R: Threads>(
     (desks, fault)
 }
 
-/// Runs a worker at each desk in a thread of its own, and gives the desks back in their order. Where a thread can't be
+/// Runs a worker at each desk in its own thread, and gives the desks back in their order. Where a thread can't be
 /// started, the book is halted and the others are joined.
 pub(crate) fn run_workers<L: Ledger + Send + Sync, G: Gate, R: Threads + Wait + Sync>(
     rt: &R,

@@ -46,12 +46,13 @@ impl Limits {
     }
 }
 
-/// Gives at most `chunk` bytes at once, and fails once it gave `room`.
+/// Gives at most `chunk` bytes at once, and fails once it gave `room`, or where it is asked for more behind its end.
 #[derive(Drop)]
 pub(super) struct Pieces<'a> {
     rest: &'a [u8],
     chunk: usize,
     room: usize,
+    has_ended: bool,
     ghost some: { 0 < chunk },
 }
 
@@ -61,6 +62,7 @@ pub(super) fn giving(text: &str, room: usize) -> Pieces<'_> {
         rest: text.as_bytes(),
         chunk: 1,
         room,
+        has_ended: false,
     }
 }
 
@@ -68,9 +70,10 @@ impl<'a> Read for Pieces<'a> {
     ghost remaining = { λ pieces. Some pieces.rest.now };
 
     fn read(&mut self, buffer: &mut [u8]) -> io::Result<usize> {
-        if self.room == 0 {
+        if self.room == 0 || self.has_ended {
             return Err(io::Error::from(ErrorKind::Other));
         }
+        self.has_ended = self.rest.is_empty();
         let most = self.chunk.min(self.room).min(buffer.len());
         let n = self.rest.len().min(most);
         let (front, rest) = self.rest.split_at(n);
@@ -85,6 +88,8 @@ impl<'a> Read for Pieces<'a> {
 #[derive(Drop)]
 pub(super) struct Bounded {
     pub(super) taken: Vec<u8>,
+    /// How often it took some.
+    pub(super) writes: usize,
     chunk: usize,
     room: usize,
     silent: bool,
@@ -94,6 +99,7 @@ pub(super) struct Bounded {
 pub(super) fn taking(alloc: Global, room: usize, limits: Limits) -> Bounded {
     Bounded {
         taken: Vec::new(alloc),
+        writes: 0,
         chunk: limits.chunk,
         room,
         silent: limits.silent,
@@ -110,6 +116,7 @@ impl Write for Bounded {
         let n = bytes.len().min(self.chunk).min(self.room);
         self.taken.extend_from_slice(&bytes[..n])?;
         self.room -= n;
+        self.writes = self.writes.saturating_add(1);
         Ok(n)
     }
 

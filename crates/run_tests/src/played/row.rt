@@ -1,4 +1,4 @@
-//! Calls that are played through devices, and what is told of them.
+//! Calls that are played through devices, and what they have to tell.
 
 use crate::gates::{Holds, Watch};
 use crate::played::devices::{Limits, giving, taking};
@@ -51,7 +51,7 @@ fn front(text: &str, length: usize) -> &str {
     str::from_utf8(front).unwrap_or("")
 }
 
-/// A call: its words and two texts, and what is to be told of it, of which the answer and the record are parts.
+/// A call: its words and two texts, and what it has to tell. The answer and the record are parts of that.
 #[derive(Clone, Copy, Debug)]
 pub(super) struct Row<'a> {
     line: &'a str,
@@ -62,7 +62,8 @@ pub(super) struct Row<'a> {
 }
 
 impl<'a> Row<'a> {
-    /// The row of a text: words, two texts or their names behind semicolons, and behind an arrow what is to be told.
+    /// The row of a text: words, two texts or their names behind semicolons, and behind an arrow what the call has to
+    /// tell.
     pub(super) fn of(text: &'a str) -> Row<'a> {
         let (call, wanted) = text.split_once(" -> ").unwrap_or((text, ""));
         let (line, texts) = call.split_once("; ").unwrap_or((call, ""));
@@ -78,7 +79,20 @@ impl<'a> Row<'a> {
         }
     }
 
-    /// What is told of the call.
+    /// The `verify` of the record in what was told of a call, on the project of a name.
+    pub(super) fn verifying(told: &'a str, project: &'a str) -> Row<'a> {
+        let (_, written) = told.split_once('|').unwrap_or((told, ""));
+        let (_, record) = written.split_once('|').unwrap_or((written, ""));
+        Row {
+            line: "verify --project p",
+            texts: [record.strip_suffix('|').unwrap_or(record), text_of(project)],
+            wanted: "",
+            answer: "",
+            record: "",
+        }
+    }
+
+    /// What the call tells.
     pub(super) fn told<R: Threads + Wait + Sync>(
         &self,
         rt: &R,
@@ -86,6 +100,18 @@ impl<'a> Row<'a> {
         limits: Limits,
         gate: &Watch,
     ) -> Result<String, Fail> {
+        let (told, _) = self.played(rt, alloc, limits, gate)?;
+        Ok(told)
+    }
+
+    /// What is told of the call, and how often its outputs took bytes.
+    fn played<R: Threads + Wait + Sync>(
+        &self,
+        rt: &R,
+        alloc: Global,
+        limits: Limits,
+        gate: &Watch,
+    ) -> Result<(String, usize), Fail> {
         let call = match call_of(alloc, &words_of(alloc, self.line)?) {
             Ok(call) => call,
             Err(WordsFault::Memory) => return Err(AllocError.into()),
@@ -106,11 +132,12 @@ impl<'a> Row<'a> {
             &mut record,
             gate,
         );
-        let (out, record) = (out.into_inner().taken, record.into_inner().taken);
-        ended_text(alloc, ended, &out, &record)
+        let (out, record) = (out.into_inner(), record.into_inner());
+        let told = ended_text(alloc, ended, &out.taken, &record.taken)?;
+        Ok((told, out.writes.saturating_add(record.writes)))
     }
 
-    /// Plays the call through outputs that take few bytes at once.
+    /// Plays the call through outputs that take few bytes at once, and are handed all that is left.
     pub(super) fn goes_in_pieces<R: Threads + Wait + Sync + Abort>(
         &self,
         rt: &R,
@@ -121,8 +148,14 @@ impl<'a> Row<'a> {
                 chunk,
                 ..Limits::NONE
             };
-            let told = self.told(rt, alloc, limits, &Watch::new(Holds::Nobody))?;
+            let (told, writes) = self.played(rt, alloc, limits, &Watch::new(Holds::Nobody))?;
             assert_eq!(rt; told.as_str(), self.wanted, "{self:?}: {chunk}");
+            let least = [self.answer, self.record].map(|text| text.len().div_ceil(chunk));
+            assert_eq!(rt;
+                writes,
+                least[0].saturating_add(least[1]),
+                "{self:?}: {chunk}"
+            );
         }
         Ok(())
     }
@@ -137,8 +170,8 @@ impl<'a> Row<'a> {
         }
     }
 
-    /// Plays the call through devices of which one fails at each of its bytes: an input, or an output that takes so many bytes
-    /// at once, and that fails or takes nothing.
+    /// Plays the call through devices of which one fails at each of its bytes. That is an input, or an output that
+    /// takes so many bytes and then fails or takes nothing.
     pub(super) fn fails_at_each_byte<R: Threads + Wait + Sync + Abort>(
         &self,
         rt: &R,

@@ -18,11 +18,13 @@ pub(super) struct Asked<'a> {
     pub(super) starts: &'a str,
     pub(super) recorded: bool,
     pub(super) holds: Holds,
-    /// A makespan that the best word is told of.
+    /// A makespan that is offered to the best word.
     pub(super) tells: u64,
-    pub(super) gives_back: bool,
-    /// The ceiling of the first report.
+    /// A node that is given back behind its worker's back.
+    pub(super) gives_back: Option<u64>,
+    /// The ceiling of the first reports, and how many these are.
     pub(super) ceiling: Option<i64>,
+    pub(super) lowered: u64,
 }
 
 /// What a row asks for: one worker, 100 takes and a gate that holds nobody unless it says more.
@@ -36,8 +38,9 @@ pub(super) fn asked_by(row: &str) -> Result<Asked<'_>, Fail> {
         recorded: false,
         holds: Holds::Nobody,
         tells: u64::MAX,
-        gives_back: false,
+        gives_back: None,
         ceiling: None,
+        lowered: 1,
     };
     for part in rest.split(';') {
         let part = part.trim();
@@ -49,8 +52,9 @@ pub(super) fn asked_by(row: &str) -> Result<Asked<'_>, Fail> {
             "recorded" => asked.recorded = true,
             "gate" => asked.holds = Holds::of(value),
             "tells" => asked.tells = value.parse::<u64>()?,
-            "gives" => asked.gives_back = true,
+            "gives" => asked.gives_back = Some(value.parse::<u64>()?),
             "ceiling" => asked.ceiling = Some(value.parse::<i64>()?),
+            "reports" => asked.lowered = value.parse::<u64>()?,
             _ => {}
         }
     }

@@ -3,6 +3,7 @@
 use crate::gates::{Holds, Seen, Watch};
 use crate::workers::asked::{Asked, asked_by, project_of, schedule_of};
 use book::Counts;
+use network::Schedule;
 use plain_search::Outcome;
 use std::alloc::{AllocError, Global};
 use std::sync::{Arc, Wait};
@@ -78,8 +79,16 @@ fn shares_text(alloc: Global, accepted: &[u64], seen: Seen) -> Result<String, Al
     format!(in alloc; "accepted {accepted:?}; least {least}; {as_seen}")
 }
 
-/// What is told of the search that a row asks for. Want of memory ends the test unless the gate has none, and so does want
-/// of a thread.
+/// The schedule's starts; none without one.
+pub(super) fn starts_of(best: Option<&Schedule>) -> &[i64] {
+    match best {
+        Some(best) => best.starts(),
+        None => &[],
+    }
+}
+
+/// What is told of the search that a row asks for. Want of memory ends the test unless the gate has none, and so does
+/// want of a thread.
 pub(super) fn told<R: Threads + Wait + Sync>(
     rt: &R,
     alloc: Global,
@@ -87,21 +96,30 @@ pub(super) fn told<R: Threads + Wait + Sync>(
 ) -> Result<String, Fail> {
     let asked = asked_by(row)?;
     let gate = Watch::new(asked.holds);
-    let (solved, trail) = match searched(rt, alloc, &asked, &gate)? {
+    let searched = searched(rt, alloc, &asked, &gate)?;
+    let seen = gate.seen();
+    let (calls, ended, gave_up, ceiling) = (seen.calls, seen.ended, seen.gave_up, seen.ceiling);
+    let (solved, trail) = match searched {
         Ok(found) => found,
-        Err(SolveFault::Memory) if asked.holds != Holds::WithoutMemory => {
+        Err(SolveFault::Memory) if !asked.holds.lacks_memory(calls) => {
+            return Err(SolveFault::Memory.into());
+        }
+        // The other worker came to its end before the gate made its fault.
+        Err(SolveFault::Refused(_)) if matches!(asked.holds, Holds::Fails(_)) && calls < 4 => {
             return Err(SolveFault::Memory.into());
         }
         Err(SolveFault::Thread) => return Err(SolveFault::Thread.into()),
-        Err(fault) => return Ok(format!(in alloc; "; {fault:?};")?),
+        Err(fault) => {
+            return Ok(format!(in alloc;
+                "; {fault:?}; calls {calls}; ended {ended}; gave up {gave_up};"
+            )?);
+        }
     };
     let (counts, workers) = (numbers(&solved.counts), solved.per_worker.len());
-    let seen = gate.seen();
     let outcome = outcome_text(alloc, &solved.outcome)?;
     let shares = shares_text(alloc, &solved.per_worker, seen)?;
-    let (calls, gave_up, ceiling) = (seen.calls, seen.gave_up, seen.ceiling);
     Ok(format!(in alloc;
         "; {outcome}; counts {counts:?}; workers {workers}; {shares}; trail {trail}; calls {calls}; \
-        gave up {gave_up}; third ceiling {ceiling};"
+        ended {ended}; gave up {gave_up}; third ceiling {ceiling};"
     )?)
 }

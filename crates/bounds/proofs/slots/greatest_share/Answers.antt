@@ -21,11 +21,8 @@ loop-load-init c =
     let line : List ℕ = c.take_line.new.line in
     let rooms : List ℕ = c.take_rooms.new.rooms in
     let long : length line ≡ length c.args.tails.now + 1 = line_long c.args.capacity c.args.tails.now line c.take_line.ensures in
-    record {
-      filled = filled_start c.args.capacity c.args.tails.now c.args.loads.now line rooms
-          (line_rises c.args.capacity c.args.tails.now line c.take_line.ensures c.requires.capacity c.requires.tails c.requires.rising) long (omega arith) c.take_rooms.ensures;
-      skips = c.take_skips.ensures rooms (omega arith);
-    }
+    filled_start c.args.capacity c.args.tails.now c.args.loads.now line rooms
+    (line_rises c.args.capacity c.args.tails.now line c.take_line.ensures c.requires.capacity c.requires.tails c.requires.rising) long (omega arith) c.take_rooms.ensures
 
 pub fill-last-requires-clause-enough : goal.fill-last-requires-clause-enough
 fill-last-requires-clause-enough c =
@@ -34,7 +31,7 @@ fill-last-requires-clause-enough c =
     let lt : i < length c.args.loads.now = omega arith in
     let small : IsSmall c.args.tails.now x = c.requires.loads.small i none lt in
     let on : AreOnLine c.args.capacity c.args.tails.now c.args.loads.now c.take_line.new.line = record { are = c.requires.loads; few = c.requires.capacity; low = c.requires.tails; rising = c.requires.rising; is = c.take_line.ensures } in
-    room_enough c.args.capacity c.args.tails.now c.args.loads.now c.take_line.new.line i c.loop-load.rooms c.loop-load.filled c.loop-load.greatest x on small c.loop-load.invariant.filled
+    room_enough c.args.capacity c.args.tails.now c.args.loads.now c.take_line.new.line i c.loop-load.rooms c.loop-load.filled c.loop-load.greatest x on small c.loop-load.invariant
 
 -- the next load fills slots
 step : (c : After-fill-last) → IsStep c.args.capacity c.args.tails.now c.args.loads.now c.take_line.new.line c.loop-load.load-index c.loop-load.rooms c.fill-last.new.rooms c.loop-load.filled c.loop-load.greatest (slice_index_or c.args.loads.now c.loop-load.load-index none) c.fill-last.result
@@ -44,8 +41,8 @@ step c =
     let lt : i < length c.args.loads.now = omega arith in
     let on : AreOnLine c.args.capacity c.args.tails.now c.args.loads.now c.take_line.new.line = record { are = c.requires.loads; few = c.requires.capacity; low = c.requires.tails; rising = c.requires.rising; is = c.take_line.ensures } in
     let next : IsNext c.args.capacity c.args.tails.now c.args.loads.now c.take_line.new.line i c.loop-load.rooms c.loop-load.filled c.loop-load.greatest x =
-    record { on = on; was = c.loop-load.invariant.filled; inside = lt; at = get_or_default c.args.loads.now i none x lt; small = c.requires.loads.small i none lt } in
-    record { next = next; fills = c.fill-last.ensures.filled }
+    record { on = on; was = c.loop-load.invariant; inside = lt; at = get_or_default c.args.loads.now i none x lt; small = c.requires.loads.small i none lt } in
+    record { next = next; fills = c.fill-last.ensures }
 
 pub overflow_sub-end : goal.overflow_sub-end
 overflow_sub-end c =
@@ -68,8 +65,8 @@ more c =
     let lt : i < length c.args.loads.now = omega arith in
     let on : AreOnLine capacity tails loads line = record { are = c.requires.loads; few = c.requires.capacity; low = c.requires.tails; rising = c.requires.rising; is = c.take_line.ensures } in
     let next : IsNext capacity tails loads line i c.loop-load.rooms c.loop-load.filled c.loop-load.greatest x =
-    record { on = on; was = c.loop-load.invariant.filled; inside = lt; at = get_or_default loads i none x lt; small = c.requires.loads.small i none lt } in
-    let s : IsStep capacity tails loads line i c.loop-load.rooms rooms c.loop-load.filled c.loop-load.greatest x last = record { next = next; fills = c.fill-last.ensures.filled } in
+    record { on = on; was = c.loop-load.invariant; inside = lt; at = get_or_default loads i none x lt; small = c.requires.loads.small i none lt } in
+    let s : IsStep capacity tails loads line i c.loop-load.rooms rooms c.loop-load.filled c.loop-load.greatest x last = record { next = next; fills = c.fill-last.ensures } in
     let under = own_small capacity tails loads line i c.loop-load.rooms rooms c.loop-load.filled c.loop-load.greatest x last s in
     let end : ℕ = get_or line (last + 1) 0 - get_or rooms last 0 in
     let filled_is : c.max-filled.result ≡ max c.loop-load.filled end = c.max-filled.ensures ∙ ord_max-max c.loop-load.filled end in
@@ -90,15 +87,15 @@ loop-load-preserved c =
     let x : Load = slice_index_or c.args.loads.now c.loop-load.load-index none in
     let value : ℕ = c.args.capacity * x.head + c.max-filled.result in
     let greatest_is : c.max-greatest.result ≡ max c.loop-load.greatest value = c.max-greatest.ensures ∙ ord_max-max c.loop-load.greatest value in
-    record { filled = rw greatest_is (more (goal.at.loop-load-preserved c).After-max-filled); skips = c.fill-last.ensures.skips }
+    rw greatest_is (more (goal.at.loop-load-preserved c).After-max-filled)
 
 pub returns-clause-greatest : goal.returns-clause-greatest
 returns-clause-greatest c =
     let all : take c.loop-load.load-index c.args.loads.now ≡ c.args.loads.now = take_all c.loop-load.load-index c.args.loads.now (omega arith) in
     record {
-      reached = c.loop-load.invariant.filled.reached;
-      above = subst (λ (xs : List Load). IsAbove c.args.capacity c.args.tails.now xs c.loop-load.greatest) all c.loop-load.invariant.filled.above;
+      reached = c.loop-load.invariant.reached;
+      above = subst (λ (xs : List Load). IsAbove c.args.capacity c.args.tails.now xs c.loop-load.greatest) all c.loop-load.invariant.above;
     }
 
 pub returns-clause-limit : goal.returns-clause-limit
-returns-clause-limit c = reached_small c.args.capacity c.args.tails.now c.args.loads.now c.loop-load.greatest c.requires.loads c.requires.capacity c.requires.tails c.loop-load.invariant.filled.reached
+returns-clause-limit c = reached_small c.args.capacity c.args.tails.now c.args.loads.now c.loop-load.greatest c.requires.loads c.requires.capacity c.requires.tails c.loop-load.invariant.reached

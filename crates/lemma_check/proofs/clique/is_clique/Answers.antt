@@ -17,6 +17,9 @@ returns-then-not-all_run_within c = λ arcs m.
     let within : IsTrue c.all_run_within.result ↔ All (RunsWithin c.args.project.now arcs c.args.from c.args.to) c.args.members.now = simp to_z-of_z at (c.all_run_within.ensures arcs m) in
     refused (IsClique c.args.project.now arcs c.args.from c.args.to c.args.members.now) (λ k. iff_false within c.if-not-all_run_within.true k.inside)
 
+pub returns-then-not-run_one_at_a_time : goal.returns-then-not-run_one_at_a_time
+returns-then-not-run_one_at_a_time c = λ arcs m. refused (IsClique c.args.project.now arcs c.args.from c.args.to c.args.members.now) (λ k. iff_false (c.run_one_at_a_time.ensures arcs m) c.if-not-run_one_at_a_time.true k.apart)
+
 pub returns : goal.returns
 returns c = λ arcs m.
     let from_fits : SFits w64 c.args.from = search rules in
@@ -31,7 +34,7 @@ returns c = λ arcs m.
           record {
             several = omega (arith, c.if-members-lt2.false);
             are_members = c.are_members.ensures.0 c.if-not-are_members.false;
-            rivals = c.are_rivals.ensures.0 c.if-not-are_rivals.false;
+            apart = (c.run_one_at_a_time.ensures arcs m).0 c.if-not-run_one_at_a_time.false;
             inside = within.0 c.if-not-all_run_within.false;
             over = rw total at longer;
           },

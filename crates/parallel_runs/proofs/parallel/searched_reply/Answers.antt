@@ -1,8 +1,8 @@
-use Rattle.std.proofs.Common.{◌≡◌, ◌∙◌, true, rules}
+use Rattle.std.proofs.Common.{◌≡◌, ◌∙◌, true, false, rules}
 use Rattle.std.proofs.lemmas.Result.{MatchResult-weaker}
 use Rattle.network.specs.Schedule.{IsFeasible}
 use Rattle.answers.specs.Answers.{IsStartedText}
-use Rattle.runs.proofs.CallLaws.{answers_started, refuses_start}
+use Rattle.runs.proofs.CallLaws.{answers_started, answers_unstarted, refuses_start}
 use Rattle.runs.proofs.TextLaws.{starts_whole, starts_fault_whole}
 use Rattle.parallel_runs.proofs.RecordLaws.{ok_both, err_both, spells_record}
 use Rattle.parallel_runs.proofs.parallel.searched_reply.Goals as goal
@@ -21,6 +21,23 @@ returns-clause-said g c =
         has = starts_whole p c.deref.result.now more (λ starts. IsStartedText p starts c.in-Solve.json reply.exit reply.text) (c.deref.ensures.value ∙ c.in_ok-starts.ensures.told more (told_more (rw c.in-Solve.is on))) found.0;
       });
       recorded = rw c.in-Solve.is (spells_record reply.recorded text p c.in-Solve.json reply.text of_project.0 (of_project.1 text told) found.1);
+    })
+    (λ _ _. tt)
+
+pub returns-then-not-start-clause-said : goal.returns-then-not-start-clause-said
+returns-then-not-start-clause-said g c =
+    let p = c.in_ok-project.project in
+    let of_project = c.in_ok-project.ensures.project in
+    let off : c.in-Solve.start ≡ false = search rules in
+    MatchResult-weaker c.searched.result c.searched.ensures.found
+    (λ reply found text more told told_more. record {
+      answer = answers_unstarted c.args.job c.in-Solve.workers c.in-Solve.takes c.in-Solve.start c.in-Solve.json c.in-Solve.recorded text more reply.exit reply.text c.in-Solve.is off c.requires.workers (record {
+        project = p;
+        is_project = of_project.0;
+        spells = of_project.1 text told;
+        has = rw c.in_ok-project-2.ensures.ok at found.said;
+      });
+      recorded = rw c.in-Solve.is (spells_record reply.recorded text p c.in-Solve.json reply.text of_project.0 (of_project.1 text told) (rw c.in_ok-project-2.ensures.ok at found.recorded));
     })
     (λ _ _. tt)
 

@@ -14,6 +14,6 @@ returns-in-Ok-clause-said g c =
     MatchResult-weaker c.searched.result c.searched.ensures.found
     (λ f found. record {
       read = rw count at c.in_ok-starts.ensures.accepted;
-      has = inr (feasible, rw c.in_ok-project.ensures.ok at found.said);
+      has = inr (feasible, rw (c.in_ok-project.ensures.ok, c.in-Ok.ensures.schedule, c.in_ok-starts.ensures.starts, count) at found.said);
     })
     (λ _ _. tt)

@@ -1,6 +1,12 @@
-use Rattle.rivals.specs.Incompatible.{AllIncompatible}
+use Rattle.std.proofs.Common.{ℕ, ◌<◌}
+use Rattle.std.specs.List.{Contains}
+use Rattle.network.specs.Pairs.{pair_of}
+use Rattle.rivals.specs.Incompatible.{AllIncompatible, AreIncompatible}
 use Rattle.rivals.specs.IncompatibleRows.{pairs_before}
 use Rattle.rivals.proofs.incompatible.incompatible_with.Given as goal
 
 abbrev pub invariant-loop-other : goal.invariant-loop-other
-invariant-loop-other l = AllIncompatible l.project (pairs_before l.activity l.others.items)
+invariant-loop-other l = record {
+  rivals : AllIncompatible l.project (pairs_before l.activity l.others.items);
+  whole : (j : ℕ) → j < l.other → AreIncompatible l.project (pair_of l.activity j) → Contains l.others.items j;
+}

@@ -8,20 +8,17 @@ use Rattle.longest_path.proofs.matrix.Matrix.insert.Goals as goal
 
 pub invariant_of-self : goal.invariant_of-self
 invariant_of-self c =
-    let takes : TakesArc (arc_of c.args.i c.args.j c.args.w) c.self.inside.grid = rw (to_z-of_z w64 c.args.w c.ranges.w, sym c.self.view_is) at c.in-Gains.ensures in
+    let takes : TakesArc (arc_of c.args.i c.args.j c.args.w) c.self.inside.grid = rw (to_z-of_z w64 c.args.w c.ranges.w, sym c.self.view_is) at c.if-closes_cycle.ensures in
     let over : (a b : ℕ) → IsOver (arc_of c.args.i c.args.j c.args.w) c.self.inside.grid a b (entry c.go_over.new.grid a b) = rw (to_z-of_z w64 c.args.w c.ranges.w) at c.go_over.ensures.over in
     let kept : length c.go_over.new.via ≡ c.self.inside.via.len = c.go_over.auto.via ∙ c.as_mut_slice.ensures.len in
     let room : length c.go_over.new.via ≡ length c.go_over.new.grid = kept ∙ c.self.inside.via.ok.0 ∙ c.self.invariant.room ∙ sym c.go_over.ensures.square.rows_long in
     record { matrix = (takes.taken c.go_over.new.grid c.go_over.ensures.square over).law; room = room_kept c.self.inside.via c.go_over.new.via c.go_over.new.grid kept room }
 
-pub returns-in-ClosesCycle-clause-cycle : goal.returns-in-ClosesCycle-clause-cycle
-returns-in-ClosesCycle-clause-cycle c = rw (to_z-of_z w64 c.args.w c.ranges.w) at c.in-ClosesCycle.ensures
+pub returns-then-closes_cycle-clause-cycle : goal.returns-then-closes_cycle-clause-cycle
+returns-then-closes_cycle-clause-cycle c = rw (to_z-of_z w64 c.args.w c.ranges.w) at c.if-closes_cycle.ensures
 
-pub returns-in-Nothing-clause-ok : goal.returns-in-Nothing-clause-ok
-returns-in-Nothing-clause-ok c = rw (to_z-of_z w64 c.args.w c.ranges.w) at c.in-Nothing.ensures
-
-pub returns-in-Gains-clause-ok : goal.returns-in-Gains-clause-ok
-returns-in-Gains-clause-ok c =
-    let takes : TakesArc (arc_of c.args.i c.args.j c.args.w) c.self.inside.grid = rw (to_z-of_z w64 c.args.w c.ranges.w, sym c.self.view_is) at c.in-Gains.ensures in
+pub returns-clause-ok : goal.returns-clause-ok
+returns-clause-ok c =
+    let takes : TakesArc (arc_of c.args.i c.args.j c.args.w) c.self.inside.grid = rw (to_z-of_z w64 c.args.w c.ranges.w, sym c.self.view_is) at c.if-closes_cycle.ensures in
     let over : (a b : ℕ) → IsOver (arc_of c.args.i c.args.j c.args.w) c.self.inside.grid a b (entry c.go_over.new.grid a b) = rw (to_z-of_z w64 c.args.w c.ranges.w) at c.go_over.ensures.over in
     rw (sym c.self.view_is) (takes.taken c.go_over.new.grid c.go_over.ensures.square over).adds

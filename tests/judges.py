@@ -1,0 +1,27 @@
+"""What is said of a record: by a program, and by the checker in Python of its kind, in the words of the program."""
+import pathlib
+from collections.abc import Callable
+
+import harness
+import verify
+import verify_lemmas
+from harness import Ended
+
+
+def by_program(program: str, project: pathlib.Path, record: bytes) -> Ended:
+    return harness.ended([program, "verify", "--project", project], record, 600)
+
+
+def by_script(project: verify.Project, record: bytes) -> Ended:
+    return said("psmax", lambda: verify.verify(project, *verify.read_record(record)))
+
+
+def by_script_of_lemmas(project: verify.Project, record: bytes) -> Ended:
+    return said("psprove", lambda: verify_lemmas.verify(project, *verify_lemmas.read_record(record)))
+
+
+def said(program: str, verdict: Callable[[], str]) -> Ended:
+    try:
+        return 0, f"{verdict()}\n".encode(), b""
+    except verify.Fault as fault:
+        return fault.status, b"", f"{program}: {fault}\n".encode()

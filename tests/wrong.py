@@ -1,0 +1,102 @@
+#!/usr/bin/env python3
+"""tests/wrong.py [--only WORD]
+
+Tries wrong bodies that no contract refuses, and that a test has to refuse: the files of tests/wrong. Each has the lines of a
+must-fail edit, with paths from the top of the repository, and a line `test:` with what refuses it: a crate and one of its
+tests, which `rt try --test` runs without proofs, or a script of tests/, which is run on the psmax that `rt run` proves and
+builds. Each is tried in one copy of the sources, which takes one to some minutes.
+
+Prints what refused no wrong body. The last line counts them."""
+import contextlib
+import pathlib
+import shutil
+import sys
+from collections.abc import Iterator, Sequence
+from typing import NamedTuple
+
+import harness
+from harness import TOP, Verdicts
+
+SECONDS = 3600.0
+
+
+class Change(NamedTuple):
+    file: str
+    old: str
+    new: str
+
+
+class Wrong(NamedTuple):
+    test: list[str]
+    changes: list[Change]
+
+
+def read(path: pathlib.Path) -> Wrong:
+    """What has to refuse an edit, and its changes."""
+    test: list[str] = []
+    changes: list[Change] = []
+    file = old = ""
+    for line in path.read_text().splitlines():
+        key, _, value = line.partition(": ")
+        if key == "test":
+            test = value.split()
+        elif key == "file":
+            file = value
+        elif key == "old":
+            old = value
+        elif key == "new":
+            changes.append(Change(file, old, value))
+    return Wrong(test, changes)
+
+
+@contextlib.contextmanager
+def changed(copy: pathlib.Path, changes: Sequence[Change]) -> Iterator[None]:
+    """The copy with the changes, and then as it was."""
+    texts = {copy / change.file: (copy / change.file).read_text() for change in changes}
+    try:
+        for change in changes:
+            text = (copy / change.file).read_text()
+            if text.count(change.old) != 1:
+                raise ValueError(f"{change.file} has {change.old!r} {text.count(change.old)} times")
+            (copy / change.file).write_text(text.replace(change.old, change.new))
+        yield
+    finally:
+        for file, text in texts.items():
+            file.write_text(text)
+
+
+def told(words: Sequence[object], folder: pathlib.Path) -> str:
+    _, output, faults = harness.ended(words, seconds=SECONDS, cwd=folder)
+    return (output + faults).decode(errors="replace")
+
+
+def is_refused(copy: pathlib.Path, test: Sequence[str]) -> bool:
+    """Whether a test fails that ends. One that doesn't compile or has no answer in time refuses nothing."""
+    if len(test) == 2:
+        crate, name = test
+        said = told(["rt", "try", "--test"], copy / "crates" / crate)
+        _, failed, why = said.partition(f"test {name} ... FAILED\n")
+        return failed != "" and "no-answer" not in why.partition("\ntest ")[0]
+    folder = copy / "crates" / "solver_cli"
+    told(["rt", "run", "--", "--version"], folder)
+    said = told([sys.executable, TOP / test[0], folder / "out" / "solver_cli"], TOP)
+    return "\nFAILED " in f"\n{said}"
+
+
+def verdicts(words: Sequence[str]) -> Verdicts:
+    parser = harness.Words(__doc__)
+    parser.add_argument("--only", default="")
+    only = parser.parse_args(words).only
+    with harness.new_folder() as copy:
+        shutil.copytree(TOP / "crates", copy / "crates", ignore=shutil.ignore_patterns("out"))
+        for name in ("crates.txt", "HANDLES"):
+            shutil.copy(TOP / name, copy)
+        for path in sorted((TOP / "tests" / "wrong").glob("*.edit")):
+            wrong = read(path)
+            if only in path.name:
+                with changed(copy, wrong.changes):
+                    yield path.stem, None if is_refused(copy, wrong.test) else f"not refused by {' '.join(wrong.test)}"
+
+
+if __name__ == "__main__":
+    harness.run(verdicts)
