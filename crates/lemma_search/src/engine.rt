@@ -107,6 +107,7 @@ impl Engine {
             time_table: options.parts.time_table,
             energy: options.parts.energy,
             cliques: options.parts.cliques,
+            ordered_cliques: options.parts.ordered_cliques,
         };
         let propagators = Propagators::new(alloc, &rules, &history, chosen)?;
         Ok(Engine {

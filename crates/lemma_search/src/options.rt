@@ -13,6 +13,8 @@ pub struct Parts {
     pub energy: bool,
     /// Cliques of rivals over all resources.
     pub cliques: bool,
+    /// Cliques of rivals and of activities that the project's lags bring in an order.
+    pub ordered_cliques: bool,
     /// Decisions on starts, besides those on pairs of rivals.
     pub starts: bool,
     /// Probes for the bound: a deadline that propagation alone refutes.
@@ -29,6 +31,7 @@ impl Parts {
         time_table: true,
         energy: true,
         cliques: true,
+        ordered_cliques: true,
         starts: true,
         probes: true,
         dives: true,

@@ -93,12 +93,21 @@ impl Portfolio {
         Ok(state)
     }
 
-    /// One turn of all that are of use. The serial scheme is of use until a schedule is known.
-    pub fn advance(&mut self, alloc: Global, project: &Project) -> Result<(), AllocError> {
-        let of_bounds = self.search_bounds(alloc)?;
-        if of_bounds != State::Ended && self.best().is_none() {
-            self.pass(alloc, project)?;
+    /// A turn without a schedule, which ends once there is one.
+    fn find_first(&mut self, alloc: Global, project: &Project) -> Result<(), AllocError> {
+        self.pass(alloc, project)?;
+        if self.best().is_none() {
+            self.is_over = self.search_bounds(alloc)? == State::Ended;
         }
+        Ok(())
+    }
+
+    /// One turn of all that are of use: the serial scheme until a schedule is known, neighbourhoods from then on.
+    pub fn advance(&mut self, alloc: Global, project: &Project) -> Result<(), AllocError> {
+        if self.best().is_none() {
+            return self.find_first(alloc, project);
+        }
+        let of_bounds = self.search_bounds(alloc)?;
         let of_neighbourhoods = self.search_neighbourhoods(alloc)?;
         self.is_over = match (of_bounds, of_neighbourhoods) {
             (State::Ended, _) | (_, State::Ended) => true,

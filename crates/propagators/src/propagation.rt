@@ -14,9 +14,10 @@ pub struct Chosen {
     pub time_table: bool,
     pub energy: bool,
     pub cliques: bool,
+    pub ordered_cliques: bool,
 }
 
-/// Up to this level of decisions wide cliques are looked at: a deadline may be decided.
+/// Up to this level of decisions cliques with an order are looked at: a deadline may be decided.
 const DEADLINE_LEVEL: u32 = 1;
 
 /// All propagators.
@@ -27,8 +28,8 @@ pub struct Propagators {
     energy: Energy,
     /// Of rivals.
     cliques: Cliques,
-    /// Of rivals, and of activities that the project's lags bring in an order.
-    wide_cliques: Cliques,
+    /// Of rivals, and of activities that the project's lags bring in an order, if they are on.
+    ordered_cliques: Option<Cliques>,
     chosen: Chosen,
 }
 
@@ -41,13 +42,18 @@ impl Propagators {
         chosen: Chosen,
     ) -> Result<Propagators, AllocError> {
         let rivals = Apart::new(alloc, rules, None)?;
-        let rivals_and_ordered = Apart::new(alloc, rules, Some(history))?;
+        let ordered_cliques = if chosen.ordered_cliques {
+            let rivals_and_ordered = Apart::new(alloc, rules, Some(history))?;
+            Some(Cliques::new(alloc, rules, &rivals_and_ordered)?)
+        } else {
+            None
+        };
         Ok(Propagators {
             agenda: Agenda::new(alloc),
             time_table: TimeTable::new(alloc, rules)?,
             energy: Energy::new(alloc, rules)?,
             cliques: Cliques::new(alloc, rules, &rivals)?,
-            wide_cliques: Cliques::new(alloc, rules, &rivals_and_ordered)?,
+            ordered_cliques,
             chosen,
         })
     }
@@ -62,7 +68,9 @@ impl Propagators {
         self.time_table.users.touch(rules, activity);
         self.energy.users.touch(rules, activity);
         self.cliques.touch(activity);
-        self.wide_cliques.touch(activity);
+        if let Some(cliques) = &mut self.ordered_cliques {
+            cliques.touch(activity);
+        }
     }
 
     /// What follows for rivals from heads that moved.
@@ -94,11 +102,12 @@ impl Propagators {
         if !self.agenda.is_behind(trail) && self.chosen.cliques {
             self.cliques.propagate(rules, trail)?;
         }
-        let is_wide = self.chosen.cliques && trail.level() <= DEADLINE_LEVEL;
-        if !self.agenda.is_behind(trail) && is_wide {
-            self.wide_cliques.propagate(rules, trail)?;
+        match &mut self.ordered_cliques {
+            Some(cliques) if !self.agenda.is_behind(trail) && trail.level() <= DEADLINE_LEVEL => {
+                cliques.propagate(rules, trail)
+            }
+            _ => Ok(()),
         }
-        Ok(())
     }
 
     /// What follows from windows, until something changes.
@@ -141,7 +150,9 @@ impl Propagators {
         self.time_table.users.touch_all();
         self.energy.users.touch_all();
         self.cliques.touch_all();
-        self.wide_cliques.touch_all();
+        if let Some(cliques) = &mut self.ordered_cliques {
+            cliques.touch_all();
+        }
         for a in 0..rules.activity_count() {
             follow_rivals(rules, trail, a)?;
             find_alone(rules, trail, a)?;

@@ -26,11 +26,12 @@ impl Team {
         project: &Project,
         job: u64,
     ) -> Result<Team, AllocError> {
-        let options = asked.options(job);
+        let activities = project.activity_count().saturating_sub(2);
+        let options = asked.options(activities, job);
         Ok(Team {
             lemmas: Search::new(alloc, project, options)?,
             portfolio: None,
-            turns: Turns::new(project.activity_count().saturating_sub(2), job),
+            turns: Turns::new(activities, job),
             seed: options.seed,
             memory: options.memory / 4,
         })

@@ -19,7 +19,7 @@ pub(crate) struct Turns {
 }
 
 /// Up to so many activities most proofs are found by lemmas on pairs. The portfolio gets a tenth of the time.
-const SMALL: usize = 60;
+pub(crate) const SMALL: usize = 60;
 
 /// Up to so many the portfolio gets more than half of the time. From there on lemmas on pairs do little once the first
 /// bounds are known.
