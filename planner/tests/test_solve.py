@@ -198,7 +198,8 @@ class Records(InFolder):
 
 class Progress(InFolder):
     LINE = re.compile(r" *\d+\.\d\d s  (?:schedule \d+(?:, unproved|: .+)|bound \d+, unproved|"
-                      r"(optimal (\d+)|feasible (\d+) bound (\d+)), proved: psprove solve .+|the .* seconds are over|stopped)")
+                      r"(optimal (\d+)|feasible (\d+) bound (\d+)), proved: psprove solve .+|"
+                      r"unknown bound \d+, proved: psprove solve .+|the .* seconds are over|stopped)")
 
     def held(self, out: str, path: pathlib.Path, told: str) -> None:
         """A stopped answer is what was proved last, and a schedule that psmax finds feasible."""
@@ -225,7 +226,7 @@ class Progress(InFolder):
         for sent in ENDS:
             with self.subTest(sent), started("solve", path, "--jobs", "2") as child:
                 assert child.stdout is not None and child.stderr is not None
-                told = told_until(child, ", proved: ")
+                told = told_until(child, "  feasible ")
                 child.send_signal(sent)
                 told += child.stderr.read()
                 out = child.stdout.read()
