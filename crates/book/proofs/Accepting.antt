@@ -12,10 +12,10 @@ use Rattle.branching.specs.Fair.{Expansion, IsFair}
 use Rattle.book.specs.State.{Named, BookState, in_hand, best_makespan}
 use Rattle.book.specs.Sound.{AreNamedBelow}
 use Rattle.book.specs.Offering.{Improves, IsShorterFound}
-use Rattle.book.specs.Below.{is_below, kids_below}
+use Rattle.trail.specs.Below.{is_below, kids_below}
 use Rattle.book.specs.CheckingIn.{named_from, Accepts}
 use Rattle.book.specs.OpenNodes.{InsertsKids}
-use Rattle.book.specs.Recording.{checked_in}
+use Rattle.trail.specs.Recording.{checked_in}
 use Rattle.book.specs.Views.{IsKept}
 use Rattle.book.proofs.Lists.{all_left, filter_at_most}
 

@@ -20,8 +20,8 @@ use Rattle.branching.proofs.Covers.{covered_still, expansion_keeps}
 use Rattle.book.specs.State.{Named}
 use Rattle.book.specs.Sound.{nodes_of}
 use Rattle.book.specs.Offering.{Improves}
-use Rattle.book.specs.Below.{is_below, kids_below}
-use Rattle.book.specs.CheckingIn.{named_from, IsInTime}
+use Rattle.trail.specs.Below.{is_below, kids_below, IsInTime}
+use Rattle.book.specs.CheckingIn.{named_from}
 use Rattle.book.proofs.Lists.{all_left, all_right}
 use Rattle.book.proofs.Names.{nodes_of_named}
 

@@ -1,5 +1,5 @@
 -- The trail that a book keeps, as its steps change it.
-use Rattle.std.proofs.Common.{◌≡◌, ℕ, zero, suc, ◌<◌, List, [], ◌∷◌, ◌++◌, length, refl, ap, subst, arith, Option, Some, None, slice_get}
+use Rattle.std.proofs.Common.{◌≡◌, ℕ, ◌<◌, List, ◌++◌, length, refl, ap, subst, arith, Option, Some, None, slice_get}
 use Rattle.std.specs.Prelude.{IfSome, option_map}
 use Rattle.std.proofs.Math.ListN.{set}
 use Rattle.std.proofs.lemmas.List.Elements.{All-head}
@@ -7,10 +7,9 @@ use Rattle.std.proofs.lemmas.List.Sorted.{All-permutation}
 use Rattle.network.specs.Problem.{Problem}
 use Rattle.book.specs.State.{Named, BookState, in_hand, live}
 use Rattle.book.specs.Sound.{IsSound}
-use Rattle.book.specs.Trail.{Ending, Entry, TrailOf}
-use Rattle.book.specs.Recording.{ended_as}
+use Rattle.trail.specs.Trail.{Entry, TrailOf}
 use Rattle.book.specs.Recorded.{IsRecorded}
-use Rattle.book.specs.TrailViews.{with_entries, trail_for}
+use Rattle.trail.specs.TrailViews.{with_entries, trail_for}
 use Rattle.book.proofs.InHand.{held_first}
 
 abbrev pub entries_in : Option TrailOf → Option (List Entry)
@@ -39,9 +38,3 @@ known_there (Some t) s name recorded below = (omega (arith, recorded.all_named, 
 
 pub held_known : (trail : Option TrailOf) (s : BookState) (worker : ℕ) (held : Named) (name : ℕ) → IfSome (entries_in trail) (IsRecorded s) → IsSound s → slice_get s.hands worker ≡ Some (Some held) → held.name ≡ name → IfSome trail (λ (t : TrailOf). (name < length t.entries) × (length t.entries ≡ s.opened))
 held_known trail s worker held name recorded sound holds named = known_there trail s name recorded (subst (λ (n : ℕ). n < s.opened) named (held_below s worker held sound holds))
-
--- what comes later leaves the entry that ends
-pub ended_append : (entries more : List Entry) (name : ℕ) (ending : Ending) → name < length entries → ended_as (entries ++ more) name ending ≡ ended_as entries name ending ++ more
-ended_append [] more name ending known = absurd (omega (arith, known))
-ended_append (e ∷ entries) more zero ending known = refl
-ended_append (e ∷ entries) more (suc name) ending known = ap (λ (es : List Entry). e ∷ es) (ended_append entries more name ending (omega (arith, known)))

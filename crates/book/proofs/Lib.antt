@@ -13,8 +13,4 @@ pub mod Steps
 pub mod Recorded
 pub mod RecordedSteps
 pub mod Tickets
-pub mod TrailFalls
-pub mod TrailGrowing
-pub mod TrailPaths
-pub mod TrailSteps
 pub mod Verdicts

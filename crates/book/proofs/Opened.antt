@@ -16,12 +16,12 @@ use Rattle.branching.proofs.Covers.{none_on_cycle}
 use Rattle.book.specs.State.{Named, in_hand}
 use Rattle.book.specs.Sound.{AreNamedOnce, nodes_of}
 use Rattle.book.specs.Opening.{AreAllowed, AreFirst, new_state, first_entries}
-use Rattle.book.specs.Trail.{not_ended, Entry, no_entry, entry_at}
-use Rattle.book.specs.RightTrail.{IsRightEnding, IsRooted, has_ended}
+use Rattle.trail.specs.Trail.{not_ended, Entry, no_entry, entry_at}
+use Rattle.trail.specs.RightTrail.{IsRightEnding, IsRooted, has_ended}
 use Rattle.book.specs.Recorded.{IsNoted, IsRecorded}
 use Rattle.book.specs.Views.{IsKept}
 use Rattle.book.proofs.InHand.{in_hand_none}
-use Rattle.book.proofs.TrailSteps.{one_ended}
+use Rattle.trail.proofs.TrailSteps.{one_ended}
 
 -- a list of one element is the only order of it
 pub only_order : (x : Named) (new : List Named) → IsPermutation (x ∷ []) new → new ≡ x ∷ []

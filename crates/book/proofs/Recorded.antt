@@ -17,14 +17,14 @@ use Rattle.book.specs.State.{Named}
 use Rattle.book.specs.Sound.{AreNamedOnce, nodes_of}
 use Rattle.book.specs.CheckingIn.{named_from}
 use Rattle.book.specs.OpenNodes.{IsNamedOtherThan}
-use Rattle.book.specs.Trail.{Ending, was_cut, Entry, no_entry, entry_at, path_to}
-use Rattle.book.specs.RightTrail.{IsRightTrail, IsRightEnding, has_ended}
-use Rattle.book.specs.Recording.{ended_as, note_cut, kid_entry}
-use Rattle.book.specs.Recorded.{IsNoted}
+use Rattle.trail.specs.Trail.{Ending, was_cut, Entry, no_entry, entry_at, path_to}
+use Rattle.trail.specs.RightTrail.{IsRightTrail, IsRightEnding, has_ended}
+use Rattle.trail.specs.Recording.{ended_as, kid_entry}
+use Rattle.book.specs.Recorded.{note_cut, IsNoted}
 use Rattle.book.proofs.Names.{named_once_right, others_named}
-use Rattle.book.proofs.TrailPaths.{path_kept, path_opens}
-use Rattle.book.proofs.TrailGrowing.{kid_forced, kid_entry_is}
-use Rattle.book.proofs.TrailSteps.{ended_cases, length_ended, extends_grown, trail_grown, count_ended}
+use Rattle.trail.proofs.TrailPaths.{path_kept, path_opens}
+use Rattle.trail.proofs.TrailGrowing.{kid_forced, kid_entry_is}
+use Rattle.trail.proofs.TrailSteps.{ended_cases, length_ended, extends_grown, trail_grown, count_ended}
 
 -- a node that goes on is noted as before where another ends and kids come
 noted_kept : (entries : List Entry) (name : ℕ) (ending : Ending) (more : List Entry) (n : Named) → n.name ≢ name → n.name < length entries → IsNoted entries n → IsNoted (ended_as entries name ending ++ more) n

@@ -1,6 +1,6 @@
 -- Each step of a book leaves its trail right.
-use Rattle.std.proofs.Common.{◌≡◌, ℕ, ◌+◌, ◌<◌, Bool, true, false, List, [], ◌∷◌, ◌++◌, length, map, get_or, refl, sym, ap, ◌∙◌, subst, arith, append_assoc, length-append, Option, Some, None}
-use Rattle.std.specs.Prelude.{ℤ, IfSome, MatchOption, option_map}
+use Rattle.std.proofs.Common.{◌≡◌, ℕ, ◌+◌, ◌<◌, Bool, true, false, List, [], ◌∷◌, ◌++◌, length, map, get_or, sym, ap, ◌∙◌, subst, arith, append_assoc, length-append, Option, Some, None}
+use Rattle.std.specs.Prelude.{ℤ, IfSome, option_map}
 use Rattle.std.specs.List.{All, count_by}
 use Rattle.std.specs.List.Sorted.{IsPermutation}
 use Rattle.std.proofs.Math.ListN.{set}
@@ -10,31 +10,28 @@ use Rattle.std.proofs.lemmas.List.Sums.{sum_by-append}
 use Rattle.std.proofs.lemmas.List.Elements.{All-nil, All-cons, All-head, All-tail, All-append, All-filter}
 use Rattle.std.proofs.lemmas.List.Sorted.{IsPermutation-append_left, All-permutation}
 use Rattle.network.specs.Problem.{Problem}
-use Rattle.network.specs.Schedule.{ScheduleOf, IsLeastSchedule, makespan}
-use Rattle.forbidden_sets.specs.MinimalSet.{MinimalSet}
-use Rattle.branching.specs.Subproblem.{Subproblem, IsLive}
-use Rattle.branching.specs.Pairs.{ordered_pairs}
+use Rattle.network.specs.Schedule.{ScheduleOf, makespan}
+use Rattle.branching.specs.Subproblem.{Subproblem}
 use Rattle.branching.specs.Covered.{IsNodeOf, ceiling_of}
 use Rattle.branching.specs.Ceiling.{Reaches}
-use Rattle.branching.specs.Fair.{Expansion, IsKidOf, IsFoundFor, IsReport, IsSplitBy, IsUnsplit}
-use Rattle.branching.specs.Right.{IsRightSet, IsCutUnder, IsSolvedUnder}
+use Rattle.branching.specs.Fair.{Expansion, IsKidOf, IsReport}
 use Rattle.book.specs.State.{Named, BookState, in_hand, live, best_makespan}
 use Rattle.book.specs.Sound.{AreNamedOnce, nodes_of, IsSound}
 use Rattle.book.specs.Offering.{Improves}
-use Rattle.book.specs.Below.{is_below, kids_below}
-use Rattle.book.specs.CheckingIn.{named_from, IsInTime, MayCheckIn, Accepts}
+use Rattle.trail.specs.Below.{is_below, kids_below, IsInTime}
+use Rattle.book.specs.CheckingIn.{named_from, MayCheckIn, Accepts}
 use Rattle.book.specs.OpenNodes.{IsNamedOtherThan}
-use Rattle.book.specs.Trail.{PairFate, Ending, not_ended, Entry, entry_at, path_to}
-use Rattle.book.specs.RightTrail.{IsRightTrail, IsRightEnding, has_ended, IsWholeTree}
-use Rattle.book.specs.Recording.{ended_as, note_cut, kid_entry, fates_under, ending_by, ending_of, checked_in}
-use Rattle.book.specs.Recorded.{IsNoted, IsRecorded}
+use Rattle.trail.specs.Trail.{Ending, not_ended, Entry, entry_at, path_to}
+use Rattle.trail.specs.RightTrail.{IsRightTrail, IsRightEnding, has_ended, IsWholeTree}
+use Rattle.trail.specs.Recording.{ended_as, kid_entry, fates_under, ending_of, checked_in}
+use Rattle.book.specs.Recorded.{note_cut, IsNoted, IsRecorded}
 use Rattle.book.proofs.Names.{named_once_moved, others_named}
 use Rattle.book.proofs.InHand.{held_first}
 use Rattle.book.specs.declared.answers.CheckedIn.{CheckedIn}
-use Rattle.book.proofs.TrailPaths.{path_kept, ended_paths}
-use Rattle.book.proofs.TrailFalls.{cut_falls, trail_falls}
-use Rattle.book.proofs.TrailGrowing.{split_fates}
-use Rattle.book.proofs.TrailSteps.{length_ended, trail_grown, kids_open, one_ended, count_ended, count_kids, all_ended}
+use Rattle.trail.proofs.TrailPaths.{ended_paths}
+use Rattle.trail.proofs.TrailFalls.{trail_falls}
+use Rattle.trail.proofs.TrailReports.{ending_right, ending_ends}
+use Rattle.trail.proofs.TrailSteps.{length_ended, trail_grown, kids_open, one_ended, count_ended, count_kids, all_ended}
 use Rattle.book.proofs.Recorded.{all_noted, nodes_cut, kids_noted}
 
 -- a trail that changes, where one is kept
@@ -101,45 +98,6 @@ recorded_cut s reach sound =
     record { right = cut.right; all_named = cut.all_named ∙ old.all_named; noted = cut.noted; ended = omega (arith, cut.ended, old.ended) })
 
 -- ---- a node that is checked in
-
-unsplit_right : (p : Problem) (limit : Option ℤ) (report : Expansion) (name : ℕ) (entries : List Entry) (fates : List PairFate) → IsReport report → report.node.project ≡ p → IsInTime report.ceiling limit → path_to entries name ≡ report.node.pairs
-    → (found : Option ScheduleOf) → IfSome found (IsFoundFor report.node) → MatchOption found (IsCutUnder report.node.project report.node.pairs report.ceiling) (λ f. IsLeastSchedule report.node.project report.node.pairs f.starts)
-    → IfSome found (λ f. Reaches limit (makespan f.starts)) → IsRightEnding p limit entries name (ending_by None found fates)
-unsplit_right p limit report name entries fates told same less path None of_found is reach =
-    rw path (cut_falls p report.ceiling limit report.node.pairs less (subst (λ (p : Problem). IsCutUnder p report.node.pairs report.ceiling) same is))
-unsplit_right p None report name entries fates told same less path (Some f) of_found is reach = absurd reach
-unsplit_right p (Some limit) report name entries fates told same less path (Some f) of_found is reach =
-    rw path
-    (subst (λ (p : Problem). IsSolvedUnder p report.node.pairs (Some limit)) same
-    (record { is_live = told.is_node.is_live; starts = f.starts; least = is; feasible = of_found.stands.feasible; reaches = reach }))
-
--- how the node of a report ends is right
-ending_right : (p : Problem) (limit : Option ℤ) (report : Expansion) (name : ℕ) (before : List Entry) → IsReport report → report.node.project ≡ p → IsInTime report.ceiling limit → name < length before → path_to before name ≡ report.node.pairs
-    → IfSome report.found (λ f. Reaches limit (makespan f.starts))
-    → IsRightEnding p limit (before ++ map (kid_entry name (length report.node.pairs)) (kids_below limit report.kids)) name (ending_of limit (length before) report)
-ending_right p limit report name before told same less known path reach = parts report.split told.told
-  where
-    entries : List Entry
-    entries = before ++ map (kid_entry name (length report.node.pairs)) (kids_below limit report.kids)
-
-    fates : List PairFate
-    fates = fates_under limit (length report.node.pairs) (length before) report.fates report.kids
-
-    whole_path : path_to entries name ≡ report.node.pairs
-    whole_path = path_kept before (map (kid_entry name (length report.node.pairs)) (kids_below limit report.kids)) name known ∙ path
-
-    parts : (split : Option MinimalSet) → MatchOption split (IsUnsplit report) (IsSplitBy report) → IsRightEnding p limit entries name (ending_by split report.found fates)
-    parts None is = unsplit_right p limit report name entries fates told same less whole_path report.found told.fair.of_found is.of_found reach
-    parts (Some set) is = (
-      rw whole_path (subst (λ (p : Problem). IsLive p report.node.pairs) same told.is_node.is_live),
-      subst (λ (p : Problem). IsRightSet p set.resource set.members) same is.right_set,
-      split_fates p limit report.ceiling report.node name same less before known path (ordered_pairs set.members) report.fates report.kids is.fates,
-    )
-
-ending_ends : (split : Option MinimalSet) (found : Option ScheduleOf) (fates : List PairFate) → has_ended (ending_by split found fates) ≡ true
-ending_ends None None fates = refl
-ending_ends None (Some f) fates = refl
-ending_ends (Some set) found fates = refl
 
 -- the trail after the check-in of a report on a node that is noted
 pub recorded_after : (p : Problem) (old new : Option ℤ) (report : Expansion) (name : ℕ) (held : Named) (rest : List Named) (entries : List Entry) (opened ended : ℕ) → IsReport report → report.node.project ≡ p → IsInTime old new → IsInTime report.ceiling old

@@ -15,7 +15,7 @@ use Rattle.book.specs.State.{Named, BookState, in_hand, live, best_makespan}
 use Rattle.book.specs.Sound.{AreNamedOnce, AreNamedBelow, nodes_of, IsSound}
 use Rattle.book.specs.Offering.{Improves}
 use Rattle.book.specs.Taking.{IsFull, HandsOut}
-use Rattle.book.specs.Below.{is_below, kids_below}
+use Rattle.trail.specs.Below.{is_below, kids_below}
 use Rattle.book.specs.CheckingIn.{named_from, MayCheckIn, Accepts}
 use Rattle.book.specs.GivingBack.{ReturnsNode}
 use Rattle.book.specs.Views.{IsKept}

@@ -1,5 +1,5 @@
 -- What becomes of a book when the report on a node in hand is checked in, and why it may be refused.
-use Rattle.std.specs.Prelude.{◌≡◌, ◌≢◌, ◌+◌, ◌<◌, ◌≤◌, ◌≤ℤ◌, ◌++◌, ℕ, ℤ, List, [], ◌∷◌, length, Option, Some, None, MatchOption, option_map, Result, Ok, Err, slice_set}
+use Rattle.std.specs.Prelude.{◌≡◌, ◌≢◌, ◌+◌, ◌<◌, ◌≤◌, ◌++◌, ℕ, List, [], ◌∷◌, length, None, option_map, Result, Ok, Err, slice_set}
 use Rattle.std.specs.List.{All}
 use Rattle.std.specs.List.Sorted.{IsPermutation}
 use Rattle.branching.specs.Subproblem.{Subproblem}
@@ -7,8 +7,8 @@ use Rattle.branching.specs.Fair.{Expansion}
 use Rattle.branching.specs.ReportView.{AreListsOf}
 use Rattle.branching.specs.declared.branches.Branches.{Branches}
 use Rattle.book.specs.State.{Named, node_named, Holds, BookState, in_hand, best_makespan}
-use Rattle.book.specs.Below.{kids_below}
-use Rattle.book.specs.Recording.{checked_in}
+use Rattle.trail.specs.Below.{kids_below, IsInTime}
+use Rattle.trail.specs.Recording.{checked_in}
 use Rattle.book.specs.Offering.{Improves}
 use Rattle.book.specs.declared.answers.CheckedIn.{CheckedIn}
 use Rattle.book.specs.declared.answers.CheckFault.{CheckFault}
@@ -18,11 +18,6 @@ use Rattle.book.specs.declared.answers.CheckFault.TheVariants as fault
 abbrev pub named_from : ℕ → List Subproblem → List Named
 named_from first [] = []
 named_from first (node ∷ nodes) = node_named first node ∷ named_from (first + 1) nodes
-
--- a report without a ceiling left nothing out; one with a ceiling left out nothing that is shorter than the best
-abbrev pub IsInTime : Option ℤ → Option ℤ → Type 0
-IsInTime None best = Unit {0}
-IsInTime (Some ceiling) best = MatchOption best ⊥ (λ length. length ≤ℤ ceiling)
 
 -- a node of that name is in some hand
 pub record IsInHand (s : BookState) (name : ℕ) (held : Named) : Type 0 where

@@ -1,4 +1,3 @@
-pub mod Below
 pub mod CheckingIn
 pub mod Counts
 pub mod Events
@@ -8,12 +7,8 @@ pub mod Offering
 pub mod OpenNodes
 pub mod Opening
 pub mod Recorded
-pub mod Recording
-pub mod RightTrail
 pub mod Sound
 pub mod State
 pub mod Taking
-pub mod Trail
-pub mod TrailViews
 pub mod Verdicts
 pub mod Views

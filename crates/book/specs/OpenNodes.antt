@@ -5,7 +5,7 @@ use Rattle.std.specs.List.{filter}
 use Rattle.std.specs.List.Sorted.{IsPermutation}
 use Rattle.branching.specs.Subproblem.{Subproblem}
 use Rattle.book.specs.State.{Named, node_named}
-use Rattle.book.specs.Below.{kids_below}
+use Rattle.trail.specs.Below.{kids_below}
 use Rattle.book.specs.CheckingIn.{named_from}
 use Rattle.book.specs.declared.open_nodes.Rank.{Rank}
 use Rattle.book.specs.declared.open_nodes.OpenNode.{OpenNode}

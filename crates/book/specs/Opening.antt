@@ -6,7 +6,7 @@ use Rattle.branching.specs.Subproblem.{Subproblem}
 use Rattle.branching.specs.Covered.{IsRootOf}
 use Rattle.plain_search.specs.declared.search.TheConstants.{MAX_TAKES}
 use Rattle.book.specs.State.{Named, node_named, BookState}
-use Rattle.book.specs.Trail.{Entry, no_entry}
+use Rattle.trail.specs.Trail.{Entry, no_entry}
 use Rattle.book.specs.declared.answers.TheConstants.{MAX_WORKERS}
 use Rattle.book.specs.declared.answers.BookFault.{BookFault}
 use Rattle.book.specs.declared.answers.BookFault.TheVariants as fault

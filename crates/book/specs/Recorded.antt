@@ -1,9 +1,15 @@
--- What is true of the trail of a book whenever nobody is changing it.
-use Rattle.std.specs.Prelude.{◌≡◌, ◌+◌, List, [], length, IfSome}
+-- What a book notes in its trail when nodes are cut, and what is true of the trail whenever nobody is changing it.
+use Rattle.std.specs.Prelude.{◌≡◌, ◌+◌, List, [], ◌∷◌, length, IfSome}
 use Rattle.std.specs.List.{All, count_by}
 use Rattle.book.specs.State.{Named, BookState, live, best_makespan}
-use Rattle.book.specs.Trail.{Entry, not_ended, entry_at, path_to}
-use Rattle.book.specs.RightTrail.{IsRightTrail, IsWholeTree, has_ended}
+use Rattle.trail.specs.Trail.{Entry, not_ended, was_cut, entry_at, path_to}
+use Rattle.trail.specs.Recording.{ended_as}
+use Rattle.trail.specs.RightTrail.{IsRightTrail, IsWholeTree, has_ended}
+
+-- these nodes end as cut
+abbrev pub note_cut : List Named → List Entry → List Entry
+note_cut [] entries = entries
+note_cut (n ∷ nodes) entries = note_cut nodes (ended_as entries n.name was_cut)
 
 -- the node stands under its name with its pairs, and has not ended
 pub record IsNoted (entries : List Entry) (n : Named) : Type 0 where

@@ -4,7 +4,7 @@ use Rattle.network.specs.Problem.{Problem}
 use Rattle.network.specs.Schedule.{ScheduleOf}
 use Rattle.branching.specs.Subproblem.{Subproblem}
 use Rattle.branching.specs.Covered.{ceiling_of}
-use Rattle.book.specs.Trail.{Entry}
+use Rattle.trail.specs.Trail.{Entry}
 
 -- a node that is open or in hand, and the name that it was opened under
 pub record Named : Type 0 where

@@ -5,7 +5,7 @@ use Rattle.std.specs.List.{All, Any}
 use Rattle.std.specs.List.Sorted.{IsPermutation}
 use Rattle.branching.specs.Ceiling.{IsUnder, Reaches}
 use Rattle.book.specs.State.{Named, Holds, BookState, in_hand, best_makespan}
-use Rattle.book.specs.Recording.{note_cut}
+use Rattle.book.specs.Recorded.{note_cut}
 use Rattle.book.specs.declared.answers.Ticket.{Ticket}
 use Rattle.book.specs.declared.answers.Take.{Take}
 use Rattle.book.specs.declared.answers.Take.TheVariants as answer

@@ -2,7 +2,7 @@
 use Rattle.std.specs.Prelude.{◌≡◌, option_map, IfSome}
 use Rattle.book.specs.State.{BookState}
 use Rattle.book.specs.Sound.{IsSound, IsWithinLimits}
-use Rattle.book.specs.Trail.{TrailOf}
+use Rattle.trail.specs.Trail.{TrailOf}
 use Rattle.book.specs.Recorded.{IsRecorded}
 use Rattle.book.specs.declared.book.Book.TheInside.{Inside}
 

@@ -11,7 +11,7 @@ ghost use Rattle.book.specs.CheckingIn.{MayCheckIn, Judges, Accepts, ChecksIn, C
 ghost use Rattle.book.specs.GivingBack.{GivesBack};
 ghost use Rattle.book.specs.Counts.{counts_of};
 ghost use Rattle.book.specs.Recorded.{IsRecorded, EndsWhole};
-ghost use Rattle.book.specs.TrailViews.{trail_for};
+ghost use Rattle.trail.specs.TrailViews.{trail_for};
 ghost use Rattle.book.specs.Verdicts.{IsLeast, known_bounds, IsBoundFor, IsTrueOf, IsVerdictOf};
 
 use crate::answers::{
@@ -20,11 +20,10 @@ use crate::answers::{
 use crate::counts::Counts;
 use crate::hands::Hands;
 use crate::least::lesser;
-use crate::limits::{is_below, is_in_time, shorter_found};
+use crate::limits::{is_in_time, shorter_found};
 use crate::nodes_left::NodesLeft;
 use crate::open_nodes::OpenNodes;
 use crate::recording::{clear_open, open_kids};
-use crate::trail::Trail;
 use branching::{Branches, Report, root};
 use longest_path::PathFault;
 use network::{Project, Schedule, SharedProject};
@@ -32,6 +31,7 @@ use plain_search::{MAX_TAKES, makespan_of};
 use std::alloc::{AllocError, Global};
 use std::marker::Model;
 use std::sync::Arc;
+use trail::{Trail, is_below};
 
 /// The book of a search. Its workers are numbered from 0. Its nodes have the names 0, 1, 2 and so on, in the order in
 /// which it opened them.
@@ -134,11 +134,8 @@ impl Book {
         ensures opens { OpensRecorded (arc_value project) workers takes result }
         ensures sound { IfOk result IsSound }
     {
-        if !are_allowed(workers, takes) {
-            return Err(BookFault::Limit);
-        }
-        let shared = Arc::try_clone(&project)?;
-        let mut book = Book::open(alloc, shared, workers, takes)?;
+        let mut book = Book::open(alloc, project, workers, takes)?;
+        let project = Arc::try_clone(book.project())?;
         let roots = book.waiting.len();
         let trail = Trail::new(alloc, project, roots)?;
         book.trail = Some(trail);

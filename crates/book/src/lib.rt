@@ -16,7 +16,6 @@ mod limits;
 mod nodes_left;
 mod open_nodes;
 mod recording;
-mod trail;
 
 pub use answers::{
     BookFault, CheckFault, CheckedIn, MAX_WORKERS, OtherProject, Take, Ticket, Verdict,
@@ -25,4 +24,3 @@ pub use book::{Book, are_allowed, is_same_project};
 pub use counts::Counts;
 pub use events::{Event, Reply, run_events};
 pub use nodes_left::NodesLeft;
-pub use trail::{KidFate, NodeEnding, Origin, Trail, TrailEntry};

@@ -1,25 +1,11 @@
-//! When a bound or a schedule is below a limit.
+//! When a report comes in time, and when what it found is below a limit.
 
-ghost use Rattle.std.specs.Prelude.{◌≡◌};
 ghost use Rattle.std.specs.Bool.{OnTrue, OnFalse};
-ghost use Rattle.branching.specs.Ceiling.{IsUnder, Reaches};
-ghost use Rattle.book.specs.Below.{is_below};
-ghost use Rattle.book.specs.CheckingIn.{IsInTime};
+ghost use Rattle.trail.specs.Below.{IsInTime};
 ghost use Rattle.book.specs.Offering.{IsShorterFound};
 
 use branching::Report;
-
-/// Whether a number is below the limit, if there is one.
-pub(crate) fn is_below(number: i64, limit: Option<i64>) -> bool
-    ensures value { result ≡ is_below limit number }
-    ensures below { OnTrue result (IsUnder limit number) }
-    ensures reached { OnFalse result (Reaches limit number) }
-{
-    match limit {
-        None => true,
-        Some(limit) => number < limit,
-    }
-}
+use trail::is_below;
 
 /// Whether a report under the ceiling left out nothing that is shorter than the best.
 pub(crate) fn is_in_time(ceiling: Option<i64>, best: Option<i64>) -> bool

@@ -11,13 +11,13 @@ ghost use Rattle.book.specs.Hands.{held_node};
 ghost use Rattle.book.specs.OpenNodes.{IsNamedOtherThan, Inserts, InsertsKids, is_older};
 
 use crate::hands::Held;
-use crate::limits::is_below;
 use branching::Lean;
 use std::alloc::{AllocError, Global};
 use std::cmp::Reverse;
 use std::collections::BTreeMap;
 use std::marker::Model;
 use std::sync::Arc;
+use trail::is_below;
 
 /// The place of an open node: the least bound first, among these the greatest name.
 #[derive(Clone, Copy, Debug, PartialEq, Eq, PartialOrd, Ord)]

@@ -3,13 +3,14 @@
 ghost use Rattle.std.specs.Prelude.{◌≡◌, ◌+◌, ◌^◌, ◌<◌, [], length, IfOk, OnOk, OnErr, IfSome, option_map};
 ghost use Rattle.book.specs.Sound.{AreNamedBelow};
 ghost use Rattle.book.specs.OpenNodes.{InsertsKids};
-ghost use Rattle.book.specs.Recording.{note_cut, checked_in, MayNote};
-ghost use Rattle.book.specs.TrailViews.{with_entries};
+ghost use Rattle.book.specs.Recorded.{note_cut};
+ghost use Rattle.trail.specs.Recording.{checked_in, MayNote};
+ghost use Rattle.trail.specs.TrailViews.{with_entries};
 
 use crate::open_nodes::OpenNodes;
-use crate::trail::{NodeEnding, Trail};
 use branching::Report;
 use std::alloc::AllocError;
+use trail::{NodeEnding, Trail};
 
 /// Takes out all nodes, and ends them as cut.
 fn cut_all(nodes: &mut OpenNodes, trail: &mut Trail)

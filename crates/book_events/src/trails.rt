@@ -1,8 +1,8 @@
 //! A trail, as words: what became of each node, by their names.
 
 use crate::replies::list_text;
-use book::{KidFate, NodeEnding, Origin, Trail, TrailEntry};
 use std::alloc::{AllocError, Global};
+use trail::{KidFate, NodeEnding, Origin, Trail, TrailEntry};
 
 /// Where a node came from.
 fn origin_text(alloc: Global, origin: Option<Origin>) -> Result<String, AllocError> {

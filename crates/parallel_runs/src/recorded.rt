@@ -1,17 +1,17 @@
 //! The record of a search by workers.
 
 ghost use Rattle.std.specs.Prelude.{◌≡◌, IfOk, IfSome, option_map};
-ghost use Rattle.book.specs.RightTrail.{IsWholeTree};
+ghost use Rattle.trail.specs.RightTrail.{IsWholeTree};
 ghost use Rattle.branching.specs.Covered.{ceiling_of, IsScheduleFor};
 ghost use Rattle.search_record.specs.Claims.{claim_of};
 ghost use Rattle.worker.specs.Solving.{IsTrailOf, best_of};
 ghost use Rattle.parallel_runs.specs.Searches.{IsOutcomeRecord, IsTextOf};
 
-use book::Trail;
 use network::Schedule;
 use plain_search::Outcome;
 use search_record::of_trail;
 use std::alloc::{AllocError, Global};
+use trail::Trail;
 
 /// The text of the record of a trail that is a whole tree under the makespan of this schedule.
 fn text_of(alloc: Global, trail: &Trail, best: Option<&Schedule>) -> Result<Vec<u8>, AllocError>

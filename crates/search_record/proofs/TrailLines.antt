@@ -7,8 +7,8 @@ use Rattle.std.proofs.lemmas.List.Elements.{All-nil, All-cons, All-head, All-tai
 use Rattle.network.specs.Problem.{Problem}
 use Rattle.network.specs.declared.lag.Pair.{Pair}
 use Rattle.branching.specs.Pairs.{ordered_pairs}
-use Rattle.book.specs.Trail.{PairFate, was_named, was_dead, was_not_opened, Ending, not_ended, was_cut, was_solved, was_split, Entry, entry_at}
-use Rattle.book.specs.RightTrail.{IsRightFate, IsRightEnding, IsRightTrail}
+use Rattle.trail.specs.Trail.{PairFate, was_named, was_dead, was_not_opened, Ending, not_ended, was_cut, was_solved, was_split, Entry, entry_at}
+use Rattle.trail.specs.RightTrail.{IsRightFate, IsRightEnding, IsRightTrail}
 use Rattle.record_text.specs.declared.line.Line.{Line}
 use Rattle.record_text.specs.declared.line.Line.TheVariants as kind
 use Rattle.record_text.specs.Tree.{Tree, cut, dead, split, tree, lines_of, lines_of_all}

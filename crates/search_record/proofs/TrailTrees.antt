@@ -9,9 +9,9 @@ use Rattle.network.specs.Problem.{Problem}
 use Rattle.branching.specs.Pairs.{ordered_pairs}
 use Rattle.branching.specs.Right.{AllForced}
 use Rattle.branching.proofs.OrderedPairs.{count_pairs}
-use Rattle.book.specs.declared.trail.Origin.{Origin}
-use Rattle.book.specs.Trail.{PairFate, was_named, was_dead, was_not_opened, Ending, not_ended, was_cut, was_solved, was_split, Entry, entry_at, path_after, paths_after, path_to}
-use Rattle.book.specs.RightTrail.{IsKidUnder, IsRightFate, IsRightEnding, has_ended, IsWholeTree}
+use Rattle.trail.specs.declared.trail.Origin.{Origin}
+use Rattle.trail.specs.Trail.{PairFate, was_named, was_dead, was_not_opened, Ending, not_ended, was_cut, was_solved, was_split, Entry, entry_at, path_after, paths_after, path_to}
+use Rattle.trail.specs.RightTrail.{IsKidUnder, IsRightFate, IsRightEnding, has_ended, IsWholeTree}
 use Rattle.record_text.specs.declared.line.Line.{Line}
 use Rattle.record_text.specs.declared.line.Line.TheVariants as kind
 use Rattle.record_text.specs.Tree.{Tree, cut, dead, Trees, count_trees, IsTree, AreTrees}

@@ -6,8 +6,8 @@ use Rattle.network.specs.Limits.{IsProject, AreStarts}
 use Rattle.network.specs.Problem.{Problem}
 use Rattle.network.specs.Schedule.{ScheduleOf, IsFeasible}
 use Rattle.branching.specs.Covered.{ceiling_of}
-use Rattle.book.specs.Trail.{Entry}
-use Rattle.book.specs.RightTrail.{IsWholeTree}
+use Rattle.trail.specs.Trail.{Entry}
+use Rattle.trail.specs.RightTrail.{IsWholeTree}
 use Rattle.record_text.specs.SearchRecord.{SearchRecord}
 use Rattle.record_text.specs.Text.{IsWritableClaim, IsRecord}
 use Rattle.record_text.specs.Tree.{lines_of}

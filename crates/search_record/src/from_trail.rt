@@ -2,15 +2,15 @@
 
 ghost use Rattle.std.specs.Prelude.{◌≡◌, IfOk, OnOk, IfSome, option_map};
 ghost use Rattle.branching.specs.Covered.{ceiling_of};
-ghost use Rattle.book.specs.RightTrail.{IsWholeTree};
+ghost use Rattle.trail.specs.RightTrail.{IsWholeTree};
 ghost use Rattle.search_record.specs.Claims.{claim_of, IsKeptSchedule};
 ghost use Rattle.search_record.specs.Right.{IsRight};
 
 use crate::walk::trail_lines;
-use book::Trail;
 use network::Schedule;
 use record_text::{Claim, Record, Starts};
 use std::alloc::{AllocError, Global};
+use trail::Trail;
 
 /// What a search claims whose best schedule this is.
 fn claim_of(alloc: Global, best: Option<&Schedule>) -> Result<Claim, AllocError>

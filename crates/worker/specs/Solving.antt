@@ -7,9 +7,9 @@ use Rattle.plain_search.specs.Verdicts.{IsNoLongerThan, IsTrueOf}
 use Rattle.plain_search.specs.declared.outcome.Outcome.{Outcome}
 use Rattle.plain_search.specs.declared.outcome.Outcome.TheVariants.{Optimal, NoSchedule, Stopped}
 use Rattle.book.specs.State.{BookState, live}
-use Rattle.book.specs.Trail.{TrailOf}
+use Rattle.trail.specs.Trail.{TrailOf}
 use Rattle.book.specs.Verdicts.{IsLeast, known_bounds}
-use Rattle.book.specs.RightTrail.{IsWholeTree}
+use Rattle.trail.specs.RightTrail.{IsWholeTree}
 use Rattle.worker.specs.declared.solution.Solved.{Solved}
 
 -- the search was stopped before it was over

@@ -14,7 +14,7 @@ use crate::fault::SolveFault;
 use crate::gate::Gate;
 use crate::shared::Shared;
 use crate::threads::run_workers;
-use book::{Book, Counts, NodesLeft, Trail, Verdict, are_allowed, is_same_project};
+use book::{Book, Counts, NodesLeft, Verdict, are_allowed, is_same_project};
 use network::{Project, Schedule};
 use plain_search::Outcome;
 use std::alloc::{AllocError, Global};
@@ -23,6 +23,7 @@ use std::sync::ledger::{Blank, Ledger};
 use std::sync::{Arc, Wait};
 use std::thread;
 use std::thread::Threads;
+use trail::Trail;
 
 /// The outcome of a search by workers, the counts of its book, and how many reports of each worker were accepted.
 #[derive(Drop, Debug)]

@@ -2,7 +2,7 @@ use Rattle.std.proofs.Common.{List, Option, sym, subst, ap, ◌∙◌, option_ma
 use Rattle.network.specs.Limits.{IsProject}
 use Rattle.network.specs.Schedule.{ScheduleOf}
 use Rattle.branching.specs.Covered.{ceiling_of}
-use Rattle.book.specs.Trail.{Entry}
+use Rattle.trail.specs.Trail.{Entry}
 use Rattle.record_text.specs.SearchRecord.{SearchRecord}
 use Rattle.record_text.specs.Tree.{lines_of}
 use Rattle.search_record.specs.TrailTree.{KidsAreLater, tree_under}

@@ -10,9 +10,9 @@ use Rattle.book.specs.State.{Named, BookState}
 use Rattle.book.specs.CheckingIn.{MayCheckIn, Accepts}
 use Rattle.book.specs.Offering.{IsShorterFound}
 use Rattle.book.specs.OpenNodes.{InsertsKids}
-use Rattle.book.specs.Trail.{TrailOf}
-use Rattle.book.specs.Recording.{checked_in}
-use Rattle.book.specs.TrailViews.{with_entries}
+use Rattle.trail.specs.Trail.{TrailOf}
+use Rattle.trail.specs.Recording.{checked_in}
+use Rattle.trail.specs.TrailViews.{with_entries}
 use Rattle.book.specs.Views.{state_of}
 use Rattle.book.specs.declared.book.Book.TheInside.{Inside}
 use Rattle.book.proofs.Accepting.{not_improved, improved, accepts, older_than_next, names_last_opened}

@@ -7,8 +7,8 @@ use Rattle.branching.specs.Ceiling.{IsUnder, Reaches}
 use Rattle.book.specs.State.{Named, BookState, best_makespan}
 use Rattle.book.specs.Verdicts.{IsLeast, bounds_of}
 use Rattle.book.specs.Views.{state_of, IsKept}
-use Rattle.book.specs.Trail.{Entry, TrailOf}
-use Rattle.book.specs.Recording.{note_cut}
+use Rattle.trail.specs.Trail.{Entry, TrailOf}
+use Rattle.book.specs.Recorded.{note_cut}
 use Rattle.book.proofs.KeptTrail.{entries_in, entries_changed, project_kept}
 use Rattle.book.proofs.RecordedSteps.{cut_state}
 use Rattle.book.proofs.Steps.{kept_cut}

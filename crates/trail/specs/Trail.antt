@@ -1,9 +1,9 @@
--- What a book that keeps a trail knows of each node that was opened: where it came from, which pairs were forced, and
+-- What a trail knows of each node that was opened: where it came from, which pairs were forced, and
 -- how it ended.
 use Rattle.std.specs.Prelude.{ℕ, List, [], ◌∷◌, ◌++◌, Option, None, Some, slice_index_or}
 use Rattle.network.specs.declared.lag.Pair.{Pair}
 use Rattle.network.specs.Problem.{Problem}
-use Rattle.book.specs.declared.trail.Origin.{Origin}
+use Rattle.trail.specs.declared.trail.Origin.{Origin}
 
 -- what a pair of a split set gave: a node under a name, or none, with the pairs that were forced until then
 pub data PairFate : Type 0 where

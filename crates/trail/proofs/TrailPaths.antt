@@ -4,8 +4,8 @@ use Rattle.std.specs.Prelude.{slice_set}
 use Rattle.std.proofs.lemmas.List.{get_or_append_left}
 use Rattle.std.proofs.Math.Seq.{get_or-append_seam}
 use Rattle.network.specs.declared.lag.Pair.{Pair}
-use Rattle.book.specs.declared.trail.Origin.{Origin}
-use Rattle.book.specs.Trail.{Entry, Ending, entry_at, path_to, paths_after, path_after}
+use Rattle.trail.specs.declared.trail.Origin.{Origin}
+use Rattle.trail.specs.Trail.{Entry, Ending, entry_at, path_to, paths_after, path_after}
 
 pub length_paths : (paths : List (List Pair)) (entries : List Entry) → length (paths_after paths entries) ≡ length paths + length entries
 length_paths paths [] = omega arith

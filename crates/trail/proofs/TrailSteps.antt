@@ -9,11 +9,11 @@ use Rattle.std.proofs.lemmas.List.Sums.{sum_by-cons}
 use Rattle.std.proofs.Math.ListN.{length-set}
 use Rattle.network.specs.Problem.{Problem}
 use Rattle.branching.specs.Subproblem.{Subproblem}
-use Rattle.book.specs.Trail.{Ending, not_ended, Entry, entry_at, no_entry}
-use Rattle.book.specs.RightTrail.{IsRightEnding, IsRightTrail, IsRooted, has_ended}
-use Rattle.book.specs.Recording.{ended_as, kid_entry}
-use Rattle.book.proofs.TrailPaths.{path_kept, ended_paths}
-use Rattle.book.proofs.TrailGrowing.{Extends, ending_extends}
+use Rattle.trail.specs.Trail.{Ending, not_ended, Entry, entry_at, no_entry}
+use Rattle.trail.specs.RightTrail.{IsRightEnding, IsRightTrail, IsRooted, has_ended}
+use Rattle.trail.specs.Recording.{ended_as, kid_entry}
+use Rattle.trail.proofs.TrailPaths.{path_kept, ended_paths}
+use Rattle.trail.proofs.TrailGrowing.{Extends, ending_extends}
 
 pub ended_forced : (entries : List Entry) (name : ℕ) (ending : Ending) (n : ℕ) → (entry_at (ended_as entries name ending) n).forced ≡ (entry_at entries n).forced
 ended_forced [] name ending n = refl
@@ -32,6 +32,12 @@ ended_cases (e ∷ es) (suc name) ending (suc n) = ⊎_elim (λ (h : (n ≡ name
 
 pub length_ended : (entries : List Entry) (name : ℕ) (ending : Ending) → length (ended_as entries name ending) ≡ length entries
 length_ended entries name ending = length-set entries name _
+
+-- what comes later leaves the entry that ends
+pub ended_append : (entries more : List Entry) (name : ℕ) (ending : Ending) → name < length entries → ended_as (entries ++ more) name ending ≡ ended_as entries name ending ++ more
+ended_append [] more name ending known = absurd (omega (arith, known))
+ended_append (e ∷ entries) more zero ending known = refl
+ended_append (e ∷ entries) more (suc name) ending known = ap (λ (es : List Entry). e ∷ es) (ended_append entries more name ending (omega (arith, known)))
 
 -- the entry of a name ends, and new ones come
 pub extends_grown : (entries : List Entry) (name : ℕ) (ending : Ending) (more : List Entry) → Extends entries (ended_as entries name ending ++ more)

@@ -1,9 +1,9 @@
 use Rattle.std.proofs.Common.{◌≡◌, ◌++◌, map, drop}
 use Rattle.std.specs.Arc.{arc_value}
-use Rattle.book.specs.Below.{kids_below}
-use Rattle.book.specs.TrailViews.{trail_entry}
-use Rattle.book.specs.Recording.{kid_entry}
-use Rattle.book.proofs.trail.entries_of_kids.Given as goal
+use Rattle.trail.specs.Below.{kids_below}
+use Rattle.trail.specs.TrailViews.{trail_entry}
+use Rattle.trail.specs.Recording.{kid_entry}
+use Rattle.trail.proofs.trail.entries_of_kids.Given as goal
 
 abbrev pub invariant-loop-kid : goal.invariant-loop-kid
 invariant-loop-kid l = map trail_entry l.entries.items ++ map (kid_entry l.parent l.depth) (kids_below l.limit (map arc_value (drop l.kid-index l.kids))) ≡ map (kid_entry l.parent l.depth) (kids_below l.limit (map arc_value l.kids))

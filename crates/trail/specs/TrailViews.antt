@@ -2,13 +2,13 @@
 use Rattle.std.specs.Prelude.{List, map}
 use Rattle.std.specs.Arc.{arc_value}
 use Rattle.network.specs.Problem.{Problem}
-use Rattle.book.specs.Trail.{PairFate, was_named, was_dead, was_not_opened, Ending, not_ended, was_cut, was_solved, was_split, Entry, TrailOf}
-use Rattle.book.specs.declared.trail.KidFate.{KidFate}
-use Rattle.book.specs.declared.trail.KidFate.TheVariants as fate
-use Rattle.book.specs.declared.trail.NodeEnding.{NodeEnding}
-use Rattle.book.specs.declared.trail.NodeEnding.TheVariants as ending
-use Rattle.book.specs.declared.trail.TrailEntry.{TrailEntry}
-use Rattle.book.specs.declared.trail.Trail.TheInside.{Inside}
+use Rattle.trail.specs.Trail.{PairFate, was_named, was_dead, was_not_opened, Ending, not_ended, was_cut, was_solved, was_split, Entry, TrailOf}
+use Rattle.trail.specs.declared.trail.KidFate.{KidFate}
+use Rattle.trail.specs.declared.trail.KidFate.TheVariants as fate
+use Rattle.trail.specs.declared.trail.NodeEnding.{NodeEnding}
+use Rattle.trail.specs.declared.trail.NodeEnding.TheVariants as ending
+use Rattle.trail.specs.declared.trail.TrailEntry.{TrailEntry}
+use Rattle.trail.specs.declared.trail.Trail.TheInside.{Inside}
 
 abbrev pub pair_fate : KidFate → PairFate
 pair_fate (fate.Opened name) = was_named name

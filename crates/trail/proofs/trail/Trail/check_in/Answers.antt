@@ -2,13 +2,13 @@ use Rattle.std.proofs.Common.{◌≡◌, ◌∙◌, ◌++◌, ℕ, List, map, le
 use Rattle.std.proofs.lemmas.List.{length-map}
 use Rattle.network.specs.Problem.{Problem}
 use Rattle.branching.specs.Fair.{Expansion}
-use Rattle.book.specs.Below.{kids_below}
-use Rattle.book.specs.Trail.{Entry, Ending, TrailOf}
-use Rattle.book.specs.TrailViews.{node_ending, trail_entry, trail_for}
-use Rattle.book.specs.declared.trail.TrailEntry.{TrailEntry}
-use Rattle.book.specs.Recording.{kid_entry, ending_of, ended_as}
-use Rattle.book.proofs.KeptTrail.{ended_append}
-use Rattle.book.proofs.trail.Trail.check_in.Goals as goal
+use Rattle.trail.specs.Below.{kids_below}
+use Rattle.trail.specs.Trail.{Entry, Ending, TrailOf}
+use Rattle.trail.specs.TrailViews.{node_ending, trail_entry, trail_for}
+use Rattle.trail.specs.declared.trail.TrailEntry.{TrailEntry}
+use Rattle.trail.specs.Recording.{kid_entry, ending_of, ended_as}
+use Rattle.trail.proofs.TrailSteps.{ended_append}
+use Rattle.trail.proofs.trail.Trail.check_in.Goals as goal
 
 pub returns-clause-ok : goal.returns-clause-ok
 returns-clause-ok c =

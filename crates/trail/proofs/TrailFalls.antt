@@ -7,9 +7,9 @@ use Rattle.network.specs.Problem.{Problem}
 use Rattle.network.specs.declared.lag.Pair.{Pair}
 use Rattle.branching.specs.Pairs.{ordered_pairs}
 use Rattle.branching.specs.Right.{IsCutUnder, IsSolvedUnder}
-use Rattle.book.specs.CheckingIn.{IsInTime}
-use Rattle.book.specs.Trail.{PairFate, was_named, was_dead, was_not_opened, Ending, not_ended, was_cut, was_solved, was_split, Entry, entry_at, path_to}
-use Rattle.book.specs.RightTrail.{IsRightFate, IsRightEnding, IsRightTrail}
+use Rattle.trail.specs.Below.{IsInTime}
+use Rattle.trail.specs.Trail.{PairFate, was_named, was_dead, was_not_opened, Ending, not_ended, was_cut, was_solved, was_split, Entry, entry_at, path_to}
+use Rattle.trail.specs.RightTrail.{IsRightFate, IsRightEnding, IsRightTrail}
 
 -- a best that falls, or the first one: what was in time for the old limit is in time for the new one
 pub cut_falls : (p : Problem) (old new : Option ℤ) (pairs : List Pair) → IsInTime old new → IsCutUnder p pairs old → IsCutUnder p pairs new

@@ -6,7 +6,7 @@ use Rattle.network.specs.Problem.{Problem}
 use Rattle.branching.specs.Pairs.{ordered_pairs}
 use Rattle.branching.specs.Subproblem.{IsLive}
 use Rattle.branching.specs.Right.{AllForced, IsRightSet, IsDead, IsCutUnder, IsSolvedUnder}
-use Rattle.book.specs.Trail.{PairFate, was_named, was_dead, was_not_opened, Ending, not_ended, was_cut, was_solved, was_split, Entry, entry_at, path_to}
+use Rattle.trail.specs.Trail.{PairFate, was_named, was_dead, was_not_opened, Ending, not_ended, was_cut, was_solved, was_split, Entry, entry_at, path_to}
 
 -- the pair gave the node of this later name, whose pairs are its parent's, the pair, and what that forces
 pub record IsKidUnder (p : Problem) (entries : List Entry) (name : ℕ) (pair : Pair) (later : ℕ) : Type 0 where

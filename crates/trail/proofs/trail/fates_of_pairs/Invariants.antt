@@ -1,9 +1,9 @@
 use Rattle.std.proofs.Common.{◌≡◌, ◌++◌, ◌+◌, ◌≤◌, map, drop, length}
 use Rattle.std.specs.Arc.{arc_value}
 use Rattle.branching.specs.Fate.{fate_value}
-use Rattle.book.specs.TrailViews.{pair_fate}
-use Rattle.book.specs.Recording.{fates_under}
-use Rattle.book.proofs.trail.fates_of_pairs.Given as goal
+use Rattle.trail.specs.TrailViews.{pair_fate}
+use Rattle.trail.specs.Recording.{fates_under}
+use Rattle.trail.proofs.trail.fates_of_pairs.Given as goal
 
 abbrev pub invariant-loop-fate : goal.invariant-loop-fate
 invariant-loop-fate l = record {

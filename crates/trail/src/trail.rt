@@ -3,12 +3,12 @@
 ghost use Rattle.std.specs.Prelude.{◌≡◌, ◌+◌, ◌^◌, ◌<◌, ◌≤◌, ◌++◌, map, drop, length, replicate, IfOk, OnOk, OnErr};
 ghost use Rattle.std.specs.Arc.{arc_value};
 ghost use Rattle.branching.specs.Fate.{fate_value};
-ghost use Rattle.book.specs.Below.{kids_below};
-ghost use Rattle.book.specs.Trail.{no_entry};
-ghost use Rattle.book.specs.TrailViews.{pair_fate, node_ending, trail_entry, trail_for, with_entries};
-ghost use Rattle.book.specs.Recording.{ended_as, kid_entry, kid_fate, next_name, fates_under, ending_of, checked_in};
+ghost use Rattle.trail.specs.Below.{kids_below};
+ghost use Rattle.trail.specs.Trail.{no_entry};
+ghost use Rattle.trail.specs.TrailViews.{pair_fate, node_ending, trail_entry, trail_for, with_entries};
+ghost use Rattle.trail.specs.Recording.{ended_as, kid_entry, kid_fate, next_name, fates_under, ending_of, checked_in};
 
-use crate::limits::is_below;
+use crate::limit::is_below;
 use branching::{Fate, Lean, PairList, Report};
 use network::{Pair, Project};
 use std::alloc::{AllocError, Global};
@@ -70,11 +70,11 @@ pub struct Trail {
 }
 
 impl Model for Trail {
-    ghost use Rattle.book.specs.Trail.{TrailOf};
+    ghost use Rattle.trail.specs.Trail.{TrailOf};
 
     ghost Value = { TrailOf };
 
-    ghost use Rattle.book.specs.TrailViews.{trail_of};
+    ghost use Rattle.trail.specs.TrailViews.{trail_of};
 
     ghost view = { trail_of };
 }
@@ -234,14 +234,10 @@ fn set_ending(entry: &mut TrailEntry, ending: NodeEnding)
 }
 
 impl Trail {
-    ghost use Rattle.book.specs.TrailViews.{trail_entry};
+    ghost use Rattle.trail.specs.TrailViews.{trail_entry};
 
     /// The trail of a project before its search: an entry for the root, if that is opened.
-    pub(crate) fn new(
-        alloc: Global,
-        project: Arc<Project>,
-        roots: usize,
-    ) -> Result<Trail, AllocError>
+    pub fn new(alloc: Global, project: Arc<Project>, roots: usize) -> Result<Trail, AllocError>
         ensures { IfOk result (λ trail. trail ≡ trail_for (arc_value project) (replicate roots no_entry)) }
     {
         let mut entries = Vec::with_capacity(alloc, roots)?;
@@ -274,7 +270,7 @@ impl Trail {
     }
 
     /// Ends the node under a name.
-    pub(crate) fn end(&mut self, name: u64, ending: NodeEnding)
+    pub fn end(&mut self, name: u64, ending: NodeEnding)
         ensures { self.new ≡ record self.old { entries = ended_as self.old.entries name (node_ending ending) } }
     {
         let place = name as usize;
@@ -294,7 +290,7 @@ impl Trail {
 
     /// Notes a report on the node under a name: how that node ended, and the kids below the limit, which are opened.
     /// Where memory runs out, nothing changes.
-    pub(crate) fn check_in(
+    pub fn check_in(
         &mut self,
         name: u64,
         limit: Option<i64>,

@@ -12,13 +12,13 @@ use Rattle.branching.specs.Right.{AllForced, IsDead, IsCutUnder}
 use Rattle.branching.specs.Ceiling.{Reaches}
 use Rattle.branching.specs.Fates.{FateOf, is_kid, is_dead, is_cut, IsKidBy, AreFates}
 use Rattle.branching.proofs.Together.{node_cut}
-use Rattle.book.specs.Below.{is_below, kids_below}
-use Rattle.book.specs.CheckingIn.{IsInTime}
-use Rattle.book.specs.Trail.{PairFate, was_named, was_dead, was_not_opened, Ending, not_ended, was_cut, was_solved, was_split, Entry, entry_at, no_entry, path_to}
-use Rattle.book.specs.RightTrail.{IsNotOpenedUnder, IsRightFate, IsRightEnding}
-use Rattle.book.specs.Recording.{kid_entry, opened_or_cut, fates_under}
-use Rattle.book.proofs.TrailFalls.{cut_falls}
-use Rattle.book.proofs.TrailPaths.{path_kept, path_opens}
+use Rattle.trail.specs.Below.{is_below, kids_below}
+use Rattle.trail.specs.Below.{IsInTime}
+use Rattle.trail.specs.Trail.{PairFate, was_named, was_dead, was_not_opened, Ending, not_ended, was_cut, was_solved, was_split, Entry, entry_at, no_entry, path_to}
+use Rattle.trail.specs.RightTrail.{IsNotOpenedUnder, IsRightFate, IsRightEnding}
+use Rattle.trail.specs.Recording.{kid_entry, opened_or_cut, fates_under}
+use Rattle.trail.proofs.TrailFalls.{cut_falls}
+use Rattle.trail.proofs.TrailPaths.{path_kept, path_opens}
 
 -- the names stay, with their pairs
 pub record Extends (old new : List Entry) : Type 0 where

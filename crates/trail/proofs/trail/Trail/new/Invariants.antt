@@ -1,8 +1,8 @@
 use Rattle.std.proofs.Common.{◌≡◌, map}
 use Rattle.std.proofs.Math.ListN.{replicate}
-use Rattle.book.specs.Trail.{no_entry}
-use Rattle.book.specs.TrailViews.{trail_entry}
-use Rattle.book.proofs.trail.Trail.new.Given as goal
+use Rattle.trail.specs.Trail.{no_entry}
+use Rattle.trail.specs.TrailViews.{trail_entry}
+use Rattle.trail.proofs.trail.Trail.new.Given as goal
 
 abbrev pub invariant-loop : goal.invariant-loop
 invariant-loop l = map trail_entry l.entries.items ≡ replicate l.counter no_entry

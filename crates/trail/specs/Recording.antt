@@ -1,4 +1,4 @@
--- What becomes of a trail when the nodes that it tells of end, and when kids are opened.
+-- What becomes of a trail when a node that it tells of ends, and when kids are opened.
 use Rattle.std.specs.Prelude.{ℕ, ◌+◌, ◌<◌, ◌^◌, ℤ, Bool, true, false, if◌then◌else◌, Option, None, Some, option_map, List, [], ◌∷◌, ◌++◌, map, length, drop, slice_get, slice_set}
 use Rattle.network.specs.declared.lag.Pair.{Pair}
 use Rattle.network.specs.Schedule.{ScheduleOf}
@@ -6,19 +6,13 @@ use Rattle.forbidden_sets.specs.MinimalSet.{MinimalSet}
 use Rattle.branching.specs.Subproblem.{Subproblem}
 use Rattle.branching.specs.Fates.{FateOf, is_kid, is_dead, is_cut}
 use Rattle.branching.specs.Fair.{Expansion}
-use Rattle.book.specs.State.{Named}
-use Rattle.book.specs.Below.{is_below, kids_below}
-use Rattle.book.specs.Trail.{PairFate, was_named, was_dead, was_not_opened, Ending, not_ended, was_cut, was_solved, was_split, Entry, TrailOf, entry_at}
-use Rattle.book.specs.declared.trail.Origin.{Origin}
+use Rattle.trail.specs.Below.{is_below, kids_below}
+use Rattle.trail.specs.Trail.{PairFate, was_named, was_dead, was_not_opened, Ending, not_ended, was_cut, was_solved, was_split, Entry, TrailOf, entry_at}
+use Rattle.trail.specs.declared.trail.Origin.{Origin}
 
 -- the node under a name ends so
 abbrev pub ended_as : List Entry → ℕ → Ending → List Entry
 ended_as entries name ending = slice_set entries name (record (entry_at entries name) { ending = ending })
-
--- these nodes end as cut
-abbrev pub note_cut : List Named → List Entry → List Entry
-note_cut [] entries = entries
-note_cut (n ∷ nodes) entries = note_cut nodes (ended_as entries n.name was_cut)
 
 -- where a kid came from: its parent, and the pair that gave it
 abbrev pub origin_of : ℕ → Pair → Origin
@@ -33,7 +27,7 @@ kid_entry parent depth kid =
       ending = not_ended;
     }
 
--- what a pair that gave a kid gave the book: a node under the next name where the kid is opened
+-- what a pair that gave a kid gave the search: a node under the next name where the kid is opened
 abbrev pub opened_or_cut : Bool → ℕ → List Pair → PairFate
 opened_or_cut true next forced = was_named next
 opened_or_cut false next forced = was_not_opened forced
