@@ -1,20 +1,24 @@
 -- What has started less what has ended, counted along two orders, is what is in use.
-use Rattle.std.proofs.Common.{◌≡◌, ℕ, ◌+◌, ◌<◌, ◌≤◌, Bool, true, false, cond, ◌&&◌, List, [], ◌∷◌, length, get_or, take, drop, refl, sym, ap, ◌∙◌, arith, ⊎_elim}
+use Rattle.std.proofs.Common.{◌≡◌, ℕ, ◌+◌, ◌<◌, ◌≤◌, Bool, true, false, cond, ◌&&◌, List, [], ◌∷◌, length, get_or, take, drop, replicate, refl, sym, ap, ◌∙◌, arith, ⊎_elim}
 use Rattle.std.specs.Prelude.{ℤ, pos, negsuc, ◌+ℤ◌, ◌≤ℤ◌, ◌<ℤ◌, int_le, int_lt, unsigned_abs}
 use Rattle.std.specs.List.{All, AllByRecursion, sum_by, filter}
 use Rattle.std.proofs.lemmas.Int.{ints, by_lt_z}
 use Rattle.std.proofs.lemmas.Bool.{cases_lt}
-use Rattle.std.proofs.lemmas.List.{get_or-take, get_or-drop, length-take, length-drop, get_or_default}
+use Rattle.std.proofs.lemmas.List.{get_or-take, get_or-drop, get_or-replicate, length-take, length-drop, length-replicate, get_or_default, with_items_is}
 use Rattle.std.proofs.lemmas.List.Elements.{recursion_from_All, All-from_get_or}
 use Rattle.std.proofs.lemmas.List.Sums.{sum_by-cons, sum_by-take-drop, sum_by-take-le, sum_by-le, sum_by_more}
-use Rattle.std.proofs.lemmas.List.Sorted.{sum_by-IsPermutation}
+use Rattle.std.specs.Global.{Vec}
+use Rattle.std.specs.Vec.{with_items}
+use Rattle.std.specs.List.Sorted.{IsPermutation}
+use Rattle.std.proofs.lemmas.List.Sorted.{sum_by-IsPermutation, IsPermutation-trans}
 use Rattle.network.specs.Problem.{Problem, activity_count, activities, resource_count, duration, demand}
 use Rattle.network.specs.Limits.{IsProject, AreStarts}
 use Rattle.network.specs.declared.limits.TheConstants.{MAX_ACTIVITIES, MAX_AMOUNT}
 use Rattle.network.specs.Schedule.{start, is_running, use_at}
-use Rattle.orders.specs.Orders.{IsOrder, HaveKeys, Rises, key_at}
+use Rattle.orders.specs.Orders.{HaveKeys, Rises}
 use Rattle.orders.proofs.OrderLaws.{order_long, order_inside, have_keys}
-use Rattle.profile.specs.Counts.{end_time, AreEnds, IsCount, HasCome, AreReady, counted_use}
+use Rattle.profile.specs.declared.counting.Count.{Count}
+use Rattle.profile.specs.Counts.{end_time, AreEnds, HasRoomFor, time_at, IsCount, HasPassed, HasCome, IsSameOrder, AreReady, AddsDemands, EndsLess, counted_use}
 use Rattle.profile.proofs.Amounts.{demand_small, duration_nonnegative}
 
 -- ---- sums over the elements that pass a test
@@ -73,101 +77,133 @@ one_activity s d t r h =
 
 -- ---- one activity more is counted
 
-pub count_more : (p : Problem) (order : List ℕ) (passed : ℕ) (totals new : List ℕ) → IsCount p order passed totals → passed < length order → length new ≡ length totals →
-    ((k : ℕ) → k < resource_count p → get_or new k 0 ≡ get_or totals k 0 + demand p k (get_or order passed 0)) → IsCount p order (passed + 1) new
-count_more p order passed totals new is lt long more = record {
+-- the activity at a place of the order is one of the project's
+pub activity_at : (p : Problem) (c : Count) → HasRoomFor p c → (place : ℕ) → place < length c.order.items → get_or c.order.items place 0 < activity_count p
+activity_at p c sized place lt = order_inside (activity_count p) c.order.items sized.is_order place 0 lt
+
+-- each activity has a time
+pub have_times : (p : Problem) (c : Count) → HasRoomFor p c → HaveKeys c.times.items c.order.items
+have_times p c sized = have_keys (activity_count p) c.times.items c.order.items sized.each sized.is_order
+
+pub count_more : (p : Problem) (c new : Count) → IsCount p c → c.passed < length c.order.items → new.times ≡ c.times → new.order ≡ c.order → new.passed ≡ c.passed + 1 → length new.totals.items ≡ length c.totals.items →
+    AddsDemands p (get_or c.order.items c.passed 0) c.totals.items new.totals.items → IsCount p new
+count_more p c new is lt times order next long more = record {
   limits = is.limits;
-  is_order = is.is_order;
-  inside = omega arith;
-  columns = long ∙ is.columns;
-  sums = λ k in_range. omega (arith, more k in_range, is.sums k in_range, sum_by_more (demand p k) order passed 0 lt);
+  sized = record {
+    is_order = rw order is.sized.is_order;
+    each = rw times is.sized.each;
+    columns = long ∙ is.sized.columns;
+  };
+  rises = rw (times, order) is.rises;
+  inside = rw order (omega (arith, next));
+  sums = λ k in_range. rw (order, next) (omega (arith, more k in_range, is.sums k in_range, sum_by_more (demand p k) c.order.items c.passed 0 lt));
 }
 
-pub counts_small : (p : Problem) (order : List ℕ) (passed : ℕ) (totals : List ℕ) → IsCount p order passed totals → All (λ total. total ≤ 2000000000) totals
-counts_small p order passed totals is =
-    All-from_get_or (λ total. total ≤ 2000000000) totals 0 (λ k lt.
+pub counts_small : (p : Problem) (c : Count) → IsCount p c → All (λ total. total ≤ 2000000000) c.totals.items
+counts_small p c is =
+    let order = c.order.items in
+    All-from_get_or (λ total. total ≤ 2000000000) c.totals.items 0 (λ k lt.
     let each : All (λ i. demand p k i ≤ unsigned_abs MAX_AMOUNT) order = λ j d l. demand_small p is.limits k (get_or order j d) in
     let few : activity_count p ≤ MAX_ACTIVITIES = is.limits.activity_limit in
-    omega (arith, is.sums k (rw is.columns at lt), sum_by-take-le (demand p k) order passed, sum_by-le (demand p k) (unsigned_abs MAX_AMOUNT) order each, order_long (activity_count p) order is.is_order))
+    omega (arith, is.sums k (rw is.sized.columns at lt), sum_by-take-le (demand p k) order c.passed, sum_by-le (demand p k) (unsigned_abs MAX_AMOUNT) order each, order_long (activity_count p) order is.sized.is_order))
 
-pub past_further : (keys : List ℤ) (order : List ℕ) (passed : ℕ) (t : ℤ) → ((i : ℕ) → i < passed → key_at keys order i ≤ℤ t) → key_at keys order passed ≤ℤ t → (i : ℕ) → i < passed + 1 → key_at keys order i ≤ℤ t
-past_further keys order passed t past here i below =
+pub past_further : (c : Count) (t : ℤ) → HasPassed c t → time_at c c.passed ≤ℤ t → (i : ℕ) → i < c.passed + 1 → time_at c i ≤ℤ t
+past_further c t past here i below =
     ⊎_elim
-    (λ (before : i < passed). past i before)
-    (λ (last : passed ≤ i). let same : i ≡ passed = omega arith in rw same here)
-    (cases_lt i passed)
+    (λ (before : i < c.passed). past i before)
+    (λ (last : c.passed ≤ i). let same : i ≡ c.passed = omega arith in rw same here)
+    (cases_lt i c.passed)
 
 -- ---- the totals by activity
 
-pub come_total : (p : Problem) (at : ℕ → ℤ) (keys : List ℤ) (order : List ℕ) (passed : ℕ) (totals : List ℕ) (t : ℤ) → IsCount p order passed totals → HasCome keys order passed t →
-    ((i : ℕ) → i < activity_count p → get_or keys i (pos 0) ≡ at i) → (k : ℕ) → k < resource_count p → get_or totals k 0 ≡ sum_by (kept (λ i. int_le (at i) t) (demand p k)) (activities p)
-come_total p at keys order passed totals t is come keys_are k in_range =
+pub come_total : (p : Problem) (at : ℕ → ℤ) (c : Count) (t : ℤ) → IsCount p c → HasCome c t →
+    ((i : ℕ) → i < activity_count p → get_or c.times.items i (pos 0) ≡ at i) → (k : ℕ) → k < resource_count p → get_or c.totals.items k 0 ≡ sum_by (kept (λ i. int_le (at i) t) (demand p k)) (activities p)
+come_total p at c t is come times_are k in_range =
+    let order = c.order.items in
     let test : ℕ → Bool = λ i. int_le (at i) t in
     let f = demand p k in
-    let inside = order_inside (activity_count p) order is.is_order in
-    let key_is : (i d : ℕ) → i < length order → key_at keys order i ≡ at (get_or order i d) = λ i d lt. keys_are (get_or order i 0) (inside i 0 lt) ∙ ap at (get_or_default order i 0 d lt) in
-    let past : AllByRecursion (λ i. test i ≡ true) (take passed order) =
-    recursion_from_All (λ i. test i ≡ true) (take passed order) (λ j d lt.
-    let below : j < passed = omega (arith, length-take {A = ℕ}) in
+    let inside = order_inside (activity_count p) order is.sized.is_order in
+    let time_is : (i d : ℕ) → i < length order → time_at c i ≡ at (get_or order i d) = λ i d lt. times_are (get_or order i 0) (inside i 0 lt) ∙ ap at (get_or_default order i 0 d lt) in
+    let past : AllByRecursion (λ i. test i ≡ true) (take c.passed order) =
+    recursion_from_All (λ i. test i ≡ true) (take c.passed order) (λ j d lt.
+    let below : j < c.passed = omega (arith, length-take {A = ℕ}) in
     let there : j < length order = omega (arith, is.inside) in
-    rw (get_or-take passed order j d below) (has_come (at (get_or order j d)) t (rw (key_is j d there) at (come.past j below)))) in
-    let future : AllByRecursion (λ i. test i ≡ false) (drop passed order) =
-    recursion_from_All (λ i. test i ≡ false) (drop passed order) (λ j d lt.
-    let there : passed + j < length order = omega (arith, length-drop {A = ℕ}) in
-    let next : t <ℤ key_at keys order passed = come.future (omega arith) in
-    let later : key_at keys order passed ≤ℤ key_at keys order (passed + j) = come.rises passed (passed + j) (omega arith) there in
-    let after : t <ℤ key_at keys order (passed + j) = omega (arith, ints) in
-    rw (get_or-drop passed order j d) (will_come (at (get_or order (passed + j) d)) t (rw (key_is (passed + j) d there) at after))) in
-    let front = sum_by-passing test f (take passed order) past in
-    let back = sum_by-failing test f (drop passed order) future in
-    let whole = sum_by-take-drop (kept test f) order passed in
-    let moved = sum_by-IsPermutation (kept test f) (activities p) order is.is_order in
+    rw (get_or-take c.passed order j d below) (has_come (at (get_or order j d)) t (rw (time_is j d there) at (come.past j below)))) in
+    let future : AllByRecursion (λ i. test i ≡ false) (drop c.passed order) =
+    recursion_from_All (λ i. test i ≡ false) (drop c.passed order) (λ j d lt.
+    let there : c.passed + j < length order = omega (arith, length-drop {A = ℕ}) in
+    let next : t <ℤ time_at c c.passed = come.future (omega arith) in
+    let later : time_at c c.passed ≤ℤ time_at c (c.passed + j) = is.rises c.passed (c.passed + j) (omega arith) there in
+    let after : t <ℤ time_at c (c.passed + j) = omega (arith, ints) in
+    rw (get_or-drop c.passed order j d) (will_come (at (get_or order (c.passed + j) d)) t (rw (time_is (c.passed + j) d there) at after))) in
+    let front = sum_by-passing test f (take c.passed order) past in
+    let back = sum_by-failing test f (drop c.passed order) future in
+    let whole = sum_by-take-drop (kept test f) order c.passed in
+    let moved = sum_by-IsPermutation (kept test f) (activities p) order is.sized.is_order in
     omega (arith, is.sums k in_range, front, back, whole, moved)
 
 -- two counts up to a time: by the starts, and by the ends
-pub record AreCounts (p : Problem) (s ends : List ℤ) (t : ℤ) (by_start : List ℕ) (passed : ℕ) (started : List ℕ) (by_end : List ℕ) (over : ℕ) (ended : List ℕ) : Type 0 where
-  pub starts : IsCount p by_start passed started
-  pub starts_come : HasCome s by_start passed t
-  pub ends_count : IsCount p by_end over ended
-  pub ends_come : HasCome ends by_end over t
-  pub are_ends : AreEnds p s ends
+pub record AreCounts (p : Problem) (t : ℤ) (started ended : Count) : Type 0 where
+  pub are_ends : AreEnds p started.times.items ended.times.items
+  pub starts : IsCount p started
+  pub starts_come : HasCome started t
+  pub ends : IsCount p ended
+  pub ends_come : HasCome ended t
 
-pub used_is : (p : Problem) (s ends : List ℤ) (t : ℤ) (by_start : List ℕ) (passed : ℕ) (started : List ℕ) (by_end : List ℕ) (over : ℕ) (ended : List ℕ) → AreCounts p s ends t by_start passed started by_end over ended →
-    (k : ℕ) → k < resource_count p → use_at p s k t + get_or ended k 0 ≡ get_or started k 0
-used_is p s ends t by_start passed started by_end over ended are k in_range =
+-- both counts go on to a time
+pub counts_further : (p : Problem) (t : ℤ) (before was started ended : Count) → AreEnds p before.times.items was.times.items → IsSameOrder before started → IsSameOrder was ended →
+    IsCount p started → HasCome started t → IsCount p ended → HasCome ended t → AreCounts p t started ended
+counts_further p t before was started ended are_ends starts_same ends_same starts starts_come ends ends_come = record {
+  are_ends = rw (starts_same.times, ends_same.times) are_ends;
+  starts = starts;
+  starts_come = starts_come;
+  ends = ends;
+  ends_come = ends_come;
+}
+
+pub used_is : (p : Problem) (t : ℤ) (started ended : Count) → AreCounts p t started ended →
+    (k : ℕ) → k < resource_count p → use_at p started.times.items k t + get_or ended.totals.items k 0 ≡ get_or started.totals.items k 0
+used_is p t started ended are k in_range =
+    let s = started.times.items in
     let in_use = sum_by-filter (is_running p s t) (demand p k) (activities p) in
-    let begun = come_total p (start s) s by_start passed started t are.starts are.starts_come (λ i lt. refl) k in_range in
-    let done = come_total p (end_time p s) ends by_end over ended t are.ends_count are.ends_come are.are_ends.each k in_range in
+    let begun = come_total p (start s) started t are.starts are.starts_come (λ i lt. refl) k in_range in
+    let done = come_total p (end_time p s) ended t are.ends are.ends_come are.are_ends.each k in_range in
     let split = sum_by-split (kept (is_running p s t) (demand p k)) (kept (λ i. int_le (end_time p s i) t) (demand p k)) (kept (λ i. int_le (start s i) t) (demand p k)) (activities p)
     (λ i. one_activity (start s i) (duration p i) t (demand p k i) (duration_nonnegative p are.starts.limits i)) in
     omega (arith, in_use, begun, done, split)
 
 -- so no more has ended than has started
-pub ended_less : (p : Problem) (s ends : List ℤ) (t : ℤ) (by_start : List ℕ) (passed : ℕ) (started : List ℕ) (by_end : List ℕ) (over : ℕ) (ended : List ℕ) → AreCounts p s ends t by_start passed started by_end over ended →
-    (k : ℕ) → k < resource_count p → get_or ended k 0 ≤ get_or started k 0
-ended_less p s ends t by_start passed started by_end over ended are k in_range = omega (arith, used_is p s ends t by_start passed started by_end over ended are k in_range)
+pub ended_less : (p : Problem) (t : ℤ) (started ended : Count) → AreCounts p t started ended → EndsLess p started.totals.items ended.totals.items
+ended_less p t started ended are k in_range = omega (arith, used_is p t started ended are k in_range)
 
 -- what is counted is what is in use
-pub counted_is : (p : Problem) (s ends : List ℤ) (t : ℤ) (by_start : List ℕ) (passed : ℕ) (started : List ℕ) (by_end : List ℕ) (over : ℕ) (ended : List ℕ) → AreCounts p s ends t by_start passed started by_end over ended →
-    (k : ℕ) → k < resource_count p → counted_use started ended k ≡ use_at p s k t
-counted_is p s ends t by_start passed started by_end over ended are k in_range = omega (arith, used_is p s ends t by_start passed started by_end over ended are k in_range)
+pub counted_is : (p : Problem) (t : ℤ) (started ended : Count) → AreCounts p t started ended →
+    (k : ℕ) → k < resource_count p → counted_use started.totals.items ended.totals.items k ≡ use_at p started.times.items k t
+counted_is p t started ended are k in_range = omega (arith, used_is p t started ended are k in_range)
 
 -- ---- where nothing is counted yet
 
-pub count_none : (p : Problem) (order : List ℕ) (totals : List ℕ) → IsProject p → IsOrder (activity_count p) order → length totals ≡ resource_count p → ((k : ℕ) → k < resource_count p → get_or totals k 0 ≡ 0) → IsCount p order 0 totals
-count_none p order totals limits is long none = record {
+-- a vector whose items were all written over
+pub written : (v : Vec ℤ) (old new : List ℤ) → length new ≡ length old → old ≡ v.items → (with_items v new).items ≡ new
+written v old new long are = with_items_is v new (long ∙ ap (λ (xs : List ℤ). length xs) are ∙ sym v.ok.0)
+
+pub count_none : (p : Problem) (old new : Count) → IsProject p → HasRoomFor p old → IsPermutation old.order.items new.order.items → Rises new.times.items new.order.items → length new.times.items ≡ activity_count p → new.passed ≡ 0 → new.totals.items ≡ replicate (length old.totals.items) 0 → IsCount p new
+count_none p old new limits sized kept rises each none zeros = record {
   limits = limits;
-  is_order = is;
-  inside = omega arith;
-  columns = long;
-  sums = λ k in_range. none k in_range;
+  sized = record {
+    is_order = IsPermutation-trans (activities p) old.order.items new.order.items sized.is_order kept;
+    each = each;
+    columns = ap length zeros ∙ length-replicate (length old.totals.items) 0 ∙ sized.columns;
+  };
+  rises = rises;
+  inside = omega (arith, none);
+  sums = λ k in_range. rw (zeros, none) (get_or-replicate (length old.totals.items) k 0 0 (rw sized.columns in_range));
 }
 
-come_none : (keys : List ℤ) (order : List ℕ) (t : ℤ) → Rises keys order → HaveKeys keys order → ((i : ℕ) → i < length keys → t <ℤ get_or keys i (pos 0)) → HasCome keys order 0 t
-come_none keys order t rises have early = record {
-  rises = rises;
+come_none : (p : Problem) (c : Count) (t : ℤ) → IsCount p c → c.passed ≡ 0 → ((i : ℕ) → i < activity_count p → t <ℤ get_or c.times.items i (pos 0)) → HasCome c t
+come_none p c t is none early = record {
   past = λ i lt. absurd (omega arith);
-  future = λ some. early (get_or order 0 0) (have 0 0 some);
+  future = λ some. early (get_or c.order.items c.passed 0) (activity_at p c is.sized c.passed some);
 }
 
 -- every start is after the time at which a sweep begins
@@ -178,16 +214,15 @@ after_all p s are i lt =
     let above = within.at_least in
     omega (arith, ints)
 
-pub counts_none : (p : Problem) (s : List ℤ) (by_start by_end : List ℕ) (ends : List ℤ) (started ended : List ℕ) → AreReady p s by_start by_end ends started ended → AreCounts p s ends (negsuc 9999999999) by_start 0 started by_end 0 ended
-counts_none p s by_start by_end ends started ended ready = record {
-  starts = ready.none_started;
-  starts_come = come_none s by_start (negsuc 9999999999) ready.starts_rise (have_keys (activity_count p) s by_start ready.within.count ready.none_started.is_order) (λ i lt. after_all p s ready.within i (rw ready.within.count at lt));
-  ends_count = ready.none_ended;
-  ends_come = come_none ends by_end (negsuc 9999999999) ready.ends_rise (have_keys (activity_count p) ends by_end ready.are_ends.count ready.none_ended.is_order) (λ i lt.
-      let below : i < activity_count p = rw ready.are_ends.count at lt in
-      let begun = after_all p s ready.within i below in
-      let long = duration_nonnegative p ready.none_started.limits i in
-      let at = ready.are_ends.each i below in
-      rw at (omega (arith, ints)));
+pub counts_none : (p : Problem) (started ended : Count) → AreReady p started ended → AreCounts p (negsuc 9999999999) started ended
+counts_none p started ended ready = record {
   are_ends = ready.are_ends;
+  starts = ready.starts;
+  starts_come = come_none p started (negsuc 9999999999) ready.starts ready.none_started (after_all p started.times.items ready.within);
+  ends = ready.ends;
+  ends_come = come_none p ended (negsuc 9999999999) ready.ends ready.none_ended (λ i lt.
+      let begun = after_all p started.times.items ready.within i lt in
+      let long = duration_nonnegative p ready.starts.limits i in
+      let at = ready.are_ends.each i lt in
+      rw at (omega (arith, ints)));
 }

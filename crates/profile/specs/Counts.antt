@@ -5,6 +5,7 @@ use Rattle.network.specs.Problem.{Problem, activity_count, resource_count, durat
 use Rattle.network.specs.Limits.{IsProject, AreStarts}
 use Rattle.network.specs.Schedule.{start}
 use Rattle.orders.specs.Orders.{IsOrder, Rises, key_at}
+use Rattle.profile.specs.declared.counting.Count.{Count}
 
 -- when an activity ends
 abbrev pub end_time : Problem → List ℤ → ℕ → ℤ
@@ -16,34 +17,65 @@ pub record AreEnds (p : Problem) (s ends : List ℤ) : Type 0 where
   pub count : length ends ≡ activity_count p
   pub each : (i : ℕ) → i < activity_count p → slice_index_or ends i (pos 0) ≡ end_time p s i
 
--- the totals are the joint demands of the activities at the first places of an order
-pub record IsCount (p : Problem) (order : List ℕ) (passed : ℕ) (totals : List ℕ) : Type 0 where
+-- the count has an order of n activities, a time of each, and a total for each of m resources
+pub record IsSized (n m : ℕ) (c : Count) : Type 0 where
+  pub is_order : IsOrder n c.order.items
+  pub each : length c.times.items ≡ n
+  pub columns : length c.totals.items ≡ m
+
+-- it has those of the project
+abbrev pub HasRoomFor : Problem → Count → Type 0
+HasRoomFor p c = IsSized (activity_count p) (resource_count p) c
+
+-- the activity at a place of its order has this time
+abbrev pub time_at : Count → ℕ → ℤ
+time_at c place = key_at c.times.items c.order.items place
+
+-- the totals are the joint demands of the activities that are counted
+pub record IsCount (p : Problem) (c : Count) : Type 0 where
   pub limits : IsProject p
-  pub is_order : IsOrder (activity_count p) order
-  pub inside : passed ≤ length order
-  pub columns : length totals ≡ resource_count p
-  pub sums : (k : ℕ) → k < resource_count p → slice_index totals k ≡ sum_by (demand p k) (take passed order)
+  pub sized : HasRoomFor p c
+  pub rises : Rises c.times.items c.order.items
+  pub inside : c.passed ≤ length c.order.items
+  pub sums : (k : ℕ) → k < resource_count p →
+      slice_index c.totals.items k ≡ sum_by (demand p k) (take c.passed c.order.items)
 
 -- the totals with the demands of an activity added
 abbrev pub AddsDemands : Problem → ℕ → List ℕ → List ℕ → Type 0
 AddsDemands p activity old new =
     (k : ℕ) → k < resource_count p → slice_index new k ≡ slice_index old k + demand p k activity
 
--- the activities at the first places are those whose key is at most t
-pub record HasCome (keys : List ℤ) (order : List ℕ) (passed : ℕ) (t : ℤ) : Type 0 where
-  pub rises : Rises keys order
-  pub past : (i : ℕ) → i < passed → key_at keys order i ≤ℤ t
-  pub future : passed < length order → t <ℤ key_at keys order passed
+-- all activities are counted
+abbrev pub IsOver : Count → Type 0
+IsOver c = length c.order.items ≤ c.passed
 
--- nothing has been counted yet along the orders by start and by end
-pub record AreReady
-    (p : Problem) (s : List ℤ) (by_start by_end : List ℕ) (ends : List ℤ) (started ended : List ℕ) : Type 0 where
-  pub within : AreStarts p s
-  pub are_ends : AreEnds p s ends
-  pub starts_rise : Rises s by_start
-  pub ends_rise : Rises ends by_end
-  pub none_started : IsCount p by_start 0 started
-  pub none_ended : IsCount p by_end 0 ended
+-- t is the time of the first activity that isn't counted
+pub record IsNextTime (c : Count) (t : ℤ) : Type 0 where
+  pub some : c.passed < length c.order.items
+  pub is : t ≡ time_at c c.passed
+
+-- each activity that is counted has a time of at most t
+abbrev pub HasPassed : Count → ℤ → Type 0
+HasPassed c t = (i : ℕ) → i < c.passed → time_at c i ≤ℤ t
+
+-- the activities that are counted are those whose time is at most t
+pub record HasCome (c : Count) (t : ℤ) : Type 0 where
+  pub past : HasPassed c t
+  pub future : c.passed < length c.order.items → t <ℤ time_at c c.passed
+
+-- the times and the order are the same
+pub record IsSameOrder (old new : Count) : Type 0 where
+  pub times : new.times ≡ old.times
+  pub order : new.order ≡ old.order
+
+-- nothing has been counted yet of these starts and their ends
+pub record AreReady (p : Problem) (started ended : Count) : Type 0 where
+  pub within : AreStarts p started.times.items
+  pub are_ends : AreEnds p started.times.items ended.times.items
+  pub starts : IsCount p started
+  pub none_started : started.passed ≡ 0
+  pub ends : IsCount p ended
+  pub none_ended : ended.passed ≡ 0
 
 -- how much of resource k has started and not ended
 abbrev pub counted_use : List ℕ → List ℕ → ℕ → ℕ

@@ -1,8 +1,8 @@
--- What an `OverloadSweep` is: for how many activities and resources it has room, which activities it found to
--- run, and that its orders are orders.
-use Rattle.std.specs.Prelude.{◌≡◌, ℕ, ◌≤◌, ℤ, List, length}
+-- What an `OverloadSweep` is: for how many activities and resources it has room, and which activities it found to run.
+use Rattle.std.specs.Prelude.{◌≡◌, ℕ, ◌≤◌, List, length}
 use Rattle.network.specs.Problem.{Problem, activity_count, resource_count}
-use Rattle.orders.specs.Orders.{IsOrder}
+use Rattle.profile.specs.Counts.{IsSized}
+use Rattle.profile.specs.declared.counting.Count.{Count}
 
 pub record SweepOf : Type 0 where
   pub activities : ℕ
@@ -14,9 +14,8 @@ pub record IsSweepFor (p : Problem) (sweep : SweepOf) : Type 0 where
   pub activities : sweep.activities ≡ activity_count p
   pub resources : sweep.resources ≡ resource_count p
 
-pub record HasRoom (by_start by_end : List ℕ) (ends : List ℤ) (started ended : List ℕ) (room : ℕ) : Type 0 where
-  pub starts_order : IsOrder (length by_start) by_start
-  pub ends_order : IsOrder (length by_start) by_end
-  pub ends_long : length ends ≡ length by_start
-  pub ended_long : length ended ≡ length started
-  pub fits : length by_start ≤ room
+-- both counts have room for the same, and so has the list of those that run
+pub record HasRoom (started ended : Count) (room : ℕ) : Type 0 where
+  pub starts : IsSized (length started.times.items) (length started.totals.items) started
+  pub ends : IsSized (length started.times.items) (length started.totals.items) ended
+  pub fits : length started.times.items ≤ room

@@ -6,11 +6,11 @@ ghost use Rattle.network.specs.Schedule.{running, IsWithinCapacities};
 ghost use Rattle.profile.specs.Overloads.{IsFirstOverload, TellsUse, start_times, excesses};
 ghost use Rattle.profile.specs.SweepOf.{IsSweepFor};
 
+use crate::counting::Count;
 use crate::overload::Excess;
-use crate::sweep::{all_in, first_in};
+use crate::sweep::{all_along, first_along, prepare};
 use crate::usage::take_running;
 use network::Project;
-use orders::first_order;
 use std::alloc::{AllocError, Global};
 use std::marker::Model;
 
@@ -19,11 +19,8 @@ use std::marker::Model;
 /// are soon right again.
 #[derive(Drop, Debug)]
 pub struct OverloadSweep {
-    by_start: Vec<usize>,
-    by_end: Vec<usize>,
-    ends: Vec<i64>,
-    started: Vec<u64>,
-    ended: Vec<u64>,
+    started: Count,
+    ended: Count,
     running: Vec<usize>,
 }
 
@@ -34,13 +31,12 @@ impl Model for OverloadSweep {
     ghost Value = { SweepOf };
 
     ghost view = { λ s. record {
-      activities = length s.by_start.items;
-      resources = length s.started.items;
+      activities = length s.started.times.items;
+      resources = length s.started.totals.items;
       running = s.running.items;
     } };
 
-    ghost invariant = { λ s.
-        HasRoom s.by_start.items s.by_end.items s.ends.items s.started.items s.ended.items (vec_capacity s.running) };
+    ghost invariant = { λ s. HasRoom s.started s.ended (vec_capacity s.running) };
 }
 
 impl OverloadSweep {
@@ -48,21 +44,10 @@ impl OverloadSweep {
     pub fn new(alloc: Global, project: &Project) -> Result<OverloadSweep, AllocError>
         ensures { IfOk result (IsSweepFor project.now) }
     {
-        let activities = project.activity_count();
-        let resources = project.resource_count();
-        let by_start = first_order(alloc, activities)?;
-        let by_end = first_order(alloc, activities)?;
-        let ends = vec![in alloc; 0; activities]?;
-        let started = vec![in alloc; 0; resources]?;
-        let ended = vec![in alloc; 0; resources]?;
-        let running = Vec::with_capacity(alloc, activities)?;
         Ok(OverloadSweep {
-            by_start,
-            by_end,
-            ends,
-            started,
-            ended,
-            running,
+            started: Count::new(alloc, project)?,
+            ended: Count::new(alloc, project)?,
+            running: Vec::with_capacity(alloc, project.activity_count())?,
         })
     }
 
@@ -80,15 +65,8 @@ impl OverloadSweep {
         ensures used { IfSome result (TellsUse project.now starts.now) }
         ensures running { IfSome result (λ excess. self.new.running ≡ running project.now starts.now excess.time) }
     {
-        let found = first_in(
-            project,
-            starts,
-            self.by_start.as_mut_slice(),
-            self.by_end.as_mut_slice(),
-            self.ends.as_mut_slice(),
-            self.started.as_mut_slice(),
-            self.ended.as_mut_slice(),
-        );
+        prepare(project, starts, &mut self.started, &mut self.ended);
+        let found = first_along(project, &mut self.started, &mut self.ended);
         if let Some(excess) = found {
             take_running(project, starts, excess.time, &mut self.running);
         }
@@ -116,16 +94,7 @@ impl OverloadSweep {
         ensures sweep { IsSweepFor project.now self.new }
         ensures excesses { IfOk result (λ v. v.items ≡ excesses project.now starts.now) }
     {
-        all_in(
-            alloc,
-            project,
-            starts,
-            times,
-            self.by_start.as_mut_slice(),
-            self.by_end.as_mut_slice(),
-            self.ends.as_mut_slice(),
-            self.started.as_mut_slice(),
-            self.ended.as_mut_slice(),
-        )
+        prepare(project, starts, &mut self.started, &mut self.ended);
+        all_along(alloc, project, times, &mut self.started, &mut self.ended)
     }
 }

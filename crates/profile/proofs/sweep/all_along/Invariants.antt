@@ -7,6 +7,7 @@ use Rattle.profile.proofs.sweep.all_along.Given as goal
 
 abbrev pub invariant-loop-time : goal.invariant-loop-time
 invariant-loop-time l = record {
-  counts : AreCounts l.project l.starts l.ends (time_after (start_times l.starts) l.time-index) l.by_start l.passed l.started l.by_end l.over l.ended;
-  listed : l.excesses.items ≡ flat_map (excesses_at l.project l.starts) (take l.time-index (start_times l.starts));
+  counts : AreCounts l.project (time_after (start_times l.fn.started.times.items) l.time-index) l.started l.ended;
+  starts : l.started.times ≡ l.fn.started.times;
+  listed : l.excesses.items ≡ flat_map (excesses_at l.project l.fn.started.times.items) (take l.time-index (start_times l.fn.started.times.items));
 }

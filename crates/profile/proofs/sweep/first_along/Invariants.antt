@@ -1,9 +1,12 @@
-use Rattle.std.proofs.Common.{◌-◌, length}
+use Rattle.std.proofs.Common.{◌≡◌, ◌-◌, length}
 use Rattle.profile.proofs.Swept.{IsSwept}
 use Rattle.profile.proofs.sweep.first_along.Given as goal
 
-abbrev pub invariant-loop-passed : goal.invariant-loop-passed
-invariant-loop-passed l = IsSwept l.project l.starts l.ends l.by_start l.passed l.started l.by_end l.over l.ended
+abbrev pub invariant-loop-time : goal.invariant-loop-time
+invariant-loop-time l = record {
+  swept : IsSwept l.project l.started l.ended;
+  starts : l.started.times ≡ l.fn.started.times;
+}
 
-abbrev pub decreases-loop-passed : goal.decreases-loop-passed
-decreases-loop-passed l = length l.by_start - l.passed
+abbrev pub decreases-loop-time : goal.decreases-loop-time
+decreases-loop-time l = length l.started.order.items - l.started.passed

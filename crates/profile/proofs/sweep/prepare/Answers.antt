@@ -1,33 +1,34 @@
-use Rattle.std.proofs.Common.{◌≡◌, ◌<◌, ◌∙◌, ℕ, List, length, get_or}
-use Rattle.std.specs.List.{range_with_len}
-use Rattle.std.proofs.lemmas.List.Sorted.{IsPermutation-trans}
-use Rattle.std.proofs.lemmas.List.{get_or-replicate}
-use Rattle.std.proofs.Math.ListN.{replicate}
-use Rattle.profile.proofs.Counted.{count_none}
+use Rattle.std.proofs.Common.{◌≡◌, ◌∙◌, ap, List, length}
+use Rattle.std.specs.Prelude.{ℤ}
+use Rattle.std.specs.Global.{Vec}
 use Rattle.network.specs.Problem.{activity_count}
-use Rattle.orders.specs.Orders.{IsOrder}
 use Rattle.orders.proofs.OrderLaws.{have_keys}
+use Rattle.profile.proofs.Counted.{count_none, written}
 use Rattle.profile.proofs.sweep.prepare.Goals as goal
 
-filled : (old new : List ℕ) → new ≡ replicate (length old) 0 → (k : ℕ) → k < length old → get_or new k 0 ≡ 0
-filled old new is k lt = rw is (get_or-replicate (length old) k 0 0 lt)
+pub restart-requires : goal.restart-requires
+restart-requires c =
+    let items = written c.args.started.now.times c.as_mut_slice.result.now c.copy_from_slice.new.self c.copy_from_slice.auto.self c.as_mut_slice.ensures.value in
+    rw items (have_keys (activity_count c.args.project.now) c.copy_from_slice.new.self c.args.started.now.order.items (ap length c.copy_from_slice.ensures.after ∙ c.requires.starts.count) c.requires.started.is_order)
 
-pub repair-requires : goal.repair-requires
-repair-requires c = have_keys (activity_count c.args.project.now) c.args.starts.now c.args.by_start.now c.requires.starts.count c.requires.by_start
+pub restart-requires-2 : goal.restart-requires-2
+restart-requires-2 c =
+    let items = written c.args.ended.now.times c.as_mut_slice-2.result.now c.take_ends.new.ends c.take_ends.auto.ends c.as_mut_slice-2.ensures.value in
+    rw items (have_keys (activity_count c.args.project.now) c.take_ends.new.ends c.args.ended.now.order.items c.take_ends.ensures.count c.requires.ended.is_order)
 
-pub repair-requires-2 : goal.repair-requires-2
-repair-requires-2 c = have_keys (activity_count c.args.project.now) c.take_ends.new.ends c.args.by_end.now c.take_ends.ensures.count c.requires.by_end
-
-pub returns : goal.returns
-returns c =
-    let n = activity_count c.args.project.now in
-    let by_start : IsOrder n c.repair.new.order = IsPermutation-trans (range_with_len 0 n) c.args.by_start.now c.repair.new.order c.requires.by_start c.repair.ensures.kept in
-    let by_end : IsOrder n c.repair-2.new.order = IsPermutation-trans (range_with_len 0 n) c.args.by_end.now c.repair-2.new.order c.requires.by_end c.repair-2.ensures.kept in
+pub returns-clause-ready : goal.returns-clause-ready
+returns-clause-ready c =
+    let p = c.args.project.now in
+    let starts = written c.args.started.now.times c.as_mut_slice.result.now c.copy_from_slice.new.self c.copy_from_slice.auto.self c.as_mut_slice.ensures.value in
+    let ends = written c.args.ended.now.times c.as_mut_slice-2.result.now c.take_ends.new.ends c.take_ends.auto.ends c.as_mut_slice-2.ensures.value in
+    let starts_are : c.restart.new.self.times.items ≡ c.args.starts.now = ap (λ (v : Vec ℤ). v.items) c.restart.ensures.times ∙ starts ∙ c.copy_from_slice.ensures.after in
+    let ends_are : c.restart-2.new.self.times.items ≡ c.take_ends.new.ends = ap (λ (v : Vec ℤ). v.items) c.restart-2.ensures.times ∙ ends in
+    let limits = c.take_ends.ensures.limits in
     record {
-      within = c.requires.starts;
-      are_ends = c.take_ends.ensures;
-      starts_rise = c.repair.ensures.rising;
-      ends_rise = c.repair-2.ensures.rising;
-      none_started = count_none c.args.project.now c.repair.new.order c.fill.new.self c.take_ends.ensures.limits by_start (c.fill.ensures.len ∙ c.requires.started) (λ k in_range. filled c.args.started.now c.fill.new.self (c.fill.ensures.after (λ y e. e)) k (rw c.requires.started in_range));
-      none_ended = count_none c.args.project.now c.repair-2.new.order c.fill-2.new.self c.take_ends.ensures.limits by_end (c.fill-2.ensures.len ∙ c.requires.ended) (λ k in_range. filled c.args.ended.now c.fill-2.new.self (c.fill-2.ensures.after (λ y e. e)) k (rw c.requires.ended in_range));
+      within = rw starts_are c.requires.starts;
+      are_ends = rw (starts_are, ends_are) c.take_ends.ensures;
+      starts = count_none p c.args.started.now c.restart.new.self limits c.requires.started c.restart.ensures.kept c.restart.ensures.rises (ap (λ (xs : List ℤ). length xs) starts_are ∙ c.requires.starts.count) c.restart.ensures.passed c.restart.ensures.totals;
+      none_started = c.restart.ensures.passed;
+      ends = count_none p c.args.ended.now c.restart-2.new.self limits c.requires.ended c.restart-2.ensures.kept c.restart-2.ensures.rises (ap (λ (xs : List ℤ). length xs) ends_are ∙ c.take_ends.ensures.count) c.restart-2.ensures.passed c.restart-2.ensures.totals;
+      none_ended = c.restart-2.ensures.passed;
     }
