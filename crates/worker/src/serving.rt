@@ -131,28 +131,8 @@ impl<L: Ledger> Shared<L> {
         Ok(())
     }
 
-    /// Serves one node after the other, until the book has none for this worker any more.
-    fn serve_all<G: Gate, R: Wait>(
-        &self,
-        rt: &R,
-        alloc: Global,
-        desk: &mut Desk<L>,
-        gate: &G,
-    ) -> Result<(), WorkFault>
-        requires { SeatedAt self.now desk.old }
-        ensures stays { StaysAt self.now desk.old desk.new }
-        ensures counts { desk.old.accepted ≤ desk.new.accepted }
-    {
-        for _ in rt.forever() {
-            let Some(ticket) = self.next_ticket(rt, desk.number) else {
-                break;
-            };
-            self.serve(rt, alloc, desk, gate, ticket)?;
-        }
-        Ok(())
-    }
-
-    /// The loop of one worker, which passes the gate once more at its end.
+    /// The loop of one worker: serves one node after the other, until the book has none for it any more. It passes the
+    /// gate once more at its end.
     pub(crate) fn serve_to_end<G: Gate, R: Wait>(
         &self,
         rt: &R,
@@ -164,7 +144,16 @@ impl<L: Ledger> Shared<L> {
         ensures stays { StaysAt self.now desk.old desk.new }
         ensures counts { desk.old.accepted ≤ desk.new.accepted }
     {
-        let ended = self.serve_all(rt, alloc, desk, gate);
+        let mut ended = Ok(());
+        for _ in rt.forever() {
+            let Some(ticket) = self.next_ticket(rt, desk.number) else {
+                break;
+            };
+            ended = self.serve(rt, alloc, desk, gate, ticket);
+            if ended.is_err() {
+                break;
+            }
+        }
         gate.pass(rt, desk.number, Moment::Ended);
         ended
     }

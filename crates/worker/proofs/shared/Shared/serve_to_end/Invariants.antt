@@ -1,5 +1,5 @@
 use Rattle.std.proofs.Common.{◌≡◌, ◌≤◌}
-use Rattle.worker.proofs.shared.Shared.serve_all.Given as goal
+use Rattle.worker.proofs.shared.Shared.serve_to_end.Given as goal
 
 abbrev pub invariant-loop : goal.invariant-loop
 invariant-loop g l = record {
