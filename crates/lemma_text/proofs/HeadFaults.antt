@@ -1,5 +1,5 @@
 -- The faults of the rows before the blocks.
-use Rattle.std.proofs.Common.{◌≡◌, ◌≢◌, ℕ, List, [], ◌∷◌, ◌++◌, Some, None, sym, ap, ◌∙◌, arith, pos, ℤ}
+use Rattle.std.proofs.Common.{refl, ◌≡◌, ◌≢◌, ℕ, List, [], ◌∷◌, ◌++◌, Some, None, sym, ap, ◌∙◌, arith, pos, ℤ}
 use Rattle.std.specs.Prelude.{codes}
 use Rattle.record_text.specs.Kinds.{AreRows}
 use Rattle.record_text.specs.Rows.{line_pieces, Begin}

@@ -1,5 +1,5 @@
 -- What the laws of the text of a search's record follow from.
-use Rattle.std.proofs.Common.{◌≡◌, ℕ, ◌<◌, List, [], ◌∷◌, ◌++◌, length, refl, arith}
+use Rattle.std.proofs.Common.{◌<◌, [], ◌∷◌, length, refl, arith}
 use Rattle.std.specs.Prelude.{codes}
 use Rattle.std.specs.List.{AllByRecursion}
 use Rattle.record_text.specs.declared.line.Line.{Line}

@@ -1,4 +1,4 @@
-use Rattle.std.proofs.Common.{◌∙◌, ◌++◌, ◌≡◌, ap, rules}
+use Rattle.std.proofs.Common.{◌≡◌, rules}
 use Rattle.std.specs.Prelude.{string_bytes}
 use Rattle.record_text.proofs.Pieces.{written}
 use Rattle.record_text.specs.Kinds.{head_rows}
