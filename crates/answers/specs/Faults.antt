@@ -1,4 +1,4 @@
--- The faults of the program, and how it ends with each.
+-- The faults of both programs, and how they end with each.
 use Rattle.std.specs.Prelude.{◌≡◌, ℕ, ◌≢◌, ◌⊎◌}
 use Rattle.sch_reader.specs.declared.fault.SchFault.{SchFault}
 use Rattle.sch_reader.specs.declared.fault.SchFault.TheVariants as texts
@@ -42,6 +42,9 @@ line_fault line why.Start = faults.RecordStart line
 line_fault line why.Force = faults.RecordForce line
 line_fault line why.Set = faults.RecordSet line
 line_fault line why.Leaf = faults.RecordLeaf line
+line_fault line why.Lemma = faults.RecordLemma line
+line_fault line why.Add = faults.RecordAdd line
+line_fault line why.End = faults.RecordEnd line
 line_fault line why.Memory = faults.Memory
 line_fault line why.TooLong = faults.TooLong
 
@@ -79,6 +82,9 @@ exit_of (faults.RecordStart line) = 4
 exit_of (faults.RecordForce line) = 4
 exit_of (faults.RecordSet line) = 4
 exit_of (faults.RecordLeaf line) = 4
+exit_of (faults.RecordLemma line) = 4
+exit_of (faults.RecordAdd line) = 4
+exit_of (faults.RecordEnd line) = 4
 
 -- it is not that a device failed
 abbrev pub IsNoDeviceFault : Fault → Type 0

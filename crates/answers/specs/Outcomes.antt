@@ -9,7 +9,8 @@ use Rattle.plain_search.specs.Verdicts.{IsNoLongerThan, IsTrueOf, StopsBelowBest
 use Rattle.record_text.specs.declared.line.Claim.{Claim}
 use Rattle.record_text.specs.declared.line.Claim.TheVariants as claims
 use Rattle.record_text.specs.SearchRecord.{SearchRecord}
-use Rattle.record_text.specs.Text.{record_text}
+use Rattle.record_text.specs.Kinds.{record_text}
+use Rattle.record_text.specs.Text.{search_kind}
 use Rattle.search_record.specs.Right.{IsRight}
 use Rattle.answers.specs.Answers.{optimal_text, no_schedule_text, feasible_text, unknown_text, IsSolveText, IsFoundText}
 
@@ -62,4 +63,4 @@ pub record IsRightRecord (p : Problem) (json : Bool) (written recorded : List �
   pub shown : SearchRecord
   pub right : IsRight p shown
   pub claims : written ≡ claim_text json shown.claim
-  pub text : recorded ≡ record_text shown
+  pub text : recorded ≡ record_text search_kind shown

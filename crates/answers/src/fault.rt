@@ -1,4 +1,4 @@
-//! What can go wrong in a run of psmax, with its line and its exit status.
+//! What can go wrong in a run of psmax or psprove, with its line and its exit status.
 
 ghost use Rattle.std.specs.Prelude.{◌≡◌};
 
@@ -8,7 +8,7 @@ use schedule_check::StartsFault;
 use std::alloc::{AllocError, AllocFailed};
 use thiserror::Error;
 
-/// Why a run has no answer, with the text that is printed after `psmax: `. Words and rows of a project
+/// Why a run has no answer, with the text that is printed after the program's name. Words and rows of a project
 /// text count from 0, lines of starts and of a record from 1.
 #[derive(Clone, Copy, Debug, PartialEq, Eq, Error)]
 pub enum Fault {
@@ -66,6 +66,12 @@ pub enum Fault {
     RecordSet { line: usize },
     #[error("line {line}: leaf")]
     RecordLeaf { line: usize },
+    #[error("line {line}: lemma")]
+    RecordLemma { line: usize },
+    #[error("line {line}: add")]
+    RecordAdd { line: usize },
+    #[error("line {line}: end")]
+    RecordEnd { line: usize },
 }
 
 impl Fault {
@@ -86,7 +92,10 @@ impl Fault {
             Fault::RecordStart { .. }
             | Fault::RecordForce { .. }
             | Fault::RecordSet { .. }
-            | Fault::RecordLeaf { .. } => 4,
+            | Fault::RecordLeaf { .. }
+            | Fault::RecordLemma { .. }
+            | Fault::RecordAdd { .. }
+            | Fault::RecordEnd { .. } => 4,
             _ => 2,
         }
     }
@@ -171,6 +180,9 @@ impl From<RecordFault> for Fault {
             Why::Force => Fault::RecordForce { line },
             Why::Set => Fault::RecordSet { line },
             Why::Leaf => Fault::RecordLeaf { line },
+            Why::Lemma => Fault::RecordLemma { line },
+            Why::Add => Fault::RecordAdd { line },
+            Why::End => Fault::RecordEnd { line },
             Why::Memory => Fault::Memory,
             Why::TooLong => Fault::TooLong,
         }

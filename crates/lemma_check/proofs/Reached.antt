@@ -5,22 +5,22 @@ use Rattle.std.specs.List.{All}
 use Rattle.std.proofs.lemmas.List.{take_more, take_all, drop_more, take-append-drop, length-take-le}
 use Rattle.std.proofs.lemmas.List.Elements.{All-push}
 use Rattle.network.specs.Problem.{Problem}
-use Rattle.lemma_text.specs.declared.fault.LemmaFault.{LemmaFault}
-use Rattle.lemma_text.specs.declared.fault.Why.{Why}
-use Rattle.lemma_text.specs.declared.fault.Why.TheVariants.{Memory}
+use Rattle.record_text.specs.declared.fault.RecordFault.{RecordFault}
+use Rattle.record_text.specs.declared.fault.Why.{Why}
+use Rattle.record_text.specs.declared.fault.Why.TheVariants.{Memory}
 use Rattle.lemma_text.specs.declared.line.Line.{Line}
 use Rattle.lemma_check.specs.Places.{Place, after, Placed, placed}
 use Rattle.lemma_check.specs.Right.{IsRightAt, IsRightLine}
 use Rattle.lemma_check.specs.Faults.{why_wrong, IsFirstWrong}
 use Rattle.lemma_check.proofs.Passed.{passed, passed-append}
 
-abbrev pub fault_at : ℕ → Why → LemmaFault
+abbrev pub fault_at : ℕ → Why → RecordFault
 fault_at line why = record { line = line; why = why }
 
 -- want of memory says nothing of a record
-pub memory_says : {X : Type 0} (P : LemmaFault → Type 0) (r : Result X LemmaFault) → IsErrAnd r (λ fault. fault ≡ fault_at 0 Memory) → IfErr r (λ fault. fault.why ≢ Memory → P fault)
+pub memory_says : {X : Type 0} (P : RecordFault → Type 0) (r : Result X RecordFault) → IsErrAnd r (λ fault. fault ≡ fault_at 0 Memory) → IfErr r (λ fault. fault.why ≢ Memory → P fault)
 memory_says P (Ok x) never = absurd never
-memory_says P (Err fault) is = λ known. absurd (known (ap (λ (f : LemmaFault). f.why) is))
+memory_says P (Err fault) is = λ known. absurd (known (ap (λ (f : RecordFault). f.why) is))
 
 placed-append : (p : Problem) (at : Place) (xs ys : List Line) → placed p at (xs ++ ys) ≡ placed p at xs ++ placed p (passed p at xs) ys
 placed-append p at [] ys = refl
@@ -53,7 +53,7 @@ right_more p at lines i line lt is before here =
 pub right_all : (p : Problem) (at : Place) (lines : List Line) (i : ℕ) → length lines ≤ i → AreRightBefore p at lines i → All (IsRightLine p) (placed p at lines)
 right_all p at lines i past before = rw (take_all i lines past) at before
 
-pub first_wrong : (p : Problem) (at : Place) (first : ℕ) (lines : List Line) (i : ℕ) (line : Line) (fault : LemmaFault) → i < length lines → line ≡ get_or lines i line → AreRightBefore p at lines i → ¬ IsRightAt p (place_at p at lines i) line →
+pub first_wrong : (p : Problem) (at : Place) (first : ℕ) (lines : List Line) (i : ℕ) (line : Line) (fault : RecordFault) → i < length lines → line ≡ get_or lines i line → AreRightBefore p at lines i → ¬ IsRightAt p (place_at p at lines i) line →
     fault ≡ fault_at (first + i) (why_wrong line) → IsFirstWrong p at first lines fault
 first_wrong p at first lines i line fault lt is before never told =
     let whole : lines ≡ take i lines ++ line ∷ drop (i + 1) lines = sym (take-append-drop i lines) ∙ ap (λ (rest : List Line). take i lines ++ rest) (drop_more lines i line lt ∙ ap (λ (l : Line). l ∷ drop (i + 1) lines) (sym is)) in
@@ -65,6 +65,6 @@ first_wrong p at first lines i line fault lt is before never told =
       split = ap (placed p at) whole ∙ placed-append p at (take i lines) (line ∷ drop (i + 1) lines);
       right = before;
       wrong = never;
-      line = ap (λ (f : LemmaFault). f.line) told ∙ ap (λ (n : ℕ). first + n) (sym long);
-      why = ap (λ (f : LemmaFault). f.why) told;
+      line = ap (λ (f : RecordFault). f.line) told ∙ ap (λ (n : ℕ). first + n) (sym long);
+      why = ap (λ (f : RecordFault). f.why) told;
     }

@@ -140,7 +140,7 @@ bounded p s bound feasible none = by_lt_z (makespan s) bound (λ less. absurd (n
 pub right_is_true : RightIsTrue
 right_is_true p r record_is right =
     by_claim r.claim right.starts (λ s feasible met.
-    none_left p (rules p ++ deadlines p (bound_of r.claim)) record_is.blocks.0 s (subst (λ (lines : List Line). All (IsRightLine p) (placed p (first_place p r.claim) lines)) (sym record_is.blocks.1) right.lines) feasible met)
+    none_left p (rules p ++ deadlines p (bound_of r.claim)) record_is.whole.0 s (subst (λ (lines : List Line). All (IsRightLine p) (placed p (first_place p r.claim) lines)) (sym record_is.whole.1) right.lines) feasible met)
   where
     by_claim : (claim : Claim) → AreRightStarts p claim → ((s : List ℤ) → IsFeasible p s → MeetsAll s (rules p ++ deadlines p (bound_of claim)) → ⊥) → IsTrueOf p (proved_of claim)
     by_claim (claims.Optimal length starts) found none = record { witness = (starts, found.0, found.1); bound = λ s feasible. bounded p s length feasible (none s feasible) }

@@ -3,8 +3,8 @@ use Rattle.std.proofs.Common.{subst, ◌≡◌, ℕ, ◌+◌, List, [], ◌∷�
 use Rattle.std.specs.List.{All}
 use Rattle.std.proofs.lemmas.List.Elements.{All-head, All-tail}
 use Rattle.network.specs.Problem.{Problem}
-use Rattle.lemma_text.specs.declared.fault.LemmaFault.{LemmaFault}
-use Rattle.lemma_text.specs.declared.fault.Why.{Why}
+use Rattle.record_text.specs.declared.fault.RecordFault.{RecordFault}
+use Rattle.record_text.specs.declared.fault.Why.{Why}
 use Rattle.lemma_text.specs.declared.line.Line.{Line}
 use Rattle.lemma_check.specs.Places.{Place, first_place, Placed, placed}
 use Rattle.lemma_check.specs.Right.{IsRightLine}
@@ -14,7 +14,7 @@ all_right : {X : Type 0} (Q : X → Type 0) (xs ys : List X) → All Q (xs ++ ys
 all_right Q [] ys h = h
 all_right Q (x ∷ xs) ys h = all_right Q xs ys (All-tail Q x (xs ++ ys) h)
 
-pub wrong_line : (p : Problem) (at : Place) (first : ℕ) (lines : List Line) (fault : LemmaFault) → IsFirstWrong p at first lines fault → ¬ All (IsRightLine p) (placed p at lines)
+pub wrong_line : (p : Problem) (at : Place) (first : ℕ) (lines : List Line) (fault : RecordFault) → IsFirstWrong p at first lines fault → ¬ All (IsRightLine p) (placed p at lines)
 wrong_line p at first lines fault found right =
     let all : All (IsRightLine p) (found.before ++ found.here ∷ found.behind) = rw found.split at right in
     found.wrong (All-head (IsRightLine p) found.here found.behind (all_right (IsRightLine p) found.before (found.here ∷ found.behind) all))
@@ -38,10 +38,10 @@ one_place P (a ∷ xs) (b ∷ ys) x y us vs same all_x all_y no_x no_y =
     let s = one_place P xs ys x y us vs others (All-tail P a xs all_x) (All-tail P b ys all_y) no_x no_y in
     record { fronts = omega (arith, s.fronts); heres = s.heres }
 
-pub fault_at : ℕ → Why → LemmaFault
+pub fault_at : ℕ → Why → RecordFault
 fault_at line why = record { line = line; why = why }
 
-one_wrong : (p : Problem) (at : Place) (first : ℕ) (lines : List Line) (a b : LemmaFault) → IsFirstWrong p at first lines a → IsFirstWrong p at first lines b → a ≡ b
+one_wrong : (p : Problem) (at : Place) (first : ℕ) (lines : List Line) (a b : RecordFault) → IsFirstWrong p at first lines a → IsFirstWrong p at first lines b → a ≡ b
 unfolding fault_at
 one_wrong p at first lines a b f g =
     let same : f.before ++ f.here ∷ f.behind ≡ g.before ++ g.here ∷ g.behind = sym f.split ∙ g.split in

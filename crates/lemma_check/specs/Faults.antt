@@ -3,19 +3,20 @@ use Rattle.std.specs.Prelude.{◌≡◌, ◌⊎◌, ℕ, ◌+◌, List, ◌∷�
 use Rattle.std.specs.List.{All}
 use Rattle.network.specs.Problem.{Problem}
 use Rattle.lemma_text.specs.declared.claim.Claim.{Claim}
-use Rattle.lemma_text.specs.declared.fault.LemmaFault.{LemmaFault}
-use Rattle.lemma_text.specs.declared.fault.Why.{Why}
-use Rattle.lemma_text.specs.declared.fault.Why.TheVariants as why
+use Rattle.record_text.specs.declared.fault.RecordFault.{RecordFault}
+use Rattle.record_text.specs.declared.fault.Why.{Why}
+use Rattle.record_text.specs.declared.fault.Why.TheVariants as why
 use Rattle.lemma_text.specs.declared.line.Line.{Line}
 use Rattle.lemma_text.specs.declared.line.Line.TheVariants as kind
 use Rattle.lemma_text.specs.LemmaRecord.{LemmaRecordOf}
-use Rattle.lemma_text.specs.Text.{head_rows}
+use Rattle.lemma_text.specs.Text.{lemma_kind}
+use Rattle.record_text.specs.Kinds.{head_rows}
 use Rattle.lemma_check.specs.Places.{Place, first_place, Placed, placed}
 use Rattle.lemma_check.specs.Right.{IsRightLine, AreRightStarts, IsRight}
 
 -- the number of the first line of the blocks
 abbrev pub first_line : Claim → ℕ
-first_line claim = length (head_rows claim) + 1
+first_line claim = length (head_rows lemma_kind claim) + 1
 
 -- what is wrong where a line is
 abbrev pub why_wrong : Line → Why
@@ -25,7 +26,7 @@ why_wrong (kind.Add arc reason) = why.Add
 why_wrong (kind.End reason) = why.End
 
 -- of the lines from a place on, which are numbered from this one, the first that is not right
-pub record IsFirstWrong (p : Problem) (at : Place) (first : ℕ) (lines : List Line) (fault : LemmaFault) : Type 0 where
+pub record IsFirstWrong (p : Problem) (at : Place) (first : ℕ) (lines : List Line) (fault : RecordFault) : Type 0 where
   pub before : List Placed
   pub here : Placed
   pub behind : List Placed
@@ -36,23 +37,23 @@ pub record IsFirstWrong (p : Problem) (at : Place) (first : ℕ) (lines : List L
   pub why : fault.why ≡ why_wrong here.line
 
 -- the starts are wrong
-pub record HasWrongStarts (p : Problem) (claim : Claim) (fault : LemmaFault) : Type 0 where
+pub record HasWrongStarts (p : Problem) (claim : Claim) (fault : RecordFault) : Type 0 where
   pub wrong : ¬ AreRightStarts p claim
   pub is : fault ≡ record { line = 3; why = why.Start }
 
 -- the starts are right, and a line is the first that is wrong
-pub record HasWrongLine (p : Problem) (r : LemmaRecordOf) (fault : LemmaFault) : Type 0 where
+pub record HasWrongLine (p : Problem) (r : LemmaRecordOf) (fault : RecordFault) : Type 0 where
   pub starts : AreRightStarts p r.claim
   pub first : IsFirstWrong p (first_place p r.claim) (first_line r.claim) r.lines fault
 
 -- the starts come first, then the lines in their order
-abbrev pub IsFirstFault : Problem → LemmaRecordOf → LemmaFault → Type 0
+abbrev pub IsFirstFault : Problem → LemmaRecordOf → RecordFault → Type 0
 IsFirstFault p r fault = HasWrongStarts p r.claim fault ⊎ HasWrongLine p r fault
 
 -- a record with a first fault is not right
 abbrev pub FaultIsWrong : Type 0
-FaultIsWrong = (p : Problem) (r : LemmaRecordOf) (fault : LemmaFault) → IsFirstFault p r fault → ¬ IsRight p r
+FaultIsWrong = (p : Problem) (r : LemmaRecordOf) (fault : RecordFault) → IsFirstFault p r fault → ¬ IsRight p r
 
 -- and has no other
 abbrev pub FirstFaultIsOne : Type 0
-FirstFaultIsOne = (p : Problem) (r : LemmaRecordOf) (a b : LemmaFault) → IsFirstFault p r a → IsFirstFault p r b → a ≡ b
+FirstFaultIsOne = (p : Problem) (r : LemmaRecordOf) (a b : RecordFault) → IsFirstFault p r a → IsFirstFault p r b → a ≡ b

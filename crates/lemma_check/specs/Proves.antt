@@ -4,7 +4,8 @@ use Rattle.network.specs.Verdict.{IsShortest, IsLowerBound, HasNoSchedule}
 use Rattle.lemma_text.specs.declared.claim.Claim.{Claim}
 use Rattle.lemma_text.specs.declared.claim.Claim.TheVariants as claims
 use Rattle.lemma_text.specs.LemmaRecord.{LemmaRecordOf}
-use Rattle.lemma_text.specs.Text.{IsRecord}
+use Rattle.lemma_text.specs.Text.{lemma_kind}
+use Rattle.record_text.specs.Kinds.{IsRecord}
 use Rattle.lemma_check.specs.Right.{IsRight}
 use Rattle.lemma_check.specs.declared.proved.Proved.{Proved}
 use Rattle.lemma_check.specs.declared.proved.Proved.TheVariants.{Optimal, Bound, NoSchedule}
@@ -23,4 +24,4 @@ IsTrueOf p NoSchedule = HasNoSchedule p
 
 -- what a right record claims is true
 abbrev pub RightIsTrue : Type 0
-RightIsTrue = (p : Problem) (r : LemmaRecordOf) → IsRecord r → IsRight p r → IsTrueOf p (proved_of r.claim)
+RightIsTrue = (p : Problem) (r : LemmaRecordOf) → IsRecord lemma_kind r → IsRight p r → IsTrueOf p (proved_of r.claim)

@@ -16,6 +16,6 @@ mod verification;
 mod weights;
 
 pub use laws::right_law;
-pub use lemma_text::{LemmaFault, LemmaRecord, Why};
+pub use lemma_text::{LemmaRecord, RecordFault, Why};
 pub use proved::Proved;
 pub use verification::verify;

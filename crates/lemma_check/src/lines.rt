@@ -3,7 +3,7 @@
 ghost use Rattle.std.specs.Prelude.{◌≡◌, ◌≢◌, ◌+◌, ◌≤◌, None, length, OnOk, IfErr};
 ghost use Rattle.std.specs.List.{All, AllByRecursion};
 ghost use Rattle.network.specs.Problem.{Problem};
-ghost use Rattle.lemma_text.specs.declared.fault.Why.TheVariants.{Memory};
+ghost use Rattle.record_text.specs.declared.fault.Why.TheVariants.{Memory};
 ghost use Rattle.lemma_text.specs.Text.{IsWritableClaim, IsWritableLine};
 ghost use Rattle.lemma_check.specs.Faults.{first_line, why_wrong, IsFirstWrong};
 ghost use Rattle.lemma_check.specs.Places.{Place, first_place};
@@ -11,7 +11,7 @@ ghost use Rattle.lemma_check.specs.Right.{AreRightFrom};
 ghost use Rattle.lemma_check.specs.Standing.{IsDeadAt};
 
 use crate::state::{State, ends_dead};
-use lemma_text::{Claim, LemmaFault, Line, Why, first_line};
+use lemma_text::{Claim, Line, RecordFault, Why, first_line};
 use network::Project;
 use std::alloc::Global;
 
@@ -28,7 +28,7 @@ fn why_wrong(line: &Line) -> Why
 }
 
 /// Checks lines of a block whose arcs close a walk of positive weight: only `end dead` is right there.
-fn check_dead(first: usize, lines: &[Line]) -> Result<(), LemmaFault>
+fn check_dead(first: usize, lines: &[Line]) -> Result<(), RecordFault>
     requires { first ≤ 4 }
     ensures right { OnOk result ((p : Problem) (at : Place) → IsDeadAt at → AreRightFrom p at lines.now) }
     ensures fault { IfErr result (λ fault. (p : Problem) (at : Place) → IsDeadAt at →
@@ -36,7 +36,7 @@ fn check_dead(first: usize, lines: &[Line]) -> Result<(), LemmaFault>
 {
     for (index, line) in lines.iter().enumerate() {
         if !ends_dead(line) {
-            return Err(LemmaFault {
+            return Err(RecordFault {
                 line: first + index,
                 why: why_wrong(line),
             });
@@ -51,7 +51,7 @@ pub(crate) fn check_lines(
     project: &Project,
     claim: &Claim,
     lines: &[Line],
-) -> Result<(), LemmaFault>
+) -> Result<(), RecordFault>
     requires claim { IsWritableClaim claim.now }
     requires lines { AllByRecursion IsWritableLine lines.now }
     ensures right { OnOk result (AreRightFrom project.now (first_place project.now claim.now) lines.now) }
@@ -64,7 +64,7 @@ pub(crate) fn check_lines(
     };
     for (index, line) in lines.iter().enumerate() {
         if !state.is_right(project, lines, line) {
-            return Err(LemmaFault {
+            return Err(RecordFault {
                 line: first + index,
                 why: why_wrong(line),
             });

@@ -2,14 +2,14 @@
 
 ghost use Rattle.std.specs.Prelude.{◌≡◌, ◌≢◌, ◌↔◌, IsTrue, IfOk, IfErr, OnOk};
 ghost use Rattle.lemma_text.specs.Text.{IsWritableClaim};
-ghost use Rattle.lemma_text.specs.declared.fault.Why.TheVariants.{Memory};
+ghost use Rattle.record_text.specs.declared.fault.Why.TheVariants.{Memory};
 ghost use Rattle.lemma_check.specs.Right.{AreRightStarts, IsRight};
 ghost use Rattle.lemma_check.specs.Proves.{proved_of, IsTrueOf};
 ghost use Rattle.lemma_check.specs.Faults.{IsFirstFault};
 
 use crate::lines::check_lines;
 use crate::proved::Proved;
-use lemma_text::{Claim, LemmaFault, LemmaRecord, Why};
+use lemma_text::{Claim, LemmaRecord, RecordFault, Why};
 use network::Project;
 use schedule_check::violations;
 use std::alloc::{AllocError, Global};
@@ -50,7 +50,7 @@ fn has_right_starts(alloc: Global, project: &Project, claim: &Claim) -> Result<b
 /// It checks each line with the matrix of the greatest weights of walks over its block's arcs. There is one matrix (by
 /// Floyd 1962 and Warshall 1962). It takes each arc that a line adds, and goes back where a lemma ends. A lemma that
 /// has ended takes one number of memory.
-pub fn verify(alloc: Global, project: &Project, shown: &LemmaRecord) -> Result<Proved, LemmaFault>
+pub fn verify(alloc: Global, project: &Project, shown: &LemmaRecord) -> Result<Proved, RecordFault>
     ensures right { OnOk result (IsRight project.now shown.now) }
     ensures proved { IfOk result (λ proved. proved ≡ proved_of shown.now.claim) }
     ensures holds { IfOk result (IsTrueOf project.now) }
@@ -59,7 +59,7 @@ pub fn verify(alloc: Global, project: &Project, shown: &LemmaRecord) -> Result<P
 {
     let claim = shown.claim();
     if !has_right_starts(alloc, project, claim)? {
-        return Err(LemmaFault {
+        return Err(RecordFault {
             line: 3,
             why: Why::Start,
         });

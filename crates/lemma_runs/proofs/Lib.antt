@@ -1,2 +1,1 @@
-mod TextLaws
 mod ReadLaws

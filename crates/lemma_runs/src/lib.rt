@@ -4,10 +4,7 @@
 //! limits. It writes what the record proves, or says why it proves nothing. The devices are those of `runs`.
 #![tactic(auto)]
 
-mod fault;
-mod reading;
 mod running;
 mod verified;
 
-pub use fault::VerifyFault;
-pub use running::{Ended, run};
+pub use running::run;

@@ -2,11 +2,15 @@
 
 ghost use Rattle.std.specs.Prelude.{◌≡◌, ◌≢◌, ◌++◌, IfOk, IfErr, string_bytes, codes};
 ghost use Rattle.std.specs.Fmt.{signed_decimal};
-ghost use Rattle.lemma_text.specs.Text as records;
-ghost use Rattle.lemma_runs.specs.Faults.{exit_of, IsOfText};
-ghost use Rattle.lemma_runs.specs.Outcome.{GivesLemmas, IsLemmaFault, IsLemmaTextFault, IsProvedText, IsUnproved, proved_line};
+ghost use Rattle.record_text.specs.Kinds as records;
+ghost use Rattle.record_text.specs.TextFaults.{IsFirstTextFault};
+ghost use Rattle.lemma_text.specs.Text.{lemma_kind};
+ghost use Rattle.lemma_check.specs.Faults.{IsFirstFault};
+ghost use Rattle.answers.specs.Faults.{exit_of, IsTextFault};
+ghost use Rattle.runs.specs.Outcome.{GivesRecord, IsNoProof, Tells};
+ghost use Rattle.lemma_runs.specs.Outcome.{IsProvedText, proved_line};
 
-use crate::fault::VerifyFault;
+use answers::{Answer, Fault};
 use lemma_check::{Proved, verify};
 use lemma_text::LemmaRecord;
 use network::Project;
@@ -26,34 +30,30 @@ fn proved_text(alloc: Global, proved: Proved) -> Result<String, AllocError>
 }
 
 /// The record that a text is that of.
-fn record_of(alloc: Global, text: &[u8]) -> Result<LemmaRecord, VerifyFault>
-    ensures read { IfOk result (λ shown. records.Spells text.now shown) }
-    ensures refused { IfErr result (λ fault. exit_of fault ≢ 1 → IsLemmaTextFault text.now fault) }
-    ensures cause { IfErr result IsOfText }
+fn record_of(alloc: Global, text: &[u8]) -> Result<LemmaRecord, Fault>
+    ensures read { IfOk result (λ shown. records.Spells lemma_kind text.now shown) }
+    ensures refused { IfErr result (λ fault. exit_of fault ≢ 1 → Tells (IsFirstTextFault lemma_kind text.now) fault) }
+    ensures cause { IfErr result IsTextFault }
 {
     Ok(LemmaRecord::read(alloc, text)?)
 }
 
 /// What a record proves of a project.
-fn proof_of(alloc: Global, project: &Project, shown: &LemmaRecord) -> Result<Vec<u8>, VerifyFault>
-    ensures said { IfOk result (λ t. IsProvedText project.now shown.now t.items) }
-    ensures refused { IfErr result (λ fault. exit_of fault ≢ 1 → IsLemmaFault project.now shown.now fault) }
-    ensures cause { IfErr result IsOfText }
+fn proof_of(alloc: Global, project: &Project, shown: &LemmaRecord) -> Result<Answer, Fault>
+    ensures said { IfOk result (λ a. (a.exit ≡ 0) × IsProvedText project.now shown.now a.text.items) }
+    ensures refused { IfErr result (λ fault. exit_of fault ≢ 1 → Tells (IsFirstFault project.now shown.now) fault) }
+    ensures cause { IfErr result IsTextFault }
 {
     let proved = verify(alloc, project, shown)?;
     let text = proved_text(alloc, proved)?;
-    Ok(text.into_bytes())
+    Ok(Answer::of(text, 0))
 }
 
 /// What the record in a text proves of a project. Otherwise the first fault of the text, or of the record.
-pub(crate) fn verified(
-    alloc: Global,
-    project: &Project,
-    text: &[u8],
-) -> Result<Vec<u8>, VerifyFault>
-    ensures said { IfOk result (λ t. GivesLemmas text.now (λ shown. IsProvedText project.now shown t.items)) }
-    ensures refused { IfErr result (λ fault. exit_of fault ≢ 1 → IsUnproved project.now text.now fault) }
-    ensures cause { IfErr result IsOfText }
+pub(crate) fn verified(alloc: Global, project: &Project, text: &[u8]) -> Result<Answer, Fault>
+    ensures said { IfOk result (λ a. (a.exit ≡ 0) × GivesRecord lemma_kind text.now (λ shown. IsProvedText project.now shown a.text.items)) }
+    ensures refused { IfErr result (λ fault. exit_of fault ≢ 1 → IsNoProof lemma_kind (IsFirstFault project.now) text.now fault) }
+    ensures cause { IfErr result IsTextFault }
 {
     let shown = record_of(alloc, text)?;
     proof_of(alloc, project, &shown)

@@ -53,7 +53,7 @@ none_no_optimal z = differ (codes "no schedule") (amount_row (codes "optimal") z
 pub bound_no_optimal : (y z : ℤ) → amount_row (codes "bound") y ≢ amount_row (codes "optimal") z
 bound_no_optimal y z = differ (amount_row (codes "bound") y) (amount_row (codes "optimal") z) (λ (e : 98 ≡ 111). omega (arith, e))
 
-first_is : {xs ys : List (List ℕ)} {x y : List ℕ} → x ∷ xs ≡ y ∷ ys → x ≡ y
+pub first_is : {xs ys : List (List ℕ)} {x y : List ℕ} → x ∷ xs ≡ y ∷ ys → x ≡ y
 first_is h = cc
 
 pub claim_injective : (a b : Claim) (x y : List (List ℕ)) → IsWritableClaim a → IsWritableClaim b → claim_rows a ++ x ≡ claim_rows b ++ y → (a ≡ b) × (x ≡ y)

@@ -6,5 +6,5 @@ pub mod LineReads
 pub mod HeadReads
 pub mod Shapes
 pub mod BlockLines
-pub mod HeadFaults
 pub mod TextLaws
+pub mod HeadFaults

@@ -1,10 +1,8 @@
 -- Reading the line that a row is.
-use Rattle.std.proofs.Common.{◌≡◌, ℕ, suc, List, [], ◌∷◌, ◌++◌, map, Option, Some, None, Bool, true, false, cond, refl, sym, ap, ◌∙◌, subst, arith, ℤ, pos, negsuc}
+use Rattle.std.proofs.Common.{◌≡◌, ℕ, suc, List, [], ◌∷◌, ◌++◌, map, Option, Some, None, Bool, true, false, cond, refl, sym, ap, ◌∙◌, arith, ℤ, pos, negsuc}
 use Rattle.std.specs.Prelude.{codes}
 use Rattle.std.specs.List.{AllByRecursion, flat_map, join_with_byte}
-use Rattle.std.specs.Str.{bytes_eq}
 use Rattle.std.specs.Fmt.{decimal, signed_decimal}
-use Rattle.std.specs.Cmp.Lexicographic.{same_text}
 use Rattle.std.proofs.lemmas.List.Elements.{All-cons}
 use Rattle.std.proofs.lemmas.List.Splits.{join_with_byte-slice_split}
 use Rattle.std.proofs.lemmas.Int.{ints}
@@ -14,7 +12,7 @@ use Rattle.network.specs.Limits.{IsWithin}
 use Rattle.record_text.specs.Text.{IsNumber, IsWritableTime}
 use Rattle.record_text.specs.Reading.{fields, numbers}
 use Rattle.record_text.proofs.RowReads.{is_space, numbers_again, numbers_take, no_space}
-use Rattle.record_text.proofs.LineReads.{plain_word}
+use Rattle.record_text.proofs.LineReads.{plain_word, said_or}
 use Rattle.lemma_text.specs.declared.reason.Reason.{Reason}
 use Rattle.lemma_text.specs.declared.reason.Reason.TheVariants as reasons
 use Rattle.lemma_text.specs.declared.line.Line.{Line}
@@ -140,31 +138,13 @@ end_said ws line h = by_reason (reason_of ws) refl h
         let t = reason_takes ws reason e in
         rw is (record { words = ap (λ (vs : List (List ℕ)). codes "end" ∷ vs) t.0; writable = t.1 })
 
--- a word that is the text, or another
-said_or : (word text : List ℕ) (ws : List (List ℕ)) (a b : Option Line) (line : Line) → (a ≡ Some line → Said text ws line) → (b ≡ Some line → Said word ws line) → cond (bytes_eq word text) a b ≡ Some line → Said word ws line
-said_or word text ws a b line one other h = by_test (bytes_eq word text) refl h
-  where
-    by_test : (t : Bool) → bytes_eq word text ≡ t → cond t a b ≡ Some line → Said word ws line
-    by_test true e h = subst (λ (w : List ℕ). Said w ws line) (sym (same_text word text (sym e))) (one h)
-    by_test false e h = other h
-
 line_said : (word : List ℕ) (ws : List (List ℕ)) (line : Line) → line_from word ws ≡ Some line → Said word ws line
-line_said word ws line h = lemma_or h
-  where
-    none : None ≡ Some line → Said word ws line
-    none h = absurd cc
-
-    end_or : cond (bytes_eq word (codes "end")) (end_of (reason_of ws)) None ≡ Some line → Said word ws line
-    end_or h = said_or word (codes "end") ws (end_of (reason_of ws)) None line (end_said ws line) none h
-
-    add_or : cond (bytes_eq word (codes "add")) (add_of (lag_first ws)) (cond (bytes_eq word (codes "end")) (end_of (reason_of ws)) None) ≡ Some line → Said word ws line
-    add_or h = said_or word (codes "add") ws (add_of (lag_first ws)) _ line (add_said ws line) end_or h
-
-    force_or : cond (bytes_eq word (codes "force")) (force_of (numbers ws)) (cond (bytes_eq word (codes "add")) (add_of (lag_first ws)) (cond (bytes_eq word (codes "end")) (end_of (reason_of ws)) None)) ≡ Some line → Said word ws line
-    force_or h = said_or word (codes "force") ws (force_of (numbers ws)) _ line (force_said ws line) add_or h
-
-    lemma_or : line_from word ws ≡ Some line → Said word ws line
-    lemma_or h = said_or word (codes "lemma") ws (lemma_of (lags ws)) _ line (lemma_said ws line) force_or h
+line_said word ws line h =
+    let P : List ℕ → Type 0 = λ w. Said w ws line in
+    said_or P word (codes "lemma") (lemma_of (lags ws)) _ line (lemma_said ws line) (λ h.
+    said_or P word (codes "force") (force_of (numbers ws)) _ line (force_said ws line) (λ h.
+    said_or P word (codes "add") (add_of (lag_first ws)) _ line (add_said ws line) (λ h.
+    said_or P word (codes "end") (end_of (reason_of ws)) None line (end_said ws line) (λ h. absurd cc) h) h) h) h
 
 pub line_takes : (row : List ℕ) (line : Line) → line_of row ≡ Some line → (row_of line ≡ row) × IsWritableLine line
 line_takes row line h = by_fields (fields row) refl h
@@ -174,10 +154,6 @@ line_takes row line h = by_fields (fields row) refl h
     by_fields (word ∷ ws) e h =
         let s = line_said word ws line h in
         (row_joined line ∙ ap (join_with_byte 32) (s.words ∙ sym e) ∙ join_with_byte-slice_split 32 row, s.writable)
-
--- a row says one line
-pub row_injective : (a b : Line) → IsWritableLine a → IsWritableLine b → row_of a ≡ row_of b → a ≡ b
-row_injective a b wa wb h = let e : Some a ≡ Some b = sym (line_again a wa) ∙ ap (λ (row : List ℕ). line_of row) h ∙ line_again b wb in cc
 
 -- ---- where so many ends are due
 

@@ -1,12 +1,11 @@
 -- Reading a reason.
-use Rattle.std.proofs.Common.{◌≡◌, ℕ, List, [], ◌∷◌, map, Option, Some, None, Bool, true, false, cond, refl, sym, ap, ◌∙◌, subst, arith, pos, negsuc}
+use Rattle.std.proofs.Common.{◌≡◌, ℕ, List, [], ◌∷◌, map, Option, Some, None, refl, sym, ap, ◌∙◌, arith, pos, negsuc}
 use Rattle.std.specs.Prelude.{codes}
 use Rattle.std.specs.List.{AllByRecursion}
-use Rattle.std.specs.Str.{bytes_eq}
 use Rattle.std.specs.Fmt.{decimal}
-use Rattle.std.specs.Cmp.Lexicographic.{same_text}
 use Rattle.record_text.specs.Text.{IsNumber}
 use Rattle.record_text.specs.Reading.{Parts, parts_of}
+use Rattle.record_text.proofs.LineReads.{said_or}
 use Rattle.record_text.proofs.RowReads.{numbers_again, parts_from}
 use Rattle.lemma_text.specs.declared.reason.Reason.{Reason}
 use Rattle.lemma_text.specs.declared.reason.Reason.TheVariants as reasons
@@ -76,34 +75,14 @@ use_said [] reason all h = absurd cc
 use_said (k ∷ []) reason all h = let is : reason ≡ reasons.Use k = cc in rw is (record { words = refl; writable = all.0 })
 use_said (k ∷ n ∷ ns) reason all h = absurd cc
 
--- a word that is the text, or another
-said_or : (word text ns : List ℕ) (a b : Option Reason) (reason : Reason) → (a ≡ Some reason → Said text ns reason) → (b ≡ Some reason → Said word ns reason) → cond (bytes_eq word text) a b ≡ Some reason → Said word ns reason
-said_or word text ns a b reason one other h = by_test (bytes_eq word text) refl h
-  where
-    by_test : (t : Bool) → bytes_eq word text ≡ t → cond t a b ≡ Some reason → Said word ns reason
-    by_test true e h = subst (λ (w : List ℕ). Said w ns reason) (sym (same_text word text (sym e))) (one h)
-    by_test false e h = other h
-
 reason_said : (word ns : List ℕ) (reason : Reason) → AllByRecursion IsNumber ns → reason_from word ns ≡ Some reason → Said word ns reason
-reason_said word ns reason all h = dead_or h
-  where
-    none : None ≡ Some reason → Said word ns reason
-    none h = absurd cc
-
-    use_or : cond (bytes_eq word (codes "use")) (use_of ns) None ≡ Some reason → Said word ns reason
-    use_or h = said_or word (codes "use") ns (use_of ns) None reason (use_said ns reason all) none h
-
-    clique_or : cond (bytes_eq word (codes "clique")) (clique_of ns) (cond (bytes_eq word (codes "use")) (use_of ns) None) ≡ Some reason → Said word ns reason
-    clique_or h = said_or word (codes "clique") ns (clique_of ns) _ reason (clique_said ns reason all) use_or h
-
-    load_or : cond (bytes_eq word (codes "load")) (load_of ns) (cond (bytes_eq word (codes "clique")) (clique_of ns) (cond (bytes_eq word (codes "use")) (use_of ns) None)) ≡ Some reason → Said word ns reason
-    load_or h = said_or word (codes "load") ns (load_of ns) _ reason (load_said ns reason all) clique_or h
-
-    set_or : cond (bytes_eq word (codes "set")) (set_of ns) (cond (bytes_eq word (codes "load")) (load_of ns) (cond (bytes_eq word (codes "clique")) (clique_of ns) (cond (bytes_eq word (codes "use")) (use_of ns) None))) ≡ Some reason → Said word ns reason
-    set_or h = said_or word (codes "set") ns (set_of ns) _ reason (set_said ns reason all) load_or h
-
-    dead_or : reason_from word ns ≡ Some reason → Said word ns reason
-    dead_or h = said_or word (codes "dead") ns (dead_of ns) _ reason (dead_said ns reason) set_or h
+reason_said word ns reason all h =
+    let P : List ℕ → Type 0 = λ w. Said w ns reason in
+    said_or P word (codes "dead") (dead_of ns) _ reason (dead_said ns reason) (λ h.
+    said_or P word (codes "set") (set_of ns) _ reason (set_said ns reason all) (λ h.
+    said_or P word (codes "load") (load_of ns) _ reason (load_said ns reason all) (λ h.
+    said_or P word (codes "clique") (clique_of ns) _ reason (clique_said ns reason all) (λ h.
+    said_or P word (codes "use") (use_of ns) None reason (use_said ns reason all) (λ h. absurd cc) h) h) h) h) h
 
 pub reason_takes : (ws : List (List ℕ)) (reason : Reason) → reason_of ws ≡ Some reason → (reason_words reason ≡ ws) × IsWritableReason reason
 reason_takes ws reason h = by_parts (parts_of ws) refl h

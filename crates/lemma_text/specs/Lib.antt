@@ -2,5 +2,4 @@ pub mod LemmaRecord
 pub mod Blocks
 pub mod Shape
 pub mod Text
-pub mod TextFaults
 pub mod Reading

@@ -1,12 +1,12 @@
 -- The text of a record.
-use Rattle.std.specs.Prelude.{◌≡◌, ℕ, ◌<◌, ◌≤◌, List, [], ◌∷◌, ◌++◌, map, codes, length}
+use Rattle.std.specs.Prelude.{◌≡◌, ℕ, ◌<◌, List, [], ◌∷◌, ◌++◌, codes, length}
 use Rattle.std.specs.List.{flat_map, AllByRecursion}
 use Rattle.std.specs.Fmt.{signed_decimal}
 use Rattle.network.specs.declared.lag.Lag.{Lag}
 use Rattle.network.specs.declared.limits.TheConstants.{MAX_LAG_WEIGHT}
 use Rattle.network.specs.Limits.{IsWithin, IsAmount}
-use Rattle.record_text.specs.Text.{spaced, spaced_times, ended, IsNumber, IsWritableTime}
-use Rattle.record_text.specs.declared.TheConstants.{MAX_RECORD_BYTES}
+use Rattle.record_text.specs.Kinds.{Kind, ended}
+use Rattle.record_text.specs.Text.{spaced, spaced_times, IsNumber, IsWritableTime}
 use Rattle.lemma_text.specs.declared.claim.Claim.{Claim}
 use Rattle.lemma_text.specs.declared.claim.Claim.TheVariants as claims
 use Rattle.lemma_text.specs.declared.reason.Reason.{Reason}
@@ -14,7 +14,6 @@ use Rattle.lemma_text.specs.declared.reason.Reason.TheVariants as reasons
 use Rattle.lemma_text.specs.declared.line.Line.{Line}
 use Rattle.lemma_text.specs.declared.line.Line.TheVariants as kind
 use Rattle.lemma_text.specs.Blocks.{Block, lines_of}
-use Rattle.lemma_text.specs.LemmaRecord.{LemmaRecordOf}
 
 -- ---- bytes
 
@@ -43,21 +42,9 @@ claim_rows (claims.Optimal makespan starts) =
 claim_rows (claims.Bound bound) = (codes "bound" ++ spaced_times (bound ∷ [])) ∷ []
 claim_rows claims.NoSchedule = codes "no schedule" ∷ []
 
--- the rows before those of the blocks
-abbrev pub head_rows : Claim → List (List ℕ)
-head_rows claim = codes "record 2" ∷ claim_rows claim
-
--- a record's rows: its lines without their LFs
-abbrev pub rows_of : LemmaRecordOf → List (List ℕ)
-rows_of r = head_rows r.claim ++ map row_of r.lines
-
 -- a line's bytes with its LF
 abbrev pub line_text : Line → List ℕ
 line_text line = ended (row_of line)
-
--- the one text of a record
-abbrev pub record_text : LemmaRecordOf → List ℕ
-record_text r = flat_map ended (rows_of r)
 
 -- ---- what a text can hold
 
@@ -91,14 +78,13 @@ IsWritableClaim (claims.Optimal makespan starts) =
 IsWritableClaim (claims.Bound bound) = IsAmount bound
 IsWritableClaim claims.NoSchedule = Unit {0}
 
--- a claim, and the lines of a block, all of whose numbers a text can hold
-pub record IsRecord (r : LemmaRecordOf) : Type 0 where
-  pub claim : IsWritableClaim r.claim
-  pub lines : AllByRecursion IsWritableLine r.lines
-  pub blocks : (block : Block) × (lines_of block ≡ r.lines)
-
--- the text is that of a record
-pub record Spells (text : List ℕ) (r : LemmaRecordOf) : Type 0 where
-  pub of_record : IsRecord r
-  pub size : length text ≤ MAX_RECORD_BYTES
-  pub spelled : text ≡ record_text r
+-- the records of lemmas
+abbrev pub lemma_kind : Kind Claim Line
+lemma_kind = record {
+  title = codes "record 2";
+  claim_rows = claim_rows;
+  row_of = row_of;
+  IsClaim = IsWritableClaim;
+  IsLine = IsWritableLine;
+  AreWhole = λ lines. (block : Block) × (lines_of block ≡ lines);
+}

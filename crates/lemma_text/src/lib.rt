@@ -6,7 +6,6 @@
 #![tactic(auto)]
 
 mod claim;
-mod fault;
 mod lags;
 mod laws;
 mod line;
@@ -20,11 +19,10 @@ mod weight;
 mod write;
 
 pub use claim::Claim;
-pub use fault::{LemmaFault, Why};
 pub use lags::Lags;
 pub use laws::{shape_law, text_law};
 pub use line::Line;
 pub use read::first_line;
 pub use reason::Reason;
 pub use record::{LemmaRecord, text_of};
-pub use record_text::MAX_RECORD_BYTES;
+pub use record_text::{MAX_RECORD_BYTES, RecordFault, Why};

@@ -2,48 +2,21 @@
 
 ghost use Rattle.std.specs.Prelude.{◌≡◌, ◌≢◌, ◌<◌, ◌≤◌, ◌+◌, ◌∷◌, [], ◌++◌};
 ghost use Rattle.std.specs.Prelude.{length, map, codes, Some, IfOk, IfErr};
-ghost use Rattle.std.specs.List.{AllByRecursion};
-ghost use Rattle.record_text.specs.Rows.{line_pieces, missing};
-ghost use Rattle.lemma_text.specs.Text.{IsWritableClaim, IsWritableLine, claim_rows, head_rows, row_of};
-ghost use Rattle.lemma_text.specs.TextFaults.{why_of, IsFormFault, IsMissing, HasFault};
+ghost use Rattle.record_text.specs.Kinds.{head_rows, IsRecord};
+ghost use Rattle.record_text.specs.Rows.{line_pieces};
+ghost use Rattle.record_text.specs.TextFaults.{IsFormFault, HasFault};
+ghost use Rattle.record_text.specs.declared.fault.Why.TheVariants.{Memory};
+ghost use Rattle.lemma_text.specs.Text.{IsWritableClaim, claim_rows, row_of, lemma_kind};
 ghost use Rattle.lemma_text.specs.Reading.{amount_after, line_at};
-ghost use Rattle.lemma_text.specs.Shape.{Completes, may_stand, still_due};
-ghost use Rattle.lemma_text.specs.declared.fault.Why.TheVariants.{Memory};
+ghost use Rattle.lemma_text.specs.Shape.{may_stand, still_due};
 
 use crate::claim::Claim;
-use crate::fault::{LemmaFault, Why};
 use crate::line::Line;
 use crate::row::line_of;
 use crate::weight::at_most;
 use network::MAX_AMOUNT;
-use record_text::{MAX_RECORD_BYTES, numbers_after, read_starts};
+use record_text::{MAX_RECORD_BYTES, RecordFault, Why, next_row, numbers_after, read_starts};
 use std::alloc::{AllocError, Global};
-use words::split_once;
-
-/// What is wrong where a row must come and none ends.
-fn missing(text: &[u8]) -> Why
-    ensures { result ≡ why_of (missing text.now) }
-{
-    match text {
-        [] => Why::Short,
-        _ => Why::Form,
-    }
-}
-
-/// The row that must come at a line, and what follows its LF.
-pub(crate) fn next_row(text: &[u8], line: usize) -> Result<(&[u8], &[u8]), LemmaFault>
-    ensures row { IfOk result (λ r. line_pieces text.now ≡ r.0.now ∷ line_pieces r.1.now) }
-    ensures shorter { IfOk result (λ r. length r.0.now + 1 + length r.1.now ≡ length text.now) }
-    ensures fault { IfErr result (IsMissing text.now line) }
-{
-    match split_once(text, b'\n') {
-        Some((row, rest)) => Ok((row, rest)),
-        None => Err(LemmaFault {
-            line,
-            why: missing(text),
-        }),
-    }
-}
 
 /// The makespan or the bound that a row claims by this word.
 fn amount_after(alloc: Global, word: &[u8], row: &[u8]) -> Result<Option<i64>, AllocError>
@@ -59,12 +32,12 @@ fn amount_after(alloc: Global, word: &[u8], row: &[u8]) -> Result<Option<i64>, A
 }
 
 /// The claim of a record, from its second line on, and what follows it.
-pub(crate) fn read_claim(alloc: Global, text: &[u8]) -> Result<(Claim, &[u8]), LemmaFault>
+pub(crate) fn read_claim(alloc: Global, text: &[u8]) -> Result<(Claim, &[u8]), RecordFault>
     ensures rows { IfOk result (λ r. line_pieces text.now ≡ claim_rows r.0 ++ line_pieces r.1.now) }
     ensures writable { IfOk result (λ r. IsWritableClaim r.0) }
     ensures shorter { IfOk result (λ r. length r.1.now ≤ length text.now) }
     ensures fault { IfErr result (λ fault.
-        fault.why ≢ Memory → HasFault (codes "record 2" ∷ line_pieces text.now) fault) }
+        fault.why ≢ Memory → HasFault lemma_kind (codes "record 2" ∷ line_pieces text.now) fault) }
 {
     let (row, rest) = next_row(text, 2)?;
     if row == b"no schedule".as_slice() {
@@ -74,18 +47,18 @@ pub(crate) fn read_claim(alloc: Global, text: &[u8]) -> Result<(Claim, &[u8]), L
         return Ok((Claim::Bound { bound }, rest));
     }
     let Some(makespan) = amount_after(alloc, b"optimal".as_slice(), row)? else {
-        return Err(LemmaFault::form(2));
+        return Err(RecordFault::form(2));
     };
     let (row, rest) = next_row(rest, 3)?;
     let Some(starts) = read_starts(alloc, row)? else {
-        return Err(LemmaFault::form(3));
+        return Err(RecordFault::form(3));
     };
     Ok((Claim::Optimal { makespan, starts }, rest))
 }
 
 /// The number of the first line of the blocks.
 pub fn first_line(claim: &Claim) -> usize
-    ensures { result ≡ length (head_rows claim.now) + 1 }
+    ensures { result ≡ length (head_rows lemma_kind claim.now) + 1 }
 {
     match claim {
         Claim::Optimal { .. } => 4,
@@ -117,28 +90,32 @@ fn still_due(due: usize, line: &Line) -> usize
 }
 
 /// The line that a row is where so many ends are due.
-fn next_line(alloc: Global, row: &[u8], due: usize, line: usize) -> Result<Line, LemmaFault>
+fn next_line(alloc: Global, row: &[u8], due: usize, line: usize) -> Result<Line, RecordFault>
     ensures found { IfOk result (λ found. line_at due row.now ≡ Some found) }
     ensures fault { IfErr result (IsFormFault (line_at due row.now) line) }
 {
     let Some(found) = line_of(alloc, row)? else {
-        return Err(LemmaFault::form(line));
+        return Err(RecordFault::form(line));
     };
     if !may_stand(due, &found) {
-        return Err(LemmaFault::form(line));
+        return Err(RecordFault::form(line));
     }
     Ok(found)
 }
 
 /// The lines of the blocks, to the end of the text.
-pub(crate) fn read_lines(alloc: Global, claim: &Claim, text: &[u8]) -> Result<Vec<Line>, LemmaFault>
+pub(crate) fn read_lines(
+    alloc: Global,
+    claim: &Claim,
+    text: &[u8],
+) -> Result<Vec<Line>, RecordFault>
     requires size { length text.now ≤ MAX_RECORD_BYTES }
     requires claim { IsWritableClaim claim.now }
     ensures rows { IfOk result (λ lines. line_pieces text.now ≡ map row_of lines.items ++ [] ∷ []) }
-    ensures writable { IfOk result (λ lines. AllByRecursion IsWritableLine lines.items) }
-    ensures complete { IfOk result (λ lines. Completes 1 lines.items) }
+    ensures record { IfOk result
+        (λ lines. IsRecord lemma_kind (record { claim = claim.now; lines = lines.items })) }
     ensures fault { IfErr result (λ fault.
-        fault.why ≢ Memory → HasFault (head_rows claim.now ++ line_pieces text.now) fault) }
+        fault.why ≢ Memory → HasFault lemma_kind (head_rows lemma_kind claim.now ++ line_pieces text.now) fault) }
 {
     let mut lines = Vec::new(alloc);
     let mut rest = text;
@@ -153,7 +130,7 @@ pub(crate) fn read_lines(alloc: Global, claim: &Claim, text: &[u8]) -> Result<Ve
         line += 1;
     }
     if !rest.is_empty() {
-        return Err(LemmaFault {
+        return Err(RecordFault {
             line,
             why: Why::Trailing,
         });

@@ -1,30 +1,23 @@
 //! A record of lemmas, and its text.
 
-ghost use Rattle.std.specs.Prelude.{◌≡◌, ◌≢◌, ◌≤◌, nat_lt, length, IfOk, OnOk, IfErr};
+ghost use Rattle.std.specs.Prelude.{◌≡◌, ◌≢◌, ◌≤◌, length, IfOk, OnOk, IfErr};
+ghost use Rattle.record_text.specs.Kinds.{IsRecord, Spells, record_text};
+ghost use Rattle.record_text.specs.TextFaults.{IsFirstTextFault, IsReadAs};
+ghost use Rattle.record_text.specs.declared.fault.Why.TheVariants.{Memory};
 ghost use Rattle.lemma_text.specs.LemmaRecord.{LemmaRecordOf};
-ghost use Rattle.lemma_text.specs.Text.{IsRecord, Spells, record_text};
-ghost use Rattle.lemma_text.specs.TextFaults.{IsFirstTextFault, IsReadAs};
-ghost use Rattle.lemma_text.specs.declared.fault.Why.TheVariants.{Memory};
+ghost use Rattle.lemma_text.specs.Text.{lemma_kind};
 
 use crate::claim::Claim;
-use crate::fault::{LemmaFault, Why};
 use crate::line::Line;
-use crate::read::{next_row, read_claim, read_lines};
+use crate::read::{read_claim, read_lines};
 use crate::write::{put_claim, put_lines};
-use record_text::MAX_RECORD_BYTES;
+use record_text::{MAX_RECORD_BYTES, RecordFault, after_title};
 use std::alloc::{AllocError, Global};
 use std::marker::Model;
 
-/// Whether a text has more bytes than are read.
-fn is_too_long(text: &[u8]) -> bool
-    ensures { result ≡ nat_lt MAX_RECORD_BYTES (length text.now) }
-{
-    text.len() > MAX_RECORD_BYTES
-}
-
 /// The text of a claim and of lines, whatever they are. It is read as a record exactly where they are one's.
 pub fn text_of(alloc: Global, claim: &Claim, lines: &[Line]) -> Result<Vec<u8>, AllocError>
-    ensures { IfOk result (λ text. text.items ≡ record_text (record { claim = claim.now; lines = lines.now })) }
+    ensures { IfOk result (λ text. text.items ≡ record_text lemma_kind (record { claim = claim.now; lines = lines.now })) }
 {
     let mut out = String::new(alloc);
     put_claim(&mut out, claim)?;
@@ -42,19 +35,20 @@ pub struct LemmaRecord {
 
 impl Model for LemmaRecord {
     ghost use Rattle.lemma_text.specs.LemmaRecord.{LemmaRecordOf};
-    ghost use Rattle.lemma_text.specs.Text.{IsRecord};
+    ghost use Rattle.record_text.specs.Kinds.{IsRecord};
+    ghost use Rattle.lemma_text.specs.Text.{lemma_kind};
 
     ghost Value = { LemmaRecordOf };
 
     ghost view = { λ r. record { claim = r.claim; lines = r.lines.items } };
 
-    ghost invariant = { λ r. IsRecord (record { claim = r.claim; lines = r.lines.items }) };
+    ghost invariant = { λ r. IsRecord lemma_kind (record { claim = r.claim; lines = r.lines.items }) };
 }
 
 impl LemmaRecord {
     /// The record of a claim and the lines of its blocks.
     pub fn new(claim: Claim, lines: Vec<Line>) -> LemmaRecord
-        requires { IsRecord (record { claim = claim; lines = lines.items }) }
+        requires { IsRecord lemma_kind (record { claim = claim; lines = lines.items }) }
         ensures { result ≡ record { claim = claim; lines = lines.items } }
     {
         LemmaRecord { claim, lines }
@@ -63,7 +57,7 @@ impl LemmaRecord {
     /// What the record says.
     pub fn claim(&self) -> &Claim
         ensures claim { result.now ≡ self.now.claim }
-        ensures record { IsRecord self.now }
+        ensures record { IsRecord lemma_kind self.now }
     {
         &self.claim
     }
@@ -71,53 +65,44 @@ impl LemmaRecord {
     /// The lines of the blocks, in order.
     pub fn lines(&self) -> &[Line]
         ensures lines { result.now ≡ self.now.lines }
-        ensures record { IsRecord self.now }
+        ensures record { IsRecord lemma_kind self.now }
     {
         &self.lines
     }
 
     /// The text of the record.
     pub fn write(&self, alloc: Global) -> Result<Vec<u8>, AllocError>
-        ensures text { IfOk result (λ text. text.items ≡ record_text self.now) }
-        ensures record { OnOk result (IsRecord self.now) }
+        ensures text { IfOk result (λ text. text.items ≡ record_text lemma_kind self.now) }
+        ensures record { OnOk result (IsRecord lemma_kind self.now) }
     {
         text_of(alloc, &self.claim, &self.lines)
     }
 
     /// The record of this text, or its first fault.
-    fn read_text(alloc: Global, text: &[u8]) -> Result<LemmaRecord, LemmaFault>
-        ensures found { IfOk result (λ r. Spells text.now r) }
-        ensures fault { IfErr result (λ fault. fault.why ≢ Memory → IsFirstTextFault text.now fault) }
+    fn read_text(alloc: Global, text: &[u8]) -> Result<LemmaRecord, RecordFault>
+        ensures found { IfOk result (λ r. Spells lemma_kind text.now r) }
+        ensures fault { IfErr result (λ fault. fault.why ≢ Memory → IsFirstTextFault lemma_kind text.now fault) }
     {
-        if is_too_long(text) {
-            return Err(LemmaFault {
-                line: 0,
-                why: Why::TooLong,
-            });
-        }
-        let (row, rest) = next_row(text, 1)?;
-        if row != b"record 2".as_slice() {
-            return Err(LemmaFault::form(1));
-        }
+        let rest = after_title(text, b"record 2".as_slice())?;
         let (claim, rest) = read_claim(alloc, rest)?;
         let lines = read_lines(alloc, &claim, rest)?;
         Ok(LemmaRecord::new(claim, lines))
     }
 
     /// The record that this text is that of, or the text's first fault.
-    pub fn read(alloc: Global, text: &[u8]) -> Result<LemmaRecord, LemmaFault>
-        ensures found { IfOk result (λ r. Spells text.now r) }
-        ensures only { (r : LemmaRecordOf) → Spells text.now r → IsReadAs result r }
-        ensures fault { IfErr result (λ fault. fault.why ≢ Memory → IsFirstTextFault text.now fault) }
+    pub fn read(alloc: Global, text: &[u8]) -> Result<LemmaRecord, RecordFault>
+        ensures found { IfOk result (λ r. Spells lemma_kind text.now r) }
+        ensures only { (r : LemmaRecordOf) → Spells lemma_kind text.now r → IsReadAs result r }
+        ensures fault { IfErr result (λ fault. fault.why ≢ Memory → IsFirstTextFault lemma_kind text.now fault) }
     {
         LemmaRecord::read_text(alloc, text)
     }
 
     /// What the text of the record is read as: the record itself, where the text is within the limit. This
     /// is a law, as a function.
-    #[tactic(auto, using(crate::proofs::TextLaws::spells_written))]
-    pub fn read_written(&self, alloc: Global) -> Result<LemmaRecord, LemmaFault>
-        ensures { length (record_text self.now) ≤ MAX_RECORD_BYTES → IsReadAs result self.now }
+    #[tactic(auto, using(record_text::proofs::KindLaws::spells_written))]
+    pub fn read_written(&self, alloc: Global) -> Result<LemmaRecord, RecordFault>
+        ensures { length (record_text lemma_kind self.now) ≤ MAX_RECORD_BYTES → IsReadAs result self.now }
     {
         let text = self.write(alloc)?;
         LemmaRecord::read(alloc, &text)

@@ -2,8 +2,8 @@
 
 ghost use Rattle.std.specs.Prelude.{◌≡◌, ◌∷◌, ◌++◌, OnOk, string_bytes};
 ghost use Rattle.std.specs.List.{flat_map};
-ghost use Rattle.record_text.specs.Text.{ended};
-ghost use Rattle.lemma_text.specs.Text.{spaced_lag, reason_text, head_rows, line_text};
+ghost use Rattle.record_text.specs.Kinds.{ended, head_rows};
+ghost use Rattle.lemma_text.specs.Text.{spaced_lag, reason_text, line_text, lemma_kind};
 
 use crate::claim::Claim;
 use crate::line::Line;
@@ -14,7 +14,7 @@ use std::alloc::AllocError;
 
 /// Writes the lines before the blocks.
 pub(crate) fn put_claim(out: &mut String, claim: &Claim) -> Result<(), AllocError>
-    ensures { OnOk result (string_bytes out.new ≡ string_bytes out.old ++ flat_map ended (head_rows claim.now)) }
+    ensures { OnOk result (string_bytes out.new ≡ string_bytes out.old ++ flat_map ended (head_rows lemma_kind claim.now)) }
 {
     match claim {
         Claim::Optimal { makespan, starts } => {

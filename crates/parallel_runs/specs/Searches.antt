@@ -6,7 +6,8 @@ use Rattle.plain_search.specs.declared.outcome.Outcome.{Outcome}
 use Rattle.plain_search.specs.declared.outcome.Outcome.TheVariants.{Optimal, NoSchedule, Stopped}
 use Rattle.record_text.specs.declared.line.Claim.{Claim}
 use Rattle.record_text.specs.SearchRecord.{SearchRecord}
-use Rattle.record_text.specs.Text.{record_text}
+use Rattle.record_text.specs.Kinds.{record_text}
+use Rattle.record_text.specs.Text.{search_kind}
 use Rattle.search_record.specs.Claims.{claim_of}
 use Rattle.search_record.specs.Right.{IsRight}
 use Rattle.answers.specs.declared.fault.Fault.{Fault}
@@ -27,7 +28,7 @@ pub record IsTextOf (p : Problem) (claim : Claim) (recorded : List ℕ) : Type 0
   pub shown : SearchRecord
   pub right : IsRight p shown
   pub claims : shown.claim ≡ claim
-  pub text : recorded ≡ record_text shown
+  pub text : recorded ≡ record_text search_kind shown
 
 -- what is recorded of an outcome, where it is no stop
 abbrev pub IsOutcomeRecord : Problem → Outcome → Option (List ℕ) → Type 0

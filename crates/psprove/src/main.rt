@@ -8,8 +8,8 @@ mod help;
 use answers::Fault;
 use calls::{Call, FileFault, Opener, WordsFault};
 use command_line::{Work, work_of};
-use lemma_runs::{Ended, VerifyFault, run};
-use runs::{Reader, Writer};
+use lemma_runs::run;
+use runs::{Ended, Reader, Writer};
 use solve_runs::{Asked, solve};
 use std::alloc::Global;
 use std::io::ErrorKind;
@@ -27,9 +27,9 @@ fn report<R: Eprint>(rt: &R, ended: &Ended) -> ExitCode {
     ExitCode::from(ended.exit)
 }
 
-/// Prints a fault that psmax has too.
+/// Prints this fault.
 fn report_fault<R: Eprint>(rt: &R, fault: Fault) -> ExitCode {
-    report(rt, &Ended::with(VerifyFault::Shared(fault)))
+    report(rt, &Ended::with(fault))
 }
 
 /// Prints what words that ask for nothing get: help to standard output, the rest to standard error.
@@ -102,10 +102,7 @@ fn search<R: Runtime + Threads + Wait + Sync>(
         &mut out,
         &mut files.record_file,
     );
-    if let Some(fault) = ended.fault {
-        let _ = eprintln!(rt; "psprove: {fault}");
-    }
-    ExitCode::from(ended.exit)
+    report(rt, &ended)
 }
 
 /// What stands in for a standard device that is closed: a folder gives no bytes, and takes none.

@@ -7,7 +7,7 @@ use Rattle.std.specs.Str.{bytes_eq}
 use Rattle.std.specs.Cmp.Lexicographic.{same_text}
 use Rattle.record_text.specs.declared.line.Claim.{Claim}
 use Rattle.record_text.specs.declared.line.Claim.TheVariants as claims
-use Rattle.record_text.specs.Text.{IsNumber, IsWritableTime, IsWritableClaim, spaced, spaced_times, head_rows}
+use Rattle.record_text.specs.Text.{IsNumber, IsWritableTime, IsWritableClaim, spaced, spaced_times, claim_rows}
 use Rattle.record_text.specs.Reading.{Parts, parts_of, fields, numbers_in, numbers_after, only_time, makespan_in, some_times, starts_in}
 use Rattle.record_text.proofs.RowReads.{is_space, parts_again, parts_take}
 use Rattle.record_text.proofs.LineReads.{plain_word}
@@ -95,11 +95,11 @@ starts_take row times h = by_numbers (numbers_after (codes "starts") row) refl h
 pub other_word : (z : ℤ) → codes "no schedule" ≢ (codes "optimal" ++ spaced_times (z ∷ []))
 other_word z h = let e : 110 ≡ 111 = ap (λ (text : List ℕ). get_or text 0 0) h in omega (arith, e)
 
-pub head_injective : (a b : Claim) (x y : List (List ℕ)) → IsWritableClaim a → IsWritableClaim b → head_rows a ++ x ≡ head_rows b ++ y → (a ≡ b) × (x ≡ y)
-head_injective claims.NoSchedule claims.NoSchedule x y wa wb h = (refl, cc)
-head_injective claims.NoSchedule (claims.Optimal m S) x y wa wb h = let e : codes "no schedule" ≡ codes "optimal" ++ spaced_times (m ∷ []) = cc in absurd (other_word m e)
-head_injective (claims.Optimal m S) claims.NoSchedule x y wa wb h = let e : codes "no schedule" ≡ codes "optimal" ++ spaced_times (m ∷ []) = cc in absurd (other_word m e)
-head_injective (claims.Optimal m S) (claims.Optimal n T) x y wa wb h =
+pub claim_injective : (a b : Claim) (x y : List (List ℕ)) → IsWritableClaim a → IsWritableClaim b → claim_rows a ++ x ≡ claim_rows b ++ y → (a ≡ b) × (x ≡ y)
+claim_injective claims.NoSchedule claims.NoSchedule x y wa wb h = (refl, cc)
+claim_injective claims.NoSchedule (claims.Optimal m S) x y wa wb h = let e : codes "no schedule" ≡ codes "optimal" ++ spaced_times (m ∷ []) = cc in absurd (other_word m e)
+claim_injective (claims.Optimal m S) claims.NoSchedule x y wa wb h = let e : codes "no schedule" ≡ codes "optimal" ++ spaced_times (m ∷ []) = cc in absurd (other_word m e)
+claim_injective (claims.Optimal m S) (claims.Optimal n T) x y wa wb h =
     let e : codes "optimal" ++ spaced_times (m ∷ []) ≡ codes "optimal" ++ spaced_times (n ∷ []) = cc in
     let f : codes "starts" ++ spaced_times S ≡ codes "starts" ++ spaced_times T = cc in
     let rest : x ≡ y = cc in

@@ -5,7 +5,7 @@ pub mod HeadReads
 pub mod Pieces
 pub mod Rows
 pub mod Leads
+pub mod KindLaws
 pub mod TreeLines
-pub mod RowFaults
 pub mod TextLaws
-pub mod FirstFaults
+pub mod RowFaults

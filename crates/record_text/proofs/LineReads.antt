@@ -54,31 +54,22 @@ leaf_said : (own line : Line) (ns : List ℕ) → IsWritableLine own → HasMemb
 leaf_said own line [] small some h = let is : line ≡ own = cc in rw is (record { row = sym (append-nil (row_of own)); small = small; some = some })
 leaf_said own line (n ∷ ns) small some h = absurd cc
 
-told : (word text ns : List ℕ) (line : Line) → bytes_eq word text ≡ true → Said text ns line → Said word ns line
-told word text ns line h s = subst (λ (t : List ℕ). Said t ns line) (sym (same_text word text (sym h))) s
+-- a word that is the text, or another
+pub said_or : {A : Type 0} (P : List ℕ → Type 0) (word text : List ℕ) (a b : Option A) (x : A) → (a ≡ Some x → P text) → (b ≡ Some x → P word) → cond (bytes_eq word text) a b ≡ Some x → P word
+said_or {A} P word text a b x one other h = by_test (bytes_eq word text) refl h
+  where
+    by_test : (t : Bool) → bytes_eq word text ≡ t → cond t a b ≡ Some x → P word
+    by_test true e h = subst P (sym (same_text word text (sym e))) (one h)
+    by_test false e h = other h
 
 line_said : (word ns : List ℕ) (line : Line) → AllByRecursion IsNumber ns → line_from word ns ≡ Some line → Said word ns line
-line_said word ns line all h = force_or (bytes_eq word (codes "force")) refl h
-  where
-    dead_or : (b : Bool) → bytes_eq word (codes "dead") ≡ b → cond b (leaf kind.Dead ns) None ≡ Some line → Said word ns line
-    dead_or true e h = told word (codes "dead") ns line e (leaf_said kind.Dead line ns tt tt h)
-    dead_or false e h = absurd cc
-
-    cut_or : (b : Bool) → bytes_eq word (codes "cut") ≡ b → cond b (leaf kind.Cut ns) (cond (bytes_eq word (codes "dead")) (leaf kind.Dead ns) None) ≡ Some line → Said word ns line
-    cut_or true e h = told word (codes "cut") ns line e (leaf_said kind.Cut line ns tt tt h)
-    cut_or false e h = dead_or (bytes_eq word (codes "dead")) refl h
-
-    solved_or : (b : Bool) → bytes_eq word (codes "solved") ≡ b → cond b (leaf kind.Solved ns) (cond (bytes_eq word (codes "cut")) (leaf kind.Cut ns) (cond (bytes_eq word (codes "dead")) (leaf kind.Dead ns) None)) ≡ Some line → Said word ns line
-    solved_or true e h = told word (codes "solved") ns line e (leaf_said kind.Solved line ns tt tt h)
-    solved_or false e h = cut_or (bytes_eq word (codes "cut")) refl h
-
-    split_or : (b : Bool) → bytes_eq word (codes "split") ≡ b → cond b (split_of ns) (cond (bytes_eq word (codes "solved")) (leaf kind.Solved ns) (cond (bytes_eq word (codes "cut")) (leaf kind.Cut ns) (cond (bytes_eq word (codes "dead")) (leaf kind.Dead ns) None))) ≡ Some line → Said word ns line
-    split_or true e h = told word (codes "split") ns line e (split_said ns line all h)
-    split_or false e h = solved_or (bytes_eq word (codes "solved")) refl h
-
-    force_or : (b : Bool) → bytes_eq word (codes "force") ≡ b → cond b (force_of ns) (cond (bytes_eq word (codes "split")) (split_of ns) (cond (bytes_eq word (codes "solved")) (leaf kind.Solved ns) (cond (bytes_eq word (codes "cut")) (leaf kind.Cut ns) (cond (bytes_eq word (codes "dead")) (leaf kind.Dead ns) None)))) ≡ Some line → Said word ns line
-    force_or true e h = told word (codes "force") ns line e (force_said ns line all h)
-    force_or false e h = split_or (bytes_eq word (codes "split")) refl h
+line_said word ns line all h =
+    let P : List ℕ → Type 0 = λ w. Said w ns line in
+    said_or P word (codes "force") (force_of ns) _ line (force_said ns line all) (λ h.
+    said_or P word (codes "split") (split_of ns) _ line (split_said ns line all) (λ h.
+    said_or P word (codes "solved") (leaf kind.Solved ns) _ line (leaf_said kind.Solved line ns tt tt) (λ h.
+    said_or P word (codes "cut") (leaf kind.Cut ns) _ line (leaf_said kind.Cut line ns tt tt) (λ h.
+    said_or P word (codes "dead") (leaf kind.Dead ns) None line (leaf_said kind.Dead line ns tt tt) (λ h. absurd cc) h) h) h) h) h
 
 pub line_takes : (row : List ℕ) (line : Line) → line_of row ≡ Some line → (row_of line ≡ row) × IsWritableLine line × HasMembers line
 line_takes row line h = by_parts (parts_of (fields row)) refl h
@@ -86,10 +77,6 @@ line_takes row line h = by_parts (parts_of (fields row)) refl h
     by_parts : (o : Option Parts) → parts_of (fields row) ≡ o → line_in o ≡ Some line → (row_of line ≡ row) × IsWritableLine line × HasMembers line
     by_parts None e h = absurd cc
     by_parts (Some p) e h = let t = parts_take row p e in let s = line_said p.word p.numbers line t.1 h in (s.row ∙ sym t.0, s.small, s.some)
-
--- a row says one line
-pub row_injective : (a b : Line) → IsWritableLine a → HasMembers a → IsWritableLine b → HasMembers b → row_of a ≡ row_of b → a ≡ b
-row_injective a b sa ma sb mb h = let e : Some a ≡ Some b = sym (line_again a sa ma) ∙ ap line_of h ∙ line_again b sb mb in cc
 
 few_members : (line : Line) → count_members line ≤ length (row_of line)
 few_members (kind.Force pair) = omega arith

@@ -8,13 +8,18 @@ use Rattle.std.proofs.lemmas.Bool.{true≢false, and_parts, and_from, not-true, 
 use Rattle.std.proofs.lemmas.List.Concat.{flat_map-append}
 use Rattle.std.proofs.lemmas.List.Elements.{All-nil, All-cons}
 use Rattle.std.proofs.lemmas.List.Splits.{join_with_byte-slice_split, slice_split_at}
-use Rattle.record_text.specs.Text.{IsNumber, IsWritableTime, spaced, spaced_times, ended}
+use Rattle.record_text.specs.Kinds.{ended}
+use Rattle.record_text.specs.Text.{IsNumber, IsWritableTime, spaced, spaced_times}
 use Rattle.record_text.specs.Rows.{line_pieces}
 use Rattle.record_text.proofs.RowReads.{are_digits}
 use Rattle.record_text.proofs.HeadReads.{numbers_of, spaced_as_times}
 
 abbrev pub is_newline : ℕ → Bool
 is_newline b = eqb b 10
+
+-- a row without an LF
+abbrev pub HasNone : List ℕ → Type 0
+HasNone row = list_all (λ b. not (is_newline b)) row ≡ true
 
 -- ---- the pieces of a text
 
@@ -48,33 +53,33 @@ not_nil xs b e f none = let t : true ≡ false = sym (ap (λ (ys : List ℕ). eq
 
 -- ---- rows without an LF
 
+plain_all : (row : List ℕ) → HasNone row → All (λ b. is_newline b ≡ false) row
+plain_all [] h = All-nil (λ b. is_newline b ≡ false)
+plain_all (b ∷ bs) h = let p = and_parts (not (is_newline b)) _ h in All-cons (λ b. is_newline b ≡ false) b bs (not-true (is_newline b) p.0) (plain_all bs p.1)
+
 -- the line_pieces of a record's text are its rows, and nothing
-pub pieces_of : (rows : List (List ℕ)) → AllByRecursion (λ row. All (λ b. is_newline b ≡ false) row) rows → line_pieces (flat_map ended rows) ≡ rows ++ [] ∷ []
+pub pieces_of : (rows : List (List ℕ)) → AllByRecursion HasNone rows → line_pieces (flat_map ended rows) ≡ rows ++ [] ∷ []
 pieces_of [] all = refl
 pieces_of (row ∷ rows) all =
-    ap line_pieces (append_assoc row (10 ∷ []) (flat_map ended rows)) ∙ slice_split_at is_newline row 10 (flat_map ended rows) all.0 refl ∙ ap (λ (ps : List (List ℕ)). row ∷ ps) (pieces_of rows all.1)
+    ap line_pieces (append_assoc row (10 ∷ []) (flat_map ended rows)) ∙ slice_split_at is_newline row 10 (flat_map ended rows) (plain_all row all.0) refl ∙ ap (λ (ps : List (List ℕ)). row ∷ ps) (pieces_of rows all.1)
 
-pub plain_append : (xs ys : List ℕ) → list_all (λ b. not (is_newline b)) xs ≡ true → list_all (λ b. not (is_newline b)) ys ≡ true → list_all (λ b. not (is_newline b)) (xs ++ ys) ≡ true
+pub plain_append : (xs ys : List ℕ) → HasNone xs → HasNone ys → HasNone (xs ++ ys)
 plain_append [] ys hx hy = hy
 plain_append (x ∷ xs) ys hx hy = let p = and_parts (not (is_newline x)) _ hx in and_from (not (is_newline x)) _ p.0 (plain_append xs ys p.1 hy)
 
-pub plain_digits : (ds : List ℕ) → list_all is_ascii_digit ds ≡ true → list_all (λ b. not (is_newline b)) ds ≡ true
+pub plain_digits : (ds : List ℕ) → list_all is_ascii_digit ds ≡ true → HasNone ds
 plain_digits [] h = refl
 plain_digits (d ∷ ds) h = let p = and_parts (is_ascii_digit d) _ h in and_from (not (is_newline d)) _ (ap not (one d p.0)) (plain_digits ds p.1)
   where
     one : (b : ℕ) → is_ascii_digit b ≡ true → is_newline b ≡ false
     one b h = ne_eqb b 10 (λ same. let g : is_ascii_digit 10 ≡ true = subst (λ (m : ℕ). is_ascii_digit m ≡ true) same h in cc)
 
-pub plain_spaced : (ns : List ℕ) → AllByRecursion IsNumber ns → list_all (λ b. not (is_newline b)) (spaced ns) ≡ true
+pub plain_spaced : (ns : List ℕ) → AllByRecursion IsNumber ns → HasNone (spaced ns)
 plain_spaced [] all = refl
 plain_spaced (n ∷ ns) all = plain_append (decimal n) (spaced ns) (plain_digits (decimal n) (are_digits n all.0)) (plain_spaced ns all.1)
 
-pub plain_times : (ts : List ℤ) → AllByRecursion IsWritableTime ts → list_all (λ b. not (is_newline b)) (spaced_times ts) ≡ true
+pub plain_times : (ts : List ℤ) → AllByRecursion IsWritableTime ts → HasNone (spaced_times ts)
 plain_times ts all = let n = numbers_of ts all in rw n.is (ap (list_all (λ b. not (is_newline b))) (spaced_as_times n.numbers) ∙ plain_spaced n.numbers n.small)
-
-pub plain_all : (row : List ℕ) → list_all (λ b. not (is_newline b)) row ≡ true → All (λ b. is_newline b ≡ false) row
-plain_all [] h = All-nil (λ b. is_newline b ≡ false)
-plain_all (b ∷ bs) h = let p = and_parts (not (is_newline b)) _ h in All-cons (λ b. is_newline b ≡ false) b bs (not-true (is_newline b) p.0) (plain_all bs p.1)
 
 -- ---- what is written
 

@@ -1,3 +1,4 @@
+pub mod Kinds
 pub mod Tree
 pub mod SearchRecord
 pub mod Shape

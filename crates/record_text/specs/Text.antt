@@ -1,15 +1,15 @@
 -- The text of a record.
-use Rattle.std.specs.Prelude.{◌≡◌, ℕ, ◌<◌, ◌≤◌, ◌^◌, ℤ, pos, negsuc, List, [], ◌∷◌, ◌++◌, map, codes, length}
+use Rattle.std.specs.Prelude.{ℕ, ◌<◌, ◌^◌, ℤ, pos, negsuc, List, [], ◌∷◌, ◌++◌, codes, length}
 use Rattle.std.specs.List.{flat_map, AllByRecursion}
 use Rattle.std.specs.Fmt.{decimal, signed_decimal}
-use Rattle.record_text.specs.declared.TheConstants.{MAX_RECORD_BYTES}
 use Rattle.record_text.specs.declared.numeral.TheConstants.{MAX_NUMBER_DIGITS}
 use Rattle.record_text.specs.declared.line.Claim.{Claim}
 use Rattle.record_text.specs.declared.line.Claim.TheVariants as claims
 use Rattle.record_text.specs.declared.line.Line.{Line}
 use Rattle.record_text.specs.declared.line.Line.TheVariants as kind
 use Rattle.record_text.specs.Tree.{Tree}
-use Rattle.record_text.specs.SearchRecord.{SearchRecord, IsTreeOf}
+use Rattle.record_text.specs.Kinds.{Kind, ended}
+use Rattle.record_text.specs.SearchRecord.{IsTreeOf}
 
 -- each number with a space before it
 abbrev pub spaced : List ℕ → List ℕ
@@ -32,25 +32,9 @@ claim_rows (claims.Optimal makespan starts) =
     (codes "optimal" ++ spaced_times (makespan ∷ [])) ∷ (codes "starts" ++ spaced_times starts) ∷ []
 claim_rows claims.NoSchedule = codes "no schedule" ∷ []
 
--- the rows before those of the tree
-abbrev pub head_rows : Claim → List (List ℕ)
-head_rows claim = codes "record 1" ∷ claim_rows claim
-
--- a record's rows: its lines without their LFs
-abbrev pub rows_of : SearchRecord → List (List ℕ)
-rows_of r = head_rows r.claim ++ map row_of r.lines
-
--- a row with its LF
-abbrev pub ended : List ℕ → List ℕ
-ended row = row ++ 10 ∷ []
-
 -- a line's bytes with its LF
 abbrev pub line_text : Line → List ℕ
 line_text line = ended (row_of line)
-
--- the one text of a record
-abbrev pub record_text : SearchRecord → List ℕ
-record_text r = flat_map ended (rows_of r)
 
 -- a number that the text can hold
 abbrev pub IsNumber : ℕ → Type 0
@@ -70,14 +54,13 @@ IsWritableLine (kind.Force pair) = IsNumber pair.before × IsNumber pair.after
 IsWritableLine (kind.Split resource members) = IsNumber resource × AllByRecursion IsNumber members
 IsWritableLine line = Unit {0}
 
--- a claim, and the lines of a tree, all of whose numbers a text can hold
-pub record IsRecord (r : SearchRecord) : Type 0 where
-  pub claim : IsWritableClaim r.claim
-  pub lines : AllByRecursion IsWritableLine r.lines
-  pub tree : (t : Tree) × IsTreeOf r.lines t
-
--- the text is that of a record
-pub record Spells (text : List ℕ) (r : SearchRecord) : Type 0 where
-  pub of_record : IsRecord r
-  pub size : length text ≤ MAX_RECORD_BYTES
-  pub spelled : text ≡ record_text r
+-- the records of searches
+abbrev pub search_kind : Kind Claim Line
+search_kind = record {
+  title = codes "record 1";
+  claim_rows = claim_rows;
+  row_of = row_of;
+  IsClaim = IsWritableClaim;
+  IsLine = IsWritableLine;
+  AreWhole = λ lines. (t : Tree) × IsTreeOf lines t;
+}

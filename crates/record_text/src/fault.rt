@@ -1,4 +1,4 @@
-//! Why a text is no record of a search, or a record is not right.
+//! Why a text is no record, or a record is not right.
 
 ghost use Rattle.std.specs.Prelude.{◌≡◌};
 ghost use Rattle.record_text.specs.TextFaults.{form};
@@ -13,10 +13,10 @@ pub enum Why {
     Form,
     /// The text ends before this line, which must come.
     Short,
-    /// The line stands after the last node, whatever it holds.
+    /// The line stands after the last that a record of its kind needs, whatever it holds.
     Trailing,
     /// The starts are no feasible schedule of the project with the makespan that is claimed. This and the
-    /// next three are never said of a text, but of a record and a project.
+    /// next six are never said of a text, but of a record and a project.
     Start,
     /// A `force` that is not right.
     Force,
@@ -24,6 +24,12 @@ pub enum Why {
     Set,
     /// A `solved`, `cut` or `dead` that is not right.
     Leaf,
+    /// A `lemma` that is not right.
+    Lemma,
+    /// An `add` that is not right.
+    Add,
+    /// An `end` that is not right.
+    End,
     /// Memory ran out.
     Memory,
     /// The text has more than 268,435,456 bytes, whatever it holds.
@@ -40,7 +46,7 @@ pub struct RecordFault {
 
 impl RecordFault {
     /// This line is not of the grammar where it stands.
-    pub(crate) fn form(line: usize) -> RecordFault
+    pub fn form(line: usize) -> RecordFault
         ensures { result ≡ form line }
     {
         RecordFault {

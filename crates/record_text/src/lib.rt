@@ -14,6 +14,7 @@ mod read;
 mod record;
 mod row;
 mod starts;
+mod text_rows;
 mod write;
 
 pub use fault::{RecordFault, Why};
@@ -25,6 +26,7 @@ pub use numeral::{MAX_NUMBER_DIGITS, number};
 pub use read::tree_line;
 pub use record::Record;
 pub use starts::{Starts, read_starts};
+pub use text_rows::{after_title, next_row};
 pub use write::{put_numbers, put_times};
 
 /// How many bytes the text of a record may have that is read.

@@ -1,12 +1,12 @@
 //! Reads the claim and the lines of a record from a text.
 
 ghost use Rattle.std.specs.Prelude.{◌≡◌, ◌≢◌, ◌<◌, ◌≤◌, ◌+◌, ◌*◌, ◌∷◌, [], ◌++◌, length, map, codes, Some, IfOk, IfErr};
-ghost use Rattle.std.specs.List.{AllByRecursion};
-ghost use Rattle.record_text.specs.Text.{IsWritableClaim, IsWritableLine, claim_rows, head_rows, row_of};
-ghost use Rattle.record_text.specs.Rows.{line_pieces, missing};
-ghost use Rattle.record_text.specs.TextFaults.{why_of, IsFormFault, IsMissing, HasFault};
+ghost use Rattle.record_text.specs.Kinds.{head_rows, IsRecord};
+ghost use Rattle.record_text.specs.Text.{IsWritableClaim, claim_rows, row_of, search_kind};
+ghost use Rattle.record_text.specs.Rows.{line_pieces};
+ghost use Rattle.record_text.specs.TextFaults.{IsFormFault, HasFault};
 ghost use Rattle.record_text.specs.Reading.{makespan_in, starts_in};
-ghost use Rattle.record_text.specs.Shape.{Completes, still_due, count_members};
+ghost use Rattle.record_text.specs.Shape.{still_due, count_members};
 ghost use Rattle.record_text.specs.declared.fault.Why.TheVariants.{Memory};
 
 use crate::MAX_RECORD_BYTES;
@@ -15,33 +15,8 @@ use crate::fields::numbers_after;
 use crate::line::{Claim, Line};
 use crate::row::line_of;
 use crate::starts::{Starts, read_starts};
+use crate::text_rows::next_row;
 use std::alloc::Global;
-use words::split_once;
-
-/// What is wrong where a row must come and none ends.
-fn missing(text: &[u8]) -> Why
-    ensures { result ≡ why_of (missing text.now) }
-{
-    match text {
-        [] => Why::Short,
-        _ => Why::Form,
-    }
-}
-
-/// The row that must come at a line, and what follows its LF.
-pub(crate) fn next_row(text: &[u8], line: usize) -> Result<(&[u8], &[u8]), RecordFault>
-    ensures row { IfOk result (λ r. line_pieces text.now ≡ r.0.now ∷ line_pieces r.1.now) }
-    ensures shorter { IfOk result (λ r. length r.0.now + 1 + length r.1.now ≡ length text.now) }
-    ensures fault { IfErr result (IsMissing text.now line) }
-{
-    match split_once(text, b'\n') {
-        Some((row, rest)) => Ok((row, rest)),
-        None => Err(RecordFault {
-            line,
-            why: missing(text),
-        }),
-    }
-}
 
 /// The makespan that a row claims.
 fn makespan(alloc: Global, row: &[u8]) -> Result<i64, RecordFault>
@@ -74,7 +49,7 @@ pub(crate) fn read_claim(alloc: Global, text: &[u8]) -> Result<(Claim, &[u8]), R
     ensures writable { IfOk result (λ r. IsWritableClaim r.0) }
     ensures shorter { IfOk result (λ r. length r.1.now ≤ length text.now) }
     ensures fault { IfErr result (λ fault.
-        fault.why ≢ Memory → HasFault (codes "record 1" ∷ line_pieces text.now) fault) }
+        fault.why ≢ Memory → HasFault search_kind (codes "record 1" ∷ line_pieces text.now) fault) }
 {
     let (row, rest) = next_row(text, 2)?;
     if row == b"no schedule".as_slice() {
@@ -88,7 +63,7 @@ pub(crate) fn read_claim(alloc: Global, text: &[u8]) -> Result<(Claim, &[u8]), R
 
 /// The number of the first line of the tree.
 pub fn tree_line(claim: &Claim) -> usize
-    ensures { result ≡ length (head_rows claim.now) + 1 }
+    ensures { result ≡ length (head_rows search_kind claim.now) + 1 }
 {
     match claim {
         Claim::Optimal { .. } => 4,
@@ -122,10 +97,9 @@ pub(crate) fn read_lines(
     requires size { length text.now ≤ MAX_RECORD_BYTES }
     requires claim { IsWritableClaim claim.now }
     ensures rows { IfOk result (λ lines. line_pieces text.now ≡ map row_of lines.items ++ [] ∷ []) }
-    ensures writable { IfOk result (λ lines. AllByRecursion IsWritableLine lines.items) }
-    ensures complete { IfOk result (λ lines. Completes 1 lines.items) }
+    ensures record { IfOk result (λ lines. IsRecord search_kind (record { claim = claim.now; lines = lines.items })) }
     ensures fault { IfErr result (λ fault.
-        fault.why ≢ Memory → HasFault (head_rows claim.now ++ line_pieces text.now) fault) }
+        fault.why ≢ Memory → HasFault search_kind (head_rows search_kind claim.now ++ line_pieces text.now) fault) }
 {
     let mut lines = Vec::new(alloc);
     let mut rest = text;

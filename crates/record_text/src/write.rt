@@ -2,7 +2,8 @@
 
 ghost use Rattle.std.specs.Prelude.{◌≡◌, ◌++◌, OnOk, string_bytes};
 ghost use Rattle.std.specs.List.{flat_map};
-ghost use Rattle.record_text.specs.Text.{spaced, spaced_times, head_rows, ended, line_text};
+ghost use Rattle.record_text.specs.Kinds.{ended, head_rows};
+ghost use Rattle.record_text.specs.Text.{spaced, spaced_times, line_text, search_kind};
 
 use crate::line::{Claim, Line};
 use std::alloc::AllocError;
@@ -29,7 +30,7 @@ pub fn put_numbers(out: &mut String, numbers: &[usize]) -> Result<(), AllocError
 
 /// Writes the lines before the tree.
 pub(crate) fn put_claim(out: &mut String, claim: &Claim) -> Result<(), AllocError>
-    ensures { OnOk result (string_bytes out.new ≡ string_bytes out.old ++ flat_map ended (head_rows claim.now)) }
+    ensures { OnOk result (string_bytes out.new ≡ string_bytes out.old ++ flat_map ended (head_rows search_kind claim.now)) }
 {
     match claim {
         Claim::Optimal { makespan, starts } => {

@@ -15,13 +15,13 @@ use Rattle.record_text.specs.declared.TheConstants.{MAX_RECORD_BYTES}
 use Rattle.record_text.specs.declared.fault.RecordFault.{RecordFault}
 use Rattle.record_text.specs.declared.fault.Why.{Why}
 use Rattle.record_text.specs.declared.fault.Why.TheVariants as why
-use Rattle.record_text.specs.SearchRecord.{SearchRecord}
+use Rattle.record_text.specs.Kinds.{Kind, RecordOf}
 use Rattle.record_text.specs.TextFaults.{IsFirstTextFault}
 use Rattle.search_record.specs.Faults as wrongs
 use Rattle.answers.specs.declared.fault.Fault.{Fault}
 use Rattle.answers.specs.declared.fault.Fault.TheVariants as faults
 use Rattle.answers.specs.Faults.{fault_of, line_fault, record_fault_of, exit_of, IsTextFault}
-use Rattle.runs.specs.Outcome.{HasFault, GivesStarts, IsFirstStartsFault, GivesRecord, IsRecordTextFault, IsRecordFault, IsNoProof}
+use Rattle.runs.specs.Outcome.{HasFault, GivesStarts, IsFirstStartsFault, GivesRecord, Tells, IsNoProof}
 
 same_or_long : (most : ℕ) (text bytes : List ℕ) → text ≡ take (most + 1) bytes → (text ≡ bytes) ⊎ ((most < length text) × (most < length bytes))
 same_or_long most text bytes e = by_length (length bytes) refl
@@ -93,23 +93,24 @@ starts_whole p text bytes P e h = elim (same_or_long MAX_TEXT_BYTES text bytes e
 
 -- ---- texts of records
 
--- a record that was read is that of all that the input tells
-pub record_whole : (text bytes : List ℕ) (P : SearchRecord → Type 0) → text ≡ take (MAX_RECORD_BYTES + 1) bytes → GivesRecord text P → GivesRecord bytes P
-record_whole text bytes P e h = elim (same_or_long MAX_RECORD_BYTES text bytes e) [
-  | inl same ↦ subst (λ (t : List ℕ). GivesRecord t P) same h
-  | inr long ↦ let size = h.spells.size in absurd (omega (arith, long.0))
-]
-
--- and so is the first fault of a text that is none
-text_fault_whole : (text bytes : List ℕ) (cause : RecordFault) → text ≡ take (MAX_RECORD_BYTES + 1) bytes → IsFirstTextFault text cause → IsFirstTextFault bytes cause
-text_fault_whole text bytes cause e h = elim (same_or_long MAX_RECORD_BYTES text bytes e) [
-  | inl same ↦ subst (λ (t : List ℕ). IsFirstTextFault t cause) same h
-  | inr long ↦ elim h [
-    | inl too ↦ inl (long.1, too.1)
-    | inr short ↦ let size = short.0 in absurd (omega (arith, long.0))
+module _ {Claim Line : Type 0} (k : Kind Claim Line) where
+  -- a record that was read is that of all that the input tells
+  pub record_whole : (text bytes : List ℕ) (P : RecordOf Claim Line → Type 0) → text ≡ take (MAX_RECORD_BYTES + 1) bytes → GivesRecord k text P → GivesRecord k bytes P
+  record_whole text bytes P e h = elim (same_or_long MAX_RECORD_BYTES text bytes e) [
+    | inl same ↦ subst (λ (t : List ℕ). GivesRecord k t P) same h
+    | inr long ↦ let size = h.spells.size in absurd (omega (arith, long.0))
   ]
-]
 
-pub no_proof_whole : (p : Problem) (text bytes : List ℕ) (fault : Fault) → text ≡ take (MAX_RECORD_BYTES + 1) bytes → IsNoProof p text fault → IsNoProof p bytes fault
-no_proof_whole p text bytes fault e (inl h) = inl (record { cause = h.cause; first = text_fault_whole text bytes h.cause e h.first; told = h.told })
-no_proof_whole p text bytes fault e (inr h) = inr (record_whole text bytes (λ shown. IsRecordFault p shown fault) e h)
+  -- and so is the first fault of a text that is none
+  text_fault_whole : (text bytes : List ℕ) (cause : RecordFault) → text ≡ take (MAX_RECORD_BYTES + 1) bytes → IsFirstTextFault k text cause → IsFirstTextFault k bytes cause
+  text_fault_whole text bytes cause e h = elim (same_or_long MAX_RECORD_BYTES text bytes e) [
+    | inl same ↦ subst (λ (t : List ℕ). IsFirstTextFault k t cause) same h
+    | inr long ↦ elim h [
+      | inl too ↦ inl (long.1, too.1)
+      | inr short ↦ let size = short.0 in absurd (omega (arith, long.0))
+    ]
+  ]
+
+  pub no_proof_whole : (Has : RecordOf Claim Line → RecordFault → Type 0) (text bytes : List ℕ) (fault : Fault) → text ≡ take (MAX_RECORD_BYTES + 1) bytes → IsNoProof k Has text fault → IsNoProof k Has bytes fault
+  no_proof_whole Has text bytes fault e (inl h) = inl (record { cause = h.cause; first = text_fault_whole text bytes h.cause e h.first; told = h.told })
+  no_proof_whole Has text bytes fault e (inr h) = inr (record_whole text bytes (λ shown. Tells (Has shown) fault) e h)

@@ -7,8 +7,9 @@ use Rattle.sch_reader.specs.declared.fault.SchFault.{SchFault}
 use Rattle.sch_reader.specs.Text.{Spells, IsFirstFault}
 use Rattle.schedule_check.specs.declared.fault.StartsFault.{StartsFault}
 use Rattle.schedule_check.specs.Starts.{starts_fault, starts_of}
-use Rattle.record_text.specs.SearchRecord.{SearchRecord}
-use Rattle.record_text.specs.Text as records
+use Rattle.record_text.specs.Kinds as records
+use Rattle.record_text.specs.Kinds.{Kind, RecordOf}
+use Rattle.record_text.specs.Text.{search_kind}
 use Rattle.record_text.specs.TextFaults.{IsFirstTextFault}
 use Rattle.record_text.specs.declared.fault.RecordFault.{RecordFault}
 use Rattle.search_record.specs.Faults as wrongs
@@ -49,27 +50,23 @@ pub record IsFirstStartsFault (p : Problem) (text : List ℕ) (fault : Fault) : 
   pub first : starts_fault (activity_count p) text ≡ Some cause
   pub told : fault ≡ starts_fault_of cause
 
--- the text is that of a record, which has this property
-pub record GivesRecord (text : List ℕ) (P : SearchRecord → Type 0) : Type 0 where
-  pub shown : SearchRecord
-  pub spells : records.Spells text shown
+-- the text is that of a record of this kind, which has this property
+pub record GivesRecord
+    {Claim Line : Type 0} (k : Kind Claim Line) (text : List ℕ) (P : RecordOf Claim Line → Type 0) : Type 0 where
+  pub shown : RecordOf Claim Line
+  pub spells : records.Spells k text shown
   pub has : P shown
 
--- the text is that of no record, and this is its first fault
-pub record IsRecordTextFault (text : List ℕ) (fault : Fault) : Type 0 where
+-- a record or its text has this fault, which is told
+pub record Tells (Has : RecordFault → Type 0) (fault : Fault) : Type 0 where
   pub cause : RecordFault
-  pub first : IsFirstTextFault text cause
+  pub first : Has cause
   pub told : fault ≡ record_fault_of cause
 
--- the record isn't right for the project, and this is its first fault
-pub record IsRecordFault (p : Problem) (shown : SearchRecord) (fault : Fault) : Type 0 where
-  pub cause : RecordFault
-  pub first : wrongs.IsFirstFault p shown cause
-  pub told : fault ≡ record_fault_of cause
-
--- why a text proves nothing of the project
-abbrev pub IsNoProof : Problem → List ℕ → Fault → Type 0
-IsNoProof p text fault = IsRecordTextFault text fault ⊎ GivesRecord text (λ shown. IsRecordFault p shown fault)
+-- why a text proves nothing: its first fault, if it is that of no record of this kind, or the record's
+abbrev pub IsNoProof :
+    {Claim Line : Type 0} → Kind Claim Line → (RecordOf Claim Line → RecordFault → Type 0) → List ℕ → Fault → Type 0
+IsNoProof k Has text fault = Tells (IsFirstTextFault k text) fault ⊎ GivesRecord k text (λ shown. Tells (Has shown) fault)
 
 -- what a job writes for its two texts, and the exit status
 abbrev pub IsAnswer : Job → List ℕ → List ℕ → ℕ → List ℕ → Type 0
@@ -78,7 +75,7 @@ IsAnswer (jobs.Solve workers takes false json recorded) text second exit written
 IsAnswer (jobs.Solve workers takes true json recorded) text second exit written = SpellsOne text (λ p. GivesStarts p second (λ starts. IsStartedText p starts json exit written))
 IsAnswer jobs.Check text second exit written = SpellsOne second (λ p. GivesStarts p text (λ starts. IsCheckText p starts exit written))
 IsAnswer jobs.Tidy text second exit written = SpellsOne text (λ p. IsTidyText p exit written)
-IsAnswer jobs.Verify text second exit written = SpellsOne second (λ p. GivesRecord text (λ shown. IsProvedText p shown exit written))
+IsAnswer jobs.Verify text second exit written = SpellsOne second (λ p. GivesRecord search_kind text (λ shown. IsProvedText p shown exit written))
 
 -- why a job has no answer to its two texts
 abbrev pub IsRefusal : Job → List ℕ → List ℕ → Fault → Type 0
@@ -87,7 +84,7 @@ IsRefusal (jobs.Solve workers takes false json recorded) text second fault = Has
 IsRefusal (jobs.Solve workers takes true json recorded) text second fault = HasFault text fault ⊎ SpellsOne text (λ p. IsFirstStartsFault p second fault)
 IsRefusal jobs.Check text second fault = HasFault second fault ⊎ SpellsOne second (λ p. IsFirstStartsFault p text fault)
 IsRefusal jobs.Tidy text second fault = HasFault text fault
-IsRefusal jobs.Verify text second fault = HasFault second fault ⊎ SpellsOne second (λ p. IsNoProof p text fault)
+IsRefusal jobs.Verify text second fault = HasFault second fault ⊎ SpellsOne second (λ p. IsNoProof search_kind (wrongs.IsFirstFault p) text fault)
 
 -- workers have searched: the text spells a project, and starts that were handed in are a feasible
 -- schedule of it

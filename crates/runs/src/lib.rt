@@ -17,6 +17,6 @@ mod verified;
 pub use device::{Failed, Input, Output, write_all};
 pub use job::{Job, ONE_WORKER};
 pub use one_thread::{Ended, run, write_answer};
-pub use reading::{read_project, read_text};
+pub use reading::{read_both, read_project, read_text};
 pub use reply::{Reply, write_reply};
 pub use standard::{Reader, Writer};

@@ -72,7 +72,7 @@ pub fn read_project<I: Input>(alloc: Global, input: &mut I) -> Result<Project, F
 }
 
 /// Reads a project from the second input, and then a text of so many bytes at most from the first.
-pub(crate) fn read_both<I: Input, S: Input>(
+pub fn read_both<I: Input, S: Input>(
     alloc: Global,
     most: usize,
     input: &mut I,

@@ -1,11 +1,14 @@
 //! What `verify` says of a record.
 
 ghost use Rattle.std.specs.Prelude.{◌≡◌, ◌≢◌, IfOk, IfErr};
-ghost use Rattle.record_text.specs.Text as records;
+ghost use Rattle.record_text.specs.Kinds as records;
+ghost use Rattle.record_text.specs.Text.{search_kind};
+ghost use Rattle.record_text.specs.TextFaults.{IsFirstTextFault};
+ghost use Rattle.search_record.specs.Faults as wrongs;
 ghost use Rattle.answers.specs.declared.fault.Fault.{Fault};
 ghost use Rattle.answers.specs.Answers.{IsProvedText};
 ghost use Rattle.answers.specs.Faults.{exit_of, IsTextFault};
-ghost use Rattle.runs.specs.Outcome.{GivesRecord, IsNoProof, IsRecordFault, IsRecordTextFault};
+ghost use Rattle.runs.specs.Outcome.{GivesRecord, IsNoProof, Tells};
 
 use answers::{Answer, Fault, proved_text};
 use network::Project;
@@ -14,8 +17,8 @@ use std::alloc::Global;
 
 /// The record that a text is that of.
 fn record_of(alloc: Global, text: &[u8]) -> Result<Record, Fault>
-    ensures read { IfOk result (λ shown. records.Spells text.now shown) }
-    ensures refused { IfErr result (λ fault. exit_of fault ≢ 1 → IsRecordTextFault text.now fault) }
+    ensures read { IfOk result (λ shown. records.Spells search_kind text.now shown) }
+    ensures refused { IfErr result (λ fault. exit_of fault ≢ 1 → Tells (IsFirstTextFault search_kind text.now) fault) }
     ensures cause { IfErr result IsTextFault }
 {
     Ok(Record::read(alloc, text)?)
@@ -24,7 +27,7 @@ fn record_of(alloc: Global, text: &[u8]) -> Result<Record, Fault>
 /// What a record proves of a project.
 fn proof_of(alloc: Global, project: &Project, shown: &Record) -> Result<Answer, Fault>
     ensures said { IfOk result (λ a. IsProvedText project.now shown.now a.exit a.text.items) }
-    ensures refused { IfErr result (λ fault. exit_of fault ≢ 1 → IsRecordFault project.now shown.now fault) }
+    ensures refused { IfErr result (λ fault. exit_of fault ≢ 1 → Tells (wrongs.IsFirstFault project.now shown.now) fault) }
     ensures cause { IfErr result IsTextFault }
 {
     let proved = verify(alloc, project, shown)?;
@@ -35,8 +38,8 @@ fn proof_of(alloc: Global, project: &Project, shown: &Record) -> Result<Answer, 
 /// What the record in a text proves of a project. Otherwise the first fault of the text, or of the record.
 pub(crate) fn verified(alloc: Global, project: &Project, text: &[u8]) -> Result<Answer, Fault>
     ensures said { IfOk result
-        (λ a. GivesRecord text.now (λ shown. IsProvedText project.now shown a.exit a.text.items)) }
-    ensures refused { IfErr result (λ fault. exit_of fault ≢ 1 → IsNoProof project.now text.now fault) }
+        (λ a. GivesRecord search_kind text.now (λ shown. IsProvedText project.now shown a.exit a.text.items)) }
+    ensures refused { IfErr result (λ fault. exit_of fault ≢ 1 → IsNoProof search_kind (wrongs.IsFirstFault project.now) text.now fault) }
     ensures cause { IfErr result IsTextFault }
 {
     let shown = record_of(alloc, text)?;

@@ -9,7 +9,8 @@ use Rattle.branching.specs.Covered.{ceiling_of}
 use Rattle.trail.specs.Trail.{Entry}
 use Rattle.trail.specs.RightTrail.{IsWholeTree}
 use Rattle.record_text.specs.SearchRecord.{SearchRecord}
-use Rattle.record_text.specs.Text.{IsWritableClaim, IsRecord}
+use Rattle.record_text.specs.Kinds.{IsRecord}
+use Rattle.record_text.specs.Text.{IsWritableClaim, search_kind}
 use Rattle.record_text.specs.Tree.{lines_of}
 use Rattle.search_record.specs.Claims.{claim_of, IsKeptSchedule}
 use Rattle.search_record.specs.Places.{places}
@@ -37,13 +38,13 @@ starts_right : (p : Problem) (best : Option ScheduleOf) → IfSome best (λ s. s
 starts_right p None same kept = tt
 starts_right p (Some s) same kept = (subst (λ (q : Problem). IsFeasible q s.starts) same kept.0, refl)
 
-pub trail_record : (p : Problem) (best : Option ScheduleOf) (entries : List Entry) (r : SearchRecord) → IsOver p best entries → r.claim ≡ claim_of best → r.lines ≡ lines_of (tree_under entries 0) → IsRecord r
+pub trail_record : (p : Problem) (best : Option ScheduleOf) (entries : List Entry) (r : SearchRecord) → IsOver p best entries → r.claim ≡ claim_of best → r.lines ≡ lines_of (tree_under entries 0) → IsRecord search_kind r
 trail_record p best entries r over claim lines =
     let whole = trail_right p (ceiling_of best) entries over.whole in
     record {
       claim = rw claim (claim_spelled p best over.limits over.of_project over.kept);
       lines = rw lines (spelled_tree p (ceiling_of best) over.limits (tree_under entries 0) whole.shape whole.right);
-      tree = (tree_under entries 0, record { shape = whole.shape; spelled = sym lines });
+      whole = (tree_under entries 0, record { shape = whole.shape; spelled = sym lines });
     }
 
 pub record_right : (p : Problem) (best : Option ScheduleOf) (entries : List Entry) (r : SearchRecord) → IsOver p best entries → r.claim ≡ claim_of best → r.lines ≡ lines_of (tree_under entries 0) → IsRight p r

@@ -10,14 +10,15 @@ use Rattle.record_text.specs.declared.line.Claim.{Claim}
 use Rattle.record_text.specs.declared.line.Line.{Line}
 use Rattle.record_text.specs.declared.line.Line.TheVariants as kind
 use Rattle.record_text.specs.SearchRecord.{SearchRecord, IsTreeOf}
-use Rattle.record_text.specs.Text.{head_rows}
+use Rattle.record_text.specs.Kinds.{head_rows}
+use Rattle.record_text.specs.Text.{search_kind}
 use Rattle.record_text.specs.Tree.{Tree}
 use Rattle.search_record.specs.Places.{Place, places}
 use Rattle.search_record.specs.Right.{limit_of, IsRightPlace, AreRightStarts, IsRight}
 
 -- the number of the tree's first line
 abbrev pub tree_line : Claim → ℕ
-tree_line claim = length (head_rows claim) + 1
+tree_line claim = length (head_rows search_kind claim) + 1
 
 -- what is wrong where a line is
 abbrev pub why_wrong : Line → Why

@@ -4,7 +4,8 @@ use Rattle.network.specs.Problem.{Problem}
 use Rattle.network.specs.Schedule.{IsFeasible}
 use Rattle.plain_search.specs.declared.outcome.Outcome.{Outcome}
 use Rattle.lemma_text.specs.LemmaRecord.{LemmaRecordOf}
-use Rattle.lemma_text.specs.Text as records
+use Rattle.lemma_text.specs.Text.{lemma_kind}
+use Rattle.record_text.specs.Kinds as records
 use Rattle.answers.specs.Answers.{IsViolationsText}
 use Rattle.runs.specs.Outcome.{GivesStarts, IfTextsTold, SpellsOne}
 use Rattle.runs.specs.Runs.{ReplyOf}
@@ -23,7 +24,7 @@ pub record IsShownReply (p : Problem) (json : Bool) (reply : ReplyOf) : Type 0 w
   pub is_shown : IsShown p outcome shown
   pub said : Says json figures outcome reply.exit reply.text
   pub recorded : reply.recorded ≡ Some text
-  pub spells : records.Spells text shown
+  pub spells : records.Spells lemma_kind text shown
   pub lines : figures.lines ≡ length shown.lines
   pub bytes : figures.record_bytes ≡ length text
 

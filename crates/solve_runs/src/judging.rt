@@ -5,7 +5,8 @@ ghost use Rattle.std.specs.Arc.{arc_value};
 ghost use Rattle.network.specs.Limits.{AreStarts};
 ghost use Rattle.network.specs.Schedule.{IsFeasible};
 ghost use Rattle.branching.specs.Covered.{IsScheduleFor};
-ghost use Rattle.lemma_text.specs.Text as records;
+ghost use Rattle.lemma_text.specs.Text.{lemma_kind};
+ghost use Rattle.record_text.specs.Kinds as records;
 ghost use Rattle.lemma_check.specs.Right.{IsRight};
 ghost use Rattle.lemma_check.specs.Proves.{proved_of, IsTrueOf};
 ghost use Rattle.answers.specs.Faults.{exit_of, IsNoDeviceFault};
@@ -13,7 +14,7 @@ ghost use Rattle.solve_runs.specs.Shown.{IsShown};
 
 use answers::Fault;
 use lemma_check::verify;
-use lemma_text::{Claim, LemmaFault, LemmaRecord, Why};
+use lemma_text::{Claim, LemmaRecord, RecordFault, Why};
 use network::{MAX_START, Project, Schedule};
 use plain_search::Outcome;
 use schedule_check::{AcceptFault, accept};
@@ -21,7 +22,7 @@ use std::alloc::Global;
 use std::sync::Arc;
 
 /// The fault of a search whose own record is refused, unless memory ran out.
-fn refused(fault: LemmaFault) -> Fault
+fn refused(fault: RecordFault) -> Fault
     ensures status { exit_of result ≡ 1 }
     ensures cause { IsNoDeviceFault result }
 {
@@ -33,7 +34,7 @@ fn refused(fault: LemmaFault) -> Fault
 
 /// The record that a text is that of.
 pub(crate) fn record_of(alloc: Global, text: &[u8]) -> Result<LemmaRecord, Fault>
-    ensures read { IfOk result (λ shown. records.Spells text.now shown) }
+    ensures read { IfOk result (λ shown. records.Spells lemma_kind text.now shown) }
     ensures status { IfErr result (λ fault. exit_of fault ≡ 1) }
     ensures cause { IfErr result IsNoDeviceFault }
 {

@@ -4,7 +4,7 @@ use Rattle.std.proofs.lemmas.List.Elements.{All-nil}
 use Rattle.std.proofs.lemmas.Option.{slice_get_read}
 use Rattle.std.proofs.lemmas.Result.{on_ok_weaker, IfErr-weaker}
 use Rattle.network.specs.Problem.{Problem}
-use Rattle.lemma_text.specs.declared.fault.Why.TheVariants.{Memory}
+use Rattle.record_text.specs.declared.fault.Why.TheVariants.{Memory}
 use Rattle.lemma_check.specs.Faults.{first_line, why_wrong, IsFirstWrong}
 use Rattle.lemma_check.specs.Places.{Place, first_place}
 use Rattle.lemma_check.specs.Standing.{IsDeadAt}

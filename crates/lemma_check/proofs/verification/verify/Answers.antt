@@ -1,8 +1,8 @@
 use Rattle.std.proofs.Common.{◌≡◌}
 use Rattle.std.specs.List.{All}
 use Rattle.std.proofs.lemmas.Result.{err_from_is_err_and}
-use Rattle.lemma_text.specs.declared.fault.Why.TheVariants.{Memory}
-use Rattle.lemma_text.proofs.TextLaws.{is_memory}
+use Rattle.record_text.specs.declared.fault.Why.TheVariants.{Memory}
+use Rattle.record_text.proofs.KindLaws.{is_memory}
 use Rattle.lemma_check.specs.Faults.{first_line}
 use Rattle.lemma_check.specs.Places.{first_place, placed}
 use Rattle.lemma_check.specs.Right.{AreRightStarts, IsRightLine}

@@ -1,36 +1,37 @@
-use Rattle.std.proofs.Common.{ap}
+use Rattle.std.proofs.Common.{ap, ◌∙◌}
 use Rattle.runs.proofs.CallLaws.{MatchOption-weaker}
-use Rattle.lemma_runs.specs.Faults.{exit_of}
+use Rattle.answers.specs.declared.answer.Answer.{Answer}
+use Rattle.answers.specs.Faults.{exit_of}
 use Rattle.lemma_runs.proofs.ReadLaws.{read_is_told}
 use Rattle.lemma_runs.proofs.running.run.Goals as goal
 
 pub returns-in-Ok-clause-proved : goal.returns-in-Ok-clause-proved
 returns-in-Ok-clause-proved g c =
-    MatchOption-weaker c.write_proof.result.fault c.write_proof.ensures.whole
+    MatchOption-weaker c.write_answer.result.fault c.write_answer.ensures.whole
     (λ whole. (
-      whole.0,
+      whole.0 ∙ c.in-Ok.ensures.said.0,
       record {
-        text = c.in-Ok.text.items;
-        proof = c.in-Ok.ensures.said;
-        done = rw c.deref.ensures.value at whole.1;
+        text = c.in-Ok.answer.text.items;
+        proof = c.in-Ok.ensures.said.1;
+        done = whole.1;
       },
     ))
     (λ _ _. tt)
 
 pub returns-in-Ok-clause-cut_short : goal.returns-in-Ok-clause-cut_short
 returns-in-Ok-clause-cut_short g c = λ _. record {
-  text = c.in-Ok.text.items;
-  proof = c.in-Ok.ensures.said;
-  done = rw c.deref.ensures.value at c.write_proof.ensures.front;
+  text = c.in-Ok.answer.text.items;
+  proof = c.in-Ok.ensures.said.1;
+  done = c.write_answer.ensures.front;
 }
 
 pub returns-in-Ok-clause-refused : goal.returns-in-Ok-clause-refused
 returns-in-Ok-clause-refused g c =
-    MatchOption-weaker c.write_proof.result.fault c.write_proof.ensures.fault (λ _. tt)
+    MatchOption-weaker c.write_answer.result.fault c.write_answer.ensures.fault (λ _. tt)
     (λ fault is other. absurd (other (ap exit_of is.0)))
 
 pub returns-in-Err-clause-refused : goal.returns-in-Err-clause-refused
 returns-in-Err-clause-refused g c = rw c.with.ensures.fault c.in-Err.ensures.refused
 
 pub returns-in-Err-clause-read : goal.returns-in-Err-clause-read
-returns-in-Err-clause-read g c = read_is_told _ _ _ _ c.in-Err.fault c.with.result.fault c.with.ensures.fault c.in-Err.ensures.read
+returns-in-Err-clause-read g c = read_is_told Answer _ _ _ c.in-Err.fault c.with.result.fault c.with.ensures.fault c.in-Err.ensures.read

@@ -1,13 +1,14 @@
 use Rattle.std.proofs.Common.{◌≡◌, ◌++◌, ◌∷◌, [], ap, arith, length, length-append, refl}
 use Rattle.std.proofs.lemmas.Result.{err_from_is_err_and}
 use Rattle.record_text.specs.Rows.{form, trailing, missing}
-use Rattle.lemma_text.specs.Text.{head_rows}
-use Rattle.lemma_text.specs.TextFaults.{AreRows}
+use Rattle.record_text.specs.Kinds.{AreRows, head_rows}
+use Rattle.record_text.proofs.KindLaws.{grammar, named, record_from}
+use Rattle.lemma_text.specs.Text.{lemma_kind}
 use Rattle.record_text.proofs.Pieces.{not_nil}
 use Rattle.record_text.proofs.Leads.{reached_more, reached_missing, reached_form, reached_trailing}
-use Rattle.lemma_text.proofs.HeadFaults.{named}
 use Rattle.lemma_text.proofs.LineReads.{at_takes}
-use Rattle.lemma_text.proofs.BlockLines.{rules, few_due, grammar, blocks_read}
+use Rattle.lemma_text.proofs.BlockLines.{rules, few_due}
+use Rattle.lemma_text.proofs.TextLaws.{facts}
 use Rattle.lemma_text.proofs.read.read_lines.Goals as goal
 
 pub returns-in_err-row-clause-fault : goal.returns-in_err-row-clause-fault
@@ -15,16 +16,16 @@ returns-in_err-row-clause-fault c =
     let p = err_from_is_err_and c.from_residual.result c.from_residual.ensures.1 in
     let e = c.in_err-row.ensures.fault in
     let claim = c.args.claim.now in
-    let at = reached_missing AreRows rules (head_rows claim) (grammar claim c.requires.claim) c.loop-due.lines.items c.loop-due.due c.loop-due.line c.args.text.now c.loop-due.rest.now c.loop-due.invariant.reached c.loop-due-test.true e.0 in
-    rw (p.1, p.2) (λ known. named _ _ (missing c.loop-due.rest.now) c.in_err-row.field-0.0 e.1 at)
+    let at = reached_missing (AreRows lemma_kind) rules (head_rows lemma_kind claim) (grammar facts claim c.requires.claim) c.loop-due.lines.items c.loop-due.due c.loop-due.line c.args.text.now c.loop-due.rest.now c.loop-due.invariant.reached c.loop-due-test.true e.0 in
+    rw (p.1, p.2) (λ known. named lemma_kind _ _ (missing c.loop-due.rest.now) c.in_err-row.field-0.0 e.1 at)
 
 pub returns-in_err-found-clause-fault : goal.returns-in_err-found-clause-fault
 returns-in_err-found-clause-fault c =
     let p = err_from_is_err_and c.from_residual-in_err-found.result c.from_residual-in_err-found.ensures.1 in
     let claim = c.args.claim.now in
     rw (p.1, p.2) (λ known. let e = c.in_err-found.ensures.fault known in
-    named _ _ form c.in_err-found.field-0.0 e.1
-    (reached_form AreRows rules (head_rows claim) (grammar claim c.requires.claim) c.loop-due.lines.items c.loop-due.due c.loop-due.line c.args.text.now c.loop-due.rest.now c.in_ok-row.row.now c.in_ok-row.more.now c.loop-due.invariant.reached c.loop-due-test.true c.in_ok-row.ensures.row e.0))
+    named lemma_kind _ _ form c.in_err-found.field-0.0 e.1
+    (reached_form (AreRows lemma_kind) rules (head_rows lemma_kind claim) (grammar facts claim c.requires.claim) c.loop-due.lines.items c.loop-due.due c.loop-due.line c.args.text.now c.loop-due.rest.now c.in_ok-row.row.now c.in_ok-row.more.now c.loop-due.invariant.reached c.loop-due-test.true c.in_ok-row.ensures.row e.0))
 
 pub loop-due-preserved : goal.loop-due-preserved
 loop-due-preserved c =
@@ -34,7 +35,7 @@ loop-due-preserved c =
     let more : c.push.new.self.items ≡ c.loop-due.lines.items ++ found ∷ [] = c.in_ok-push.ensures.items in
     let counted : length c.push.new.self.items ≡ length (c.loop-due.lines.items ++ found ∷ []) = ap length more in
     record {
-      reached = rw (more, c.still_due-due.ensures) (reached_more rules (head_rows c.args.claim.now) c.loop-due.lines.items c.loop-due.due c.loop-due.line c.args.text.now c.loop-due.rest.now c.in_ok-row.row.now c.in_ok-row.more.now found i.reached c.loop-due-test.true c.in_ok-row.ensures.row is);
+      reached = rw (more, c.still_due-due.ensures) (reached_more rules (head_rows lemma_kind c.args.claim.now) c.loop-due.lines.items c.loop-due.due c.loop-due.line c.args.text.now c.loop-due.rest.now c.in_ok-row.row.now c.in_ok-row.more.now found i.reached c.loop-due-test.true c.in_ok-row.ensures.row is);
       few = rw c.still_due-due.ensures (few_due c.loop-due.due found i.few (at_takes c.loop-due.due c.in_ok-row.row.now found is).stands);
       lines = omega (arith, i.lines, counted, length-append c.loop-due.lines.items (found ∷ []), c.in_ok-row.ensures.shorter);
     }
@@ -43,11 +44,8 @@ pub returns-then-not-is_empty-clause-fault : goal.returns-then-not-is_empty-clau
 returns-then-not-is_empty-clause-fault c = λ known.
     let claim = c.args.claim.now in
     let some = not_nil c.loop-due.rest.now c.is_empty.result c.is_empty.ensures c.if-not-is_empty.true in
-    named _ _ trailing _ refl
-    (reached_trailing AreRows rules (head_rows claim) (grammar claim c.requires.claim) c.loop-due.lines.items c.loop-due.due c.loop-due.line c.args.text.now c.loop-due.rest.now c.loop-due.invariant.reached (omega (arith, c.loop-due-test.false)) some)
+    named lemma_kind _ _ trailing _ refl
+    (reached_trailing (AreRows lemma_kind) rules (head_rows lemma_kind claim) (grammar facts claim c.requires.claim) c.loop-due.lines.items c.loop-due.due c.loop-due.line c.args.text.now c.loop-due.rest.now c.loop-due.invariant.reached (omega (arith, c.loop-due-test.false)) some)
 
-pub returns-clause-writable : goal.returns-clause-writable
-returns-clause-writable c = rw c.shrink_to_fit.ensures.items (blocks_read c.loop-due.lines.items c.loop-due.due c.loop-due.invariant.reached.leads (omega (arith, c.loop-due-test.false))).1
-
-pub returns-clause-complete : goal.returns-clause-complete
-returns-clause-complete c = rw c.shrink_to_fit.ensures.items (blocks_read c.loop-due.lines.items c.loop-due.due c.loop-due.invariant.reached.leads (omega (arith, c.loop-due-test.false))).0
+pub returns-clause-record : goal.returns-clause-record
+returns-clause-record c = rw c.shrink_to_fit.ensures.items (record_from facts c.args.claim.now c.loop-due.lines.items c.loop-due.due c.requires.claim c.loop-due.invariant.reached.leads (omega (arith, c.loop-due-test.false)))

@@ -1,13 +1,14 @@
 use Rattle.std.proofs.Common.{◌+◌, ◌*◌, ◌≤◌, length}
 use Rattle.record_text.specs.declared.TheConstants.{MAX_RECORD_BYTES}
-use Rattle.record_text.specs.Text.{head_rows}
+use Rattle.record_text.specs.Kinds.{head_rows}
+use Rattle.record_text.specs.Text.{search_kind}
 use Rattle.record_text.proofs.Leads.{Reached}
 use Rattle.record_text.proofs.TreeLines.{rules}
 use Rattle.record_text.proofs.read.read_lines.Given as goal
 
 abbrev pub invariant-loop-due : goal.invariant-loop-due
 invariant-loop-due l = record {
-  reached : Reached rules (head_rows l.claim) l.lines.items l.due l.line l.text l.rest;
+  reached : Reached rules (head_rows search_kind l.claim) l.lines.items l.due l.line l.text l.rest;
   room : l.due + length l.rest * MAX_RECORD_BYTES ≤ MAX_RECORD_BYTES * MAX_RECORD_BYTES + 1;
   lines : length l.lines.items + length l.rest ≤ MAX_RECORD_BYTES;
 }

@@ -2,6 +2,8 @@ use Rattle.std.proofs.Common.{◌≡◌, ◌∙◌, refl, inl, inr}
 use Rattle.std.proofs.lemmas.Result.{MatchResult-weaker, err_from_is_err_and}
 use Rattle.runs.proofs.CallLaws.{answers_alone}
 use Rattle.runs.proofs.TextLaws.{starts_whole, starts_fault_whole, record_whole, no_proof_whole}
+use Rattle.record_text.specs.Text.{search_kind}
+use Rattle.search_record.specs.Faults.{IsFirstFault}
 use Rattle.answers.specs.Answers.{IsCheckText, IsProvedText}
 use Rattle.runs.proofs.one_thread.job_answer.Goals as goal
 
@@ -48,7 +50,7 @@ returns-in_ok-project-in-Verify-clause-said g c =
       project = p;
       is_project = c.in_ok-project-in-Verify.ensures.project.0;
       spells = c.in_ok-project-in-Verify.ensures.project.1 more (told_more (rw c.in-Verify.is refl));
-      has = record_whole c.deref-in-Verify.result.now text (λ shown. IsProvedText p shown a.exit a.text.items) (c.deref-in-Verify.ensures.value ∙ c.in_ok-project-in-Verify.ensures.told text told) said;
+      has = record_whole search_kind c.deref-in-Verify.result.now text (λ shown. IsProvedText p shown a.exit a.text.items) (c.deref-in-Verify.ensures.value ∙ c.in_ok-project-in-Verify.ensures.told text told) said;
     }))
     (λ _ _. tt)
 
@@ -60,7 +62,7 @@ returns-in_ok-project-in-Verify-clause-refused g c =
       project = p;
       is_project = c.in_ok-project-in-Verify.ensures.project.0;
       spells = c.in_ok-project-in-Verify.ensures.project.1 more (told_more (rw c.in-Verify.is refl));
-      has = no_proof_whole p c.deref-in-Verify.result.now text fault (c.deref-in-Verify.ensures.value ∙ c.in_ok-project-in-Verify.ensures.told text told) (refused other);
+      has = no_proof_whole search_kind (IsFirstFault p) c.deref-in-Verify.result.now text fault (c.deref-in-Verify.ensures.value ∙ c.in_ok-project-in-Verify.ensures.told text told) (refused other);
     })))
 
 pub returns-in_ok-solve-in-Solve-clause-said : goal.returns-in_ok-solve-in-Solve-clause-said

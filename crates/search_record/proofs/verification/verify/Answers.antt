@@ -1,7 +1,7 @@
 use Rattle.std.proofs.Common.{◌≡◌}
 use Rattle.std.proofs.lemmas.Result.{err_from_is_err_and}
 use Rattle.record_text.specs.declared.fault.Why.TheVariants.{Memory}
-use Rattle.record_text.proofs.TextLaws.{is_memory}
+use Rattle.record_text.proofs.KindLaws.{is_memory}
 use Rattle.search_record.specs.Right.{limit_of, AreRightStarts, AreRightLines}
 use Rattle.search_record.proofs.Truth.{right_is_true}
 use Rattle.search_record.proofs.Wrong.{wrong_line}

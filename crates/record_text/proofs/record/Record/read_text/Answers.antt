@@ -1,32 +1,22 @@
-use Rattle.std.proofs.Common.{◌≡◌, ◌≢◌, ◌≤◌, [], sym, ◌∙◌, rules, inr, length}
+use Rattle.std.proofs.Common.{◌≡◌, ◌∷◌, List, ℕ, ap, ◌∙◌, subst, rules}
 use Rattle.std.specs.Prelude.{codes}
-use Rattle.std.proofs.lemmas.Bool.{ltb-false}
 use Rattle.std.proofs.lemmas.Result.{err_from_is_err_and}
-use Rattle.record_text.specs.declared.TheConstants.{MAX_RECORD_BYTES}
-use Rattle.record_text.proofs.TreeLines.{record_from}
-use Rattle.record_text.proofs.RowFaults.{missing_fault, form_fault, stands_first, no_first}
-use Rattle.record_text.proofs.TextLaws.{text_found}
+use Rattle.record_text.specs.Rows.{line_pieces}
+use Rattle.record_text.specs.TextFaults.{IsTitleFault}
+use Rattle.record_text.specs.Text.{search_kind}
+use Rattle.record_text.proofs.KindLaws.{text_found, title_fault}
+use Rattle.record_text.proofs.TextLaws.{facts}
 use Rattle.record_text.proofs.record.Record.read_text.Goals as goal
 
-pub returns-in_err-row-clause-fault : goal.returns-in_err-row-clause-fault
-returns-in_err-row-clause-fault c =
+pub returns-in_err-rest-clause-fault : goal.returns-in_err-rest-clause-fault
+returns-in_err-rest-clause-fault c =
     let p = err_from_is_err_and c.from_residual.result c.from_residual.ensures.1 in
-    let e = c.in_err-row.ensures.fault in
-    let size : length c.args.text.now ≤ MAX_RECORD_BYTES = ltb-false _ _ (sym c.is_too_long.ensures ∙ c.if-is_too_long.false) in
-    rw (p.1, p.2) (λ known. inr (size, missing_fault [] c.args.text.now c.in_err-row.field-0.0 stands_first e.0 e.1))
-
-pub returns-then-ne-clause-fault : goal.returns-then-ne-clause-fault
-returns-then-ne-clause-fault c = λ known.
-    let size : length c.args.text.now ≤ MAX_RECORD_BYTES = ltb-false _ _ (sym c.is_too_long.ensures ∙ c.if-is_too_long.false) in
-    let other : c.in_ok-row.row.now ≢ codes "record 1" = search rules in
-    inr (size, form_fault [] c.args.text.now c.in_ok-row.row.now c.in_ok-row.rest.now _ stands_first (no_first c.in_ok-row.row.now other) c.in_ok-row.ensures.row c.form.ensures)
-
-pub new-requires : goal.new-requires
-new-requires c = record_from c.in_ok-claim.claim c.in_ok-lines.lines.items c.in_ok-claim.ensures.writable c.in_ok-lines.ensures.writable c.in_ok-lines.ensures.complete
+    let same : c.as_slice.result.now ≡ codes "record 1" = search rules in
+    rw (p.1, p.2) (λ known. title_fault facts c.args.text.now c.in_err-rest.field-0.0 (subst (λ (title : List ℕ). IsTitleFault title c.args.text.now c.in_err-rest.field-0.0) same c.in_err-rest.ensures.fault))
 
 pub returns-clause-found : goal.returns-clause-found
 returns-clause-found c =
-    let size : length c.args.text.now ≤ MAX_RECORD_BYTES = ltb-false _ _ (sym c.is_too_long.ensures ∙ c.if-is_too_long.false) in
-    let same : c.in_ok-row.row.now ≡ codes "record 1" = search rules in
-    rw c.new.ensures (text_found c.args.text.now c.in_ok-row.row.now c.in_ok-row.rest.now c.in_ok-claim.rest.now c.in_ok-claim.claim c.in_ok-lines.lines.items size c.in_ok-row.ensures.row same c.in_ok-claim.ensures.rows c.in_ok-lines.ensures.rows
-    (record_from c.in_ok-claim.claim c.in_ok-lines.lines.items c.in_ok-claim.ensures.writable c.in_ok-lines.ensures.writable c.in_ok-lines.ensures.complete))
+    let same : c.as_slice.result.now ≡ codes "record 1" = search rules in
+    let first = c.in_ok-rest.ensures.rows ∙ ap (λ (title : List ℕ). title ∷ line_pieces c.in_ok-rest.rest.now) same in
+    rw c.new.ensures
+    (text_found search_kind c.args.text.now c.in_ok-rest.rest.now c.in_ok-claim.rest.now c.in_ok-claim.claim c.in_ok-lines.lines.items c.in_ok-rest.ensures.size first c.in_ok-claim.ensures.rows c.in_ok-lines.ensures.rows c.in_ok-lines.ensures.record)
