@@ -73,3 +73,7 @@ returns-in_ok-solve-in-Solve-clause-said g c = λ text more told told_more.
       spells = c.in_ok-project-in-Solve.ensures.project.1 text told;
       has = c.in_ok-solve-in-Solve.ensures;
     })
+
+pub returns-in_ok-project-in-Verify-clause-cause : goal.returns-in_ok-project-in-Verify-clause-cause
+returns-in_ok-project-in-Verify-clause-cause g c =
+    MatchResult-weaker c.verified.result c.verified.ensures.cause (λ _ _. tt) (λ fault is. (is.0.1, is.1))
