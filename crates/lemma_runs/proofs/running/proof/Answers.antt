@@ -1,4 +1,4 @@
-use Rattle.std.proofs.Common.{◌≡◌, inl, inr}
+use Rattle.std.proofs.Common.{◌∙◌, ◌≡◌, inl, inr}
 use Rattle.std.proofs.lemmas.Result.{MatchResult-weaker, err_from_is_err_and}
 use Rattle.lemma_text.specs.Text.{lemma_kind}
 use Rattle.lemma_check.specs.Faults.{IsFirstFault}
