@@ -36,19 +36,6 @@ IsTrueBoundWith-low p pair rows c named none low = λ pairs m s stands.
 abbrev MOST : ℤ
 MOST = pos 9223372036854775807
 
--- a number that is at least the ceiling is not below it
-not_under : (ceiling : Option ℤ) (c : ℤ) → c <ℤ MOST → unwrap_or ceiling MOST ≤ℤ c → ¬ IfSome ceiling (λ limit. c <ℤ limit)
-not_under None c small over under = omega (arith, ints)
-not_under (Some limit) c small over under = let less : c <ℤ limit = under in omega (arith, ints)
-
--- the critical weight, where that is at least the ceiling
-pub critical_over : (p : Problem) (pairs : List Pair) (pair : Pair) (rows : Rows) (ceiling : Option ℤ) (c : ℤ) → IsProjectMatrix p pairs rows → NameActivities p (pair ∷ []) → ClosesNone (pair_arc p pair) rows →
-    c ≡ critical_weight (rows_over (pair_arc p pair) rows) → c <ℤ MOST → unwrap_or ceiling MOST ≤ℤ c → IsBoundUnder p rows pair ceiling c
-critical_over p pairs pair rows ceiling c m named none is small over = record {
-  low = λ bound of. subst (λ (z : ℤ). z ≤ℤ bound) (sym is) (of pairs (rows_over (pair_arc p pair) rows) m (matrix_more p pairs pair rows named none m)).critical;
-  exact = λ under. absurd (not_under ceiling c small over under);
-}
-
 -- an energy below the ceiling
 energy_less : (ceiling : Option ℤ) (n : ℕ) (c : ℤ) → n ≤ MAX_SHARE → pos n ≤ℤ c → IfSome ceiling (λ limit. c <ℤ limit) → n < unsigned_abs (unwrap_or ceiling MOST)
 energy_less None n c small high under = omega (arith, ints)

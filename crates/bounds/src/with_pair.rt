@@ -73,9 +73,6 @@ pub(crate) fn bound_over(
     let arc = project.pair_arc(pair);
     take_heads_with(matrix, arc, heads);
     let critical = heads[project.activity_count() - 1];
-    if critical >= ceiling {
-        return critical;
-    }
     take_tails_with(project, matrix, arc, tails);
     let energy = rooms.energy_under(project, heads, tails, ceiling.unsigned_abs());
     critical.max(energy as i64)

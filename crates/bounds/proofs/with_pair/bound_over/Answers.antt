@@ -18,7 +18,7 @@ use Rattle.bounds.specs.With.{IsBoundUnder}
 use Rattle.bounds.proofs.LoadLimits.{end_limit}
 use Rattle.bounds.proofs.Terms.{end_above}
 use Rattle.bounds.proofs.WithLaws.{ends_there, matrix_more, heads_are_ends, tails_are_ends, last_head}
-use Rattle.bounds.proofs.UnderCeiling.{critical_over, greater_under}
+use Rattle.bounds.proofs.UnderCeiling.{greater_under}
 use Rattle.bounds.proofs.with_pair.bound_over.Goals as goal
 
 pub take_heads_with-requires-clause-from_activity : goal.take_heads_with-requires-clause-from_activity
@@ -64,18 +64,6 @@ last p pairs pair rows arc heads n m named lives arc_is heads_are n_is =
       low = end_above (activity_count p) heads (n - 1) ends;
       high = end_limit (activity_count p) heads (n - 1) ends lt;
     }
-
-pub returns-then-critical-ceiling-clause-value : goal.returns-then-critical-ceiling-clause-value
-returns-then-critical-ceiling-clause-value c =
-    let x : ℤ = get_or c.take_heads_with.new.heads (c.activity_count-3.result - 1) (pos 0) in
-    let at : IsLast c.args.project.now c.args.pair c.args.matrix.now x = last c.args.project.now c.requires.matrix.pairs c.args.pair c.args.matrix.now c.pair_arc-arc.result c.take_heads_with.new.heads c.activity_count-3.result c.requires.matrix.matrix c.requires.named c.requires.lives c.pair_arc-arc.ensures.arc c.take_heads_with.ensures c.activity_count-3.ensures.value in
-    let low : pos 0 ≤ℤ x = at.low in
-    let high : unsigned_abs x ≤ MAX_END = at.high in
-    let fits : FitsSigned w64 x = omega (arith, ints) in
-    let limit_fits : FitsSigned w64 c.unwrap_or-ceiling.result = search rules in
-    let over : c.unwrap_or-ceiling.result ≤ℤ x = omega (arith, ints, rw (to_z-of_z w64 c.unwrap_or-ceiling.result limit_fits, to_z-of_z w64 x fits) at c.if-critical-ceiling.true) in
-    rw (to_z-of_z w64 x fits)
-    (critical_over c.args.project.now c.requires.matrix.pairs c.args.pair c.args.matrix.now c.args.ceiling x c.requires.matrix.matrix c.requires.named c.requires.lives at.is (omega (arith, ints)) (subst (λ (z : ℤ). z ≤ℤ x) c.unwrap_or-ceiling.ensures over))
 
 pub returns-clause-value : goal.returns-clause-value
 returns-clause-value c =
