@@ -1,4 +1,4 @@
-use Rattle.std.proofs.Common.{◌≡◌, sym, ap, ◌∙◌, subst, ℕ, ◌≤◌, ℤ, List, length, take}
+use Rattle.std.proofs.Common.{◌≡◌, rules, sym, ap, ◌∙◌, subst, ℕ, ◌≤◌, ℤ, List, length, take}
 use Rattle.std.specs.List.{All}
 use Rattle.bounds.specs.declared.task.Task.{Task}
 use Rattle.bounds.specs.declared.load.Load.{Load}
@@ -21,26 +21,23 @@ ordered heads tails tasks first second rising ranks read count loads e f g ranke
     let with : AreRankedLoads heads ranks tasks loads = subst (λ (rs : List ℕ). AreRankedLoads heads rs tasks loads) g (subst (λ (ts : List Task). AreRankedLoads heads read ts loads) f are) in
     record { of_tails = whole.of_tails; of_loads = ranked_loads heads tails tasks rising ranks count loads whole with }
 
-pub share_under-requires-clause-loads : goal.share_under-requires-clause-loads
-share_under-requires-clause-loads c =
+pub share_under-requires : goal.share_under-requires
+share_under-requires c =
     let rising : List ℕ = c.rank_tasks-count.new.rising in
     let ranks_read : c.as_slice-3.result.now ≡ c.rank_tasks-count.new.ranks = c.as_slice-3.ensures.value ∙ written_back c.self.inside.ranks.len c.rank_tasks-count.new.ranks c.self.inside.ranks.items c.self.inside.ranks.ok.0 (c.rank_tasks-count.auto.ranks ∙ ap length c.as_mut_slice-3.ensures.value) in
     let loads_read : c.as_slice-4.result.now ≡ c.take_loads.new.loads = c.as_slice-4.ensures.value ∙ written_back c.self.inside.loads.len c.take_loads.new.loads c.self.inside.loads.items c.self.inside.loads.ok.0 (c.take_loads.auto.loads ∙ ap length c.as_mut_slice-7.ensures.value) in
     let rising_read : c.as_slice-5.result.now ≡ c.rank_tasks-count.new.rising = c.as_slice-5.ensures.value ∙ written_back c.self.inside.rising.len c.rank_tasks-count.new.rising c.self.inside.rising.items c.self.inside.rising.ok.0 (c.rank_tasks-count.auto.rising ∙ ap length c.as_mut_slice-4.ensures.value) in
     let o = ordered c.args.heads.now c.args.tails.now c.args.self.now c.as_slice.result.now c.as_slice-2.result.now rising c.rank_tasks-count.new.ranks c.as_slice-3.result.now c.rank_tasks-count.result c.take_loads.new.loads
     (c.as_slice.ensures.value ∙ c.self.view_is) (c.as_slice-2.ensures.value ∙ c.self.view_is) ranks_read c.rank_tasks-count.ensures.ranked c.take_loads.ensures.loads in
-    rw (loads_read, rising_read) (loads_limited (length c.args.heads.now) c.args.heads.now c.args.tails.now (take c.rank_tasks-count.result c.rank_tasks-count.new.rising) c.args.self.now c.take_loads.new.loads c.requires.heads c.requires.tasks o.of_tails o.of_loads)
-
-pub share_under-requires-clause-tails : goal.share_under-requires-clause-tails
-share_under-requires-clause-tails c =
-    let rising : List ℕ = c.rank_tasks-count.new.rising in
-    let ranks_read : c.as_slice-3.result.now ≡ c.rank_tasks-count.new.ranks = c.as_slice-3.ensures.value ∙ written_back c.self.inside.ranks.len c.rank_tasks-count.new.ranks c.self.inside.ranks.items c.self.inside.ranks.ok.0 (c.rank_tasks-count.auto.ranks ∙ ap length c.as_mut_slice-3.ensures.value) in
-    let loads_read : c.as_slice-4.result.now ≡ c.take_loads.new.loads = c.as_slice-4.ensures.value ∙ written_back c.self.inside.loads.len c.take_loads.new.loads c.self.inside.loads.items c.self.inside.loads.ok.0 (c.take_loads.auto.loads ∙ ap length c.as_mut_slice-7.ensures.value) in
-    let rising_read : c.as_slice-5.result.now ≡ c.rank_tasks-count.new.rising = c.as_slice-5.ensures.value ∙ written_back c.self.inside.rising.len c.rank_tasks-count.new.rising c.self.inside.rising.items c.self.inside.rising.ok.0 (c.rank_tasks-count.auto.rising ∙ ap length c.as_mut_slice-4.ensures.value) in
-    let o = ordered c.args.heads.now c.args.tails.now c.args.self.now c.as_slice.result.now c.as_slice-2.result.now rising c.rank_tasks-count.new.ranks c.as_slice-3.result.now c.rank_tasks-count.result c.take_loads.new.loads
-    (c.as_slice.ensures.value ∙ c.self.view_is) (c.as_slice-2.ensures.value ∙ c.self.view_is) ranks_read c.rank_tasks-count.ensures.ranked c.take_loads.ensures.loads in
-    subst (λ (rs : List ℕ). All (λ b. b ≤ MAX_END) (take c.rank_tasks-count.result rs)) (sym rising_read)
-    (tails_limited (length c.args.heads.now) c.args.tails.now (take c.rank_tasks-count.result c.rank_tasks-count.new.rising) c.args.self.now c.requires.tails c.requires.tasks o.of_tails)
+    record {
+      count = search rules;
+      line = search rules;
+      rooms = search rules;
+      loads = rw (loads_read, rising_read) (loads_limited (length c.args.heads.now) c.args.heads.now c.args.tails.now (take c.rank_tasks-count.result rising) c.args.self.now c.take_loads.new.loads c.requires.heads c.requires.tasks o.of_tails o.of_loads);
+      capacity = search rules;
+      tails = subst (λ (rs : List ℕ). All (λ b. b ≤ MAX_END) (take c.rank_tasks-count.result rs)) (sym rising_read) (tails_limited (length c.args.heads.now) c.args.tails.now (take c.rank_tasks-count.result rising) c.args.self.now c.requires.tails c.requires.tasks o.of_tails);
+      up = rw rising_read o.of_tails.up;
+    }
 
 pub returns-clause-greatest : goal.returns-clause-greatest
 returns-clause-greatest c =
