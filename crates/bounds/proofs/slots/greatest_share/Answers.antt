@@ -49,28 +49,16 @@ overflow_sub-end c =
     own_small c.args.capacity c.args.tails.now c.args.loads.now c.take_line.new.line c.loop-load.load-index c.loop-load.rooms c.fill-last.new.rooms c.loop-load.filled c.loop-load.greatest
     (slice_index_or c.args.loads.now c.loop-load.load-index none) c.fill-last.result (step (goal.at.overflow_sub-end c).After-fill-last)
 
-more : (c : After-max-filled) →
+more : (c : After-max-filled) → IsStep c.args.capacity c.args.tails.now c.args.loads.now c.take_line.new.line c.loop-load.load-index c.loop-load.rooms c.fill-last.new.rooms c.loop-load.filled c.loop-load.greatest (slice_index_or c.args.loads.now c.loop-load.load-index none) c.fill-last.result →
     let x : Load = slice_index_or c.args.loads.now c.loop-load.load-index none in
     let filled : ℕ = c.max-filled.result in
     Filled c.args.capacity c.args.tails.now c.args.loads.now c.take_line.new.line (c.loop-load.load-index + 1) c.fill-last.new.rooms filled (max c.loop-load.greatest (c.args.capacity * x.head + filled))
-more c =
-    let i : ℕ = c.loop-load.load-index in
-    let capacity : ℕ = c.args.capacity in
-    let tails : List ℕ = c.args.tails.now in
-    let loads : List Load = c.args.loads.now in
-    let line : List ℕ = c.take_line.new.line in
-    let x : Load = slice_index_or c.args.loads.now i none in
-    let rooms : List ℕ = c.fill-last.new.rooms in
-    let last : ℕ = c.fill-last.result in
-    let lt : i < length c.args.loads.now = omega arith in
-    let on : AreOnLine capacity tails loads line = record { are = c.requires.loads; few = c.requires.capacity; low = c.requires.tails; rising = c.requires.rising; is = c.take_line.ensures } in
-    let next : IsNext capacity tails loads line i c.loop-load.rooms c.loop-load.filled c.loop-load.greatest x =
-    record { on = on; was = c.loop-load.invariant; inside = lt; at = get_or_default loads i none x lt; small = c.requires.loads.small i none lt } in
-    let s : IsStep capacity tails loads line i c.loop-load.rooms rooms c.loop-load.filled c.loop-load.greatest x last = record { next = next; fills = c.fill-last.ensures } in
-    let under = own_small capacity tails loads line i c.loop-load.rooms rooms c.loop-load.filled c.loop-load.greatest x last s in
-    let end : ℕ = get_or line (last + 1) 0 - get_or rooms last 0 in
+more c s =
+    let x : Load = slice_index_or c.args.loads.now c.loop-load.load-index none in
+    let end : ℕ = get_or c.take_line.new.line (c.fill-last.result + 1) 0 - get_or c.fill-last.new.rooms c.fill-last.result 0 in
     let filled_is : c.max-filled.result ≡ max c.loop-load.filled end = c.max-filled.ensures ∙ ord_max-max c.loop-load.filled end in
-    rw filled_is (filled_more capacity tails loads line i c.loop-load.rooms rooms c.loop-load.filled c.loop-load.greatest x last end s (omega arith))
+    let under = own_small c.args.capacity c.args.tails.now c.args.loads.now c.take_line.new.line c.loop-load.load-index c.loop-load.rooms c.fill-last.new.rooms c.loop-load.filled c.loop-load.greatest x c.fill-last.result s in
+    rw filled_is (filled_more c.args.capacity c.args.tails.now c.args.loads.now c.take_line.new.line c.loop-load.load-index c.loop-load.rooms c.fill-last.new.rooms c.loop-load.filled c.loop-load.greatest x c.fill-last.result end s (omega arith))
 
 pub overflow_add-capacity : goal.overflow_add-capacity
 overflow_add-capacity c =
@@ -79,7 +67,7 @@ overflow_add-capacity c =
     let lt : i < length c.args.loads.now = omega arith in
     let small : IsSmall c.args.tails.now x = c.requires.loads.small i none lt in
     let on : AreOnLine c.args.capacity c.args.tails.now c.args.loads.now c.take_line.new.line = record { are = c.requires.loads; few = c.requires.capacity; low = c.requires.tails; rising = c.requires.rising; is = c.take_line.ensures } in
-    let limit = filled_small c.args.capacity c.args.tails.now c.args.loads.now c.take_line.new.line (i + 1) c.fill-last.new.rooms c.max-filled.result (max c.loop-load.greatest (c.args.capacity * x.head + c.max-filled.result)) on (omega arith) (more (goal.at.overflow_add-capacity c).After-max-filled) in
+    let limit = filled_small c.args.capacity c.args.tails.now c.args.loads.now c.take_line.new.line (i + 1) c.fill-last.new.rooms c.max-filled.result (max c.loop-load.greatest (c.args.capacity * x.head + c.max-filled.result)) on (omega arith) (more (goal.at.overflow_add-capacity c).After-max-filled (step (goal.at.overflow_add-capacity c).After-fill-last)) in
     omega (arith, limit, product_small c.args.capacity x.head c.requires.capacity small.head_limit)
 
 pub loop-load-preserved : goal.loop-load-preserved
@@ -87,7 +75,7 @@ loop-load-preserved c =
     let x : Load = slice_index_or c.args.loads.now c.loop-load.load-index none in
     let value : ℕ = c.args.capacity * x.head + c.max-filled.result in
     let greatest_is : c.max-greatest.result ≡ max c.loop-load.greatest value = c.max-greatest.ensures ∙ ord_max-max c.loop-load.greatest value in
-    rw greatest_is (more (goal.at.loop-load-preserved c).After-max-filled)
+    rw greatest_is (more (goal.at.loop-load-preserved c).After-max-filled (step (goal.at.loop-load-preserved c).After-fill-last))
 
 pub returns-clause-greatest : goal.returns-clause-greatest
 returns-clause-greatest c =
