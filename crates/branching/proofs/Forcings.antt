@@ -137,8 +137,10 @@ some_of_rows P rows i d low some =
     (any_left P (pairs_before (get_or rows i d).activity (get_or rows i d).others.items) (pairs_of (drop (suc i) rows)) some))
 
 -- one of a row's pairs
-pub row_at : (p : Problem) (row : Incompatible) (i : ℕ) (d : ℕ) → i < length row.others.items → IsRowOf p row → AreIncompatible p (pair_of row.activity (get_or row.others.items i d))
-row_at p row i d low is = All-contains (AreIncompatible p) (pairs_before row.activity row.others.items) (pair_of row.activity (get_or row.others.items i d)) is.incompatible (contains_map (pair_of row.activity) row.others.items (get_or row.others.items i d) (Contains-get_or row.others.items i d low))
+pub row_at : (p : Problem) (row : Incompatible) (others : List ℕ) (i : ℕ) (d : ℕ) → others ≡ row.others.items → i < length others → IsRowOf p row → AreIncompatible p (pair_of row.activity (get_or others i d))
+row_at p row others i d same low is =
+    All-contains (AreIncompatible p) (pairs_before row.activity others) (pair_of row.activity (get_or others i d)) (rw same is.incompatible)
+    (contains_map (pair_of row.activity) others (get_or others i d) (Contains-get_or others i d low))
 
 -- the pairs of rows are incompatible
 pub rows_incompatible : (p : Problem) (rows : List Incompatible) → AreRowsOf p rows → AllIncompatible p (pairs_of rows)

@@ -31,7 +31,7 @@ HasRoomFor p c = IsSized (activity_count p) (resource_count p) c
 abbrev pub time_at : Count → ℕ → ℤ
 time_at c place = key_at c.times.items c.order.items place
 
--- the totals are the joint demands of the activities that are counted
+-- the times rise along the order, and the totals are the joint demands of the activities that are counted
 pub record IsCount (p : Problem) (c : Count) : Type 0 where
   pub limits : IsProject p
   pub sized : HasRoomFor p c
@@ -46,8 +46,8 @@ AddsDemands p activity old new =
     (k : ℕ) → k < resource_count p → slice_index new k ≡ slice_index old k + demand p k activity
 
 -- all activities are counted
-abbrev pub IsOver : Count → Type 0
-IsOver c = length c.order.items ≤ c.passed
+abbrev pub IsWhole : Count → Type 0
+IsWhole c = length c.order.items ≤ c.passed
 
 -- t is the time of the first activity that isn't counted
 pub record IsNextTime (c : Count) (t : ℤ) : Type 0 where

@@ -6,7 +6,7 @@ ghost use Rattle.network.specs.Problem.{activity_count, resource_count};
 ghost use Rattle.network.specs.Limits.{AreStarts};
 ghost use Rattle.std.specs.List.Sorted.{IsPermutation};
 ghost use Rattle.orders.specs.Orders.{HaveKeys, Rises};
-ghost use Rattle.profile.specs.Counts.{AddsDemands, AreEnds, HasRoomFor, IsCount, IsOver, IsNextTime, HasPassed, HasCome, IsSameOrder};
+ghost use Rattle.profile.specs.Counts.{AddsDemands, AreEnds, HasRoomFor, IsCount, IsWhole, IsNextTime, HasPassed, HasCome, IsSameOrder};
 
 use network::Project;
 use orders::{first_order, repair};
@@ -69,7 +69,7 @@ impl Count {
     /// The time of the first activity that isn't counted.
     pub(crate) fn next_time(&self) -> Option<i64>
         requires { HaveKeys self.now.times.items self.now.order.items }
-        ensures { MatchOption result (IsOver self.now) (IsNextTime self.now) }
+        ensures { MatchOption result (IsWhole self.now) (IsNextTime self.now) }
     {
         if self.passed >= self.order.len() {
             return None;

@@ -30,31 +30,14 @@ returns-in_default c =
     (λ j. no_way c.args.project.now c.args.matrix.now c.args.added (pair_of c.args.row.now.activity j) (none_over c.args.project.now c.args.matrix.now c.args.added (pair_of c.args.row.now.activity j) none)))
 
 pub get-requires-in-loop-after-clause-to_activity : goal.get-requires-in-loop-after-clause-to_activity
-get-requires-in-loop-after-clause-to_activity c =
-    let row : Incompatible = c.args.row.now in
-    let i : ℕ = c.loop-after.after-index in
-    let here : c.as_slice-after-items.result.now ≡ row.others.items = c.as_slice-after-items.ensures.value in
-    let low : i < length row.others.items = rw here at c.loop-after-test.true in
-    let apart : AreIncompatible c.args.project.now (pair_of row.activity (get_or row.others.items i 0)) = row_at c.args.project.now row i 0 low c.requires.row in
-    rw (c.requires.size, here) apart.second_named
+get-requires-in-loop-after-clause-to_activity c = rw c.requires.size (row_at c.args.project.now c.args.row.now c.as_slice-after-items.result.now c.loop-after.after-index 0 c.as_slice-after-items.ensures.value c.loop-after-test.true c.requires.row).second_named
 
 pub get-requires-in-Some-get-clause-to_activity : goal.get-requires-in-Some-get-clause-to_activity
-get-requires-in-Some-get-clause-to_activity c =
-    let row : Incompatible = c.args.row.now in
-    let i : ℕ = c.loop-after.after-index in
-    let here : c.as_slice-after-items.result.now ≡ row.others.items = c.as_slice-after-items.ensures.value in
-    let low : i < length row.others.items = rw here at c.loop-after-test.true in
-    let apart : AreIncompatible c.args.project.now (pair_of row.activity (get_or row.others.items i 0)) = row_at c.args.project.now row i 0 low c.requires.row in
-    rw (c.requires.size, here) apart.second_named
+get-requires-in-Some-get-clause-to_activity c = rw c.requires.size (row_at c.args.project.now c.args.row.now c.as_slice-after-items.result.now c.loop-after.after-index 0 c.as_slice-after-items.ensures.value c.loop-after-test.true c.requires.row).second_named
 
 pub is_forced_at-requires-clause-named : goal.is_forced_at-requires-clause-named
 is_forced_at-requires-clause-named c =
-    let row : Incompatible = c.args.row.now in
-    let i : ℕ = c.loop-after.after-index in
-    let here : c.as_slice-after-items.result.now ≡ row.others.items = c.as_slice-after-items.ensures.value in
-    let low : i < length row.others.items = rw here at c.loop-after-test.true in
-    let apart : AreIncompatible c.args.project.now (pair_of row.activity (get_or row.others.items i 0)) = row_at c.args.project.now row i 0 low c.requires.row in
-    rw here (both_named c.args.project.now (pair_of row.activity (get_or row.others.items i 0)) apart)
+    both_named c.args.project.now _ (row_at c.args.project.now c.args.row.now c.as_slice-after-items.result.now c.loop-after.after-index 0 c.as_slice-after-items.ensures.value c.loop-after-test.true c.requires.row)
 
 pub returns-then-is_forced_at : goal.returns-then-is_forced_at
 returns-then-is_forced_at c =
