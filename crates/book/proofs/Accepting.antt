@@ -6,13 +6,13 @@ use Rattle.std.specs.List.Sorted.{IsPermutation}
 use Rattle.std.proofs.Math.ListN.{set}
 use Rattle.network.specs.Schedule.{ScheduleOf, makespan}
 use Rattle.branching.specs.Subproblem.{Subproblem}
-use Rattle.branching.specs.Ceiling.{IsUnder, Reaches}
+use Rattle.branching.specs.Ceiling.{IsUnder, Reaches, is_below}
 use Rattle.branching.specs.Covered.{ceiling_of}
 use Rattle.branching.specs.Fair.{Expansion, IsFair}
 use Rattle.book.specs.State.{Named, BookState, in_hand, best_makespan}
 use Rattle.book.specs.Sound.{AreNamedBelow}
 use Rattle.book.specs.Offering.{Improves, IsShorterFound}
-use Rattle.trail.specs.Below.{is_below, kids_below}
+use Rattle.trail.specs.Below.{kids_below}
 use Rattle.book.specs.CheckingIn.{named_from, Accepts}
 use Rattle.book.specs.OpenNodes.{InsertsKids}
 use Rattle.trail.specs.Recording.{checked_in}

@@ -11,7 +11,7 @@ use Rattle.std.proofs.lemmas.List.Sorted.{IsPermutation-map, All-permutation, Co
 use Rattle.network.specs.Problem.{Problem}
 use Rattle.network.specs.Schedule.{ScheduleOf, makespan}
 use Rattle.branching.specs.Subproblem.{Subproblem}
-use Rattle.branching.specs.Ceiling.{IsBelow, IsUnder, Reaches}
+use Rattle.branching.specs.Ceiling.{IsBelow, IsUnder, Reaches, is_below, IsInTime}
 use Rattle.branching.specs.Covered.{IsNodeOf, IsCovered, IsScheduleFor, ceiling_of}
 use Rattle.branching.specs.Fair.{Expansion, IsFair, IsShorterThan}
 use Rattle.branching.specs.Covered.{IsShorterOf}
@@ -20,7 +20,7 @@ use Rattle.branching.proofs.Covers.{covered_still, expansion_keeps}
 use Rattle.book.specs.State.{Named}
 use Rattle.book.specs.Sound.{nodes_of}
 use Rattle.book.specs.Offering.{Improves}
-use Rattle.trail.specs.Below.{is_below, kids_below, IsInTime}
+use Rattle.trail.specs.Below.{kids_below}
 use Rattle.book.specs.CheckingIn.{named_from}
 use Rattle.book.proofs.Lists.{all_left, all_right}
 use Rattle.book.proofs.Names.{nodes_of_named}

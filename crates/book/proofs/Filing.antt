@@ -12,7 +12,8 @@ use Rattle.std.proofs.lemmas.List.Sorted.{IsPermutation-refl, IsPermutation-tran
 use Rattle.branching.specs.Subproblem.{Subproblem}
 use Rattle.book.specs.State.{Named}
 use Rattle.book.specs.Sound.{AreNamedBelow}
-use Rattle.trail.specs.Below.{is_below, kids_below}
+use Rattle.branching.specs.Ceiling.{is_below}
+use Rattle.trail.specs.Below.{kids_below}
 use Rattle.book.specs.CheckingIn.{named_from}
 use Rattle.book.specs.OpenNodes.{open_node, IsFiled, IsNamedOtherThan, is_older, Inserts, InsertsKids}
 use Rattle.book.specs.declared.open_nodes.Rank.{Rank}

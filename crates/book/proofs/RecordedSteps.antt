@@ -13,12 +13,12 @@ use Rattle.network.specs.Problem.{Problem}
 use Rattle.network.specs.Schedule.{ScheduleOf, makespan}
 use Rattle.branching.specs.Subproblem.{Subproblem}
 use Rattle.branching.specs.Covered.{IsNodeOf, ceiling_of}
-use Rattle.branching.specs.Ceiling.{Reaches}
+use Rattle.branching.specs.Ceiling.{Reaches, is_below, IsInTime}
 use Rattle.branching.specs.Fair.{Expansion, IsKidOf, IsReport}
 use Rattle.book.specs.State.{Named, BookState, in_hand, live, best_makespan}
 use Rattle.book.specs.Sound.{AreNamedOnce, nodes_of, IsSound}
 use Rattle.book.specs.Offering.{Improves}
-use Rattle.trail.specs.Below.{is_below, kids_below, IsInTime}
+use Rattle.trail.specs.Below.{kids_below}
 use Rattle.book.specs.CheckingIn.{named_from, MayCheckIn, Accepts}
 use Rattle.book.specs.OpenNodes.{IsNamedOtherThan}
 use Rattle.trail.specs.Trail.{Ending, not_ended, Entry, entry_at, path_to}

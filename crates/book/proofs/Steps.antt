@@ -8,14 +8,14 @@ use Rattle.std.proofs.lemmas.List.Elements.{All-tail, All-append, All-weaker}
 use Rattle.std.proofs.lemmas.List.Sorted.{IsPermutation-sym, IsPermutation-trans, IsPermutation-middle, IsPermutation-append_left, IsPermutation-append_right, All-permutation, length_permutation}
 use Rattle.network.specs.Schedule.{ScheduleOf}
 use Rattle.branching.specs.Subproblem.{Subproblem}
-use Rattle.branching.specs.Ceiling.{Reaches}
+use Rattle.branching.specs.Ceiling.{Reaches, is_below}
 use Rattle.branching.specs.Covered.{IsScheduleFor}
 use Rattle.branching.specs.Fair.{Expansion, IsFair, IsReport}
 use Rattle.book.specs.State.{Named, BookState, in_hand, live, best_makespan}
 use Rattle.book.specs.Sound.{AreNamedOnce, AreNamedBelow, nodes_of, IsSound}
 use Rattle.book.specs.Offering.{Improves}
 use Rattle.book.specs.Taking.{IsFull, HandsOut}
-use Rattle.trail.specs.Below.{is_below, kids_below}
+use Rattle.trail.specs.Below.{kids_below}
 use Rattle.book.specs.CheckingIn.{named_from, MayCheckIn, Accepts}
 use Rattle.book.specs.GivingBack.{ReturnsNode}
 use Rattle.book.specs.Views.{IsKept}

@@ -7,7 +7,8 @@ use Rattle.branching.specs.Fair.{Expansion}
 use Rattle.branching.specs.ReportView.{AreListsOf}
 use Rattle.branching.specs.declared.branches.Branches.{Branches}
 use Rattle.book.specs.State.{Named, node_named, Holds, BookState, in_hand, best_makespan}
-use Rattle.trail.specs.Below.{kids_below, IsInTime}
+use Rattle.branching.specs.Ceiling.{IsInTime}
+use Rattle.trail.specs.Below.{kids_below}
 use Rattle.trail.specs.Recording.{checked_in}
 use Rattle.book.specs.Offering.{Improves}
 use Rattle.book.specs.declared.answers.CheckedIn.{CheckedIn}

@@ -20,18 +20,18 @@ use crate::answers::{
 use crate::counts::Counts;
 use crate::hands::Hands;
 use crate::least::lesser;
-use crate::limits::{is_in_time, shorter_found};
+use crate::found::shorter_found;
 use crate::nodes_left::NodesLeft;
 use crate::open_nodes::OpenNodes;
 use crate::recording::{clear_open, open_kids};
-use branching::{Branches, Report, root};
+use branching::{Branches, Report, is_below, is_in_time, makespan_of, root};
 use longest_path::PathFault;
 use network::{Project, Schedule, SharedProject};
-use plain_search::{MAX_TAKES, makespan_of};
+use plain_search::MAX_TAKES;
 use std::alloc::{AllocError, Global};
 use std::marker::Model;
 use std::sync::Arc;
-use trail::{Trail, is_below};
+use trail::Trail;
 
 /// The book of a search. Its workers are numbered from 0. Its nodes have the names 0, 1, 2 and so on, in the order in
 /// which it opened them.

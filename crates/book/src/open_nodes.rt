@@ -11,13 +11,12 @@ ghost use Rattle.book.specs.Hands.{held_node};
 ghost use Rattle.book.specs.OpenNodes.{IsNamedOtherThan, Inserts, InsertsKids, is_older};
 
 use crate::hands::Held;
-use branching::Lean;
+use branching::{Lean, is_below};
 use std::alloc::{AllocError, Global};
 use std::cmp::Reverse;
 use std::collections::BTreeMap;
 use std::marker::Model;
 use std::sync::Arc;
-use trail::is_below;
 
 /// The place of an open node: the least bound first, among these the greatest name.
 #[derive(Clone, Copy, Debug, PartialEq, Eq, PartialOrd, Ord)]

@@ -1,6 +1,6 @@
 -- The steps of a search keep that its nodes cover what is shorter than its best.
 use Rattle.std.proofs.Common.{◌≡◌, sym, ◌∙◌, subst, List, [], ◌∷◌, ◌++◌, get_or, ◌⊎◌, ⊎_elim, arith, Option, Some, None}
-use Rattle.std.specs.Prelude.{ℤ, ◌≤ℤ◌, IfSome}
+use Rattle.std.specs.Prelude.{ℤ, ◌<ℤ◌, ◌≤ℤ◌, IfSome}
 use Rattle.std.specs.List.{All, Any, Contains}
 use Rattle.std.proofs.lemmas.Int.{ints}
 use Rattle.std.proofs.lemmas.List.Elements.{All-nil, All-cons, All-append, All-contains, All-weaker, Contains-append_left, Contains-append_right, Contains-push, Contains-get_or}
@@ -11,7 +11,7 @@ use Rattle.network.specs.Walk.{HasPositiveCycle}
 use Rattle.network.proofs.Schedules.{no_schedule_on_cycle}
 use Rattle.branching.specs.Subproblem.{Subproblem, NodeStandsFor}
 use Rattle.branching.specs.Fair.{Expansion, IsFair, IsShorterThan, IsFoundFor, IsKidOf}
-use Rattle.branching.specs.Ceiling.{IsBelow, IsUnder}
+use Rattle.branching.specs.Ceiling.{IsBelow, IsUnder, Reaches}
 use Rattle.branching.specs.Covered.{IsNodeOf, IsRootOf, IsScheduleFor, IsCovered, IsShorterOf, ceiling_of}
 use Rattle.branching.proofs.Lists.{here, any_cases, any_left, any_right}
 
@@ -94,3 +94,13 @@ root_covers p root is_root = record {
 -- where the rules close a walk of positive weight there is no schedule
 pub none_on_cycle : (p : Problem) → HasPositiveCycle (arcs_of p []) → HasNoSchedule p
 none_on_cycle p cycle s feasible = no_schedule_on_cycle p [] s cycle feasible.schedule (All-nil (Keeps p s))
+
+-- what is at least the ceiling is not below it
+pub reached_not_under : (ceiling : Option ℤ) (bound : ℤ) → Reaches ceiling bound → ¬ IsUnder ceiling bound
+reached_not_under None bound reached = absurd reached
+reached_not_under (Some c) bound reached = λ (under : bound <ℤ c). omega (arith, ints)
+
+-- nor is a schedule that lasts at least as long
+pub reached_over : (ceiling : Option ℤ) (bound : ℤ) (s : List ℤ) → Reaches ceiling bound → bound ≤ℤ makespan s → ¬ IsBelow ceiling s
+reached_over None bound s reached long = absurd reached
+reached_over (Some c) bound s reached long = λ (below : makespan s <ℤ c). omega (arith, ints)

@@ -1,19 +1,18 @@
 //! What becomes of a node with one pair more.
 
-ghost use Rattle.std.specs.Prelude.{◌≡◌, [], ◌∷◌, ◌++◌, ◌≤ℤ◌, ℤ, List, IfOk};
-ghost use Rattle.std.specs.Bool.{MatchBool, OnTrue, OnFalse};
+ghost use Rattle.std.specs.Prelude.{◌≡◌, [], ◌∷◌, ◌++◌, ◌≤ℤ◌, IfOk};
+ghost use Rattle.std.specs.Bool.{OnTrue, OnFalse};
 ghost use Rattle.network.specs.Problem.{NameActivities, pair_arc};
 ghost use Rattle.network.specs.ProjectMatrix.{IsProjectMatrix};
-ghost use Rattle.network.specs.Schedule.{makespan};
 ghost use Rattle.longest_path.specs.Insert.{ClosesNone, rows_over};
 ghost use Rattle.bounds.specs.Bound.{critical_weight};
 ghost use Rattle.bounds.specs.Workspace.{IsWorkspaceFor};
 ghost use Rattle.branching.specs.Subproblem.{IsTiedTo};
-ghost use Rattle.branching.specs.Ceiling.{IsBelow, IsUnder, Reaches};
 ghost use Rattle.branching.specs.Right.{IsDead};
 ghost use Rattle.branching.specs.Forcing.{IsForcedMatrix};
 ghost use Rattle.branching.specs.Fate.{IsBranchOf};
 
+use crate::ceiling::is_below;
 use crate::forcing::{Forcing, force, forces_some};
 use crate::lean::Lean;
 use bounds::Workspace;
@@ -29,18 +28,6 @@ pub(crate) enum Branch {
     Kid { forced: Vec<Pair>, bound: i64 },
     Dead(Vec<Pair>),
     Cut(Vec<Pair>),
-}
-
-/// Whether the bound is at least the ceiling.
-pub fn is_over(bound: i64, ceiling: Option<i64>) -> bool
-    ensures over { OnTrue result ((s : List ℤ) → bound ≤ℤ makespan s → ¬ IsBelow ceiling s) }
-    ensures reaches { OnTrue result (Reaches ceiling bound) }
-    ensures under { MatchBool result (¬ IsUnder ceiling bound) (IsUnder ceiling bound) }
-{
-    match ceiling {
-        Some(ceiling) => bound >= ceiling,
-        None => false,
-    }
 }
 
 /// Whether the pair closes a walk of positive weight, by one entry of the node's matrix.
@@ -87,7 +74,7 @@ fn bounded(
 {
     // The pair's arc is in the matrix, so that the bound with it is that of the matrix.
     let bound = bounds.bound_under(node.project(), matrix, first, ceiling);
-    if is_over(bound, ceiling) {
+    if !is_below(bound, ceiling) {
         return Branch::Cut(forced);
     }
     Branch::Kid { forced, bound }
@@ -165,7 +152,7 @@ pub(crate) fn branch_of(
     if is_dead_with(node, rows, pair) {
         return Ok(Branch::Dead(Vec::new(alloc)));
     }
-    if is_over(least_with(node, rows, pair), ceiling) {
+    if !is_below(least_with(node, rows, pair), ceiling) {
         return Ok(Branch::Cut(Vec::new(alloc)));
     }
     if node.pairs().get(0).is_none()
@@ -174,7 +161,7 @@ pub(crate) fn branch_of(
         return branch_with_forced(alloc, node, matrix, bounds, ceiling, pair);
     }
     let bound = bounds.bound_under(node.project(), rows, pair, ceiling);
-    if is_over(bound, ceiling) {
+    if !is_below(bound, ceiling) {
         return Ok(Branch::Cut(Vec::new(alloc)));
     }
     let forced = Vec::new(alloc);

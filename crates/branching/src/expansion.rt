@@ -9,7 +9,7 @@ ghost use Rattle.branching.specs.Subproblem.{IsNode, IsTiedTo};
 ghost use Rattle.branching.specs.Workspace.{HasRoomFor};
 ghost use Rattle.branching.specs.Fair.{IsReportOn, FindsNothingOver};
 
-use crate::branch::is_over;
+use crate::ceiling::is_below;
 use crate::branches::{Branches, branches_of};
 use crate::lean::Lean;
 use crate::node::Node;
@@ -90,7 +90,7 @@ pub(crate) fn expand_by(
     ensures report { IfOk result (IsReportOn (arc_value node.now) ceiling) }
     ensures over { IfOk result (FindsNothingOver (arc_value node.now) ceiling) }
 {
-    if is_over(node.bound(), ceiling) {
+    if !is_below(node.bound(), ceiling) {
         let node = Arc::try_clone(node)?;
         let fates = Vec::new(alloc);
         let kids = Vec::new(alloc);

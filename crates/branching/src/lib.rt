@@ -10,6 +10,7 @@
 mod base;
 mod branch;
 mod branches;
+mod ceiling;
 mod expansion;
 mod fate;
 mod forcing;
@@ -22,8 +23,8 @@ mod report;
 mod searcher;
 mod workspace;
 
-pub use branch::is_over;
 pub use branches::Branches;
+pub use ceiling::{is_below, is_in_time, makespan_of};
 pub use expansion::expand;
 pub use fate::Fate;
 pub use lean::Lean;

@@ -5,4 +5,4 @@ mod outcome;
 mod search;
 
 pub use outcome::Outcome;
-pub use search::{MAX_TAKES, makespan_of, search_alone};
+pub use search::{MAX_TAKES, search_alone};

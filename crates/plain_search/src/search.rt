@@ -8,7 +8,7 @@ ghost use Rattle.plain_search.specs.Takes.{PopsUnder, IsTake, IsOutcomeOf, Stops
 ghost use Rattle.plain_search.specs.Verdicts.{IsTrueOf, StopsBelowBest};
 
 use crate::outcome::Outcome;
-use branching::{Lean, Searcher, is_over, root_and_matrix};
+use branching::{Lean, Searcher, is_below, makespan_of, root_and_matrix};
 use longest_path::PathFault;
 use network::{Project, Schedule};
 use std::alloc::{AllocError, Global};
@@ -38,16 +38,6 @@ impl Model for Search {
     ghost invariant = { λ s. IsSoundState (state_of s) };
 }
 
-/// The ceiling that the best schedule gives: its makespan, in periods.
-pub fn makespan_of(best: &Option<Schedule>) -> Option<i64>
-    ensures { result ≡ ceiling_of best.now }
-{
-    match best {
-        Some(best) => Some(best.makespan()),
-        None => None,
-    }
-}
-
 /// The shorter of the best and what was found, the best where both are as long.
 fn shorter_of(best: Option<Schedule>, found: Option<Schedule>) -> Option<Schedule>
     ensures { IsShorterOf best found result }
@@ -71,7 +61,7 @@ fn next_node(ceiling: Option<i64>, stack: &mut Vec<Arc<Lean>>) -> Option<Arc<Lea
         (map arc_value stack.old.items) (option_map arc_value result) (map arc_value stack.new.items) }
 {
     while let Some(node) = stack.pop() {
-        if !is_over(node.bound(), ceiling) {
+        if is_below(node.bound(), ceiling) {
             return Some(node);
         }
     }

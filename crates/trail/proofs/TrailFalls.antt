@@ -7,7 +7,7 @@ use Rattle.network.specs.Problem.{Problem}
 use Rattle.network.specs.declared.lag.Pair.{Pair}
 use Rattle.branching.specs.Pairs.{ordered_pairs}
 use Rattle.branching.specs.Right.{IsCutUnder, IsSolvedUnder}
-use Rattle.trail.specs.Below.{IsInTime}
+use Rattle.branching.specs.Ceiling.{IsInTime}
 use Rattle.trail.specs.Trail.{PairFate, was_named, was_dead, was_not_opened, Ending, not_ended, was_cut, was_solved, was_split, Entry, entry_at, path_to}
 use Rattle.trail.specs.RightTrail.{IsRightFate, IsRightEnding, IsRightTrail}
 

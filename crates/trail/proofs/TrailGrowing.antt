@@ -9,11 +9,10 @@ use Rattle.network.specs.declared.lag.Pair.{Pair}
 use Rattle.branching.specs.Subproblem.{Subproblem}
 use Rattle.branching.specs.Pairs.{ordered_pairs}
 use Rattle.branching.specs.Right.{AllForced, IsDead, IsCutUnder}
-use Rattle.branching.specs.Ceiling.{Reaches}
+use Rattle.branching.specs.Ceiling.{Reaches, is_below, IsInTime}
 use Rattle.branching.specs.Fates.{FateOf, is_kid, is_dead, is_cut, IsKidBy, AreFates}
 use Rattle.branching.proofs.Together.{node_cut}
-use Rattle.trail.specs.Below.{is_below, kids_below}
-use Rattle.trail.specs.Below.{IsInTime}
+use Rattle.trail.specs.Below.{kids_below}
 use Rattle.trail.specs.Trail.{PairFate, was_named, was_dead, was_not_opened, Ending, not_ended, was_cut, was_solved, was_split, Entry, entry_at, no_entry, path_to}
 use Rattle.trail.specs.RightTrail.{IsNotOpenedUnder, IsRightFate, IsRightEnding}
 use Rattle.trail.specs.Recording.{kid_entry, opened_or_cut, fates_under}

@@ -6,10 +6,10 @@ use Rattle.network.specs.Schedule.{ScheduleOf, IsLeastSchedule, makespan}
 use Rattle.forbidden_sets.specs.MinimalSet.{MinimalSet}
 use Rattle.branching.specs.Subproblem.{IsLive}
 use Rattle.branching.specs.Pairs.{ordered_pairs}
-use Rattle.branching.specs.Ceiling.{Reaches}
+use Rattle.branching.specs.Ceiling.{Reaches, IsInTime}
 use Rattle.branching.specs.Fair.{Expansion, IsFoundFor, IsReport, IsSplitBy, IsUnsplit}
 use Rattle.branching.specs.Right.{IsRightSet, IsCutUnder, IsSolvedUnder}
-use Rattle.trail.specs.Below.{kids_below, IsInTime}
+use Rattle.trail.specs.Below.{kids_below}
 use Rattle.trail.specs.Trail.{PairFate, Entry, path_to}
 use Rattle.trail.specs.RightTrail.{IsRightEnding, has_ended}
 use Rattle.trail.specs.Recording.{kid_entry, fates_under, ending_by, ending_of}

@@ -6,7 +6,8 @@ use Rattle.forbidden_sets.specs.MinimalSet.{MinimalSet}
 use Rattle.branching.specs.Subproblem.{Subproblem}
 use Rattle.branching.specs.Fates.{FateOf, is_kid, is_dead, is_cut}
 use Rattle.branching.specs.Fair.{Expansion}
-use Rattle.trail.specs.Below.{is_below, kids_below}
+use Rattle.branching.specs.Ceiling.{is_below}
+use Rattle.trail.specs.Below.{kids_below}
 use Rattle.trail.specs.Trail.{PairFate, was_named, was_dead, was_not_opened, Ending, not_ended, was_cut, was_solved, was_split, Entry, TrailOf, entry_at}
 use Rattle.trail.specs.declared.trail.Origin.{Origin}
 

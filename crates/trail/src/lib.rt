@@ -4,8 +4,6 @@
 //! its reports in it. Once each entry has ended and is right, the trail is a whole tree, of which a record can be made.
 #![tactic(auto)]
 
-mod limit;
 mod trail;
 
-pub use limit::is_below;
 pub use trail::{KidFate, NodeEnding, Origin, Trail, TrailEntry};

@@ -8,8 +8,7 @@ ghost use Rattle.trail.specs.Trail.{no_entry};
 ghost use Rattle.trail.specs.TrailViews.{pair_fate, node_ending, trail_entry, trail_for, with_entries};
 ghost use Rattle.trail.specs.Recording.{ended_as, kid_entry, kid_fate, next_name, fates_under, ending_of, checked_in};
 
-use crate::limit::is_below;
-use branching::{Fate, Lean, PairList, Report};
+use branching::{Fate, Lean, PairList, Report, is_below};
 use network::{Pair, Project};
 use std::alloc::{AllocError, Global};
 use std::marker::Model;

@@ -30,8 +30,8 @@ bound_under-bound-requires-clause-lives c =
     let at : Contains pairs c.args.first = Contains-append_left (c.args.node.now.pairs ++ c.args.first ∷ []) c.args.forced.items c.args.first (Contains-push c.args.node.now.pairs c.args.first) in
     rw (c.deref.ensures ∙ c.project.ensures.project) (closes_none_again c.args.node.now.project pairs c.args.first c.args.matrix.now at c.requires.matrix.matrix)
 
-pub returns-then-is_over-clause-branch : goal.returns-then-is_over-clause-branch
-returns-then-is_over-clause-branch c =
+pub returns-then-not-is_below-clause-branch : goal.returns-then-not-is_below-clause-branch
+returns-then-not-is_below-clause-branch c =
     let p : Problem = c.args.node.now.project in
     let rows : Rows = c.args.matrix.now in
     let pairs : List Pair = (c.args.node.now.pairs ++ c.args.first ∷ []) ++ c.args.forced.items in
@@ -41,7 +41,7 @@ returns-then-is_over-clause-branch c =
     let of : IsBoundOf p rows has.0 = has.1 pairs rows c.requires.matrix.matrix (again p pairs c.args.first rows at c.requires.matrix.matrix) in
     let under : IsBoundUnder p rows c.args.first c.args.ceiling c.bound_under-bound.result = rw (c.deref.ensures ∙ c.project.ensures.project) at c.bound_under-bound.ensures.value in
     let low : c.bound_under-bound.result ≤ℤ has.0 = under.low has.0 has.1 in
-    let reaches : Reaches c.args.ceiling c.bound_under-bound.result = simp to_z-of_z at c.if-is_over.ensures.reaches in
+    let reaches : Reaches c.args.ceiling c.bound_under-bound.result = simp to_z-of_z at c.if-not-is_below.ensures.reached in
     cut_from c.args.node.now c.args.ceiling c.args.first c.args.forced.items rows has.0 c.bound_under-bound.result c.requires.matrix of low reaches
 
 pub returns-clause-branch : goal.returns-clause-branch
@@ -49,7 +49,7 @@ returns-clause-branch c =
     let pairs : List Pair = (c.args.node.now.pairs ++ c.args.first ∷ []) ++ c.args.forced.items in
     let at : Contains pairs c.args.first = Contains-append_left (c.args.node.now.pairs ++ c.args.first ∷ []) c.args.forced.items c.args.first (Contains-push c.args.node.now.pairs c.args.first) in
     let fits : SFits w64 c.bound_under-bound.result = search rules in
-    let under : IsUnder c.args.ceiling c.bound_under-bound.result = simp to_z-of_z at c.if-is_over.ensures.under in
+    let under : IsUnder c.args.ceiling c.bound_under-bound.result = simp to_z-of_z at c.if-not-is_below.ensures.below in
     let told : IsBoundUnder c.args.node.now.project c.args.matrix.now c.args.first c.args.ceiling c.bound_under-bound.result = rw (c.deref.ensures ∙ c.project.ensures.project) at c.bound_under-bound.ensures.value in
     let with_first : IsBoundWith c.args.node.now.project c.args.matrix.now c.args.first c.bound_under-bound.result = told.exact under in
     let of : IsBoundOf c.args.node.now.project c.args.matrix.now c.bound_under-bound.result = with_first pairs c.args.matrix.now c.requires.matrix.matrix (again c.args.node.now.project pairs c.args.first c.args.matrix.now at c.requires.matrix.matrix) in

@@ -8,6 +8,7 @@ use Rattle.std.specs.declared.alloc.AllocError.{AllocError}
 use Rattle.branching.specs.Ceiling.{IsUnder, Reaches}
 use Rattle.branching.specs.Fair.{Expansion}
 use Rattle.branching.proofs.Together.{report_cut}
+use Rattle.branching.proofs.Covers.{reached_over}
 use Rattle.branching.proofs.expansion.expand_by.Goals as goal
 
 -- at a node below the ceiling nothing is to be shown
@@ -21,10 +22,9 @@ new-requires c =
     let is : IsNode node = rw c.deref.ensures at c.bound.ensures.is_node in
     let bound_is : c.bound.result ≡ node.bound = c.bound.ensures.bound ∙ ap (λ (n : Subproblem). n.bound) c.deref.ensures in
     let fits : SFits w64 c.bound.result = search rules in
-    let over = simp to_z-of_z at c.if-is_over.ensures.over in
-    let reaches : Reaches c.args.ceiling c.bound.result = simp to_z-of_z at c.if-is_over.ensures.reaches in
+    let reaches : Reaches c.args.ceiling c.bound.result = simp to_z-of_z at c.if-not-is_below.ensures.reached in
     rw (c.new-fates.ensures.items, c.new-kids.ensures.items, c.in_ok-node.ensures)
-    (report_cut node c.args.ceiling is (rw bound_is at reaches) (λ s stands. over s (rw bound_is (is.true_bound s stands))))
+    (report_cut node c.args.ceiling is (rw bound_is at reaches) (λ s stands. reached_over c.args.ceiling c.bound.result s reaches (rw bound_is (is.true_bound s stands))))
 
 pub first-requires-clause-starts : goal.first-requires-clause-starts
 first-requires-clause-starts c =
@@ -42,12 +42,12 @@ pub returns-in-Some-clause-over : goal.returns-in-Some-clause-over
 returns-in-Some-clause-over c =
     let bound_is : c.bound.result ≡ (arc_value c.args.node.now).bound = c.bound.ensures.bound ∙ ap (λ (n : Subproblem). n.bound) c.deref.ensures in
     let fits : SFits w64 c.bound.result = search rules in
-    let under : IsUnder c.args.ceiling c.bound.result = simp to_z-of_z at c.if-is_over.ensures.under in
+    let under : IsUnder c.args.ceiling c.bound.result = simp to_z-of_z at c.if-not-is_below.ensures.below in
     not_over _ (rw bound_is at under)
 
 pub returns-in-None-clause-over : goal.returns-in-None-clause-over
 returns-in-None-clause-over c =
     let bound_is : c.bound.result ≡ (arc_value c.args.node.now).bound = c.bound.ensures.bound ∙ ap (λ (n : Subproblem). n.bound) c.deref.ensures in
     let fits : SFits w64 c.bound.result = search rules in
-    let under : IsUnder c.args.ceiling c.bound.result = simp to_z-of_z at c.if-is_over.ensures.under in
+    let under : IsUnder c.args.ceiling c.bound.result = simp to_z-of_z at c.if-not-is_below.ensures.below in
     not_over _ (rw bound_is at under)

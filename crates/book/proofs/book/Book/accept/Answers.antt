@@ -8,12 +8,13 @@ use Rattle.std.proofs.lemmas.Option.{slice_get_within}
 use Rattle.branching.specs.Fair.{Expansion, IsFair, IsReport}
 use Rattle.book.specs.State.{Named, BookState}
 use Rattle.book.specs.CheckingIn.{MayCheckIn, Accepts}
+use Rattle.book.specs.declared.answers.CheckedIn.{CheckedIn}
 use Rattle.book.specs.Offering.{IsShorterFound}
 use Rattle.book.specs.OpenNodes.{InsertsKids}
 use Rattle.trail.specs.Trail.{TrailOf}
 use Rattle.trail.specs.Recording.{checked_in}
 use Rattle.trail.specs.TrailViews.{with_entries}
-use Rattle.book.specs.Views.{state_of}
+use Rattle.book.specs.Views.{state_of, IsKept, KeepsBook}
 use Rattle.book.specs.declared.book.Book.TheInside.{Inside}
 use Rattle.book.proofs.Accepting.{not_improved, improved, accepts, older_than_next, names_last_opened}
 use Rattle.book.proofs.KeptTrail.{entries_in, entries_changed, project_kept, held_known}
@@ -51,60 +52,44 @@ same_left : (b : Inside) (best : Option ScheduleOf) (waiting : List Named) (hand
 same_left b best waiting hands others count trail e = λ i. left b best waiting (e i) count trail
 
 -- the report was accepted, and nothing shorter was found
-accepted_as_before : (b : Inside) (worker name : ℕ) (report : Expansion) (shorter limit : Option ℤ) (count : ℕ) (waiting : List Named) (hands : List (Option Named)) (trail : Option TrailOf) → limit ≡ ceiling_of b.best → IsShorterFound report.found limit shorter → is_some shorter ≡ false → InsertsKids b.opened (option_or shorter limit) report.kids count b.waiting waiting → hands ≡ set b.hands worker None → trail ≡ option_map (with_entries (checked_in (option_or shorter limit) name report)) b.trail → Accepts (state_of b) worker name report (record { opened = count; improved = false }) (left b b.best waiting hands count trail)
-accepted_as_before b worker name report shorter limit count waiting hands trail is none e inserts emptied noted =
-    let kept = not_improved b.best report.found shorter limit is none e in
-    accepts (state_of b) worker name report false (option_or shorter limit) count (left b b.best waiting hands count trail) kept.0 kept.1 inserts (ap entries_in noted ∙ entries_changed b.trail (checked_in (option_or shorter limit) name report)) (same_left b b.best waiting hands (set b.hands worker None) count trail emptied)
+accepted_as_before : (b : Inside) (worker name : ℕ) (report : Expansion) (shorter best limit : Option ℤ) (count : ℕ) (waiting : List Named) (hands : List (Option Named)) (trail : Option TrailOf) → best ≡ ceiling_of b.best → IsShorterFound report.found best shorter → limit ≡ option_or shorter best → is_some shorter ≡ false → InsertsKids b.opened limit report.kids count b.waiting waiting → hands ≡ set b.hands worker None → trail ≡ option_map (with_entries (checked_in limit name report)) b.trail → Accepts (state_of b) worker name report (record { opened = count; improved = false }) (left b b.best waiting hands count trail)
+accepted_as_before b worker name report shorter best limit count waiting hands trail is found under e inserts emptied noted =
+    let kept = not_improved b.best report.found shorter best is found e in
+    accepts (state_of b) worker name report false limit count (left b b.best waiting hands count trail) kept.0 (under ∙ kept.1) inserts (ap entries_in noted ∙ entries_changed b.trail (checked_in limit name report)) (same_left b b.best waiting hands (set b.hands worker None) count trail emptied)
 
 -- the report was accepted, and what was found is the best
-accepted_as_better : (b : Inside) (worker name : ℕ) (report : Expansion) (found : Option ScheduleOf) (shorter limit : Option ℤ) (count : ℕ) (waiting : List Named) (hands : List (Option Named)) (trail : Option TrailOf) → limit ≡ ceiling_of b.best → IsShorterFound report.found limit shorter → is_some shorter ≡ true → found ≡ report.found → InsertsKids b.opened (option_or shorter limit) report.kids count b.waiting waiting → hands ≡ set b.hands worker None → trail ≡ option_map (with_entries (checked_in (option_or shorter limit) name report)) b.trail → Accepts (state_of b) worker name report (record { opened = count; improved = true }) (left b found waiting hands count trail)
-accepted_as_better b worker name report found shorter limit count waiting hands trail is some e same inserts emptied noted =
-    let better = improved b.best report.found found shorter limit is some e same in
-    accepts (state_of b) worker name report true (option_or shorter limit) count (left b found waiting hands count trail) better.0 better.1 inserts (ap entries_in noted ∙ entries_changed b.trail (checked_in (option_or shorter limit) name report)) (same_left b found waiting hands (set b.hands worker None) count trail emptied)
+accepted_as_better : (b : Inside) (worker name : ℕ) (report : Expansion) (now : Option ScheduleOf) (shorter best limit : Option ℤ) (count : ℕ) (waiting : List Named) (hands : List (Option Named)) (trail : Option TrailOf) → best ≡ ceiling_of b.best → IsShorterFound report.found best shorter → limit ≡ option_or shorter best → is_some shorter ≡ true → now ≡ report.found → InsertsKids b.opened limit report.kids count b.waiting waiting → hands ≡ set b.hands worker None → trail ≡ option_map (with_entries (checked_in limit name report)) b.trail → Accepts (state_of b) worker name report (record { opened = count; improved = true }) (left b now waiting hands count trail)
+accepted_as_better b worker name report now shorter best limit count waiting hands trail is found under e same inserts emptied noted =
+    let better = improved b.best report.found now shorter best is found e same in
+    accepts (state_of b) worker name report true limit count (left b now waiting hands count trail) better.0 (under ∙ better.1) inserts (ap entries_in noted ∙ entries_changed b.trail (checked_in limit name report)) (same_left b now waiting hands (set b.hands worker None) count trail emptied)
 
-pub invariant_of-self-then-is_none : goal.invariant_of-self-then-is_none
-invariant_of-self-then-is_none c =
-    let may = may_check_in c.self.inside c.args.self.now c.args.worker c.args.name c.args.report c.self.view_is c.requires in
-    let told : IsReport c.args.report = c.into_parts-found.ensures.report in
-    let fair : IsFair c.args.report = told.fair in
-    let none : is_some c.shorter_found-shorter.result ≡ false = search rules in
-    let inserts : InsertsKids c.self.inside.opened c.or-limit.result c.args.report.kids c.in-Ok.opened c.self.inside.waiting c.open_kids.new.nodes = c.in-Ok.ensures.opened in
-    let noted : c.open_kids.new.trail ≡ option_map (with_entries (checked_in (option_or c.shorter_found-shorter.result c.makespan_of-best.result) c.args.name c.args.report)) c.self.inside.trail = subst (λ (l : Option ℤ). c.open_kids.new.trail ≡ option_map (with_entries (checked_in l c.args.name c.args.report)) c.self.inside.trail) c.or-limit.ensures (search rules) in
-    let limit : InsertsKids c.self.inside.opened (option_or c.shorter_found-shorter.result c.makespan_of-best.result) c.args.report.kids c.in-Ok.opened c.self.inside.waiting c.open_kids.new.nodes = subst (λ (l : Option ℤ). InsertsKids c.self.inside.opened l c.args.report.kids c.in-Ok.opened c.self.inside.waiting c.open_kids.new.nodes) c.or-limit.ensures inserts in
-    let done = accepted_as_before c.self.inside c.args.worker c.args.name c.args.report c.shorter_found-shorter.result c.makespan_of-best.result c.in-Ok.opened c.open_kids.new.nodes c.empty.new.self c.open_kids.new.trail c.makespan_of-best.ensures c.shorter_found-shorter.ensures none limit c.empty.ensures noted in
-    let kept = kept_accepted (state_of c.self.inside) c.args.worker c.args.name c.args.report _ _ told may done c.self.invariant.kept in
-    let project = subst (λ (t : Option TrailOf). IfSome t (λ (t : TrailOf). t.project ≡ c.self.inside.project)) (sym noted) (project_kept c.self.inside.project c.self.inside.trail (checked_in (option_or c.shorter_found-shorter.result c.makespan_of-best.result) c.args.name c.args.report) c.self.invariant.of_trail) in
-    record { kept = kept; of_trail = project }
+-- the book is kept
+kept_after : (b : Inside) (worker name : ℕ) (report : Expansion) (s : BookState) (done : CheckedIn) (limit : Option ℤ) (new : BookState) (trail : Option TrailOf) → state_of b ≡ s → MayCheckIn s worker name report → IsReport report → KeepsBook b → Accepts (state_of b) worker name report done new → trail ≡ option_map (with_entries (checked_in limit name report)) b.trail →
+    IsKept new × IfSome trail (λ (t : TrailOf). t.project ≡ b.project)
+kept_after b worker name report s done limit new trail is may told kept accepted noted = (
+  kept_accepted (state_of b) worker name report done new told (may_check_in b s worker name report is may) accepted kept.kept,
+  subst (λ (t : Option TrailOf). IfSome t (λ (t : TrailOf). t.project ≡ b.project)) (sym noted) (project_kept b.project b.trail (checked_in limit name report) kept.of_trail),
+)
 
 pub returns-then-is_none-clause-ok : goal.returns-then-is_none-clause-ok
 returns-then-is_none-clause-ok c =
-    let none : is_some c.shorter_found-shorter.result ≡ false = search rules in
-    let inserts : InsertsKids c.self.inside.opened c.or-limit.result c.args.report.kids c.in-Ok.opened c.self.inside.waiting c.open_kids.new.nodes = c.in-Ok.ensures.opened in
-    let noted : c.open_kids.new.trail ≡ option_map (with_entries (checked_in (option_or c.shorter_found-shorter.result c.makespan_of-best.result) c.args.name c.args.report)) c.self.inside.trail = subst (λ (l : Option ℤ). c.open_kids.new.trail ≡ option_map (with_entries (checked_in l c.args.name c.args.report)) c.self.inside.trail) c.or-limit.ensures (search rules) in
-    let limit : InsertsKids c.self.inside.opened (option_or c.shorter_found-shorter.result c.makespan_of-best.result) c.args.report.kids c.in-Ok.opened c.self.inside.waiting c.open_kids.new.nodes = subst (λ (l : Option ℤ). InsertsKids c.self.inside.opened l c.args.report.kids c.in-Ok.opened c.self.inside.waiting c.open_kids.new.nodes) c.or-limit.ensures inserts in
-    rw (← c.self.view_is) (accepted_as_before c.self.inside c.args.worker c.args.name c.args.report c.shorter_found-shorter.result c.makespan_of-best.result c.in-Ok.opened c.open_kids.new.nodes c.empty.new.self c.open_kids.new.trail c.makespan_of-best.ensures c.shorter_found-shorter.ensures none limit c.empty.ensures noted)
+    rw (← c.self.view_is) (accepted_as_before c.self.inside c.args.worker c.args.name c.args.report c.shorter_found-shorter.result c.makespan_of-best.result c.or-limit.result c.in-Ok.opened c.open_kids.new.nodes c.empty.new.self c.open_kids.new.trail c.makespan_of-best.ensures c.shorter_found-shorter.ensures c.or-limit.ensures (search rules) c.in-Ok.ensures.opened c.empty.ensures c.in-Ok.ensures.noted)
 
-pub invariant_of-self-2 : goal.invariant_of-self-2
-invariant_of-self-2 c =
-    let may = may_check_in c.self.inside c.args.self.now c.args.worker c.args.name c.args.report c.self.view_is c.requires in
-    let told : IsReport c.args.report = c.into_parts-found.ensures.report in
-    let fair : IsFair c.args.report = told.fair in
-    let some : is_some c.shorter_found-shorter.result ≡ true = search rules in
-    let inserts : InsertsKids c.self.inside.opened c.or-limit.result c.args.report.kids c.in-Ok.opened c.self.inside.waiting c.open_kids.new.nodes = c.in-Ok.ensures.opened in
-    let noted : c.open_kids.new.trail ≡ option_map (with_entries (checked_in (option_or c.shorter_found-shorter.result c.makespan_of-best.result) c.args.name c.args.report)) c.self.inside.trail = subst (λ (l : Option ℤ). c.open_kids.new.trail ≡ option_map (with_entries (checked_in l c.args.name c.args.report)) c.self.inside.trail) c.or-limit.ensures (search rules) in
-    let limit : InsertsKids c.self.inside.opened (option_or c.shorter_found-shorter.result c.makespan_of-best.result) c.args.report.kids c.in-Ok.opened c.self.inside.waiting c.open_kids.new.nodes = subst (λ (l : Option ℤ). InsertsKids c.self.inside.opened l c.args.report.kids c.in-Ok.opened c.self.inside.waiting c.open_kids.new.nodes) c.or-limit.ensures inserts in
-    let done = accepted_as_better c.self.inside c.args.worker c.args.name c.args.report c.into_parts-found.result.0 c.shorter_found-shorter.result c.makespan_of-best.result c.in-Ok.opened c.open_kids.new.nodes c.empty.new.self c.open_kids.new.trail c.makespan_of-best.ensures c.shorter_found-shorter.ensures some c.into_parts-found.ensures.found limit c.empty.ensures noted in
-    let kept = kept_accepted (state_of c.self.inside) c.args.worker c.args.name c.args.report _ _ told may done c.self.invariant.kept in
-    let project = subst (λ (t : Option TrailOf). IfSome t (λ (t : TrailOf). t.project ≡ c.self.inside.project)) (sym noted) (project_kept c.self.inside.project c.self.inside.trail (checked_in (option_or c.shorter_found-shorter.result c.makespan_of-best.result) c.args.name c.args.report) c.self.invariant.of_trail) in
-    record { kept = kept; of_trail = project }
+pub invariant_of-self-then-is_none : goal.invariant_of-self-then-is_none
+invariant_of-self-then-is_none c =
+    let done = accepted_as_before c.self.inside c.args.worker c.args.name c.args.report c.shorter_found-shorter.result c.makespan_of-best.result c.or-limit.result c.in-Ok.opened c.open_kids.new.nodes c.empty.new.self c.open_kids.new.trail c.makespan_of-best.ensures c.shorter_found-shorter.ensures c.or-limit.ensures (search rules) c.in-Ok.ensures.opened c.empty.ensures c.in-Ok.ensures.noted in
+    let after = kept_after c.self.inside c.args.worker c.args.name c.args.report c.args.self.now _ c.or-limit.result _ c.open_kids.new.trail c.self.view_is c.requires c.into_parts-found.ensures.report c.self.invariant done c.in-Ok.ensures.noted in
+    record { kept = after.0; of_trail = after.1 }
 
 pub returns-clause-ok : goal.returns-clause-ok
 returns-clause-ok c =
-    let some : is_some c.shorter_found-shorter.result ≡ true = search rules in
-    let inserts : InsertsKids c.self.inside.opened c.or-limit.result c.args.report.kids c.in-Ok.opened c.self.inside.waiting c.open_kids.new.nodes = c.in-Ok.ensures.opened in
-    let noted : c.open_kids.new.trail ≡ option_map (with_entries (checked_in (option_or c.shorter_found-shorter.result c.makespan_of-best.result) c.args.name c.args.report)) c.self.inside.trail = subst (λ (l : Option ℤ). c.open_kids.new.trail ≡ option_map (with_entries (checked_in l c.args.name c.args.report)) c.self.inside.trail) c.or-limit.ensures (search rules) in
-    let limit : InsertsKids c.self.inside.opened (option_or c.shorter_found-shorter.result c.makespan_of-best.result) c.args.report.kids c.in-Ok.opened c.self.inside.waiting c.open_kids.new.nodes = subst (λ (l : Option ℤ). InsertsKids c.self.inside.opened l c.args.report.kids c.in-Ok.opened c.self.inside.waiting c.open_kids.new.nodes) c.or-limit.ensures inserts in
-    rw (← c.self.view_is) (accepted_as_better c.self.inside c.args.worker c.args.name c.args.report c.into_parts-found.result.0 c.shorter_found-shorter.result c.makespan_of-best.result c.in-Ok.opened c.open_kids.new.nodes c.empty.new.self c.open_kids.new.trail c.makespan_of-best.ensures c.shorter_found-shorter.ensures some c.into_parts-found.ensures.found limit c.empty.ensures noted)
+    rw (← c.self.view_is) (accepted_as_better c.self.inside c.args.worker c.args.name c.args.report c.into_parts-found.result.0 c.shorter_found-shorter.result c.makespan_of-best.result c.or-limit.result c.in-Ok.opened c.open_kids.new.nodes c.empty.new.self c.open_kids.new.trail c.makespan_of-best.ensures c.shorter_found-shorter.ensures c.or-limit.ensures (search rules) c.into_parts-found.ensures.found c.in-Ok.ensures.opened c.empty.ensures c.in-Ok.ensures.noted)
+
+pub invariant_of-self-2 : goal.invariant_of-self-2
+invariant_of-self-2 c =
+    let done = accepted_as_better c.self.inside c.args.worker c.args.name c.args.report c.into_parts-found.result.0 c.shorter_found-shorter.result c.makespan_of-best.result c.or-limit.result c.in-Ok.opened c.open_kids.new.nodes c.empty.new.self c.open_kids.new.trail c.makespan_of-best.ensures c.shorter_found-shorter.ensures c.or-limit.ensures (search rules) c.into_parts-found.ensures.found c.in-Ok.ensures.opened c.empty.ensures c.in-Ok.ensures.noted in
+    let after = kept_after c.self.inside c.args.worker c.args.name c.args.report c.args.self.now _ c.or-limit.result _ c.open_kids.new.trail c.self.view_is c.requires c.into_parts-found.ensures.report c.self.invariant done c.in-Ok.ensures.noted in
+    record { kept = after.0; of_trail = after.1 }
 
 pub returns-then-is_none-clause-sound : goal.returns-then-is_none-clause-sound
 returns-then-is_none-clause-sound c = (invariant_of-self-then-is_none c).kept.sound

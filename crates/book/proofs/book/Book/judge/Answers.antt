@@ -2,7 +2,7 @@ use Rattle.std.proofs.Common.{◌≡◌, ◌≢◌, ℕ, ℤ, Option, Some, refl
 use Rattle.std.specs.Arc.{arc_value}
 use Rattle.branching.specs.Subproblem.{Subproblem}
 use Rattle.book.specs.State.{BookState, best_makespan}
-use Rattle.trail.specs.Below.{IsInTime}
+use Rattle.branching.specs.Ceiling.{IsInTime}
 use Rattle.book.specs.CheckingIn.{IsInHand}
 use Rattle.book.specs.Views.{state_of}
 use Rattle.book.specs.declared.book.Book.TheInside.{Inside}

@@ -2,7 +2,7 @@ use Rattle.std.proofs.Common.{◌≡◌, ◌<◌, ◌≤◌, ◌+◌, ◌-◌, �
 use Rattle.std.proofs.lemmas.List.{take_more, map-append, length-map, take_all}
 use Rattle.std.specs.Arc.{arc_value}
 use Rattle.branching.specs.Subproblem.{Subproblem}
-use Rattle.trail.specs.Below.{is_below}
+use Rattle.branching.specs.Ceiling.{is_below}
 use Rattle.book.specs.OpenNodes.{InsertsKids, Inserts}
 use Rattle.book.proofs.Lists.{filter_at_most}
 use Rattle.book.proofs.Filing.{KidsSoFar, so_far_none, so_far_skipped, so_far_inserted, all_inserted}
