@@ -4,7 +4,7 @@ use Rattle.network.specs.Walk.{entry}
 use Rattle.longest_path.specs.Insert.{arc_of, IsOver}
 use Rattle.longest_path.specs.Effect.{TakesArc}
 use Rattle.longest_path.proofs.Over.{room_kept}
-use Rattle.longest_path.proofs.matrix.Matrix.insert_saved.Goals as goal
+use Rattle.longest_path.proofs.matrix.Matrix.insert.Goals as goal
 
 pub invariant_of-self-2 : goal.invariant_of-self-2
 invariant_of-self-2 c =
