@@ -3,7 +3,7 @@ pub mod OrderedPairs
 pub mod Cover
 pub mod Nodes
 pub mod Paths
-pub mod Rebuilding
+pub mod Again
 pub mod Forced
 pub mod ForcedMatrices
 pub mod Rounds

@@ -3,8 +3,8 @@ use Rattle.std.proofs.Common.{◌≡◌, refl, sym, ◌∙◌, ap, ℕ, ◌+◌,
 use Rattle.std.proofs.lemmas.Int.{ints}
 use Rattle.std.specs.Prelude.{slice_get}
 use Rattle.std.proofs.Math.Seq.{take-append_seam, take-suc}
-use Rattle.std.proofs.lemmas.List.{length-take-le, take_all, take-append-le, take-append-drop, map-append}
-use Rattle.std.proofs.lemmas.List.Elements.{All-head, All-push, All-get_or, All-nil, All-cons, Contains-append_left}
+use Rattle.std.proofs.lemmas.List.{take_all, take-append-drop, map-append}
+use Rattle.std.proofs.lemmas.List.Elements.{All-head, All-push, Contains-append_left}
 use Rattle.std.proofs.lemmas.Option.{slice_get_within, slice_get_cases, get_or_from_slice_get}
 use Rattle.network.specs.declared.lag.Lag.{Lag}
 use Rattle.network.specs.declared.lag.Pair.{Pair}
@@ -55,20 +55,6 @@ went_on p pairs pair m new path named adds marks =
     let back : LeadBack p (pairs ++ pair ∷ []) (m.rows ∷ m.marks) = (omega arith, rw is_front path.matrix, rw is_front path.back) in
     record { matrix = matrix_more p pairs pair m.rows new.rows path.matrix named adds; back = rw marks back }
 
-pub length-front : (pairs : List Pair) → length (front pairs) ≡ length pairs - 1
-length-front pairs = length-take-le (length pairs - 1) pairs (omega arith)
-
-take_take : (i n : ℕ) (xs : List Pair) → i ≤ n → n ≤ length xs → take i (take n xs) ≡ take i xs
-take_take i n xs le low =
-    let long : length (take n xs) ≡ n = length-take-le n xs low in
-    sym (ap (λ (l : List Pair). take i l) (sym (take-append-drop n xs)) ∙ take-append-le i (take n xs) (drop n xs) (omega arith))
-
--- the front of a beginning is a beginning
-pub front_kept : (all pairs : List Pair) → pairs ≡ take (length pairs) all → length pairs ≤ length all → front pairs ≡ take (length (front pairs)) all
-front_kept all pairs is low =
-    let short : length (front pairs) ≡ length pairs - 1 = length-front pairs in
-    ap (λ (l : List Pair). take (length pairs - 1) l) is ∙ take_take (length pairs - 1) (length pairs) all (omega arith) low ∙ ap (λ n. take n all) (sym short)
-
 -- ---- going on along a list
 
 pub one_more : (all pairs : List Pair) (pair : Pair) → pairs ≡ take (length pairs) all → slice_get all (length pairs) ≡ Some pair → pairs ++ pair ∷ [] ≡ take (length pairs + 1) all
@@ -88,13 +74,6 @@ all_there all pairs is none = elim (slice_get_cases all (length pairs)).1 [
   | inl h ↦ let bad : None ≡ Some h.0 = sym none ∙ h.2 in cc
   | inr h ↦ let past : length all ≤ length pairs = h.0 in is ∙ take_all (length pairs) all past
 ]
-
-pub named_at : (p : Problem) (all : List Pair) (k : ℕ) (pair : Pair) → NameActivities p all → slice_get all k ≡ Some pair → NameActivities p (pair ∷ [])
-named_at p all k pair named here =
-    let low : k < length all = slice_get_within all k pair here in
-    let read : get_or all k pair ≡ pair = get_or_from_slice_get all k pair pair here in
-    let there : AreThere p (get_or all k pair) = All-get_or (AreThere p) all k pair low named in
-    All-cons (AreThere p) pair [] (rw read at there) (All-nil (AreThere p))
 
 -- ---- a beginning of the pairs of a live node is live
 

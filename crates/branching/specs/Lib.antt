@@ -1,4 +1,3 @@
-pub mod Last
 pub mod Subproblem
 pub mod Pairs
 pub mod Base

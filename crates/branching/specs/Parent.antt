@@ -1,10 +1,9 @@
 -- What kids have of a node.
-use Rattle.std.specs.Prelude.{◌≡◌, ℤ, ◌++◌}
+use Rattle.std.specs.Prelude.{◌≡◌, ℤ, List, ◌++◌}
 use Rattle.std.specs.Arc.{arc_value}
+use Rattle.network.specs.declared.lag.Pair.{Pair}
 use Rattle.branching.specs.Subproblem.{Subproblem}
-use Rattle.branching.specs.Last.{last_pairs}
-use Rattle.branching.specs.declared.pair_list.Last.{Last}
-use Rattle.branching.specs.declared.parent.Parent.{Parent}
+use Rattle.branching.specs.declared.lean.Parent.{Parent}
 
 -- its project and its pairs
 pub record IsParent (node : Subproblem) (parent : Parent) : Type 0 where
@@ -12,9 +11,9 @@ pub record IsParent (node : Subproblem) (parent : Parent) : Type 0 where
   pub pairs : parent.pairs.items ≡ node.pairs
 
 -- the node with these pairs after its parent's
-abbrev pub node_under : Parent → Last → ℤ → Subproblem
+abbrev pub node_under : Parent → List Pair → ℤ → Subproblem
 node_under parent last bound = record {
   project = (arc_value parent.base).project;
-  pairs = parent.pairs.items ++ last_pairs last;
+  pairs = parent.pairs.items ++ last;
   bound = bound;
 }

@@ -7,7 +7,7 @@ ghost use Rattle.network.specs.ProjectMatrix.{IsProjectMatrix};
 ghost use Rattle.rivals.specs.IncompatibleRows.{AreRowsOf};
 
 use longest_path::Matrix;
-use network::{Project, SharedProject};
+use network::Project;
 use rivals::{Incompatible, incompatible_activities};
 use std::alloc::{AllocError, Global};
 use std::marker::Model;
@@ -17,7 +17,7 @@ use std::sync::Arc;
 /// same time.
 #[derive(Drop, Debug)]
 pub(crate) struct Base {
-    project: SharedProject,
+    project: Arc<Project>,
     matrix: Matrix,
     incompatible: Vec<Incompatible>,
 }
@@ -46,7 +46,7 @@ impl Base {
     {
         let incompatible = incompatible_activities(alloc, &project)?;
         let base = Base {
-            project: SharedProject::new(alloc, project)?,
+            project,
             matrix,
             incompatible,
         };
@@ -57,13 +57,6 @@ impl Base {
     pub(crate) fn project(&self) -> &Arc<Project>
         ensures project { arc_value result.now ≡ self.now.project }
         ensures limits { IsProject self.now.project }
-    {
-        self.project.project()
-    }
-
-    /// The project, to be compared with others.
-    pub(crate) fn shared_project(&self) -> &SharedProject
-        ensures { result.now ≡ self.now.project }
     {
         &self.project
     }

@@ -8,8 +8,7 @@ ghost use Rattle.branching.specs.Fate.{AreBranches};
 
 use crate::branch::{Branch, branch_of};
 use crate::fate::Fate;
-use crate::lean::Lean;
-use crate::parent::parent_of;
+use crate::lean::{Lean, parent_of};
 use bounds::Workspace;
 use longest_path::MarkedMatrix;
 use network::Pair;

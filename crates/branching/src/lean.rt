@@ -1,31 +1,56 @@
 //! A node as it waits: its pairs and its bound, without a matrix.
 
-ghost use Rattle.std.specs.Prelude.{◌≡◌, ◌↔◌, IsTrue, ◌∷◌, IfOk};
+ghost use Rattle.std.specs.Prelude.{◌≡◌, ◌↔◌, ◌∷◌, IsTrue, IfOk, IfSome};
 ghost use Rattle.std.specs.Arc.{arc_value};
 ghost use Rattle.network.specs.Limits.{IsProject};
 ghost use Rattle.branching.specs.Subproblem.{IsNode, kid_of, root_node};
 ghost use Rattle.branching.specs.Parent.{IsParent, node_under};
-ghost use Rattle.branching.specs.Last.{last_pairs};
 
 use crate::base::Base;
-use crate::pair_list::{Last, PairList};
-use crate::parent::Parent;
-use network::{Pair, Project, SharedProject};
+use crate::pair_list::PairList;
+use network::{Pair, Project};
 use std::alloc::{AllocError, Global};
 use std::marker::Model;
 use std::sync::Arc;
 
-/// A pair and then those that it forced.
-fn last_of(alloc: Global, first: Pair, forced: Vec<Pair>) -> Result<Last, AllocError>
-    ensures { IfOk result (λ last. last_pairs last ≡ first ∷ forced.items) }
+/// What the kids of a node have of it: what all nodes of the search share, and the node's pairs.
+///
+/// So workers at different nodes count the owners of different parents. They do not all count at the one thing that all
+/// nodes share, which each of them reads all the time.
+#[derive(Drop, Debug)]
+pub(crate) struct Parent {
+    base: Arc<Base>,
+    pairs: Vec<Pair>,
+}
+
+/// What the kids of a node have of it. It is made if it isn't there yet.
+pub(crate) fn parent_of(
+    alloc: Global,
+    node: &Lean,
+    made: &mut Option<Arc<Parent>>,
+) -> Result<Arc<Parent>, AllocError>
+    requires { IfSome made.old (λ parent. IsParent node.now (arc_value parent)) }
+    ensures made { IfSome made.new (λ parent. IsParent node.now (arc_value parent)) }
+    ensures parent { IfOk result (λ parent. IsParent node.now (arc_value parent)) }
 {
-    if forced.is_empty() {
-        return Ok(Last::One([first]));
+    if let Some(parent) = made {
+        return Arc::try_clone(parent);
     }
+    let base = Arc::try_clone(node.base())?;
+    let pairs = node.pairs().to_vec(alloc)?;
+    let parent = Arc::new(alloc, Parent { base, pairs })?;
+    *made = Some(Arc::try_clone(&parent)?);
+    Ok(parent)
+}
+
+/// A pair and then those that it forced.
+fn last_of(alloc: Global, first: Pair, forced: Vec<Pair>) -> Result<Vec<Pair>, AllocError>
+    ensures { IfOk result (λ last. last.items ≡ first ∷ forced.items) }
+{
     let mut last = Vec::with_capacity(alloc, 1 + forced.len())?;
     last.push(first)?;
     last.extend_from_slice(forced.as_slice())?;
-    Ok(Last::Several(last))
+    Ok(last)
 }
 
 /// A node while it waits: a project, the pairs added to its rules, and a lower bound. It stands for the feasible
@@ -33,7 +58,8 @@ fn last_of(alloc: Global, first: Pair, forced: Vec<Pair>) -> Result<Last, AllocE
 #[derive(Drop, Debug)]
 pub struct Lean {
     parent: Arc<Parent>,
-    pairs: PairList,
+    /// The pairs after those of the parent.
+    last: Vec<Pair>,
     bound: i64,
 }
 
@@ -51,19 +77,18 @@ impl Model for Lean {
 
 impl Lean {
     /// The node with these pairs after its parent's, to be shared.
-    pub(crate) fn shared(
+    fn shared(
         alloc: Global,
         parent: Arc<Parent>,
-        last: Last,
+        last: Vec<Pair>,
         bound: i64,
     ) -> Result<Arc<Lean>, AllocError>
-        requires { IsNode (node_under (arc_value parent) last bound) }
-        ensures { IfOk result (λ node. arc_value node ≡ node_under (arc_value parent) last bound) }
+        requires { IsNode (node_under (arc_value parent) last.items bound) }
+        ensures { IfOk result (λ node. arc_value node ≡ node_under (arc_value parent) last.items bound) }
     {
-        let pairs = PairList::of(Arc::try_clone(&parent)?, last);
         let node = Lean {
             parent,
-            pairs,
+            last,
             bound,
         };
         Ok(Arc::new(alloc, node)?)
@@ -76,7 +101,7 @@ impl Lean {
     {
         let pairs = Vec::new(alloc);
         let parent = Arc::new(alloc, Parent { base, pairs })?;
-        Lean::shared(alloc, parent, Last::Several(Vec::new(alloc)), bound)
+        Lean::shared(alloc, parent, Vec::new(alloc), bound)
     }
 
     /// The project.
@@ -88,18 +113,18 @@ impl Lean {
     }
 
     /// Whether the node is one of this project.
-    pub fn is_of(&self, project: &SharedProject) -> bool
+    pub fn is_of(&self, project: &Project) -> bool
         ensures { IsTrue result ↔ (self.now.project ≡ project.now) }
     {
-        self.parent.base.shared_project().is_same(project)
+        self.project().is_same(project)
     }
 
     /// The pairs, in the order in which they were added.
-    pub fn pairs(&self) -> &PairList
-        ensures pairs { result.now ≡ self.now.pairs }
+    pub fn pairs(&self) -> PairList<'_>
+        ensures pairs { result ≡ self.now.pairs }
         ensures is_node { IsNode self.now }
     {
-        &self.pairs
+        PairList::of(self.parent.pairs.as_slice(), self.last.as_slice())
     }
 
     /// A lower bound of the makespans of the schedules that the node stands for, in periods.

@@ -2,9 +2,8 @@
 
 ghost use Rattle.std.specs.Prelude.{◌≡◌, [], IfOk, IfErr};
 ghost use Rattle.std.specs.Arc.{arc_value};
-ghost use Rattle.network.specs.Problem.{arcs_of, NameActivities};
+ghost use Rattle.network.specs.Problem.{arcs_of};
 ghost use Rattle.network.specs.ProjectMatrix.{IsProjectMatrix};
-ghost use Rattle.network.specs.Walk.{HasNoPositiveCycle};
 ghost use Rattle.longest_path.specs.Fault.{Explains};
 ghost use Rattle.branching.specs.Subproblem.{Subproblem, IsNode, IsTiedTo};
 ghost use Rattle.branching.specs.Covered.{IsRootOf};
@@ -12,7 +11,7 @@ ghost use Rattle.branching.specs.Covered.{IsRootOf};
 use crate::base::Base;
 use crate::lean::Lean;
 use longest_path::{Matrix, PathFault, longest};
-use network::{Pair, Project};
+use network::Project;
 use std::alloc::{AllocError, Global};
 use std::marker::Model;
 use std::sync::Arc;
@@ -91,33 +90,4 @@ pub fn root(alloc: Global, project: Arc<Project>) -> Result<Arc<Node>, PathFault
 {
     let (lean, matrix) = root_and_matrix(alloc, project)?;
     Ok(Node::shared(alloc, lean, matrix)?)
-}
-
-/// Adds the arcs of the pairs to the matrix of the project without pairs, the last pair first. Most of the earlier ones
-/// then change nothing, and cost one look.
-fn insert_pairs(matrix: &mut Matrix, project: &Project, pairs: &[Pair])
-    requires base { IsProjectMatrix project.now [] matrix.old }
-    requires named { NameActivities project.now pairs.now }
-    requires live { HasNoPositiveCycle (arcs_of project.now pairs.now) }
-    ensures { IsProjectMatrix project.now pairs.now matrix.new }
-{
-    let mut left = pairs.len();
-    while left > 0 {
-        left -= 1;
-        let arc = project.pair_arc(pairs[left]);
-        match matrix.insert(arc.from, arc.to, arc.weight) {
-            Ok(()) => {}
-            Err(_) => unreachable!(),
-        }
-    }
-}
-
-/// The node of the same project, pairs and bound, with its matrix.
-pub fn rebuild(alloc: Global, lean: &Arc<Lean>) -> Result<Arc<Node>, AllocError>
-    ensures { IfOk result (λ node. arc_value node ≡ arc_value lean.now) }
-{
-    let mut matrix = lean.base().matrix().try_copy(alloc)?;
-    let pairs = lean.pairs().to_vec(alloc)?;
-    insert_pairs(&mut matrix, lean.project(), &pairs);
-    Node::shared(alloc, Arc::try_clone(lean)?, matrix)
 }

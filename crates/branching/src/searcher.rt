@@ -17,7 +17,7 @@ use crate::pair_list::PairList;
 use crate::report::Report;
 use crate::workspace::Workspace;
 use longest_path::{MarkedMatrix, Matrix, PathFault};
-use network::{Pair, Project, SharedProject};
+use network::{Pair, Project};
 use std::alloc::{AllocError, Global};
 use std::marker::Model;
 use std::sync::Arc;
@@ -48,7 +48,7 @@ fn shared_count(left: &[Pair], right: &PairList) -> usize
 /// where the pairs of both part, and then inserts one pair after the other.
 #[derive(Drop, Debug)]
 pub struct Searcher {
-    project: SharedProject,
+    project: Arc<Project>,
     pairs: Vec<Pair>,
     /// With a mark for each pair.
     matrix: MarkedMatrix,
@@ -61,9 +61,11 @@ impl Model for Searcher {
 
     ghost Value = { Path };
 
-    ghost view = { λ s. record { project = s.project; pairs = s.pairs.items } };
+    ghost use Rattle.std.specs.Arc.{arc_value};
 
-    ghost invariant = { λ s. IsSearcher s.project s.pairs.items s.matrix s.workspace };
+    ghost view = { λ s. record { project = arc_value s.project; pairs = s.pairs.items } };
+
+    ghost invariant = { λ s. IsSearcher (arc_value s.project) s.pairs.items s.matrix s.workspace };
 }
 
 impl Searcher {
@@ -72,15 +74,7 @@ impl Searcher {
         requires { IsProjectMatrix (arc_value project) [] matrix }
         ensures { IfOk result (λ searcher. searcher ≡ record { project = arc_value project; pairs = [] }) }
     {
-        Searcher::shared(alloc, SharedProject::new(alloc, project)?, matrix)
-    }
-
-    /// The same of a project that is shared already.
-    fn shared(alloc: Global, project: SharedProject, matrix: Matrix) -> Result<Searcher, AllocError>
-        requires { IsProjectMatrix project [] matrix }
-        ensures { IfOk result (λ searcher. searcher ≡ record { project = project; pairs = [] }) }
-    {
-        let workspace = Workspace::new(alloc, project.project())?;
+        let workspace = Workspace::new(alloc, &project)?;
         Ok(Searcher {
             project,
             pairs: Vec::new(alloc),
@@ -95,14 +89,7 @@ impl Searcher {
     {
         let base = node.base();
         let matrix = base.matrix().try_copy(alloc)?;
-        Searcher::shared(alloc, base.shared_project().try_clone()?, matrix)
-    }
-
-    /// The project of the nodes that it can move to.
-    pub fn project(&self) -> &Arc<Project>
-        ensures { arc_value result.now ≡ self.now.project }
-    {
-        self.project.project()
+        Searcher::new(alloc, Arc::try_clone(base.project())?, matrix)
     }
 
     /// Whether it can move to this node, which is so where both are of the same project.
@@ -110,13 +97,6 @@ impl Searcher {
         ensures { IsTrue result ↔ (node.now.project ≡ self.now.project) }
     {
         node.is_of(&self.project)
-    }
-
-    /// The matrix of the project and the pairs of the node that the searcher is at.
-    pub fn matrix(&self) -> &Matrix
-        ensures { IsProjectMatrix self.now.project self.now.pairs result.now }
-    {
-        self.matrix.matrix()
     }
 
     /// Adds a pair. A fault leaves all as it was.
@@ -128,7 +108,7 @@ impl Searcher {
         ensures unchanged { OnErr result (self.new ≡ self.old) }
     {
         self.pairs.reserve(1)?;
-        let arc = self.project.project().pair_arc(pair);
+        let arc = self.project.pair_arc(pair);
         if let Err(fault) = self.matrix.insert_under_mark(arc) {
             return Err(fault);
         }
@@ -202,7 +182,7 @@ impl Searcher {
         ensures { IfOk result (λ node. arc_value node ≡ arc_value lean.now) }
     {
         let _is_node = lean.pairs();
-        let matrix = self.matrix().try_copy(alloc)?;
+        let matrix = self.matrix.matrix().try_copy(alloc)?;
         Node::shared(alloc, Arc::try_clone(lean)?, matrix)
     }
 
@@ -236,7 +216,16 @@ impl Searcher {
         ensures report { IfOk result (IsReportOn (arc_value node.now) ceiling) }
         ensures over { IfOk result (FindsNothingOver (arc_value node.now) ceiling) }
     {
-        self.move_to(node.pairs())?;
+        self.move_to(&node.pairs())?;
         self.expand_here(alloc, node, ceiling)
     }
+}
+
+/// The node of the same project, pairs and bound, with its matrix.
+pub fn rebuild(alloc: Global, lean: &Arc<Lean>) -> Result<Arc<Node>, AllocError>
+    ensures { IfOk result (λ node. arc_value node ≡ arc_value lean.now) }
+{
+    let mut searcher = Searcher::for_node(alloc, lean)?;
+    searcher.move_to(&lean.pairs())?;
+    searcher.node(alloc, lean)
 }

@@ -1,16 +1,12 @@
 -- The marks stay where they lead while rows are saved and put back.
-use Rattle.std.proofs.Common.{◌≡◌, refl, sym, ◌∙◌, ap, subst, ℕ, ◌≤◌, arith, reverse, List, [], ◌∷◌, ◌++◌, length, take, drop, length-append, ◌+◌}
-use Rattle.std.specs.Prelude.{Result, Ok, Err, OnErr, IfErr}
+use Rattle.std.proofs.Common.{◌≡◌, refl, sym, ◌∙◌, ap, subst, Bool, true, false, not, ℕ, ◌<◌, ◌≤◌, arith, reverse, List, [], ◌∷◌, ◌++◌, length, take, drop, length-append, ◌+◌}
+use Rattle.std.specs.Prelude.{◌==◌}
+use Rattle.std.proofs.lemmas.Bool.{eqb-true}
 use Rattle.std.proofs.Math.Seq.{drop-length}
 use Rattle.std.proofs.lemmas.List.{drop-append-le, take-append-drop, length-take-le, reverse-append}
 use Rattle.std.proofs.lemmas.List.Elements.{All-head, All-tail, All-same}
-use Rattle.network.specs.declared.lag.Lag.{Lag}
-use Rattle.longest_path.specs.declared.fault.PathFault.{PathFault}
-use Rattle.longest_path.specs.declared.fault.PathFault.TheVariants.{PositiveCycle}
-use Rattle.longest_path.specs.Fault.{IsInsertFault}
-use Rattle.longest_path.specs.Insert.{ClosesCycle}
 use Rattle.longest_path.specs.Matrix.{IsMatrix}
-use Rattle.longest_path.specs.Saved.{SavedPart, SavedParts, undone, LeadsBack}
+use Rattle.longest_path.specs.Saved.{SavedPart, SavedParts, undone, LeadsBack, IsKept}
 use Rattle.longest_path.specs.Marked.{marked_rows, AreNested, IsMarked}
 use Rattle.longest_path.proofs.Saving.{undone-append}
 use Rattle.network.specs.Walk.{Rows}
@@ -69,20 +65,30 @@ went_back rows new saved fewer count counts m width kept back size =
           (All-tail IsMatrix (undone (drop count saved.saves) rows) (marked_rows saved.saves rows counts) m.matrices);
     }
 
-pub still_there : (rows new : Rows) (saved more : SavedParts) (counts : List ℕ) → IsMarked rows saved counts → LeadsBack saved.saves more.saves rows new → marked_rows more.saves new counts ≡ marked_rows saved.saves rows counts
-still_there rows new saved more counts m b = marks_kept (length saved.saves) counts saved.saves more.saves rows new (omega arith) m.nested b
+-- nothing is kept where there is no mark
+pub no_counts : (empty : Bool) (n : ℕ) (counts : List ℕ) → empty ≡ (n == 0) → n ≡ length counts → not empty ≡ false → reverse counts ≡ []
+no_counts empty n [] e long full = refl
+no_counts true n (count ∷ counts) e long full = let none : n ≡ 0 = eqb-true n 0 (sym e) in absurd (omega arith)
+no_counts false n (count ∷ counts) e long full = cc
 
-pub still_marked : (rows new : Rows) (saved more : SavedParts) (counts : List ℕ) → IsMarked rows saved counts → IsMatrix new → more.width ≡ saved.width → length new ≡ length rows → LeadsBack saved.saves more.saves rows new → IsMarked new more counts
-still_marked rows new saved more counts m is width size b =
+pub some_counts : (empty : Bool) (n : ℕ) (counts : List ℕ) → empty ≡ (n == 0) → n ≡ length counts → not empty ≡ true → 0 < length counts
+some_counts empty n (count ∷ counts) e long some = omega arith
+some_counts empty n [] e long some = let full : empty ≡ true = rw long at e in let bad : not empty ≡ false = ap not full in cc
+
+pub still_there : (keeps : Bool) (rows new : Rows) (saved more : SavedParts) (counts : List ℕ) → (keeps ≡ false → counts ≡ []) → IsMarked rows saved counts → IsKept keeps saved more rows new → marked_rows more.saves new counts ≡ marked_rows saved.saves rows counts
+still_there true rows new saved more counts none m b = marks_kept (length saved.saves) counts saved.saves more.saves rows new (omega arith) m.nested b
+still_there false rows new saved more counts none m b = rw (none refl) refl
+
+still_nested : (keeps : Bool) (rows new : Rows) (saved more : SavedParts) (counts : List ℕ) → AreNested (length saved.saves) counts → IsKept keeps saved more rows new → AreNested (length more.saves) counts
+still_nested true rows new saved more counts n b =
     let long : length more.saves ≡ length saved.saves + length b.more = ap length b.added ∙ length-append saved.saves b.more in
-    record {
-      matrix = is;
-      width = width ∙ m.width ∙ sym size;
-      nested = nested_weaker (length saved.saves) (length more.saves) counts (omega arith) m.nested;
-      matrices = All-same IsMatrix (marked_rows more.saves new counts) (marked_rows saved.saves rows counts) (still_there rows new saved more counts m b) m.matrices;
-    }
+    nested_weaker (length saved.saves) (length more.saves) counts (omega arith) n
+still_nested false rows new saved more counts n b = rw b n
 
--- a positive cycle is the only fault of an insert that saves nothing
-pub insert_fault : {X : Type 0} (e : Lag) (rows : Rows) (r : Result X PathFault) → OnErr r (ClosesCycle e rows) → IfErr r (λ fault. fault ≡ PositiveCycle e.from) → IfErr r (IsInsertFault e rows)
-insert_fault e rows (Ok x) closes is = tt
-insert_fault e rows (Err fault) closes is = subst (IsInsertFault e rows) (sym is) (refl, closes)
+pub still_marked : (keeps : Bool) (rows new : Rows) (saved more : SavedParts) (counts : List ℕ) → (keeps ≡ false → counts ≡ []) → IsMarked rows saved counts → IsMatrix new → more.width ≡ saved.width → length new ≡ length rows → IsKept keeps saved more rows new → IsMarked new more counts
+still_marked keeps rows new saved more counts none m is width size b = record {
+  matrix = is;
+  width = width ∙ m.width ∙ sym size;
+  nested = still_nested keeps rows new saved more counts m.nested b;
+  matrices = All-same IsMatrix (marked_rows more.saves new counts) (marked_rows saved.saves rows counts) (still_there keeps rows new saved more counts none m b) m.matrices;
+}

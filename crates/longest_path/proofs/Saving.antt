@@ -1,5 +1,5 @@
 -- What saved parts are when one more is saved, and when the last is taken.
-use Rattle.std.proofs.Common.{◌≡◌, refl, sym, ◌∙◌, ap, ℕ, ◌+◌, ◌-◌, ◌<◌, ◌≤◌, arith, ℤ, None, Some, List, [], ◌∷◌, ◌++◌, length, take, drop, suc, length-append, append_assoc}
+use Rattle.std.proofs.Common.{◌≡◌, refl, sym, ◌∙◌, ap, Bool, true, false, ℕ, ◌+◌, ◌-◌, ◌<◌, ◌≤◌, arith, ℤ, None, Some, List, [], ◌∷◌, ◌++◌, length, take, drop, suc, length-append, append_assoc}
 use Rattle.std.proofs.Math.Seq.{take-append_seam, drop-append_seam}
 use Rattle.std.proofs.lemmas.List.{take-append-le, drop-append-le, take-append-drop, length-take-le, length-drop, take_all, append-nil, get_or-take, get_or-drop}
 use Rattle.std.proofs.lemmas.List.Elements.{All-push, All-pop}
@@ -8,7 +8,7 @@ use Rattle.longest_path.specs.Grid.{IsRow, IsRelaxed, nothing, weight_of, weight
 use Rattle.longest_path.proofs.PutBack.{IsPut, put_saved}
 use Rattle.longest_path.proofs.Cells.{placed_outside}
 use Rattle.longest_path.proofs.Reach.{greater_none}
-use Rattle.longest_path.specs.Saved.{SavedPart, SavedParts, saves_of, cell_count, IsPart, AreSaved, put_back, undone, LeadsBack}
+use Rattle.longest_path.specs.Saved.{SavedPart, SavedParts, saves_of, cell_count, IsPart, AreSaved, put_back, undone, LeadsBack, IsKept}
 use Rattle.longest_path.specs.declared.saves.Part.{Part}
 use Rattle.network.specs.Walk.{Rows, entry}
 
@@ -80,6 +80,14 @@ leads_on first second third old rows new p q = record {
   added = q.added ∙ ap (λ (l : List SavedPart). l ++ q.more) p.added ∙ append_assoc first p.more q.more;
   back = undone-append p.more q.more new ∙ ap (undone p.more) q.back ∙ p.back;
 }
+
+pub none_kept : (keeps : Bool) (saved : SavedParts) (rows : Rows) → IsKept keeps saved saved rows rows
+none_kept true saved rows = leads_nowhere saved.saves rows
+none_kept false saved rows = refl
+
+pub kept_on : (keeps : Bool) (first second third : SavedParts) (old rows new : Rows) → IsKept keeps first second old rows → IsKept keeps second third rows new → IsKept keeps first third old new
+kept_on true first second third old rows new p q = leads_on first.saves second.saves third.saves old rows new p q
+kept_on false first second third old rows new p q = q ∙ p
 
 -- some parts are put back already
 pub record IsPartlyUndone (count : ℕ) (old saves : List SavedPart) (rows new : Rows) : Type 0 where

@@ -1,6 +1,7 @@
 -- Parts of rows that were saved before they gained, and the way back.
-use Rattle.std.specs.Prelude.{◌≡◌, ◌<◌, ◌≤◌, ◌+◌, ℕ, ℤ, List, [], ◌∷◌, ◌++◌, length, take, drop, slice_index_or, slice_set}
+use Rattle.std.specs.Prelude.{◌≡◌, ◌<◌, ◌≤◌, ◌+◌, ℕ, ℤ, Bool, List, [], ◌∷◌, ◌++◌, length, take, drop, slice_index_or, slice_set}
 use Rattle.std.specs.List.{All}
+use Rattle.std.specs.Bool.{MatchBool}
 use Rattle.network.specs.declared.lag.Lag.{Lag}
 use Rattle.longest_path.specs.Grid.{written_at}
 use Rattle.longest_path.specs.Insert.{IsReady}
@@ -64,3 +65,7 @@ pub record LeadsBack (old_saves saves : List SavedPart) (old rows : Rows) : Type
   pub more : List SavedPart
   pub added : saves ≡ old_saves ++ more
   pub back : undone more rows ≡ old
+
+-- what was saved in between leads back to the old rows where it is kept, and else nothing was saved
+abbrev pub IsKept : Bool → SavedParts → SavedParts → Rows → Rows → Type 0
+IsKept keeps old_saved saved old rows = MatchBool keeps (LeadsBack old_saved.saves saved.saves old rows) (saved ≡ old_saved)

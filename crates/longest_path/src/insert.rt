@@ -1,6 +1,6 @@
 //! Takes the walks over a new arc into a matrix.
 
-ghost use Rattle.std.specs.Prelude.{◌≡◌, ◌<◌, ℕ, ℤ, pos, ◌+ℤ◌, ◌≤ℤ◌, length, Some, FitsSigned, IfSome};
+ghost use Rattle.std.specs.Prelude.{◌≡◌, ◌<◌, ℕ, ℤ, pos, ◌+ℤ◌, ◌≤ℤ◌, length, Some, FitsSigned, IfSome, IsTrue, OnOk, OnErr};
 ghost use Rattle.std.specs.Int.{w64};
 ghost use Rattle.std.specs.Bool.{MatchBool};
 ghost use Rattle.network.specs.Walk.{entry};
@@ -8,13 +8,16 @@ ghost use Rattle.longest_path.specs.Relax.{joined, Reaches, IfSomeAbove};
 ghost use Rattle.longest_path.specs.Rows.{IsSquare};
 ghost use Rattle.longest_path.specs.Grid.{placed_at};
 ghost use Rattle.longest_path.specs.Passes.{IsRowOver};
-ghost use Rattle.longest_path.specs.Insert.{weight_over, IsFirstOver, IsOver, IsReadyRow, IsReady};
+ghost use Rattle.longest_path.specs.Insert.{weight_over, IsFirstOver, IsOver, IsReadyRow};
+ghost use Rattle.longest_path.specs.Saved.{IsKept, MayGoOver};
 ghost use Rattle.network.specs.declared.limits.TheConstants.{MAX_LAG_WEIGHT, MAX_WALK_WEIGHT};
 ghost use Rattle.network.specs.Limits.{IsWithin};
 
 use crate::columns::gaining_columns;
 use crate::grid::Grid;
+use crate::saves::Saves;
 use network::Lag;
+use std::alloc::AllocError;
 
 /// The weight of one walk after another.
 pub(crate) fn sum(x: Option<i64>, y: Option<i64>) -> Option<i64>
@@ -65,28 +68,81 @@ pub(crate) fn first_over(grid: &Grid, a: usize, arc: Lag) -> Option<i64>
     }
 }
 
-/// Row `a` takes the way over an arc and on by `via`, from column `from` on.
-fn go_over_row(grid: &mut Grid, a: usize, arc: Lag, from: usize, via: &[i32])
-    requires { IsReadyRow a arc from via.now grid.old }
+/// Row `a` takes the way over an arc and on by `via`, from column `from` on. What it may change there is saved before,
+/// if it is kept.
+fn go_over_row(
+    grid: &mut Grid,
+    a: usize,
+    arc: Lag,
+    from: usize,
+    via: &[i32],
+    saves: &mut Saves,
+    keeps: bool,
+) -> Result<(), AllocError>
+    requires ready { IsReadyRow a arc from via.now grid.old }
+    requires width { saves.old.width ≡ length grid.old }
     ensures square { IsSquare (length grid.old) grid.new }
-    ensures over { IsRowOver a (weight_over arc grid.old a) (placed_at from via.now) grid.old grid.new }
+    ensures width { saves.new.width ≡ saves.old.width }
+    ensures over { OnOk result (IsRowOver a (weight_over arc grid.old a) (placed_at from via.now) grid.old grid.new) }
+    ensures kept { IsKept keeps saves.old saves.new grid.old grid.new }
+    ensures memory { OnErr result (IsTrue keeps) }
 {
     let Some(first) = first_over(grid, a, arc) else {
-        return;
+        return Ok(());
     };
+    if keeps {
+        saves.push(a, from, &grid.row(a)[from..from + via.len()])?;
+    }
     grid.relax_row(a, from, first, via);
+    Ok(())
 }
 
-/// Each row takes the way over an arc, where that is greater. `via` is room for a row.
-pub(crate) fn go_over(grid: &mut Grid, via: &mut [i32], arc: Lag)
-    requires room { length via.old ≡ length grid.old }
-    requires ready { IsReady arc grid.old }
+/// Each row takes the way over an arc, where that is greater. `via` is room for a row. Where there is no memory for
+/// what is saved, some rows may have gained.
+fn go_over(
+    grid: &mut Grid,
+    via: &mut [i32],
+    arc: Lag,
+    saves: &mut Saves,
+    keeps: bool,
+) -> Result<(), AllocError>
+    requires { MayGoOver arc grid.old via.old saves.old }
     ensures square { IsSquare (length grid.old) grid.new }
-    ensures over { (a b : ℕ) → IsOver arc grid.old a b (entry grid.new a b) }
+    ensures width { saves.new.width ≡ saves.old.width }
+    ensures over { OnOk result ((a b : ℕ) → IsOver arc grid.old a b (entry grid.new a b)) }
+    ensures kept { IsKept keeps saves.old saves.new grid.old grid.new }
+    ensures memory { OnErr result (IsTrue keeps) }
 {
     grid.copy_row(arc.to, via);
     let (from, end) = gaining_columns(grid, arc, via);
     for a in 0..grid.size() {
-        go_over_row(grid, a, arc, from, &via[from..end]);
+        go_over_row(grid, a, arc, from, &via[from..end], saves, keeps)?;
     }
+    Ok(())
+}
+
+/// As `go_over`, but where there is no memory for what is saved, nothing changes.
+pub(crate) fn go_over_or_stay(
+    grid: &mut Grid,
+    via: &mut [i32],
+    arc: Lag,
+    saves: &mut Saves,
+    keeps: bool,
+) -> Result<(), AllocError>
+    requires { MayGoOver arc grid.old via.old saves.old }
+    ensures size { length grid.new ≡ length grid.old }
+    ensures width { saves.new.width ≡ saves.old.width }
+    ensures square { OnOk result (IsSquare (length grid.old) grid.new) }
+    ensures over { OnOk result ((a b : ℕ) → IsOver arc grid.old a b (entry grid.new a b)) }
+    ensures kept { IsKept keeps saves.old saves.new grid.old grid.new }
+    ensures memory { OnErr result (IsTrue keeps) }
+    ensures same_grid { OnErr result (grid.new ≡ grid.old) }
+    ensures same_saves { OnErr result (saves.new ≡ saves.old) }
+{
+    let count = saves.len();
+    if go_over(grid, via, arc, saves, keeps).is_err() {
+        saves.undo(count, grid);
+        return Err(AllocError);
+    }
+    Ok(())
 }

@@ -1,7 +1,7 @@
 //! Greatest weights of walks between the activities of a project.
 //!
 //! [`longest`] makes the [`Matrix`] of a project and pairs by the recurrence of Floyd (1962) and Warshall (1962).
-//! [`Matrix::insert`] adds one arc to it. A [`MarkedMatrix`] goes back to what it was.
+//! [`MarkedMatrix::insert`] adds one arc to it. It goes back to its marks.
 #![tactic(auto)]
 
 mod columns;
@@ -11,7 +11,6 @@ mod insert;
 mod marked;
 mod matrix;
 mod recurrence;
-mod saved_insert;
 mod saves;
 mod with_arc;
 

@@ -1,6 +1,6 @@
 //! A matrix with marks to go back to.
 
-ghost use Rattle.std.specs.Prelude.{◌≡◌, ◌<◌, [], ◌∷◌, length, IfErr, OnOk, OnErr};
+ghost use Rattle.std.specs.Prelude.{◌≡◌, ◌<◌, [], ◌∷◌, length, Err, IfErr, OnOk, OnErr};
 ghost use Rattle.longest_path.specs.Insert.{arc_of, AddsArc};
 ghost use Rattle.longest_path.specs.Fault.{IsInsertFault};
 ghost use Rattle.longest_path.specs.Marked.{Marked};
@@ -86,8 +86,8 @@ impl MarkedMatrix {
         self.matrix.undo(count, &mut self.saves);
     }
 
-    /// Adds the arc of weight `w` from activity `i` to activity `j`, as [`Matrix::insert`] does. The
-    /// marks stay.
+    /// Adds the arc of weight `w` from activity `i` to activity `j`. An entry is then the greater of what it was and
+    /// the way over the arc. The marks stay.
     ///
     /// [`PathFault::PositiveCycle`] comes where the arc closes a walk of positive weight, and names `i`.
     /// [`PathFault::Memory`] comes only if there is a mark, and no memory for what may gain: without a mark nothing is
@@ -100,14 +100,11 @@ impl MarkedMatrix {
         ensures marks { self.new.marks ≡ self.old.marks }
         ensures ok { OnOk result (AddsArc (arc_of i j w) self.old.rows self.new.rows) }
         ensures fault { IfErr result (IsInsertFault (arc_of i j w) self.old.rows) }
+        ensures memory { result ≡ Err PathFault.Memory → 0 < length self.old.marks }
         ensures unchanged { OnErr result (self.new ≡ self.old) }
     {
-        if self.marks.is_empty() {
-            let inserted = self.matrix.insert(i, j, w);
-            prove!(self.matrix.activity_count() > i);
-            return inserted;
-        }
-        self.matrix.insert_saved(i, j, w, &mut self.saves)
+        let keeps = !self.marks.is_empty();
+        self.matrix.insert(i, j, w, &mut self.saves, keeps)
     }
 
     /// Makes a mark and adds the arc. A fault leaves all as it was.

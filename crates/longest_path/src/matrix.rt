@@ -1,17 +1,20 @@
 //! The greatest weights of walks between all activities.
 
-ghost use Rattle.std.specs.Prelude.{◌≡◌, ◌<◌, ◌≤◌, pos, length, Some, IfSome, IfOk, IfErr, OnOk, OnErr};
+ghost use Rattle.std.specs.Prelude.{◌≡◌, ◌<◌, ◌≤◌, pos, length, take, drop, Some, Err, IsTrue, IfSome, IfOk, IfErr, OnOk, OnErr};
 ghost use Rattle.network.specs.Walk.{entry, Rows};
 ghost use Rattle.std.specs.Bool.{MatchBool};
 ghost use Rattle.longest_path.specs.Insert.{arc_of, AddsArc, ClosesCycle};
 ghost use Rattle.longest_path.specs.Effect.{TakesArc};
+ghost use Rattle.longest_path.specs.Fault.{IsInsertFault};
+ghost use Rattle.longest_path.specs.Saved.{IsKept, undone};
 ghost use Rattle.network.specs.declared.limits.TheConstants.{MAX_ACTIVITIES, MAX_LAG_WEIGHT, MAX_WALK_WEIGHT};
 ghost use Rattle.network.specs.Limits.{IsWithin};
 ghost use Rattle.longest_path.specs.Matrix.{IsMatrix};
 
 use crate::fault::PathFault;
 use crate::grid::Grid;
-use crate::insert::{go_over, is_positive, sum};
+use crate::insert::{go_over_or_stay, is_positive, sum};
+use crate::saves::Saves;
 use network::Lag;
 use std::alloc::{AllocError, Global};
 use std::marker::Model;
@@ -77,20 +80,29 @@ impl Matrix {
         is_positive(sum(self.grid.get(arc.to, arc.from), Some(arc.weight)))
     }
 
-    /// Adds the arc of weight `w` from activity `i` to activity `j`. An entry is then the greater of what it was and
-    /// the way over the arc.
-    ///
-    /// [`PathFault::PositiveCycle`] comes where the arc closes a walk of positive weight, and names
-    /// `i`. It is the only fault, and leaves the matrix as it was.
-    pub fn insert(&mut self, i: usize, j: usize, w: i64) -> Result<(), PathFault>
+    /// As [`MarkedMatrix::insert`](crate::MarkedMatrix::insert), and saves what may gain of each row that gains, if it
+    /// is kept. A fault leaves the matrix and the saves as they were.
+    pub(crate) fn insert(
+        &mut self,
+        i: usize,
+        j: usize,
+        w: i64,
+        saves: &mut Saves,
+        keeps: bool,
+    ) -> Result<(), PathFault>
         requires from_activity { i < length self.old }
         requires to_activity { j < length self.old }
         requires limit { IsWithin MAX_LAG_WEIGHT w }
+        requires width { saves.old.width ≡ length self.old }
         ensures size { length self.new ≡ length self.old }
+        ensures law { IsMatrix self.new }
+        ensures width { saves.new.width ≡ saves.old.width }
         ensures ok { OnOk result (AddsArc (arc_of i j w) self.old self.new) }
-        ensures cycle { OnErr result (ClosesCycle (arc_of i j w) self.old) }
-        ensures fault { IfErr result (λ fault. fault ≡ PathFault.PositiveCycle i) }
+        ensures fault { IfErr result (IsInsertFault (arc_of i j w) self.old) }
+        ensures memory { result ≡ Err PathFault.Memory → IsTrue keeps }
+        ensures kept { IsKept keeps saves.old saves.new self.old self.new }
         ensures unchanged { OnErr result (self.new ≡ self.old) }
+        ensures same_saves { OnErr result (saves.new ≡ saves.old) }
     {
         let arc = Lag {
             from: i,
@@ -100,7 +112,20 @@ impl Matrix {
         if self.closes_cycle(arc) {
             return Err(PathFault::PositiveCycle { at: i });
         }
-        go_over(&mut self.grid, self.via.as_mut_slice(), arc);
+        go_over_or_stay(&mut self.grid, self.via.as_mut_slice(), arc, saves, keeps)?;
         Ok(())
+    }
+
+    /// Puts the parts of rows back that were saved after the first `count`.
+    pub(crate) fn undo(&mut self, count: usize, saves: &mut Saves)
+        requires count { count ≤ length saves.old.saves }
+        requires width { saves.old.width ≡ length self.old }
+        requires law { IsMatrix (undone (drop count saves.old.saves) self.old) }
+        ensures size { length self.new ≡ length self.old }
+        ensures width { saves.new.width ≡ saves.old.width }
+        ensures kept { saves.new.saves ≡ take count saves.old.saves }
+        ensures back { self.new ≡ undone (drop count saves.old.saves) self.old }
+    {
+        saves.undo(count, &mut self.grid);
     }
 }

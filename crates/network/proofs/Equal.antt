@@ -28,13 +28,10 @@ lists_same E h (x ∷ xs) (y ∷ ys) e =
     let others : xs ≡ ys = lists_same E h xs ys both.1 in
     cc
 
-pub numbers_eq-true : (xs ys : List ℤ) → pointwise int_eq xs ys ≡ true → xs ≡ ys
-numbers_eq-true = lists_same int_eq int_eq-true
-
-abbrev pub lag : ℕ → ℕ → ℤ → Lag
+abbrev lag : ℕ → ℕ → ℤ → Lag
 lag f u w = record { from = f; to = u; weight = w }
 
-abbrev pub problem : List ℤ → List (List ℤ) → List ℤ → List Lag → Problem
+abbrev problem : List ℤ → List (List ℤ) → List ℤ → List Lag → Problem
 problem d r c l = record { durations = d; demands = r; capacities = c; lags = l }
 
 lag_same : (a b : Lag) → lag_eq a b ≡ true → a ≡ b

@@ -5,6 +5,5 @@ pub mod Schedules
 pub mod FaultLaws
 pub mod Rows
 pub mod Equal
-pub mod SameNumbers
 pub mod Running
 pub mod Worked

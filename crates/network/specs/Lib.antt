@@ -8,5 +8,4 @@ pub mod Forbidden
 pub mod Parts
 pub mod Faults
 pub mod Equality
-pub mod Numbers
 pub mod Pairs

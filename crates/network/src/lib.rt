@@ -9,11 +9,9 @@ mod equality;
 mod faults;
 mod lag;
 mod limits;
-mod numbers;
 mod parts;
 mod project;
 mod schedule;
-mod shared_project;
 
 pub use lag::{Lag, Pair};
 pub use limits::{
@@ -22,4 +20,3 @@ pub use limits::{
 pub use parts::{Parts, ProjectFault, Quantity};
 pub use project::Project;
 pub use schedule::Schedule;
-pub use shared_project::SharedProject;

@@ -1,16 +1,14 @@
 //! A project within the limits.
 
-ghost use Rattle.std.specs.Prelude.{◌≡◌, ◌<◌, ◌≤ℤ◌, pos, length, slice_index_or, [], ◌∷◌, IfOk, IfErr, OnErr, Some};
+ghost use Rattle.std.specs.Prelude.{◌≡◌, ◌↔◌, ◌<◌, ◌≤ℤ◌, pos, length, slice_index_or, [], ◌∷◌, IsTrue, IfOk, IfErr, OnErr, Some};
 ghost use Rattle.network.specs.Problem.{activity_count, resource_count, duration, demand, capacity, pair_arc, arcs_of, NameActivities};
 ghost use Rattle.network.specs.declared.limits.TheConstants.{MAX_AMOUNT};
 ghost use Rattle.network.specs.Limits.{IsAmount, IsLag, IsProject};
-ghost use Rattle.network.specs.Numbers.{numbers_of};
 
 use crate::arcs::{push_end_arcs, push_pair_arcs, push_start_arcs};
 use crate::equality::parts_equal;
 use crate::faults::check;
 use crate::lag::{Lag, Pair};
-use crate::numbers::numbers;
 use crate::parts::{Parts, ProjectFault};
 use std::alloc::{AllocError, Global};
 use std::marker::Model;
@@ -161,12 +159,11 @@ impl Project {
         Ok(arcs)
     }
 
-    /// All numbers of the project in one list.
-    pub(crate) fn numbers(&self, alloc: Global) -> Result<Vec<i64>, AllocError>
-        ensures value { IfOk result (λ numbers. numbers.items ≡ numbers_of self.now) }
-        ensures limits { IsProject self.now }
+    /// Whether the projects are the same, by value.
+    pub fn is_same(&self, other: &Project) -> bool
+        ensures { IsTrue result ↔ (self.now ≡ other.now) }
     {
-        numbers(alloc, &self.parts)
+        self == other
     }
 }
 

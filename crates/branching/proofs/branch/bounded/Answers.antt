@@ -12,7 +12,7 @@ use Rattle.bounds.proofs.UnderCeiling.{IsBoundWith-exists}
 use Rattle.branching.specs.Subproblem.{Subproblem, kid_of}
 use Rattle.branching.specs.Ceiling.{IsUnder, Reaches}
 use Rattle.branching.proofs.ForcedMatrices.{cut_from, kid_at}
-use Rattle.branching.proofs.Rebuilding.{again, closes_none_again}
+use Rattle.branching.proofs.Again.{again, closes_none_again}
 use Rattle.branching.proofs.branch.bounded.Goals as goal
 
 pub bound_under-bound-requires-clause-workspace : goal.bound_under-bound-requires-clause-workspace

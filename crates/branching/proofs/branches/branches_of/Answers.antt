@@ -5,7 +5,7 @@ use Rattle.std.specs.Arc.{arc_value}
 use Rattle.std.proofs.lemmas.List.{map-append, take_more}
 use Rattle.network.specs.declared.lag.Pair.{Pair}
 use Rattle.branching.specs.Fate.{fate_value}
-use Rattle.branching.proofs.Rebuilding.{named_one}
+use Rattle.branching.proofs.Again.{named_one}
 use Rattle.branching.proofs.Fates.{fate_kid, fate_dead, fate_cut}
 use Rattle.branching.proofs.branches.branches_of.Goals as goal
 use Rattle.branching.proofs.branches.branches_of.Goals.{in-Kid+in_ok-parent-in-Kid+in_ok-with_pairs-in-Kid+in_ok-push-in-Kid, in-Dead, in-Cut}
