@@ -14,7 +14,7 @@ use Rattle.network.specs.Limits.{IsBetween}
 use Rattle.network.specs.declared.limits.TheConstants.{MAX_WALK_WEIGHT}
 use Rattle.network.specs.Schedule.{start}
 use Rattle.network.proofs.Running.{range_below}
-use Rattle.bounds.specs.declared.task.Task.{Task}
+use Rattle.bounds.specs.declared.task_buffers.Task.{Task}
 use Rattle.bounds.specs.declared.load.Load.{Load}
 use Rattle.bounds.specs.Ends.{AreEnds}
 use Rattle.orders.specs.Orders.{IsOrder, key_at, HaveKeys, Rises}

@@ -14,7 +14,7 @@ use Rattle.network.specs.Problem.{Problem, activity_count, activities, resource_
 use Rattle.network.specs.Limits.{IsAmount, IsProject}
 use Rattle.network.specs.declared.limits.TheConstants.{MAX_ACTIVITIES, MAX_AMOUNT}
 use Rattle.network.proofs.Running.{range_below}
-use Rattle.bounds.specs.declared.task.Task.{Task}
+use Rattle.bounds.specs.declared.task_buffers.Task.{Task}
 use Rattle.bounds.specs.declared.limits.TheConstants.{MAX_WORK}
 use Rattle.bounds.specs.Energy.{work}
 use Rattle.bounds.specs.Tasks.{task, has_work, tasks_of, AreTasks}

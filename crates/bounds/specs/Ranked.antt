@@ -3,7 +3,7 @@ use Rattle.std.specs.Prelude.{◌≡◌, ℕ, ◌<◌, ℤ, unsigned_abs, List, 
 use Rattle.std.specs.List.{range_with_len}
 use Rattle.std.specs.List.Sorted.{IsPermutation}
 use Rattle.network.specs.Schedule.{start}
-use Rattle.bounds.specs.declared.task.Task.{Task}
+use Rattle.bounds.specs.declared.task_buffers.Task.{Task}
 use Rattle.bounds.specs.declared.load.Load.{Load}
 use Rattle.bounds.specs.Loads.{tail_of, rank_of, AreTailsOf, AreFalling}
 

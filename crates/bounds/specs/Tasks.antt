@@ -4,7 +4,7 @@ use Rattle.std.specs.List.{All, filter, range_with_len}
 use Rattle.network.specs.Problem.{Problem, activities, resource_count}
 use Rattle.network.specs.declared.limits.TheConstants.{MAX_ACTIVITIES}
 use Rattle.bounds.specs.declared.limits.TheConstants.{MAX_WORK}
-use Rattle.bounds.specs.declared.task.Task.{Task}
+use Rattle.bounds.specs.declared.task_buffers.Task.{Task}
 use Rattle.bounds.specs.Energy.{work}
 
 abbrev pub task : Problem → ℕ → ℕ → Task

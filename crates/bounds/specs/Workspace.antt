@@ -1,7 +1,7 @@
 -- What a workspace is for.
 use Rattle.std.specs.Prelude.{◌≡◌, ℕ, List}
 use Rattle.network.specs.Problem.{Problem, activity_count}
-use Rattle.bounds.specs.declared.task.Task.{Task}
+use Rattle.bounds.specs.declared.task_buffers.Task.{Task}
 use Rattle.bounds.specs.Tasks.{all_tasks}
 
 -- how many activities there are, and the tasks of each resource

@@ -10,19 +10,17 @@ ghost use Rattle.std.specs.Prelude.{◌≡◌, IfOk};
 ghost use Rattle.network.specs.Problem.{Problem};
 ghost use Rattle.bounds.specs.Bound.{critical_weight, IsMatrixFor, IsTrueBoundFor, IsBoundOf};
 
-mod energy_value;
 mod limits;
 mod load;
+mod resource_buffers;
 mod slots;
-mod task;
-mod task_room;
-mod task_rooms;
+mod task_buffers;
 mod with_pair;
 mod workspace;
 
-pub use energy_value::energy;
 use longest_path::Matrix;
 use network::Project;
+pub use resource_buffers::energy;
 use std::alloc::{AllocError, Global};
 pub use with_pair::bound_with;
 pub use workspace::Workspace;

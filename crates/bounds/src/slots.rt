@@ -11,7 +11,7 @@ use crate::load::Load;
 
 /// Replaces the marks by the capacity times each tail, and a last mark that no work reaches.
 fn take_line(line: &mut [u64], capacity: u64, tails: &[u64])
-    requires room { length line.old ≡ length tails.now + 1 }
+    requires long { length line.old ≡ length tails.now + 1 }
     requires capacity { capacity ≤ MAX_CAPACITY }
     requires tails { All (λ b. b ≤ MAX_END) tails.now }
     ensures { line.new ≡ line_of capacity tails.now }
@@ -24,7 +24,7 @@ fn take_line(line: &mut [u64], capacity: u64, tails: &[u64])
 
 /// Puts the room between each two marks in place of other rooms.
 fn take_rooms(rooms: &mut [u64], line: &[u64])
-    requires room { length rooms.old + 1 ≡ length line.now }
+    requires long { length rooms.old + 1 ≡ length line.now }
     requires rising { IsNonDecreasing line.now }
     ensures { AreRoomsOf line.now rooms.new }
 {

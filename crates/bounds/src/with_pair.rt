@@ -11,7 +11,7 @@ ghost use Rattle.bounds.specs.Bound.{IsMatrixFor};
 ghost use Rattle.bounds.specs.Tasks.{all_tasks};
 ghost use Rattle.bounds.specs.With.{IsBoundWith, IsTrueBoundWith, IsBoundUnder};
 
-use crate::task_rooms::TaskRooms;
+use crate::resource_buffers::ResourceBuffers;
 use crate::workspace::Workspace;
 use longest_path::{Matrix, or_way, then_arc};
 use network::{Lag, Pair, Project};
@@ -22,7 +22,7 @@ fn take_heads_with(matrix: &Matrix, arc: Lag, heads: &mut [i64])
     requires from_activity { arc.from < length matrix.now }
     requires to_activity { arc.to < length matrix.now }
     requires light { IsWithin MAX_LAG_WEIGHT arc.weight }
-    requires room { length heads.old ≡ length matrix.now }
+    requires long { length heads.old ≡ length matrix.now }
     ensures { heads.new ≡ weights_from 0 (rows_over arc matrix.now) }
 {
     let first = then_arc(matrix.get(0, arc.from), arc.weight);
@@ -37,7 +37,7 @@ fn take_tails_with(project: &Project, matrix: &Matrix, arc: Lag, tails: &mut [i6
     requires from_activity { arc.from < length matrix.now }
     requires to_activity { arc.to < length matrix.now }
     requires light { IsWithin MAX_LAG_WEIGHT arc.weight }
-    requires room { length tails.old ≡ length matrix.now }
+    requires long { length tails.old ≡ length matrix.now }
     ensures { tails.new ≡ tail_weights project.now (rows_over arc matrix.now) }
 {
     let end = project.activity_count() - 1;
@@ -57,15 +57,15 @@ pub(crate) fn bound_over(
     ceiling: Option<i64>,
     heads: &mut [i64],
     tails: &mut [i64],
-    rooms: &mut TaskRooms,
+    buffers: &mut ResourceBuffers,
 ) -> i64
     requires heads { length heads.old ≡ activity_count project.now }
     requires tails { length tails.old ≡ activity_count project.now }
-    requires rooms { rooms.old ≡ all_tasks project.now }
+    requires buffers { buffers.old ≡ all_tasks project.now }
     requires matrix { IsMatrixFor project.now matrix.now }
     requires named { NameActivities project.now (pair ∷ []) }
     requires lives { ClosesNone (pair_arc project.now pair) matrix.now }
-    ensures rooms { rooms.new ≡ rooms.old }
+    ensures buffers { buffers.new ≡ buffers.old }
     ensures value { IsBoundUnder project.now matrix.now pair ceiling result }
 {
     prove!(matrix.activity_count() == project.activity_count());
@@ -74,7 +74,7 @@ pub(crate) fn bound_over(
     take_heads_with(matrix, arc, heads);
     let critical = heads[project.activity_count() - 1];
     take_tails_with(project, matrix, arc, tails);
-    let energy = rooms.energy_under(project, heads, tails, ceiling.unsigned_abs());
+    let energy = buffers.energy_under(project, heads, tails, ceiling.unsigned_abs());
     critical.max(energy as i64)
 }
 

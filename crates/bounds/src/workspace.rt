@@ -7,7 +7,7 @@ ghost use Rattle.bounds.specs.Bound.{IsMatrixFor};
 ghost use Rattle.bounds.specs.With.{IsTrueBoundWith, IsBoundUnder};
 ghost use Rattle.bounds.specs.Workspace.{IsWorkspaceFor};
 
-use crate::task_rooms::TaskRooms;
+use crate::resource_buffers::ResourceBuffers;
 use crate::with_pair::bound_over;
 use longest_path::Matrix;
 use network::{Pair, Project};
@@ -20,7 +20,7 @@ use std::marker::Model;
 pub struct Workspace {
     heads: Vec<i64>,
     tails: Vec<i64>,
-    rooms: TaskRooms,
+    buffers: ResourceBuffers,
 }
 
 impl Model for Workspace {
@@ -29,7 +29,7 @@ impl Model for Workspace {
 
     ghost Value = { WorkspaceOf };
 
-    ghost view = { λ s. record { activities = length s.heads.items; tasks = s.rooms } };
+    ghost view = { λ s. record { activities = length s.heads.items; tasks = s.buffers } };
 
     ghost invariant = { λ s. length s.tails.items ≡ length s.heads.items };
 }
@@ -41,11 +41,11 @@ impl Workspace {
     {
         let heads = vec![in alloc; 0; project.activity_count()]?;
         let tails = vec![in alloc; 0; project.activity_count()]?;
-        let rooms = TaskRooms::new(alloc, project)?;
+        let buffers = ResourceBuffers::new(alloc, project)?;
         Ok(Workspace {
             heads,
             tails,
-            rooms,
+            buffers,
         })
     }
 
@@ -73,7 +73,7 @@ impl Workspace {
             ceiling,
             self.heads.as_mut_slice(),
             self.tails.as_mut_slice(),
-            &mut self.rooms,
+            &mut self.buffers,
         )
     }
 }

@@ -15,4 +15,4 @@ loop-i-preserved c =
     (to_z-of_z w64 c.unwrap_or.result fits ∙ c.unwrap_or.ensures ∙ ap (λ (o : Option ℤ). unwrap_or o (pos 0)) is)
 
 pub returns : goal.returns
-returns c = heads_over c.args.arc c.args.matrix.now c.loop-i.heads (c.loop-i.auto.heads ∙ c.requires.room) (λ k lt. c.loop-i.invariant k (omega arith))
+returns c = heads_over c.args.arc c.args.matrix.now c.loop-i.heads (c.loop-i.auto.heads ∙ c.requires.long) (λ k lt. c.loop-i.invariant k (omega arith))

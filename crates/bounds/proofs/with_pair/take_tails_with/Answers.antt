@@ -26,4 +26,4 @@ loop-i-preserved c =
     (simp to_z-of_z value)
 
 pub returns : goal.returns
-returns c = tails_over c.args.project.now c.args.arc c.args.matrix.now c.loop-i.tails c.requires.project (c.loop-i.auto.tails ∙ c.requires.room) (λ k lt. c.loop-i.invariant k (omega arith))
+returns c = tails_over c.args.project.now c.args.arc c.args.matrix.now c.loop-i.tails c.requires.project (c.loop-i.auto.tails ∙ c.requires.long) (λ k lt. c.loop-i.invariant k (omega arith))

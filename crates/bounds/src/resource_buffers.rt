@@ -1,16 +1,38 @@
 //! The energy of all resources, up to a ceiling.
 
-ghost use Rattle.std.specs.Prelude.{◌≡◌, ◌<◌, ◌≤◌, length, IfOk};
+ghost use Rattle.std.specs.Prelude.{IfOk, ◌≡◌, ◌<◌, ◌≤◌, length};
+ghost use Rattle.bounds.specs.Bound.{IsMatrixFor, IsTrueBoundFor, IsEnergyOf};
 ghost use Rattle.network.specs.Problem.{activity_count, resource_count};
 ghost use Rattle.bounds.specs.Energy.{IsResourceEnergy, IsEnergyUnder};
 ghost use Rattle.bounds.specs.Ends.{AreEnds, IsGreatestEnds};
 ghost use Rattle.bounds.specs.Tasks.{all_tasks};
 
 use crate::limits::MAX_SHARE;
-use crate::task_room::TaskRoom;
+use crate::task_buffers::TaskBuffers;
+use earliest::{heads, tails};
+use longest_path::Matrix;
 use network::Project;
 use std::alloc::{AllocError, Global};
 use std::marker::Model;
+
+/// The energy value of a matrix in periods. It takes each resource, head a and tail b, and the work of the activities
+/// with at least this head and this tail. This work, shared out over the capacity, has to fit between a and the
+/// makespan less b.
+///
+/// For each resource the activities that use it fill a line of slots between their tails, by falling head. An activity
+/// costs a few steps, besides the repair of their two orders.
+pub fn energy(alloc: Global, project: &Project, matrix: &Matrix) -> Result<i64, AllocError>
+    requires { IsMatrixFor project.now matrix.now }
+    ensures value { IfOk result (λ energy. IsEnergyOf project.now matrix.now energy) }
+    ensures holds { IfOk result (λ energy. IsTrueBoundFor project.now matrix.now energy) }
+{
+    prove!(matrix.activity_count() == project.activity_count());
+    let heads = heads(alloc, matrix)?;
+    let tails = tails(alloc, project, matrix)?;
+    let mut buffers = ResourceBuffers::new(alloc, project)?;
+    let energy = buffers.energy_under(project, &heads, &tails, u64::MAX);
+    Ok(energy as i64)
+}
 
 /// The greatest sum of an activity's head and tail in periods: the greatest energy value where there
 /// is no work.
@@ -27,31 +49,31 @@ fn greatest_ends(heads: &[i64], tails: &[i64]) -> u64
     greatest
 }
 
-/// The rooms of all resources. Its value is the tasks of each resource.
+/// The buffers of all resources. Its value is the tasks of each resource.
 #[derive(Drop, Debug)]
-pub(crate) struct TaskRooms {
-    rooms: Vec<TaskRoom>,
+pub(crate) struct ResourceBuffers {
+    buffers: Vec<TaskBuffers>,
 }
 
-impl Model for TaskRooms {
+impl Model for ResourceBuffers {
     ghost use Rattle.std.specs.Prelude.{List};
-    ghost use Rattle.bounds.specs.declared.task.Task.{Task};
+    ghost use Rattle.bounds.specs.declared.task_buffers.Task.{Task};
 
     ghost Value = { List (List Task) };
 
-    ghost view = { λ s. s.rooms.items };
+    ghost view = { λ s. s.buffers.items };
 }
 
-impl TaskRooms {
-    /// Room for the tasks of each resource.
-    pub(crate) fn new(alloc: Global, project: &Project) -> Result<TaskRooms, AllocError>
-        ensures { IfOk result (λ rooms. rooms ≡ all_tasks project.now) }
+impl ResourceBuffers {
+    /// Buffers for the tasks of each resource.
+    pub(crate) fn new(alloc: Global, project: &Project) -> Result<ResourceBuffers, AllocError>
+        ensures { IfOk result (λ buffers. buffers ≡ all_tasks project.now) }
     {
-        let mut rooms = Vec::with_capacity(alloc, project.resource_count())?;
+        let mut buffers = Vec::with_capacity(alloc, project.resource_count())?;
         for resource in 0..project.resource_count() {
-            rooms.push(TaskRoom::new(alloc, project, resource)?)?;
+            buffers.push(TaskBuffers::new(alloc, project, resource)?)?;
         }
-        Ok(TaskRooms { rooms })
+        Ok(ResourceBuffers { buffers })
     }
 
     /// The greatest energy term of a resource in periods; 0 where it has no capacity.
@@ -67,8 +89,8 @@ impl TaskRooms {
         requires heads { AreEnds (activity_count project.now) heads.now }
         requires tails { AreEnds (activity_count project.now) tails.now }
         requires ends { IsGreatestEnds heads.now tails.now ends }
-        requires rooms { self.old ≡ all_tasks project.now }
-        ensures rooms { self.new ≡ self.old }
+        requires buffers { self.old ≡ all_tasks project.now }
+        ensures buffers { self.new ≡ self.old }
         ensures value { IsResourceEnergy project.now heads.now tails.now resource result }
         ensures limit { result ≤ MAX_SHARE }
     {
@@ -76,7 +98,7 @@ impl TaskRooms {
         if capacity == 0 {
             return 0;
         }
-        let share = self.rooms[resource].greatest_share(capacity, heads, tails);
+        let share = self.buffers[resource].greatest_share(capacity, heads, tails);
         ends.max(share.div_ceil(capacity))
     }
 
@@ -91,8 +113,8 @@ impl TaskRooms {
     ) -> u64
         requires heads { AreEnds (activity_count project.now) heads.now }
         requires tails { AreEnds (activity_count project.now) tails.now }
-        requires rooms { self.old ≡ all_tasks project.now }
-        ensures rooms { self.new ≡ self.old }
+        requires buffers { self.old ≡ all_tasks project.now }
+        ensures buffers { self.new ≡ self.old }
         ensures value { IsEnergyUnder project.now heads.now tails.now ceiling result }
         ensures limit { result ≤ MAX_SHARE }
     {

@@ -5,7 +5,7 @@ use Rattle.bounds.specs.Energy.{IsResourceEnergy}
 use Rattle.bounds.specs.declared.limits.TheConstants.{MAX_SHARE}
 use Rattle.bounds.proofs.LateWork.{ord_max-max}
 use Rattle.bounds.proofs.Energies.{IsEnergyUpTo, energy_more, energy_stopped, energy_whole}
-use Rattle.bounds.proofs.task_rooms.TaskRooms.energy_under.Goals as goal
+use Rattle.bounds.proofs.resource_buffers.ResourceBuffers.energy_under.Goals as goal
 
 more : (p : Problem) (heads tails : List ℤ) (k e n both : ℕ) → k < resource_count p → IsEnergyUpTo p heads tails k e → IsResourceEnergy p heads tails k n → n ≤ MAX_SHARE → both ≡ ord_max nat_cmp e n → IsEnergyUpTo p heads tails (k + 1) both
 more p heads tails k e n both in_range before of_resource small is =
@@ -22,7 +22,7 @@ pub loop-resource-preserved : goal.loop-resource-preserved
 loop-resource-preserved c =
     let in_range : c.loop-resource.resource < resource_count c.args.project.now = omega arith in
     record {
-      same = c.resource_energy.ensures.rooms ∙ c.loop-resource.invariant.same;
+      same = c.resource_energy.ensures.buffers ∙ c.loop-resource.invariant.same;
       energy = more c.args.project.now c.args.heads.now c.args.tails.now c.loop-resource.resource c.loop-resource.energy c.resource_energy.result c.max-energy.result in_range c.loop-resource.invariant.energy c.resource_energy.ensures.value c.resource_energy.ensures.limit c.max-energy.ensures;
     }
 

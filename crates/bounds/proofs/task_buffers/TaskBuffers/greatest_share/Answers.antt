@@ -1,6 +1,6 @@
 use Rattle.std.proofs.Common.{◌≡◌, rules, sym, ap, ◌∙◌, subst, ℕ, ◌≤◌, ℤ, List, length, take}
 use Rattle.std.specs.List.{All}
-use Rattle.bounds.specs.declared.task.Task.{Task}
+use Rattle.bounds.specs.declared.task_buffers.Task.{Task}
 use Rattle.bounds.specs.declared.load.Load.{Load}
 use Rattle.bounds.specs.declared.limits.TheConstants.{MAX_END}
 use Rattle.bounds.specs.Loads.{AreTailsOf, AreLoadsOf, IsGreatestShare}
@@ -8,8 +8,8 @@ use Rattle.bounds.specs.Ranked.{AreRanked, AreRankedLoads}
 use Rattle.bounds.proofs.LoadLimits.{loads_limited, tails_limited}
 use Rattle.bounds.proofs.Writing.{written_back}
 use Rattle.bounds.proofs.Ranked.{ranked_loads}
-use Rattle.bounds.proofs.task_room.TaskRoom.greatest_share.Goals as goal
-use Rattle.bounds.proofs.task_room.TaskRoom.greatest_share.Goals.{After-as_mut_slice-9}
+use Rattle.bounds.proofs.task_buffers.TaskBuffers.greatest_share.Goals as goal
+use Rattle.bounds.proofs.task_buffers.TaskBuffers.greatest_share.Goals.{After-as_mut_slice-9}
 
 record AreOrdered (heads tails : List ℤ) (tasks : List Task) (rising : List ℕ) (loads : List Load) : Type 0 where
   of_tails : AreTailsOf tails tasks rising
@@ -33,8 +33,12 @@ is_read c =
     let ranks_read : c.as_slice-3.result.now ≡ c.rank_tasks-count.new.ranks = c.as_slice-3.ensures.value ∙ written_back c.self.inside.ranks.len c.rank_tasks-count.new.ranks c.self.inside.ranks.items c.self.inside.ranks.ok.0 (c.rank_tasks-count.auto.ranks ∙ ap length c.as_mut_slice-3.ensures.value) in
     let loads_read : c.as_slice-4.result.now ≡ c.take_loads.new.loads = c.as_slice-4.ensures.value ∙ written_back c.self.inside.loads.len c.take_loads.new.loads c.self.inside.loads.items c.self.inside.loads.ok.0 (c.take_loads.auto.loads ∙ ap length c.as_mut_slice-7.ensures.value) in
     let rising_read : c.as_slice-5.result.now ≡ c.rank_tasks-count.new.rising = c.as_slice-5.ensures.value ∙ written_back c.self.inside.rising.len c.rank_tasks-count.new.rising c.self.inside.rising.items c.self.inside.rising.ok.0 (c.rank_tasks-count.auto.rising ∙ ap length c.as_mut_slice-4.ensures.value) in
-    record { loads = loads_read; rising = rising_read; are = ordered c.args.heads.now c.args.tails.now c.args.self.now c.as_slice.result.now c.as_slice-2.result.now c.rank_tasks-count.new.rising c.rank_tasks-count.new.ranks c.as_slice-3.result.now c.rank_tasks-count.result c.take_loads.new.loads
-    (c.as_slice.ensures.value ∙ c.self.view_is) (c.as_slice-2.ensures.value ∙ c.self.view_is) ranks_read c.rank_tasks-count.ensures.ranked c.take_loads.ensures.loads }
+    record {
+      loads = loads_read;
+      rising = rising_read;
+      are = ordered c.args.heads.now c.args.tails.now c.args.self.now c.as_slice.result.now c.as_slice-2.result.now c.rank_tasks-count.new.rising c.rank_tasks-count.new.ranks c.as_slice-3.result.now c.rank_tasks-count.result c.take_loads.new.loads
+          (c.as_slice.ensures.value ∙ c.self.view_is) (c.as_slice-2.ensures.value ∙ c.self.view_is) ranks_read c.rank_tasks-count.ensures.ranked c.take_loads.ensures.loads;
+    }
 
 pub share_under-requires : goal.share_under-requires
 share_under-requires c =

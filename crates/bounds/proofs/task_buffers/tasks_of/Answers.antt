@@ -5,11 +5,11 @@ use Rattle.std.proofs.lemmas.Bool.{lt-ltb, le-ltb}
 use Rattle.std.proofs.lemmas.Int.{to_z-of_z}
 use Rattle.std.proofs.lemmas.List.FromFn.{filter_of_map_range_with_len_more}
 use Rattle.network.specs.Problem.{Problem, duration}
-use Rattle.bounds.specs.declared.task.Task.{Task}
+use Rattle.bounds.specs.declared.task_buffers.Task.{Task}
 use Rattle.bounds.specs.Energy.{work}
 use Rattle.bounds.specs.Tasks.{task, has_work}
-use Rattle.bounds.proofs.task.tasks_of.Goals as goal
-use Rattle.bounds.proofs.task.tasks_of.Goals.{then-work-gt0+in_ok-push, else-work-gt0}
+use Rattle.bounds.proofs.task_buffers.tasks_of.Goals as goal
+use Rattle.bounds.proofs.task_buffers.tasks_of.Goals.{then-work-gt0+in_ok-push, else-work-gt0}
 
 pub loop-activity-preserved : goal.loop-activity-preserved
 loop-activity-preserved c =

@@ -1,6 +1,6 @@
 use Rattle.std.proofs.Common.{◌≡◌}
 use Rattle.bounds.proofs.Energies.{IsEnergyUpTo}
-use Rattle.bounds.proofs.task_rooms.TaskRooms.energy_under.Given as goal
+use Rattle.bounds.proofs.resource_buffers.ResourceBuffers.energy_under.Given as goal
 
 abbrev pub invariant-loop-resource : goal.invariant-loop-resource
 invariant-loop-resource l = record {

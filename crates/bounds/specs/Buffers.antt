@@ -1,10 +1,10 @@
--- Room for the greatest share of tasks.
+-- The buffers in which the greatest share of tasks is found.
 use Rattle.std.specs.Prelude.{◌≡◌, ◌+◌, length}
-use Rattle.bounds.specs.declared.task_room.TaskRoom.TheInside.{Inside}
+use Rattle.bounds.specs.declared.task_buffers.TaskBuffers.TheInside.{Inside}
 use Rattle.orders.specs.Orders.{IsOrder}
 
 -- two orders of the tasks, and a place for each of them in each list; and one mark more
-pub record IsRoom (s : Inside) : Type 0 where
+pub record AreBuffers (s : Inside) : Type 0 where
   pub head_order : IsOrder (length s.tasks.items) s.by_head.items
   pub tail_order : IsOrder (length s.tasks.items) s.by_tail.items
   pub keys_long : length s.keys.items ≡ length s.tasks.items

@@ -1,9 +1,9 @@
 //! The tasks of one resource, with the memory that their energy takes.
 
-ghost use Rattle.std.specs.Prelude.{◌≡◌, ◌+◌, ◌<◌, ◌≤◌, length, take, IfOk};
+ghost use Rattle.std.specs.Prelude.{◌≡◌, ◌<◌, IfOk, ◌+◌, ◌≤◌, length, take};
 ghost use Rattle.network.specs.Problem.{resource_count};
-ghost use Rattle.bounds.specs.Ends.{AreEnds};
 ghost use Rattle.bounds.specs.Tasks.{tasks_of, AreTasks};
+ghost use Rattle.bounds.specs.Ends.{AreEnds};
 ghost use Rattle.std.specs.List.{All};
 ghost use Rattle.std.specs.List.Sorted.{IsNonDecreasing};
 ghost use Rattle.bounds.specs.Loads.{AreLoads, IsGreatestShare, IsGreatestShareOf};
@@ -11,15 +11,42 @@ ghost use Rattle.bounds.specs.Loads.{AreLoads, IsGreatestShare, IsGreatestShareO
 use crate::limits::{MAX_CAPACITY, MAX_END, MAX_SHARE};
 use crate::load::{Load, rank_tasks, take_loads};
 use crate::slots::greatest_share;
-use crate::task::{Task, tasks_of};
 use network::Project;
 use orders::first_order;
 use std::alloc::{AllocError, Global};
 use std::marker::Model;
 
+/// What an activity asks of one resource.
+#[derive(Clone, Copy, Debug)]
+pub(crate) struct Task {
+    pub(crate) activity: usize,
+    /// Units of the resource, each for a period: a duration times a demand.
+    pub(crate) work: u64,
+}
+
+/// The tasks of a resource: one for each activity that has work for it.
+pub(crate) fn tasks_of(
+    alloc: Global,
+    project: &Project,
+    resource: usize,
+) -> Result<Vec<Task>, AllocError>
+    requires { resource < resource_count project.now }
+    ensures { IfOk result (λ tasks. tasks.items ≡ tasks_of project.now resource) }
+{
+    let mut tasks = Vec::new(alloc);
+    for activity in 0..project.activity_count() {
+        let duration = project.duration(activity).unsigned_abs();
+        let work = duration * project.demand(resource, activity);
+        if work > 0 {
+            tasks.push(Task { activity, work })?;
+        }
+    }
+    Ok(tasks)
+}
+
 /// The tasks of a resource, and the memory that their greatest share takes. Its value is the tasks.
 #[derive(Drop, Debug)]
-pub(crate) struct TaskRoom {
+pub(crate) struct TaskBuffers {
     tasks: Vec<Task>,
     /// The places of the tasks, by rising heads of the last call.
     by_head: Vec<usize>,
@@ -34,28 +61,28 @@ pub(crate) struct TaskRoom {
     rooms: Vec<u64>,
 }
 
-impl Model for TaskRoom {
+impl Model for TaskBuffers {
     ghost use Rattle.std.specs.Prelude.{List};
-    ghost use Rattle.bounds.specs.declared.task.Task.{Task};
+    ghost use Rattle.bounds.specs.declared.task_buffers.Task.{Task};
 
     ghost Value = { List Task };
 
-    ghost use Rattle.bounds.specs.Room.{IsRoom};
+    ghost use Rattle.bounds.specs.Buffers.{AreBuffers};
 
     ghost view = { λ s. s.tasks.items };
 
-    ghost invariant = { λ s. IsRoom s };
+    ghost invariant = { λ s. AreBuffers s };
 }
 
-impl TaskRoom {
-    /// Room for the tasks of a resource.
+impl TaskBuffers {
+    /// Buffers for the tasks of a resource.
     pub(crate) fn new(
         alloc: Global,
         project: &Project,
         resource: usize,
-    ) -> Result<TaskRoom, AllocError>
+    ) -> Result<TaskBuffers, AllocError>
         requires { resource < resource_count project.now }
-        ensures { IfOk result (λ room. room ≡ tasks_of project.now resource) }
+        ensures { IfOk result (λ buffers. buffers ≡ tasks_of project.now resource) }
     {
         let tasks = tasks_of(alloc, project, resource)?;
         let load = Load {
@@ -71,7 +98,7 @@ impl TaskRoom {
         let loads = vec![in alloc; load; tasks.len()]?;
         let line = vec![in alloc; 0; tasks.len() + 1]?;
         let rooms = vec![in alloc; 0; tasks.len()]?;
-        Ok(TaskRoom {
+        Ok(TaskBuffers {
             tasks,
             by_head,
             by_tail,

@@ -1,6 +1,6 @@
 use Rattle.std.proofs.Common.{ℕ, ◌<◌, ◌≤◌, length}
 use Rattle.bounds.specs.Ends.{ends_of}
-use Rattle.bounds.proofs.task_rooms.greatest_ends.Given as goal
+use Rattle.bounds.proofs.resource_buffers.greatest_ends.Given as goal
 
 abbrev pub invariant-loop-i : goal.invariant-loop-i
 invariant-loop-i l = record {

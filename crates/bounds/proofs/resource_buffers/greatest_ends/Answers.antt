@@ -3,7 +3,7 @@ use Rattle.std.proofs.lemmas.Bool.{cases_lt}
 use Rattle.std.proofs.lemmas.Int.{to_z-of_z}
 use Rattle.bounds.specs.Ends.{ends_of}
 use Rattle.bounds.proofs.LateWork.{ord_max-max}
-use Rattle.bounds.proofs.task_rooms.greatest_ends.Goals as goal
+use Rattle.bounds.proofs.resource_buffers.greatest_ends.Goals as goal
 
 pub loop-i-preserved : goal.loop-i-preserved
 loop-i-preserved c =

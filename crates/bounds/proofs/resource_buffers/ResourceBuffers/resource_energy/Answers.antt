@@ -2,34 +2,34 @@ use Rattle.std.proofs.Common.{◌≡◌, ap, ◌∙◌, subst, ℕ, ◌<◌, max
 use Rattle.std.specs.Int.{div_ceil}
 use Rattle.std.proofs.lemmas.List.FromFn.{get_or-map-range_with_len, length-map-range_with_len}
 use Rattle.network.specs.Problem.{Problem, resource_count, capacity}
-use Rattle.bounds.specs.declared.task.Task.{Task}
+use Rattle.bounds.specs.declared.task_buffers.Task.{Task}
 use Rattle.bounds.specs.Tasks.{tasks_of, all_tasks}
 use Rattle.bounds.specs.Loads.{IsGreatestShareOf}
 use Rattle.bounds.proofs.Tasks.{tasks_limited}
 use Rattle.bounds.proofs.Energies.{resource_share, resource_limit}
-use Rattle.bounds.proofs.task_rooms.TaskRooms.resource_energy.Goals as goal
+use Rattle.bounds.proofs.resource_buffers.ResourceBuffers.resource_energy.Goals as goal
 
-rooms_long : (p : Problem) (rooms : List (List Task)) → rooms ≡ all_tasks p → length rooms ≡ resource_count p
-rooms_long p rooms are = ap length are ∙ length-map-range_with_len (tasks_of p) 0 (resource_count p)
+rooms_long : (p : Problem) (buffers : List (List Task)) → buffers ≡ all_tasks p → length buffers ≡ resource_count p
+rooms_long p buffers are = ap length are ∙ length-map-range_with_len (tasks_of p) 0 (resource_count p)
 
-tasks_at : (p : Problem) (rooms : List (List Task)) (k : ℕ) (d : List Task) → rooms ≡ all_tasks p → k < resource_count p → get_or rooms k d ≡ tasks_of p k
-tasks_at p rooms k d are lt = ap (λ (rs : List (List Task)). get_or rs k d) are ∙ get_or-map-range_with_len (tasks_of p) 0 (resource_count p) k k d lt (omega arith)
+tasks_at : (p : Problem) (buffers : List (List Task)) (k : ℕ) (d : List Task) → buffers ≡ all_tasks p → k < resource_count p → get_or buffers k d ≡ tasks_of p k
+tasks_at p buffers k d are lt = ap (λ (rs : List (List Task)). get_or rs k d) are ∙ get_or-map-range_with_len (tasks_of p) 0 (resource_count p) k k d lt (omega arith)
 
 pub index_mut-requires : goal.index_mut-requires
-index_mut-requires c = omega (arith, c.requires.resource, rooms_long c.args.project.now c.self.inside.rooms.items (c.self.view_is ∙ c.requires.rooms))
+index_mut-requires c = omega (arith, c.requires.resource, rooms_long c.args.project.now c.self.inside.buffers.items (c.self.view_is ∙ c.requires.buffers))
 
 pub greatest_share-share-requires-clause-tasks : goal.greatest_share-share-requires-clause-tasks
 greatest_share-share-requires-clause-tasks c =
     let p : Problem = c.args.project.now in
     let k : ℕ = c.args.resource in
-    rw (c.index_mut.ensures.value, tasks_at p c.self.inside.rooms.items k c.index_mut.result.now (c.self.view_is ∙ c.requires.rooms) c.requires.resource, c.requires.heads.count) (tasks_limited p k c.capacity-capacity.ensures.limits c.requires.resource)
+    rw (c.index_mut.ensures.value, tasks_at p c.self.inside.buffers.items k c.index_mut.result.now (c.self.view_is ∙ c.requires.buffers) c.requires.resource, c.requires.heads.count) (tasks_limited p k c.capacity-capacity.ensures.limits c.requires.resource)
 
 found : (c : goal.After-max) → IsGreatestShareOf (capacity c.args.project.now c.args.resource) c.args.heads.now c.args.tails.now (tasks_of c.args.project.now c.args.resource) c.greatest_share-share.result
 found c =
     let p : Problem = c.args.project.now in
     let k : ℕ = c.args.resource in
     let g : ℕ = c.greatest_share-share.result in
-    let tasks_are : c.index_mut.result.now ≡ tasks_of p k = c.index_mut.ensures.value ∙ tasks_at p c.self.inside.rooms.items k c.index_mut.result.now (c.self.view_is ∙ c.requires.rooms) c.requires.resource in
+    let tasks_are : c.index_mut.result.now ≡ tasks_of p k = c.index_mut.ensures.value ∙ tasks_at p c.self.inside.buffers.items k c.index_mut.result.now (c.self.view_is ∙ c.requires.buffers) c.requires.resource in
     subst (λ (ts : List Task). IsGreatestShareOf (capacity p k) c.args.heads.now c.args.tails.now ts g) tasks_are
     (subst (λ (r : ℕ). IsGreatestShareOf r c.args.heads.now c.args.tails.now c.index_mut.result.now g) c.capacity-capacity.ensures.value c.greatest_share-share.ensures.greatest)
 
