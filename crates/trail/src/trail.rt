@@ -102,7 +102,7 @@ fn entry_of_kid(
         Some(pair) => Some(Origin { parent, pair }),
         None => None,
     };
-    let forced = pairs_after(alloc, kid.pairs(), depth)?;
+    let forced = pairs_after(alloc, &kid.pairs(), depth)?;
     Ok(TrailEntry {
         origin,
         forced,
@@ -123,7 +123,7 @@ fn fate_of_kid(
     if is_below(kid.bound(), limit) {
         return Ok(KidFate::Opened { name: next });
     }
-    let forced = pairs_after(alloc, kid.pairs(), depth)?;
+    let forced = pairs_after(alloc, &kid.pairs(), depth)?;
     Ok(KidFate::Cut { forced })
 }
 
