@@ -19,7 +19,7 @@ returns-clause-said g c =
     (λ a said. (
       said.0,
       λ text told more told_more. spells_one p more _ c.in_ok-project.ensures.project told_more
-        (record_whole lemma_kind c.deref.result.now text (λ shown. IsProvedText p shown a.text.items) (c.deref.ensures.value ∙ c.in_ok-project.ensures.told text told) said.1),
+          (record_whole lemma_kind c.deref.result.now text (λ shown. IsProvedText p shown a.text.items) (c.deref.ensures.value ∙ c.in_ok-project.ensures.told text told) said.1),
     ))
     (λ _ _. tt)
 
@@ -28,4 +28,4 @@ returns-clause-refused g c =
     let p = c.in_ok-project.project in
     MatchResult-weaker c.verified.result c.verified.ensures.refused (λ _ _. tt)
     (λ fault refused other text told more told_more. inr (spells_one p more _ c.in_ok-project.ensures.project told_more
-      (no_proof_whole lemma_kind (IsFirstFault p) c.deref.result.now text fault (c.deref.ensures.value ∙ c.in_ok-project.ensures.told text told) (refused other))))
+    (no_proof_whole lemma_kind (IsFirstFault p) c.deref.result.now text fault (c.deref.ensures.value ∙ c.in_ok-project.ensures.told text told) (refused other))))
