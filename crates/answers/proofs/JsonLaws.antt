@@ -51,9 +51,8 @@ items_printed z (y ∷ zs) =
     ∙ sym (append_assoc (signed_decimal z) (44 ∷ rest) (codes "]"))
 
 list_printed : (o : Option (List ℤ)) → compact_text (list_data o) ≡ list_text o
-list_printed None = refl
-list_printed (Some []) = refl
 list_printed (Some (z ∷ zs)) = ap (λ (r : List ℕ). 91 ∷ r) (items_printed z zs)
+list_printed o = refl
 
 -- one part of the line, and then what comes after it
 part : (here key rest after : List ℕ) → rest ++ codes "\n" ≡ after → (here ++ (key ++ rest)) ++ codes "\n" ≡ here ++ (key ++ after)

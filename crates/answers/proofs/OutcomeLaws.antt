@@ -1,7 +1,9 @@
 -- What is said of an outcome is an answer of `solve`.
 use Rattle.std.proofs.Common.{◌≡◌, true, false, Some, None, inl, inr, arith}
+use Rattle.plain_search.specs.declared.outcome.Outcome.{Outcome}
 use Rattle.plain_search.specs.declared.outcome.Outcome.TheVariants.{Optimal, NoSchedule, Stopped}
-use Rattle.answers.specs.Outcomes.{AloneIsTrue, FoundIsTrue, SaidIsTrue}
+use Rattle.plain_search.specs.Takes.{StopsOnlyAfter}
+use Rattle.answers.specs.Outcomes.{AloneIsTrue, FoundIsTrue, SaidIsTrue, SaysOutcome, IsStoppedText}
 
 pub said_is_true : SaidIsTrue
 said_is_true p (Optimal best) alone json exit written is below said = inl (record {
@@ -45,19 +47,11 @@ found_is_true p (Some from) (Stopped (Some best) bound) json exit written is wit
 found_is_true p (Some from) (Stopped None bound) json exit written is within said = absurd within
 
 pub alone_is_true : AloneIsTrue
-alone_is_true p takes (Optimal best) json exit written is below only said = record {
-  said = said_is_true p (Optimal best) true json exit written is (λ _. below) said;
-  stopped = λ (three : exit ≡ 3). let zero = said.0 in absurd (omega (arith, zero, three));
+alone_is_true p takes outcome json exit written is below only said = record {
+  said = said_is_true p outcome true json exit written is (λ _. below) said;
+  stopped = stopped outcome only said;
 }
-alone_is_true p takes NoSchedule json exit written is below only said = record {
-  said = said_is_true p NoSchedule true json exit written is (λ _. below) said;
-  stopped = λ (three : exit ≡ 3). let zero = said.0 in absurd (omega (arith, zero, three));
-}
-alone_is_true p takes (Stopped (Some best) bound) json exit written is below only said = record {
-  said = said_is_true p (Stopped (Some best) bound) true json exit written is (λ _. below) said;
-  stopped = λ _. record { outcome = Stopped (Some best) bound; after = only; says = said };
-}
-alone_is_true p takes (Stopped None bound) json exit written is below only said = record {
-  said = said_is_true p (Stopped None bound) true json exit written is (λ _. below) said;
-  stopped = λ _. record { outcome = Stopped None bound; after = only; says = said };
-}
+  where
+    stopped : (outcome : Outcome) → StopsOnlyAfter p takes outcome → SaysOutcome outcome json exit written → exit ≡ 3 → IsStoppedText p takes json exit written
+    stopped (Stopped best bound) only said three = record { outcome = Stopped best bound; after = only; says = said }
+    stopped outcome only said three = let zero = said.0 in absurd (omega (arith, zero, three))

@@ -61,23 +61,6 @@ exit_of faults.WriteFailed = 1
 exit_of faults.Thread = 1
 exit_of faults.OtherProject = 1
 exit_of faults.Refused = 1
-exit_of faults.TooLong = 2
-exit_of (faults.Token index) = 2
-exit_of (faults.Short index) = 2
-exit_of (faults.Trailing index) = 2
-exit_of faults.NotRenewable = 2
-exit_of (faults.Modes row) = 2
-exit_of (faults.RowNumber row found) = 2
-exit_of (faults.Activity row found) = 2
-exit_of (faults.Range index) = 2
-exit_of (faults.Dummy row) = 2
-exit_of (faults.StartsToken line) = 2
-exit_of (faults.StartsActivity line) = 2
-exit_of (faults.Repeated line) = 2
-exit_of (faults.Missing activity) = 2
-exit_of (faults.RecordForm line) = 2
-exit_of (faults.RecordShort line) = 2
-exit_of (faults.RecordTrailing line) = 2
 exit_of (faults.RecordStart line) = 4
 exit_of (faults.RecordForce line) = 4
 exit_of (faults.RecordSet line) = 4
@@ -85,6 +68,7 @@ exit_of (faults.RecordLeaf line) = 4
 exit_of (faults.RecordLemma line) = 4
 exit_of (faults.RecordAdd line) = 4
 exit_of (faults.RecordEnd line) = 4
+exit_of fault = 2
 
 -- it is not that a device failed
 abbrev pub IsNoDeviceFault : Fault → Type 0

@@ -1,9 +1,8 @@
 -- Lines of the record's own block, where its arcs close a walk of positive weight.
-use Rattle.std.proofs.Common.{◌≡◌, ◌≢◌, refl, sym, ap, ◌∙◌, subst, ℕ, ◌+◌, ◌<◌, List, length, get_or, None, Option, arith, pos, ◌≤ℤ◌, ◌<ℤ◌}
-use Rattle.std.proofs.lemmas.Int.{ints}
+use Rattle.std.proofs.Common.{◌≡◌, ◌≢◌, refl, sym, ap, ◌∙◌, subst, ℕ, ◌+◌, ◌<◌, List, length, get_or, Option}
 use Rattle.network.specs.declared.lag.Lag.{Lag}
 use Rattle.network.specs.Problem.{Problem}
-use Rattle.network.specs.Walk.{weight, HasPositiveCycle, HasNoPositiveCycle}
+use Rattle.network.specs.Walk.{HasPositiveCycle}
 use Rattle.lemma_text.specs.declared.line.Line.{Line}
 use Rattle.lemma_text.specs.declared.line.Line.TheVariants as kind
 use Rattle.lemma_text.specs.declared.reason.Reason.{Reason}
@@ -11,13 +10,8 @@ use Rattle.lemma_text.specs.declared.reason.Reason.TheVariants as reasons
 use Rattle.lemma_check.specs.Places.{Opened, Place, arcs_in, arcs_at, ended, after}
 use Rattle.lemma_check.specs.Right.{IsRightAt}
 use Rattle.lemma_check.specs.Standing.{IsDeadAt}
+use Rattle.lemma_check.proofs.Standings.{not_both}
 use Rattle.lemma_check.proofs.Reached.{place_at, AreRightBefore, place_more, right_more}
-
-not_both : (arcs : List Lag) → HasNoPositiveCycle arcs → HasPositiveCycle arcs → ⊥
-not_both arcs live cycle =
-    let low : weight cycle.1 ≤ℤ pos 0 = live cycle.0 cycle.1 cycle.2.closed in
-    let high : pos 0 <ℤ weight cycle.1 = cycle.2.positive in
-    omega (arith, ints)
 
 dead_arcs : (at : Place) → IsDeadAt at → HasPositiveCycle (arcs_at at)
 dead_arcs at dead = subst (λ (o : Option Opened). HasPositiveCycle (arcs_in at.own o)) (sym dead.none) dead.cycle
@@ -33,10 +27,7 @@ dead_alone p at (kind.Lemma arcs) dead other right = not_both at.own right.is_li
 dead_alone p at (kind.Force pair) dead other right = not_both (arcs_at at) right.is_live (dead_arcs at dead)
 dead_alone p at (kind.Add arc reason) dead other right = not_both (arcs_at at) right.is_live (dead_arcs at dead)
 dead_alone p at (kind.End reasons.Dead) dead other right = other refl
-dead_alone p at (kind.End (reasons.Set k members)) dead other right = not_both (arcs_at at) right.0 (dead_arcs at dead)
-dead_alone p at (kind.End (reasons.Load k from to)) dead other right = not_both (arcs_at at) right.0 (dead_arcs at dead)
-dead_alone p at (kind.End (reasons.Clique from to members)) dead other right = not_both (arcs_at at) right.0 (dead_arcs at dead)
-dead_alone p at (kind.End (reasons.Use k)) dead other right = not_both (arcs_at at) right.0 (dead_arcs at dead)
+dead_alone p at line dead other right = not_both (arcs_at at) right.0 (dead_arcs at dead)
 
 -- ---- line by line
 

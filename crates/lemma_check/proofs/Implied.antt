@@ -15,5 +15,4 @@ MeetsAll s arcs = (e : Lag) → Contains arcs e → Meets s e
 pub implied_met : (arcs : List Lag) (s : List ℤ) → MeetsAll s arcs → (e : Lag) → Implies arcs e → Meets s e
 implied_met arcs s met e implied =
     let h : (start s e.from +ℤ weight implied.walk) ≤ℤ start s e.to = walk_holds arcs s met e.from e.to implied.walk implied.goes in
-    let w : e.weight ≤ℤ weight implied.walk = implied.weighs in
     omega (arith, ints)

@@ -7,7 +7,6 @@ pub mod Passed
 pub mod Truth
 pub mod Wrong
 pub mod Weighing
-pub mod MembersSoFar
 pub mod Loops
 pub mod PartLaws
 pub mod Standings

@@ -97,7 +97,6 @@ clique_refuted p arcs from to members s clique feasible met = in_window (gap fro
     some_room =
         let some : 0 < length members = omega (arith, clique.several) in
         let i : ℕ = get_or members 0 0 in
-        let zero : start s 0 ≡ pos 0 = feasible.schedule.from_zero in
         let within = clique.inside 0 0 some in
         let time = (clique.are_members.take_time 0 0 some).long in
         let late : (start s 0 +ℤ from) ≤ℤ start s i = implied_met arcs s met (arc_of 0 i from) within.late in

@@ -18,9 +18,6 @@ record StartsLast (s : List ℤ) (members : List ℕ) (m : ℕ) : Type 0 where
   member : Contains members m
   last : All (λ i. start s i ≤ℤ start s m) members
 
-there : (x : ℕ) (xs : List ℕ) (y : ℕ) → Contains xs y → Contains (x ∷ xs) y
-there x xs y c = Contains-append_right (x ∷ []) xs y c
-
 here : (x : ℕ) (xs : List ℕ) → Contains (x ∷ xs) x
 here x xs = Contains-get_or (x ∷ xs) 0 x (omega arith)
 
@@ -31,10 +28,10 @@ starts_last s x (y ∷ ys) = longer (starts_last s y ys)
     longer : (m : ℕ) × StartsLast s (y ∷ ys) m → (m : ℕ) × StartsLast s (x ∷ y ∷ ys) m
     longer (m, so_far) =
         by_lt_z (start s x) (start s m)
-        (λ less. (m, record { member = there x (y ∷ ys) m so_far.member; last = All-cons (λ i. start s i ≤ℤ start s m) x (y ∷ ys) (omega (arith, ints)) so_far.last }))
+        (λ less. (m, record { member = Contains-append_right (x ∷ []) (y ∷ ys) m so_far.member; last = All-cons (λ i. start s i ≤ℤ start s m) x (y ∷ ys) (omega (arith, ints)) so_far.last }))
         (λ more. (x, record { member = here x (y ∷ ys); last = All-cons (λ i. start s i ≤ℤ start s x) x (y ∷ ys) (omega (arith, ints)) (λ k d l. omega (arith, ints, so_far.last k d l, more)) }))
 
-begins : (xs : List ℕ) → BeginsFrom 0 xs
+pub begins : (xs : List ℕ) → BeginsFrom 0 xs
 begins [] = tt
 begins (x ∷ xs) = omega arith
 
@@ -55,5 +52,4 @@ set_refuted p arcs k (x ∷ xs) s set feasible met = by_last (starts_last s x xs
         runs_when (start s i) u (start s i +ℤ duration p i) (last.last j d l) (ends i (Contains-get_or (x ∷ xs) j d l)) in
         let used = rising_sum (demand p k) (is_running p s u) 0 (activity_count p) (x ∷ xs) (begins (x ∷ xs)) set.are_members.rising (λ j d l. omega (arith, (set.are_members.take_time j d l).named)) run in
         let fits = feasible.within u k set.in_range in
-        let exceeds = set.forbidden in
-        omega (arith, used, fits, exceeds)
+        omega (arith, used, fits, set.forbidden)

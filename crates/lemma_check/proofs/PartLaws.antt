@@ -1,11 +1,10 @@
 -- The part of an activity that runs in a window at least, by a matrix, is the greatest that its arcs imply.
 use Rattle.std.proofs.Common.{◌≡◌, refl, ℕ, ◌+◌, ◌*◌, ◌<◌, ◌≤◌, ◌⊎◌, inl, inr, ⊎_elim, arith, ℤ, pos, ◌+ℤ◌, ◌-ℤ◌, ◌≤ℤ◌, List, Option, None, Some}
-use Rattle.std.specs.Prelude.{IsTrue, nat_lt, unsigned_abs}
+use Rattle.std.specs.Prelude.{unsigned_abs}
 use Rattle.std.specs.Int.{int_max, int_min}
 use Rattle.std.specs.List.{sum_by, range_with_len}
 use Rattle.std.proofs.Math.Nat.{mul-le-mul_right}
 use Rattle.std.proofs.lemmas.Bool.{cases_lt}
-use Rattle.std.proofs.lemmas.Bool.Decides.{nat_tests}
 use Rattle.std.proofs.lemmas.Int.{ints, clamps}
 use Rattle.std.proofs.lemmas.List.{map-id}
 use Rattle.std.proofs.lemmas.List.FromFn.{sum_by-map-range_with_len_more}
@@ -34,10 +33,6 @@ least_or_none a b c d =
 
 at_most_least : (a b c d : ℤ) (m : ℕ) → IsLeastOf a b c d m → m ≤ unsigned_abs (int_max (int_min (int_min (int_min a b) c) d) (pos 0))
 at_most_least a b c d m below =
-    let first = below.first in
-    let second = below.second in
-    let third = below.third in
-    let fourth = below.fourth in
     omega (arith, ints, clamps)
 
 -- ---- an activity's part
@@ -52,17 +47,13 @@ part_by p arcs from to i (Some h) (Some b) of_head of_back =
     ⊎_elim
     (λ (none : least_part (duration p i) from to (Some h) (Some b) ≡ 0). inl none)
     (λ (below : IsLeastOf (duration p i) (to -ℤ from) ((h +ℤ duration p i) -ℤ from) (to +ℤ b) (least_part (duration p i) from to (Some h) (Some b))).
-    let first = below.first in
-    let second = below.second in
-    let third = below.third in
-    let fourth = below.fourth in
     let head : weight of_head.0.0 ≡ h = of_head.0.2 in
     let back : weight of_back.0.0 ≡ b = of_back.0.2 in
     inr (record {
-      within_activity = first;
-      within_window = add_back from to m second;
-      late = record { walk = of_head.0.0; goes = of_head.0.1; weighs = rw head (move_late from h d m third) };
-      early = record { walk = of_back.0.0; goes = of_back.0.1; weighs = rw back (move_early to b m fourth) };
+      within_activity = below.first;
+      within_window = add_back from to m below.second;
+      late = record { walk = of_head.0.0; goes = of_head.0.1; weighs = rw head (move_late from h d m below.third) };
+      early = record { walk = of_back.0.0; goes = of_back.0.1; weighs = rw back (move_early to b m below.fourth) };
     }))
     (least_or_none (duration p i) (to -ℤ from) ((h +ℤ duration p i) -ℤ from) (to +ℤ b))
   where
@@ -81,10 +72,7 @@ most_by p arcs from to i m (Some h) None of_head of_back must = absurd (of_back 
 most_by p arcs from to i m (Some h) (Some b) of_head of_back must =
     let head : weight must.late.walk ≤ℤ h = of_head.1 must.late.walk must.late.goes in
     let back : weight must.early.walk ≤ℤ b = of_back.1 must.early.walk must.early.goes in
-    let late : ((from +ℤ pos m) -ℤ duration p i) ≤ℤ weight must.late.walk = must.late.weighs in
-    let early : (pos m -ℤ to) ≤ℤ weight must.early.walk = must.early.weighs in
     let short : pos m ≤ℤ duration p i = must.within_activity in
-    let fits : (from +ℤ pos m) ≤ℤ to = must.within_window in
     at_most_least (duration p i) (to -ℤ from) ((h +ℤ duration p i) -ℤ from) (to +ℤ b) m (record { first = short; second = omega (arith, ints); third = omega (arith, ints); fourth = omega (arith, ints) })
 
 pub part_is : (p : Problem) (arcs : List Lag) (rows : Rows) (from to : ℤ) (i : ℕ) → IsMatrixOf (activity_count p) arcs rows → i < activity_count p → (part_of p rows from to i ≡ 0) ⊎ MustRun p arcs from to i (part_of p rows from to i)
@@ -112,9 +100,3 @@ load_most p arcs rows k from to load m =
   where
     below : (i : ℕ) → i < activity_count p → load.parts i ≤ part_of p rows from to i
     below i lt = ⊎_elim (λ (none : load.parts i ≡ 0). omega arith) (λ (must : MustRun p arcs from to i (load.parts i)). part_most p arcs rows from to i (load.parts i) m lt must) (load.each i lt)
-
-pub less_test : (x y : ℕ) → IsTrue (nat_lt x y) → x < y
-less_test x y h = grind (arith, nat_tests)
-
-pub test_less : (x y : ℕ) → x < y → IsTrue (nat_lt x y)
-test_less x y h = grind (arith, nat_tests)

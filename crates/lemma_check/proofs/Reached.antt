@@ -6,16 +6,13 @@ use Rattle.std.proofs.lemmas.List.{take_more, take_all, drop_more, take-append-d
 use Rattle.std.proofs.lemmas.List.Elements.{All-push}
 use Rattle.network.specs.Problem.{Problem}
 use Rattle.record_text.specs.declared.fault.RecordFault.{RecordFault}
-use Rattle.record_text.specs.declared.fault.Why.{Why}
 use Rattle.record_text.specs.declared.fault.Why.TheVariants.{Memory}
+use Rattle.record_text.proofs.FirstWrong.{fault_at}
 use Rattle.lemma_text.specs.declared.line.Line.{Line}
 use Rattle.lemma_check.specs.Places.{Place, after, Placed, placed}
 use Rattle.lemma_check.specs.Right.{IsRightAt, IsRightLine}
 use Rattle.lemma_check.specs.Faults.{why_wrong, IsFirstWrong}
 use Rattle.lemma_check.proofs.Passed.{passed, passed-append}
-
-abbrev pub fault_at : ℕ → Why → RecordFault
-fault_at line why = record { line = line; why = why }
 
 -- want of memory says nothing of a record
 pub memory_says : {X : Type 0} (P : RecordFault → Type 0) (r : Result X RecordFault) → IsErrAnd r (λ fault. fault ≡ fault_at 0 Memory) → IfErr r (λ fault. fault.why ≢ Memory → P fault)
@@ -62,7 +59,7 @@ first_wrong p at first lines i line fault lt is before never told =
       before = placed p at (take i lines);
       here = record { place = place_at p at lines i; line = line };
       behind = placed p (after p (place_at p at lines i) line) (drop (i + 1) lines);
-      split = ap (placed p at) whole ∙ placed-append p at (take i lines) (line ∷ drop (i + 1) lines);
+      placed = ap (placed p at) whole ∙ placed-append p at (take i lines) (line ∷ drop (i + 1) lines);
       right = before;
       wrong = never;
       line = ap (λ (f : RecordFault). f.line) told ∙ ap (λ (n : ℕ). first + n) (sym long);

@@ -1,5 +1,5 @@
 -- A reason that ends a block is true: no feasible schedule meets the arcs of the block.
-use Rattle.std.proofs.Common.{ℕ, List, [], get_or, arith, ℤ, pos, ◌+ℤ◌, ◌≤ℤ◌, ◌<ℤ◌}
+use Rattle.std.proofs.Common.{ℕ, List, [], get_or, arith, ℤ, ◌+ℤ◌, ◌≤ℤ◌}
 use Rattle.std.specs.List.{All}
 use Rattle.std.proofs.lemmas.Int.{ints}
 use Rattle.std.proofs.lemmas.List.Elements.{All-weaker}
@@ -23,7 +23,6 @@ MeetsNone s lemmas = All (λ lemma. ¬ All (Meets s) lemma) lemmas
 cycle_refuted : (arcs : List Lag) (s : List ℤ) → HasPositiveCycle arcs → MeetsAll s arcs → ⊥
 cycle_refuted arcs s cycle met =
     let h : (start s cycle.0 +ℤ weight cycle.1) ≤ℤ start s cycle.0 = walk_holds arcs s met cycle.0 cycle.0 cycle.1 cycle.2.closed in
-    let positive : pos 0 <ℤ weight cycle.1 = cycle.2.positive in
     omega (arith, ints)
 
 use_refuted : (lemmas : List (List Lag)) (arcs : List Lag) (k : ℕ) (s : List ℤ) → IsUse lemmas arcs k → MeetsNone s lemmas → MeetsAll s arcs → ⊥

@@ -1,5 +1,5 @@
 -- What is kept of a place, from line to line.
-use Rattle.std.proofs.Common.{◌≡◌, refl, sym, ap, ◌∙◌, subst, ℕ, ◌<◌, true, false, Bool, Option, None, Some, List, [], ◌∷◌, ◌++◌, length, append_assoc, append-nil, arith, pos, ◌≤ℤ◌, ◌<ℤ◌}
+use Rattle.std.proofs.Common.{◌≡◌, refl, sym, ap, ◌∙◌, subst, ℕ, ◌<◌, true, false, Bool, Option, None, Some, List, [], ◌∷◌, ◌++◌, length, append_assoc, append-nil, arith, pos, ◌≤ℤ◌}
 use Rattle.std.specs.Prelude.{is_some}
 use Rattle.std.specs.List.{All}
 use Rattle.std.proofs.lemmas.Int.{ints}
@@ -92,10 +92,9 @@ first_dead p claim top least =
 
 -- ---- a lemma begins and ends
 
-not_both : (arcs : List Lag) → HasNoPositiveCycle arcs → HasPositiveCycle arcs → ⊥
+pub not_both : (arcs : List Lag) → HasNoPositiveCycle arcs → HasPositiveCycle arcs → ⊥
 not_both arcs live cycle =
     let low : weight cycle.1 ≤ℤ pos 0 = live cycle.0 cycle.1 cycle.2.closed in
-    let high : pos 0 <ℤ weight cycle.1 = cycle.2.positive in
     omega (arith, ints)
 
 -- a mark is made, and the lemma has none of its arcs yet

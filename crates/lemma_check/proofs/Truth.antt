@@ -129,7 +129,6 @@ rules_met p s feasible e c = All-contains (Meets s) (rules p) e feasible.schedul
 
 deadline_met : (p : Problem) (s : List ℤ) (bound : ℤ) → IsFeasible p s → makespan s <ℤ bound → MeetsAll s (rules p ++ deadline p bound ∷ [])
 deadline_met p s bound feasible less =
-    let zero : start s 0 ≡ pos 0 = feasible.schedule.from_zero in
     let last : start s (end_of p) ≡ makespan s = ap (λ n. start s (n - 1)) (sym feasible.schedule.whole) in
     let here : Meets s (deadline p bound) = omega (arith, ints) in
     meets_more s (rules p) (deadline p bound) (rules_met p s feasible) here

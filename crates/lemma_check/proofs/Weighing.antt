@@ -1,5 +1,5 @@
 -- Sums of weights of walks and of a reverse are small, and what an entry says of an arc.
-use Rattle.std.proofs.Common.{◌≡◌, refl, subst, ℕ, ◌<◌, arith, ℤ, ◌+ℤ◌, ◌≤ℤ◌, ◌<ℤ◌, neg_ℤ, List, [], ◌∷◌, ◌++◌, length, Option, None, Some, w64, FitsSigned}
+use Rattle.std.proofs.Common.{◌≡◌, refl, subst, ℕ, ◌<◌, arith, ℤ, ◌+ℤ◌, ◌≤ℤ◌, ◌<ℤ◌, List, [], ◌∷◌, ◌++◌, length, Option, None, Some, w64, FitsSigned}
 use Rattle.std.specs.Prelude.{◌↔◌, IsTrue}
 use Rattle.std.specs.Int.Signed.{le_z, lt_z}
 use Rattle.std.proofs.lemmas.Int.{ints, by_lt_z}
@@ -17,26 +17,14 @@ use Rattle.lemma_check.specs.Weights.{rows_with}
 -- a walk, a reverse and a walk
 pub way_small : (x w y : ℤ) → IsWithin MAX_WALK_WEIGHT x → IsWithin MAX_REVERSE_WEIGHT w → IsWithin MAX_WALK_WEIGHT y → IsWithin MAX_WAY_WEIGHT ((x +ℤ w) +ℤ y)
 way_small x w y p q r =
-    let a : x ≤ℤ MAX_WALK_WEIGHT = p.at_most in
-    let b : neg_ℤ MAX_WALK_WEIGHT ≤ℤ x = p.at_least in
-    let c : w ≤ℤ MAX_REVERSE_WEIGHT = q.at_most in
-    let d : neg_ℤ MAX_REVERSE_WEIGHT ≤ℤ w = q.at_least in
-    let e : y ≤ℤ MAX_WALK_WEIGHT = r.at_most in
-    let f : neg_ℤ MAX_WALK_WEIGHT ≤ℤ y = r.at_least in
     record { at_most = omega (arith, ints); at_least = omega (arith, ints) }
 
 pub part_fits : (x w : ℤ) → IsWithin MAX_WALK_WEIGHT x → IsWithin MAX_REVERSE_WEIGHT w → FitsSigned w64 (x +ℤ w)
 part_fits x w p q =
-    let a : x ≤ℤ MAX_WALK_WEIGHT = p.at_most in
-    let b : neg_ℤ MAX_WALK_WEIGHT ≤ℤ x = p.at_least in
-    let c : w ≤ℤ MAX_REVERSE_WEIGHT = q.at_most in
-    let d : neg_ℤ MAX_REVERSE_WEIGHT ≤ℤ w = q.at_least in
     omega (arith, ints)
 
 pub way_fits : (z : ℤ) → IsWithin MAX_WAY_WEIGHT z → FitsSigned w64 z
 way_fits z p =
-    let a : z ≤ℤ MAX_WAY_WEIGHT = p.at_most in
-    let b : neg_ℤ MAX_WAY_WEIGHT ≤ℤ z = p.at_least in
     omega (arith, ints)
 
 pub length-rows_with : (o : Option Lag) (rows : Rows) → length (rows_with o rows) ≡ length rows
@@ -63,11 +51,9 @@ implied_by n arcs rows e w m from to is =
     let at : IsGreatestWeight arcs e.from e.to (Some w) = rw is at (m.greatest e.from e.to from to) in (
       λ test.
           let low : e.weight ≤ℤ w = le_test e.weight w test in
-          let same : weight at.0.0 ≡ w = at.0.2 in
           record { walk = at.0.0; goes = at.0.1; weighs = omega (arith, ints) },
       λ (implied : Implies arcs e).
           let most : weight implied.walk ≤ℤ w = at.1 implied.walk implied.goes in
-          let low : e.weight ≤ℤ weight implied.walk = implied.weighs in
           test_le e.weight w (omega (arith, ints)),
     )
 
@@ -85,7 +71,6 @@ closes_none n arcs rows e m from to never = λ x is.
     by_lt_z x e.weight
     (λ less. omega (arith, ints))
     (λ reached.
-    let same : weight at.0.0 ≡ x = at.0.2 in
     absurd (never (record { walk = at.0.0; goes = at.0.1; weighs = omega (arith, ints) })))
 
 -- so the rows over it are the matrix of the arcs with the reverse

@@ -40,7 +40,6 @@ must_run : (p : Problem) (arcs : List Lag) (s : List ℤ) (from to : ℤ) (units
 must_run p arcs s from to units i m r zero met window must =
     let late : (start s 0 +ℤ ((from +ℤ pos m) -ℤ duration p i)) ≤ℤ start s i = implied_met arcs s met (arc_of 0 i ((from +ℤ pos m) -ℤ duration p i)) must.late in
     let early : (start s i +ℤ (pos m -ℤ to)) ≤ℤ start s 0 = implied_met arcs s met (arc_of i 0 (pos m -ℤ to)) must.early in
-    let fits : (from +ℤ pos m) ≤ℤ to = must.within_window in
     part_in_window p s from units i m r must.within_activity (omega (arith, ints)) (omega (arith, ints)) (omega (arith, ints))
 
 -- what holds of each activity

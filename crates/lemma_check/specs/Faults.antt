@@ -1,6 +1,5 @@
 -- The first fault of a record that is not right.
-use Rattle.std.specs.Prelude.{◌≡◌, ◌⊎◌, ℕ, ◌+◌, List, ◌∷◌, ◌++◌, length}
-use Rattle.std.specs.List.{All}
+use Rattle.std.specs.Prelude.{◌≡◌, ℕ, ◌+◌, List, length}
 use Rattle.network.specs.Problem.{Problem}
 use Rattle.lemma_text.specs.declared.claim.Claim.{Claim}
 use Rattle.record_text.specs.declared.fault.RecordFault.{RecordFault}
@@ -10,6 +9,7 @@ use Rattle.lemma_text.specs.declared.line.Line.{Line}
 use Rattle.lemma_text.specs.declared.line.Line.TheVariants as kind
 use Rattle.lemma_text.specs.LemmaRecord.{LemmaRecordOf}
 use Rattle.lemma_text.specs.Text.{lemma_kind}
+use Rattle.record_text.specs.FirstWrong.{IsFirstWrongOf, IsFirstFaultOf}
 use Rattle.record_text.specs.Kinds.{head_rows}
 use Rattle.lemma_check.specs.Places.{Place, first_place, Placed, placed}
 use Rattle.lemma_check.specs.Right.{IsRightLine, AreRightStarts, IsRight}
@@ -25,30 +25,17 @@ why_wrong (kind.Force pair) = why.Force
 why_wrong (kind.Add arc reason) = why.Add
 why_wrong (kind.End reason) = why.End
 
+abbrev pub why_wrong_at : Placed → Why
+why_wrong_at here = why_wrong here.line
+
 -- of the lines from a place on, which are numbered from this one, the first that is not right
-pub record IsFirstWrong (p : Problem) (at : Place) (first : ℕ) (lines : List Line) (fault : RecordFault) : Type 0 where
-  pub before : List Placed
-  pub here : Placed
-  pub behind : List Placed
-  pub split : placed p at lines ≡ before ++ here ∷ behind
-  pub right : All (IsRightLine p) before
-  pub wrong : ¬ IsRightLine p here
-  pub line : fault.line ≡ first + length before
-  pub why : fault.why ≡ why_wrong here.line
-
--- the starts are wrong
-pub record HasWrongStarts (p : Problem) (claim : Claim) (fault : RecordFault) : Type 0 where
-  pub wrong : ¬ AreRightStarts p claim
-  pub is : fault ≡ record { line = 3; why = why.Start }
-
--- the starts are right, and a line is the first that is wrong
-pub record HasWrongLine (p : Problem) (r : LemmaRecordOf) (fault : RecordFault) : Type 0 where
-  pub starts : AreRightStarts p r.claim
-  pub first : IsFirstWrong p (first_place p r.claim) (first_line r.claim) r.lines fault
+abbrev pub IsFirstWrong : Problem → Place → ℕ → List Line → RecordFault → Type 0
+IsFirstWrong p at first lines fault = IsFirstWrongOf (IsRightLine p) why_wrong_at first (placed p at lines) fault
 
 -- the starts come first, then the lines in their order
 abbrev pub IsFirstFault : Problem → LemmaRecordOf → RecordFault → Type 0
-IsFirstFault p r fault = HasWrongStarts p r.claim fault ⊎ HasWrongLine p r fault
+IsFirstFault p r fault =
+    IsFirstFaultOf (AreRightStarts p r.claim) (IsFirstWrong p (first_place p r.claim) (first_line r.claim) r.lines) fault
 
 -- a record with a first fault is not right
 abbrev pub FaultIsWrong : Type 0

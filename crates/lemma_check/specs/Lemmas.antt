@@ -1,5 +1,5 @@
 -- Lemmas by the lines that they begin with.
-use Rattle.std.specs.Prelude.{ℕ, Option, Some, None, List, [], map, slice_get}
+use Rattle.std.specs.Prelude.{ℕ, Option, Some, List, [], map, slice_get}
 use Rattle.network.specs.declared.lag.Lag.{Lag}
 use Rattle.lemma_text.specs.declared.line.Line.{Line}
 use Rattle.lemma_text.specs.declared.line.Line.TheVariants as kind
@@ -7,10 +7,7 @@ use Rattle.lemma_text.specs.declared.line.Line.TheVariants as kind
 -- the arcs of a line that begins a lemma
 abbrev pub first_arcs : Option Line → List Lag
 first_arcs (Some (kind.Lemma arcs)) = arcs
-first_arcs (Some (kind.Force pair)) = []
-first_arcs (Some (kind.Add arc reason)) = []
-first_arcs (Some (kind.End reason)) = []
-first_arcs None = []
+first_arcs line = []
 
 -- the lemma that begins with a line
 abbrev pub lemma_at : List Line → ℕ → List Lag

@@ -1,7 +1,6 @@
 -- Why no feasible schedule meets all arcs of a block: what walks over them show of each schedule that does.
 use Rattle.std.specs.Prelude.{◌≡◌, ℕ, ◌*◌, ◌<◌, ◌≤◌, ◌⊎◌, ℤ, pos, ◌+ℤ◌, ◌-ℤ◌, ◌≤ℤ◌, ◌<ℤ◌, unsigned_abs, List, [], length, slice_index_or}
 use Rattle.std.specs.List.{All, AllPairs, sum_by}
-use Rattle.std.specs.List.Sorted.{IsStrictlyIncreasing}
 use Rattle.network.specs.declared.lag.Lag.{Lag}
 use Rattle.network.specs.declared.lag.Pair.{Pair}
 use Rattle.network.specs.Forbidden.{IsForbidden}
@@ -9,6 +8,7 @@ use Rattle.network.specs.Problem.{Problem, activities, activity_count, resource_
 use Rattle.network.specs.Walk.{IsWalk, weight, HasPositiveCycle, HasNoPositiveCycle}
 use Rattle.longest_path.specs.Insert.{arc_of}
 use Rattle.rivals.specs.Incompatible.{AreIncompatible}
+use Rattle.schedule_check.specs.Members.{AreMembers}
 use Rattle.lemma_text.specs.declared.reason.Reason.{Reason}
 use Rattle.lemma_text.specs.declared.reason.Reason.TheVariants as reasons
 
@@ -21,16 +21,6 @@ pub record Implies (arcs : List Lag) (e : Lag) : Type 0 where
 -- activity i ends after j starts
 abbrev pub EndsAfterStart : Problem → List Lag → ℕ → ℕ → Type 0
 EndsAfterStart p arcs i j = Implies arcs (arc_of j i (pos 1 -ℤ duration p i))
-
--- an activity that takes time
-pub record TakesTime (p : Problem) (i : ℕ) : Type 0 where
-  pub named : i < activity_count p
-  pub long : pos 0 <ℤ duration p i
-
--- rising activities that take time
-pub record AreMembers (p : Problem) (members : List ℕ) : Type 0 where
-  pub rising : IsStrictlyIncreasing members
-  pub take_time : All (TakesTime p) members
 
 -- each two of the members overlap, and together they ask for more of the resource than there is
 pub record IsSet (p : Problem) (arcs : List Lag) (resource : ℕ) (members : List ℕ) : Type 0 where

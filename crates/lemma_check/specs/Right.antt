@@ -57,8 +57,7 @@ IsRightLine p here = IsRightAt p here.place here.line
 -- the starts are a feasible schedule of the makespan that is claimed
 abbrev pub AreRightStarts : Problem → Claim → Type 0
 AreRightStarts p (claims.Optimal length starts) = IsFeasible p starts × (makespan starts ≡ length)
-AreRightStarts p (claims.Bound bound) = Unit {0}
-AreRightStarts p claims.NoSchedule = Unit {0}
+AreRightStarts p claim = Unit {0}
 
 -- each line is right at its place, where the first one stands here
 abbrev pub AreRightFrom : Problem → Place → List Line → Type 0

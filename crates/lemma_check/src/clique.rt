@@ -5,13 +5,14 @@ ghost use Rattle.std.specs.List.{All, AllPairs, sum_by};
 ghost use Rattle.network.specs.declared.lag.Lag.{Lag};
 ghost use Rattle.network.specs.Limits.{IsTime};
 ghost use Rattle.network.specs.Problem.{activity_count, duration};
-ghost use Rattle.lemma_check.specs.Reasons.{AreMembers, RunsWithin, StartsAfterEnd, RunApart, IsClique};
+ghost use Rattle.schedule_check.specs.Members.{AreMembers};
+ghost use Rattle.lemma_check.specs.Reasons.{RunsWithin, StartsAfterEnd, RunApart, IsClique};
 ghost use Rattle.lemma_check.specs.Weights.{TellsWhether};
 
-use crate::members::are_members;
 use crate::weights::Weights;
 use network::{Lag, Pair, Project};
 use rivals::are_incompatible;
+use schedule_check::are_members;
 
 /// Whether the second activity starts once the first has ended.
 fn starts_after_end(project: &Project, weights: &Weights, first: usize, second: usize) -> bool

@@ -7,7 +7,6 @@ mod laws;
 mod lemmas;
 mod lines;
 mod load;
-mod members;
 mod proved;
 mod right;
 mod set;

@@ -4,12 +4,13 @@ ghost use Rattle.std.specs.Prelude.{◌≡◌, ◌↔◌, ◌<◌, List, length,
 ghost use Rattle.std.specs.List.{All};
 ghost use Rattle.network.specs.declared.lag.Lag.{Lag};
 ghost use Rattle.network.specs.Problem.{activity_count};
-ghost use Rattle.lemma_check.specs.Reasons.{AreMembers, EndsAfterStart, IsSet};
+ghost use Rattle.schedule_check.specs.Members.{AreMembers};
+ghost use Rattle.lemma_check.specs.Reasons.{EndsAfterStart, IsSet};
 ghost use Rattle.lemma_check.specs.Weights.{TellsWhether};
 
-use crate::members::{are_members, is_forbidden};
 use crate::weights::Weights;
 use network::{Lag, Project};
+use schedule_check::{are_members, is_forbidden};
 
 /// Whether an activity ends after each of the members starts.
 fn ends_after_all(project: &Project, weights: &Weights, activity: usize, members: &[usize]) -> bool

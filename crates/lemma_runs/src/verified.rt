@@ -2,8 +2,6 @@
 
 ghost use Rattle.std.specs.Prelude.{◌≡◌, ◌≢◌, ◌++◌, IfOk, IfErr, string_bytes, codes};
 ghost use Rattle.std.specs.Fmt.{signed_decimal};
-ghost use Rattle.record_text.specs.Kinds as records;
-ghost use Rattle.record_text.specs.TextFaults.{IsFirstTextFault};
 ghost use Rattle.lemma_text.specs.Text.{lemma_kind};
 ghost use Rattle.lemma_check.specs.Faults.{IsFirstFault};
 ghost use Rattle.answers.specs.Faults.{exit_of, IsTextFault};
@@ -29,15 +27,6 @@ fn proved_text(alloc: Global, proved: Proved) -> Result<String, AllocError>
     Ok(out)
 }
 
-/// The record that a text is that of.
-fn record_of(alloc: Global, text: &[u8]) -> Result<LemmaRecord, Fault>
-    ensures read { IfOk result (λ shown. records.Spells lemma_kind text.now shown) }
-    ensures refused { IfErr result (λ fault. exit_of fault ≢ 1 → Tells (IsFirstTextFault lemma_kind text.now) fault) }
-    ensures cause { IfErr result IsTextFault }
-{
-    Ok(LemmaRecord::read(alloc, text)?)
-}
-
 /// What a record proves of a project.
 fn proof_of(alloc: Global, project: &Project, shown: &LemmaRecord) -> Result<Answer, Fault>
     ensures said { IfOk result (λ a. (a.exit ≡ 0) × IsProvedText project.now shown.now a.text.items) }
@@ -55,6 +44,6 @@ pub(crate) fn verified(alloc: Global, project: &Project, text: &[u8]) -> Result<
     ensures refused { IfErr result (λ fault. exit_of fault ≢ 1 → IsNoProof lemma_kind (IsFirstFault project.now) text.now fault) }
     ensures cause { IfErr result IsTextFault }
 {
-    let shown = record_of(alloc, text)?;
+    let shown = LemmaRecord::read(alloc, text)?;
     proof_of(alloc, project, &shown)
 }

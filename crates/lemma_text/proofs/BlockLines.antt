@@ -26,9 +26,8 @@ rules = record {
 
 pub few_due : (due : ℕ) (line : Line) → due ≤ 2 → may_stand due line ≡ true → still_due due line ≤ 2
 few_due due (kind.Lemma arcs) few may = omega (arith, eqb-true due 1 may)
-few_due due (kind.Force pair) few may = few
-few_due due (kind.Add arc reason) few may = few
 few_due due (kind.End reason) few may = omega (arith, few)
+few_due due line few may = few
 
 abbrev AreWritable : List Line → Type 0
 AreWritable lines = AllByRecursion IsWritableLine lines

@@ -5,14 +5,14 @@ use Rattle.record_text.specs.Kinds.{AreRows}
 use Rattle.record_text.specs.Rows.{line_pieces, Begin}
 use Rattle.record_text.specs.Reading.{starts_in}
 use Rattle.record_text.specs.Text.{spaced_times}
-use Rattle.record_text.proofs.KindLaws.{stands_in, no_claim}
+use Rattle.record_text.proofs.KindLaws.{first_is, stands_in, no_claim}
 use Rattle.record_text.proofs.Rows.{Stands}
 use Rattle.record_text.proofs.HeadReads.{starts_again, starts_take}
 use Rattle.lemma_text.specs.declared.claim.Claim.{Claim}
 use Rattle.lemma_text.specs.declared.claim.Claim.TheVariants as claims
 use Rattle.lemma_text.specs.Text.{IsWritableClaim, claim_rows, lemma_kind}
 use Rattle.lemma_text.specs.Reading.{amount_after}
-use Rattle.lemma_text.proofs.HeadReads.{first_is, amount_row, amount_again, amount_takes, none_no_optimal, bound_no_optimal}
+use Rattle.lemma_text.proofs.HeadReads.{amount_row, amount_again, amount_takes, none_no_optimal, bound_no_optimal}
 use Rattle.lemma_text.proofs.TextLaws.{facts}
 
 pub stands_third : (row : List ℕ) (z : ℤ) → amount_after (codes "optimal") row ≡ Some z → Stands (AreRows lemma_kind) (codes "record 2" ∷ row ∷ [])

@@ -9,6 +9,7 @@ use Rattle.network.specs.declared.limits.TheConstants.{MAX_AMOUNT}
 use Rattle.record_text.specs.Text.{IsNumber, spaced_times}
 use Rattle.record_text.specs.Reading.{numbers_after, starts_in}
 use Rattle.record_text.proofs.RowReads.{is_space}
+use Rattle.record_text.proofs.KindLaws.{first_is}
 use Rattle.record_text.proofs.HeadReads.{after_again, after_takes, starts_again}
 use Rattle.lemma_text.specs.declared.claim.Claim.{Claim}
 use Rattle.lemma_text.specs.declared.claim.Claim.TheVariants as claims
@@ -31,12 +32,10 @@ pub amount_takes : (word row : List ℕ) (z : ℤ) → amount_after word row ≡
 amount_takes word row z h = by_numbers (numbers_after word row) refl h
   where
     by_numbers : (o : Option (List ℕ)) → numbers_after word row ≡ o → only_amount o ≡ Some z → (row ≡ amount_row word z) × IsAmount z
-    by_numbers None e h = absurd cc
-    by_numbers (Some []) e h = absurd cc
     by_numbers (Some (n ∷ [])) e h =
         let t = at_most_takes MAX_AMOUNT n z h in
         rw t.0 ((after_takes word row (n ∷ []) e).0, record { at_least = omega (arith, ints); at_most = t.1 })
-    by_numbers (Some (n ∷ k ∷ ns)) e h = absurd cc
+    by_numbers o e h = absurd cc
 
 -- ---- a claim's rows say one claim
 
@@ -52,9 +51,6 @@ none_no_optimal z = differ (codes "no schedule") (amount_row (codes "optimal") z
 
 pub bound_no_optimal : (y z : ℤ) → amount_row (codes "bound") y ≢ amount_row (codes "optimal") z
 bound_no_optimal y z = differ (amount_row (codes "bound") y) (amount_row (codes "optimal") z) (λ (e : 98 ≡ 111). omega (arith, e))
-
-pub first_is : {xs ys : List (List ℕ)} {x y : List ℕ} → x ∷ xs ≡ y ∷ ys → x ≡ y
-first_is h = cc
 
 pub claim_injective : (a b : Claim) (x y : List (List ℕ)) → IsWritableClaim a → IsWritableClaim b → claim_rows a ++ x ≡ claim_rows b ++ y → (a ≡ b) × (x ≡ y)
 claim_injective claims.NoSchedule claims.NoSchedule x y wa wb h = (refl, cc)

@@ -104,14 +104,11 @@ force_said : (ws : List (List ℕ)) (line : Line) → force_of (numbers ws) ≡ 
 force_said ws line h = by_numbers (numbers ws) refl h
   where
     by_numbers : (o : Option (List ℕ)) → numbers ws ≡ o → force_of o ≡ Some line → Said (codes "force") ws line
-    by_numbers None e h = absurd cc
-    by_numbers (Some []) e h = absurd cc
-    by_numbers (Some (i ∷ [])) e h = absurd cc
     by_numbers (Some (i ∷ j ∷ [])) e h =
         let is : line ≡ kind.Force (record { before = i; after = j }) = cc in
         let t = numbers_take ws (i ∷ j ∷ []) e in
         rw is (record { words = ap (λ (vs : List (List ℕ)). codes "force" ∷ vs) (sym t.0); writable = (t.1.0, t.1.1.0) })
-    by_numbers (Some (i ∷ j ∷ k ∷ ns)) e h = absurd cc
+    by_numbers o e h = absurd cc
 
 add_said : (ws : List (List ℕ)) (line : Line) → add_of (lag_first ws) ≡ Some line → Said (codes "add") ws line
 add_said ws line h = by_first (lag_first ws) refl h

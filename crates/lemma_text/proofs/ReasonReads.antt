@@ -15,14 +15,6 @@ use Rattle.lemma_text.proofs.RowWords.{reason_words}
 
 -- ---- what is spelled is read
 
--- the word and the numbers of a reason
-abbrev reason_word : Reason → List ℕ
-reason_word reasons.Dead = codes "dead"
-reason_word (reasons.Set resource members) = codes "set"
-reason_word (reasons.Load resource from to) = codes "load"
-reason_word (reasons.Clique from to members) = codes "clique"
-reason_word (reasons.Use lemma) = codes "use"
-
 parts_again : (word : List ℕ) (ns : List ℕ) → AllByRecursion IsNumber ns → parts_of (word ∷ map decimal ns) ≡ Some (record { word = word; numbers = ns })
 parts_again word ns all = rw (numbers_again ns all) refl
 
@@ -31,13 +23,12 @@ reason_again reasons.Dead w = refl
 reason_again (reasons.Set resource []) w = absurd (omega (arith, w.1.some))
 reason_again (reasons.Set resource (i ∷ members)) w = ap reason_in (parts_again (codes "set") (resource ∷ i ∷ members) (w.0, w.1.numbers))
 reason_again (reasons.Load resource (pos from) (pos to)) w = ap reason_in (parts_again (codes "load") (resource ∷ from ∷ to ∷ []) (w.0, (w.1, (w.2, tt))))
-reason_again (reasons.Load resource (negsuc from) to) w = absurd w.1
 reason_again (reasons.Load resource (pos from) (negsuc to)) w = absurd w.2
 reason_again (reasons.Clique (pos from) (pos to) []) w = absurd (omega (arith, w.2.some))
 reason_again (reasons.Clique (pos from) (pos to) (i ∷ members)) w = ap reason_in (parts_again (codes "clique") (from ∷ to ∷ i ∷ members) (w.0, (w.1, w.2.numbers)))
 reason_again (reasons.Clique (negsuc from) to members) w = absurd w.0
-reason_again (reasons.Clique (pos from) (negsuc to) members) w = absurd w.1
 reason_again (reasons.Use lemma) w = ap reason_in (parts_again (codes "use") (lemma ∷ []) (w, tt))
+reason_again reason w = absurd w.1
 
 -- ---- what is read is spelled so
 
@@ -51,29 +42,22 @@ dead_said [] reason h = let is : reason ≡ reasons.Dead = cc in rw is (record {
 dead_said (n ∷ ns) reason h = absurd cc
 
 set_said : (ns : List ℕ) (reason : Reason) → AllByRecursion IsNumber ns → set_of ns ≡ Some reason → Said (codes "set") ns reason
-set_said [] reason all h = absurd cc
-set_said (i ∷ []) reason all h = absurd cc
 set_said (k ∷ i ∷ ns) reason all h = let is : reason ≡ reasons.Set k (i ∷ ns) = cc in rw is (record { words = refl; writable = (all.0, record { some = omega arith; numbers = all.1 }) })
+set_said ns reason all h = absurd cc
 
 load_said : (ns : List ℕ) (reason : Reason) → AllByRecursion IsNumber ns → load_of ns ≡ Some reason → Said (codes "load") ns reason
-load_said [] reason all h = absurd cc
-load_said (k ∷ []) reason all h = absurd cc
-load_said (k ∷ i ∷ []) reason all h = absurd cc
 load_said (k ∷ i ∷ j ∷ []) reason all h = let is : reason ≡ reasons.Load k (pos i) (pos j) = cc in rw is (record { words = refl; writable = (all.0, all.1.0, all.1.1.0) })
-load_said (k ∷ i ∷ j ∷ n ∷ ns) reason all h = absurd cc
+load_said ns reason all h = absurd cc
 
 clique_said : (ns : List ℕ) (reason : Reason) → AllByRecursion IsNumber ns → clique_of ns ≡ Some reason → Said (codes "clique") ns reason
-clique_said [] reason all h = absurd cc
-clique_said (i ∷ []) reason all h = absurd cc
-clique_said (i ∷ j ∷ []) reason all h = absurd cc
 clique_said (i ∷ j ∷ n ∷ ns) reason all h =
     let is : reason ≡ reasons.Clique (pos i) (pos j) (n ∷ ns) = cc in
     rw is (record { words = refl; writable = (all.0, all.1.0, record { some = omega arith; numbers = all.1.1 }) })
+clique_said ns reason all h = absurd cc
 
 use_said : (ns : List ℕ) (reason : Reason) → AllByRecursion IsNumber ns → use_of ns ≡ Some reason → Said (codes "use") ns reason
-use_said [] reason all h = absurd cc
 use_said (k ∷ []) reason all h = let is : reason ≡ reasons.Use k = cc in rw is (record { words = refl; writable = all.0 })
-use_said (k ∷ n ∷ ns) reason all h = absurd cc
+use_said ns reason all h = absurd cc
 
 reason_said : (word ns : List ℕ) (reason : Reason) → AllByRecursion IsNumber ns → reason_from word ns ≡ Some reason → Said word ns reason
 reason_said word ns reason all h =

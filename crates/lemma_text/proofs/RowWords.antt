@@ -71,12 +71,11 @@ lags_after (arc ∷ arcs) =
     ap (λ (bs : List ℕ). bs ++ flat_map spaced_lag arcs) (lag_after arc) ∙ ap (λ (bs : List ℕ). after (lag_words arc) ++ bs) (lags_after arcs) ∙ sym (flat_map-append (λ w. 32 ∷ w) (lag_words arc) (flat_map lag_words arcs))
 
 reason_after : (reason : Reason) → 32 ∷ reason_text reason ≡ after (reason_words reason)
-reason_after reasons.Dead = refl
 reason_after (reasons.Set resource members) = ap (λ (bs : List ℕ). 32 ∷ (codes "set" ++ bs)) (spaced_after (resource ∷ members))
 reason_after (reasons.Load resource from to) = search rules
 reason_after (reasons.Clique from to members) =
     ap (λ (bs : List ℕ). 32 ∷ (codes "clique" ++ bs)) (two (32 ∷ signed_decimal from) (32 ∷ signed_decimal to) (spaced members) ∙ ap (λ (bs : List ℕ). (32 ∷ signed_decimal from) ++ ((32 ∷ signed_decimal to) ++ bs)) (spaced_after members))
-reason_after (reasons.Use lemma) = refl
+reason_after reason = refl
 
 -- a row is its words, joined by one space
 pub row_joined : (line : Line) → row_of line ≡ join_with_byte 32 (first_word line ∷ more_words line)

@@ -6,7 +6,6 @@
 #![tactic(auto)]
 
 mod claim;
-mod lags;
 mod laws;
 mod line;
 mod read;
@@ -19,9 +18,8 @@ mod weight;
 mod write;
 
 pub use claim::Claim;
-pub use lags::Lags;
 pub use laws::{shape_law, text_law};
-pub use line::Line;
+pub use line::{Lags, Line};
 pub use read::first_line;
 pub use reason::Reason;
 pub use record::{LemmaRecord, text_of};

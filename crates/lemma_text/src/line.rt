@@ -1,8 +1,11 @@
 //! A line of a record of lemmas.
 
-use crate::lags::Lags;
 use crate::reason::Reason;
 use network::{Lag, Pair};
+use record_text::Listed;
+
+/// The arcs of a lemma's first line.
+pub type Lags = Listed<Lag>;
 
 /// A line of a block, or one that begins or ends a block.
 #[derive(Drop, Debug)]

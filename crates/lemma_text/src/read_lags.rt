@@ -4,7 +4,7 @@ ghost use Rattle.std.specs.Prelude.{◌≡◌, ◌<◌, length, IfOk, IfSome, Ma
 ghost use Rattle.record_text.specs.Reading.{fields, fields_left};
 ghost use Rattle.lemma_text.specs.Reading.{lags, lag_first};
 
-use crate::lags::Lags;
+use crate::line::Lags;
 use crate::weight::weight;
 use network::Lag;
 use record_text::{number, split_field};

@@ -62,13 +62,11 @@ pub makespan_takes : (row : List ℕ) (z : ℤ) → makespan_in row ≡ Some z �
 makespan_takes row z h = by_numbers (numbers_after (codes "optimal") row) refl h
   where
     by_numbers : (o : Option (List ℕ)) → numbers_after (codes "optimal") row ≡ o → only_time o ≡ Some z → (row ≡ codes "optimal" ++ spaced_times (z ∷ [])) × IsWritableTime z
-    by_numbers None e h = absurd cc
-    by_numbers (Some []) e h = absurd cc
     by_numbers (Some (n ∷ [])) e h =
         let t = after_takes (codes "optimal") row (n ∷ []) e in
         let is : z ≡ pos n = cc in
         rw is (t.0, t.1.0)
-    by_numbers (Some (n ∷ k ∷ ns)) e h = absurd cc
+    by_numbers o e h = absurd cc
 
 -- ---- the starts
 
@@ -83,12 +81,11 @@ pub starts_take : (row : List ℕ) (times : List ℤ) → starts_in row ≡ Some
 starts_take row times h = by_numbers (numbers_after (codes "starts") row) refl h
   where
     by_numbers : (o : Option (List ℕ)) → numbers_after (codes "starts") row ≡ o → some_times o ≡ Some times → (row ≡ codes "starts" ++ spaced_times times) × (0 < length times) × AllByRecursion IsWritableTime times
-    by_numbers None e h = absurd cc
-    by_numbers (Some []) e h = absurd cc
     by_numbers (Some (n ∷ ns)) e h =
         let t = after_takes (codes "starts") row (n ∷ ns) e in
         let is : times ≡ map pos (n ∷ ns) = cc in
         rw is (t.0 ∙ ap (λ (text : List ℕ). codes "starts" ++ text) (sym (spaced_as_times (n ∷ ns))), omega arith, writable_times (n ∷ ns) t.1)
+    by_numbers o e h = absurd cc
 
 -- ---- a claim's rows say one claim
 

@@ -10,6 +10,7 @@ use Rattle.record_text.specs.Kinds.{RecordOf, Kind, head_rows, rows_of, record_t
 use Rattle.record_text.specs.Rows as rows
 use Rattle.record_text.specs.Rows.{line_pieces, RowFault, Begin, HasRowFault, IsNeverLonger, missing}
 use Rattle.record_text.specs.TextFaults.{HasFault, IsFirstTextFault, IsMissing, IsOther, IsTitleFault, RecordIsOne, FirstFaultIsOne, FaultIsNoRecord, why_of, form}
+use Rattle.record_text.proofs.FirstWrong.{fault_at}
 use Rattle.record_text.proofs.Leads.{Rules, Leads, Grammar, none_more}
 use Rattle.record_text.proofs.Pieces.{HasNone, text_from, pieces_of}
 use Rattle.record_text.proofs.Rows.{Stands, missing_at, form_at, same_rows, whole_no_fault, one_fault}
@@ -27,7 +28,7 @@ pub record Facts {Claim Line : Type 0} (k : Kind Claim Line) (m : Rules k.row_of
   pub claim_plain : (claim : Claim) → k.IsClaim claim → AllByRecursion HasNone (k.claim_rows claim)
   pub line_plain : (line : Line) → k.IsLine line → HasNone (k.row_of line)
 
-first_is : {xs ys : List (List ℕ)} {x y : List ℕ} → x ∷ xs ≡ y ∷ ys → x ≡ y
+pub first_is : {xs ys : List (List ℕ)} {x y : List ℕ} → x ∷ xs ≡ y ∷ ys → x ≡ y
 first_is h = cc
 
 tail : {xs ys : List (List ℕ)} {x y : List ℕ} → x ∷ xs ≡ y ∷ ys → xs ≡ ys
@@ -37,22 +38,9 @@ plain_append : (xs ys : List (List ℕ)) → AllByRecursion HasNone xs → AllBy
 plain_append [] ys hx hy = hy
 plain_append (x ∷ xs) ys hx hy = (hx.0, plain_append xs ys hx.1 hy)
 
-abbrev fault_at : ℕ → Why → RecordFault
-fault_at line why = record { line = line; why = why }
-
 pub is_memory : (w : Why) → (w ≢ why.Memory → ⊥) → w ≡ why.Memory
 is_memory why.Memory h = refl
-is_memory why.Form h = absurd (h (λ e. cc))
-is_memory why.Short h = absurd (h (λ e. cc))
-is_memory why.Trailing h = absurd (h (λ e. cc))
-is_memory why.Start h = absurd (h (λ e. cc))
-is_memory why.Force h = absurd (h (λ e. cc))
-is_memory why.Set h = absurd (h (λ e. cc))
-is_memory why.Leaf h = absurd (h (λ e. cc))
-is_memory why.Lemma h = absurd (h (λ e. cc))
-is_memory why.Add h = absurd (h (λ e. cc))
-is_memory why.End h = absurd (h (λ e. cc))
-is_memory why.TooLong h = absurd (h (λ e. cc))
+is_memory w h = absurd (h (λ e. cc))
 
 -- ---- any rows
 

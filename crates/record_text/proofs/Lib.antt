@@ -9,3 +9,4 @@ pub mod KindLaws
 pub mod TreeLines
 pub mod TextLaws
 pub mod RowFaults
+pub mod FirstWrong

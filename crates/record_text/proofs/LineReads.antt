@@ -40,15 +40,12 @@ record Said (word : List ℕ) (ns : List ℕ) (line : Line) : Type 0 where
   some : HasMembers line
 
 force_said : (ns : List ℕ) (line : Line) → AllByRecursion IsNumber ns → force_of ns ≡ Some line → Said (codes "force") ns line
-force_said [] line all h = absurd cc
-force_said (i ∷ []) line all h = absurd cc
 force_said (i ∷ j ∷ []) line all h = let is : line ≡ kind.Force (record { before = i; after = j }) = cc in rw is (record { row = refl; small = (all.0, all.1.0); some = tt })
-force_said (i ∷ j ∷ k ∷ ns) line all h = absurd cc
+force_said ns line all h = absurd cc
 
 split_said : (ns : List ℕ) (line : Line) → AllByRecursion IsNumber ns → split_of ns ≡ Some line → Said (codes "split") ns line
-split_said [] line all h = absurd cc
-split_said (i ∷ []) line all h = absurd cc
 split_said (i ∷ j ∷ ns) line all h = let is : line ≡ kind.Split i (j ∷ ns) = cc in rw is (record { row = refl; small = (all.0, all.1); some = omega arith })
+split_said ns line all h = absurd cc
 
 leaf_said : (own line : Line) (ns : List ℕ) → IsWritableLine own → HasMembers own → leaf own ns ≡ Some line → Said (row_of own) ns line
 leaf_said own line [] small some h = let is : line ≡ own = cc in rw is (record { row = sym (append-nil (row_of own)); small = small; some = some })
@@ -79,11 +76,8 @@ line_takes row line h = by_parts (parts_of (fields row)) refl h
     by_parts (Some p) e h = let t = parts_take row p e in let s = line_said p.word p.numbers line t.1 h in (s.row ∙ sym t.0, s.small, s.some)
 
 few_members : (line : Line) → count_members line ≤ length (row_of line)
-few_members (kind.Force pair) = omega arith
-few_members kind.Solved = omega arith
-few_members kind.Cut = omega arith
-few_members kind.Dead = omega arith
 few_members (kind.Split resource members) = omega (arith, spaced_long (resource ∷ members), length-append (codes "split") (spaced (resource ∷ members)))
+few_members line = omega arith
 
 pub members_fit : (row : List ℕ) (line : Line) → line_of row ≡ Some line → count_members line ≤ length row
 members_fit row line h = omega (arith, few_members line, ap length (line_takes row line h).0)

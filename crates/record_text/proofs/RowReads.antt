@@ -5,6 +5,7 @@ use Rattle.std.specs.Char.{is_ascii_digit}
 use Rattle.std.specs.Fmt.{decimal}
 use Rattle.std.specs.Str.Parse.{digits_value}
 use Rattle.std.proofs.lemmas.Fmt.{digits_decimal, digits_value-decimal, length-decimal-le, decimal_digit, decimal_nonempty, first_decimal, decimal-digits_value}
+use Rattle.std.proofs.Math.Bool.{and-false}
 use Rattle.std.proofs.lemmas.Bool.{and_parts, ne_eqb}
 use Rattle.std.proofs.lemmas.List.Splits.{slice_split_at, slice_split_none, join_with_byte-slice_split}
 use Rattle.record_text.specs.Text.{IsNumber, spaced}
@@ -20,16 +21,12 @@ left_size None = 0
 
 -- ---- one number
 
-and_false : (b : Bool) → (b && false) ≡ false
-and_false true = refl
-and_false false = refl
-
 no_leading_zero : (n : ℕ) → IsNumber n → has_leading_zero (decimal n) ≡ false
 no_leading_zero zero small = rw (decimal_digit 0 (omega arith)) refl
 no_leading_zero (suc n) small =
     let first : 48 < get_or (decimal (suc n)) 0 0 = first_decimal (suc n) (omega arith) (omega (arith, small)) in
     let other : eqb (slice_index (decimal (suc n)) 0) 48 ≡ false = ne_eqb (slice_index (decimal (suc n)) 0) 48 (λ same. omega (arith, first, same)) in
-    rw other (and_false _)
+    rw other (and-false _)
 
 pub are_digits : (n : ℕ) → IsNumber n → AreDigits (decimal n)
 are_digits n small = digits_decimal numerals n (omega (arith, small))
@@ -84,8 +81,7 @@ record Taken (word : List ℕ) (rest : List (List ℕ)) (ns : List ℕ) : Type 0
 
 taken : (word : List ℕ) (rest : List (List ℕ)) (ns : List ℕ) (a : Option ℕ) (b : Option (List ℕ)) → number word ≡ a → numbers rest ≡ b → with_number a b ≡ Some ns → Taken word rest ns
 taken word rest ns (Some n) (Some others) e f h = record { first = n; others = others; is = cc; one = e; more = f }
-taken word rest ns (Some n) None e f h = absurd cc
-taken word rest ns None b e f h = absurd cc
+taken word rest ns a b e f h = absurd cc
 
 pub numbers_take : (ws : List (List ℕ)) (ns : List ℕ) → numbers ws ≡ Some ns → (ws ≡ map decimal ns) × AllByRecursion IsNumber ns
 numbers_take [] ns h = let none : ns ≡ [] = cc in rw none (refl, tt)

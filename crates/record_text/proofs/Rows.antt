@@ -129,15 +129,13 @@ not_last IsWhole front here (next ∷ back) broken none last = cc
 
 -- what is wrong in one place is one thing
 one_wrong : (IsWhole : List (List ℕ) → Type 0) (front : List (List ℕ)) (here : List ℕ) (back : List (List ℕ)) (v w : RowFault) → IsWrong IsWhole front here back v → IsWrong IsWhole front here back w → v ≡ w
-one_wrong W front here back form form a b = refl
 one_wrong W front here back form short a b = absurd (not_last W front here back a.1 b.1 b.2)
 one_wrong W front here back form trailing a b = absurd (a.0 b.0)
 one_wrong W front here back short form a b = absurd (not_last W front here back b.1 a.1 a.2)
-one_wrong W front here back short short a b = refl
 one_wrong W front here back short trailing a b = absurd (a.0 b.0)
 one_wrong W front here back trailing form a b = absurd (b.0 a.0)
 one_wrong W front here back trailing short a b = absurd (b.0 a.0)
-one_wrong W front here back trailing trailing a b = refl
+one_wrong W front here back v w a b = refl
 
 -- a line before one that a whole goes on to is not wrong
 right_before : (IsWhole : List (List ℕ) → Type 0) → IsNeverLonger IsWhole → (all : List (List ℕ)) (k l : ℕ) (a b : RowFault) (f : HasRowFault IsWhole all k a) (g : HasRowFault IsWhole all l b) → Before f.front g.front f.here g.here f.back g.back → ⊥

@@ -73,11 +73,9 @@ less_one due rest h = let same : due ≡ suc due - 1 = omega arith in subst (λ 
 mutual
   pub tree_completes : (t : Tree) (due : ℕ) (rest : List Line) → IsTree t → Completes due rest → Completes (suc due) (lines_of t ++ rest)
   tree_completes (force pair t) due rest shape h = (omega arith, tt, tree_completes t due rest shape h)
-  tree_completes solved due rest shape h = (omega arith, tt, less_one due rest h)
-  tree_completes cut due rest shape h = (omega arith, tt, less_one due rest h)
-  tree_completes dead due rest shape h = (omega arith, tt, less_one due rest h)
   tree_completes (split resource members kids) due rest shape h =
       (omega arith, shape.0, subst (λ (n : ℕ). Completes n (lines_of_all kids ++ rest)) (omega (arith, shape.1)) (trees_complete kids due rest shape.2 h))
+  tree_completes t due rest shape h = (omega arith, tt, less_one due rest h)
 
   pub trees_complete : (ts : Trees) (due : ℕ) (rest : List Line) → AreTrees ts → Completes due rest → Completes (count_trees ts + due) (lines_of_all ts ++ rest)
   trees_complete no_trees due rest shapes h = subst (λ (n : ℕ). Completes n rest) (omega arith) h
@@ -90,6 +88,5 @@ pub trees_law : TreesComplete
 trees_law lines = (λ h. let g = grown 1 lines h in only g.trees g.count g.shapes g.spelled, λ h. subst (Completes 1) (append-nil (lines_of h.0) ∙ h.1.spelled) (tree_completes h.0 0 [] h.1.shape refl))
   where
     only : (ts : Trees) → count_trees ts ≡ 1 → AreTrees ts → lines_of_all ts ≡ lines → (t : Tree) × IsTreeOf lines t
-    only no_trees count shapes spelled = absurd (omega arith)
     only (tree t no_trees) count shapes spelled = (t, record { shape = shapes.0; spelled = sym (append-nil (lines_of t)) ∙ spelled })
-    only (tree t (tree u us)) count shapes spelled = absurd (omega arith)
+    only ts count shapes spelled = absurd (omega arith)

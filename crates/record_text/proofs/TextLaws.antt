@@ -23,10 +23,8 @@ claim_plain (claims.Optimal m S) w = (plain_append (codes "optimal") (spaced_tim
 
 line_plain : (line : Line) → IsWritableLine line → HasNone (row_of line)
 line_plain (kind.Force pair) w = plain_append (codes "force") (spaced (pair.before ∷ pair.after ∷ [])) refl (plain_spaced (pair.before ∷ pair.after ∷ []) (w.0, (w.1, tt)))
-line_plain kind.Solved w = refl
-line_plain kind.Cut w = refl
-line_plain kind.Dead w = refl
 line_plain (kind.Split resource members) w = plain_append (codes "split") (spaced (resource ∷ members)) refl (plain_spaced (resource ∷ members) (w.0, w.1))
+line_plain line w = refl
 
 pub facts : Facts search_kind rules
 facts = record {

@@ -1,5 +1,6 @@
 -- The rows of a tree, read one after another.
-use Rattle.std.proofs.Common.{◌≡◌, ℕ, zero, suc, ◌+◌, ◌-◌, ◌*◌, ◌≤◌, Some, List, [], ◌∷◌, length, arith}
+use Rattle.std.proofs.Common.{◌≡◌, ℕ, ◌+◌, ◌-◌, ◌*◌, ◌≤◌, Some, List, [], ◌∷◌, length, arith}
+use Rattle.std.proofs.Math.Nat.{mul-le-mul_left}
 use Rattle.std.specs.List.{AllByRecursion}
 use Rattle.record_text.specs.declared.TheConstants.{MAX_RECORD_BYTES}
 use Rattle.record_text.specs.declared.line.Line.{Line}
@@ -37,18 +38,11 @@ leads_to due (l ∷ ls) h =
 -- ---- what is due stays within bounds
 
 squares : (q m : ℕ) → q ≤ m → q * (q - 1) ≤ q * m
-squares q m h = mul_le q (q - 1) m (omega (arith, h))
-  where
-    mul_le : (k a b : ℕ) → a ≤ b → k * a ≤ k * b
-    mul_le zero a b h = omega arith
-    mul_le (suc k) a b h = omega (arith, mul_le k a b h, h)
+squares q m h = mul-le-mul_left q (omega (arith, h))
 
 due_bound : (due : ℕ) (line : Line) → count_members line ≤ MAX_RECORD_BYTES → still_due due line ≤ due + count_members line * MAX_RECORD_BYTES
-due_bound due (kind.Force pair) h = omega arith
-due_bound due kind.Solved h = omega arith
-due_bound due kind.Cut h = omega arith
-due_bound due kind.Dead h = omega arith
 due_bound due (kind.Split resource members) h = omega (arith, squares (length members) MAX_RECORD_BYTES h)
+due_bound due line h = omega arith
 
 pub next_room : (due : ℕ) (found : Line) (rest row more : List ℕ) → line_of row ≡ Some found → length row + 1 + length more ≡ length rest → length rest ≤ MAX_RECORD_BYTES → due + length rest * MAX_RECORD_BYTES ≤ MAX_RECORD_BYTES * MAX_RECORD_BYTES + 1 → still_due due found + length more * MAX_RECORD_BYTES ≤ MAX_RECORD_BYTES * MAX_RECORD_BYTES + 1
 next_room due found rest row more is shorter few room =

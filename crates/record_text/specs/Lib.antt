@@ -6,3 +6,4 @@ pub mod Text
 pub mod Rows
 pub mod TextFaults
 pub mod Reading
+pub mod FirstWrong

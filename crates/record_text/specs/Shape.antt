@@ -8,10 +8,8 @@ use Rattle.record_text.specs.SearchRecord.{IsTreeOf}
 -- how many nodes must still come after a line, where so many had to before it
 abbrev pub still_due : ℕ → Line → ℕ
 still_due due (kind.Force pair) = due
-still_due due kind.Solved = due - 1
-still_due due kind.Cut = due - 1
-still_due due kind.Dead = due - 1
 still_due due (kind.Split resource members) = due - 1 + pair_count members
+still_due due leaf = due - 1
 
 abbrev pub HasMembers : Line → Type 0
 HasMembers (kind.Split resource members) = 0 < length members

@@ -30,10 +30,8 @@ pair_count members = length members * (length members - 1)
 abbrev mutual
   pub IsTree : Tree → Type 0
   IsTree (force pair t) = IsTree t
-  IsTree solved = Unit {0}
-  IsTree cut = Unit {0}
-  IsTree dead = Unit {0}
   IsTree (split resource members kids) = (0 < length members) × (count_trees kids ≡ pair_count members) × AreTrees kids
+  IsTree leaf = Unit {0}
 
   pub AreTrees : Trees → Type 0
   AreTrees no_trees = Unit {0}

@@ -1,7 +1,6 @@
 //! The claim and the lines of a record of a search.
 
-use crate::members::Members;
-use crate::starts::Starts;
+use crate::listed::{Members, Starts};
 use network::Pair;
 
 /// What a record says of a project.

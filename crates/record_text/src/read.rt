@@ -13,8 +13,9 @@ use crate::MAX_RECORD_BYTES;
 use crate::fault::{RecordFault, Why};
 use crate::fields::numbers_after;
 use crate::line::{Claim, Line};
+use crate::listed::Starts;
 use crate::row::line_of;
-use crate::starts::{Starts, read_starts};
+use crate::starts::read_starts;
 use crate::text_rows::next_row;
 use std::alloc::Global;
 

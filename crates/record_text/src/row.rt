@@ -7,7 +7,7 @@ ghost use Rattle.record_text.specs.TextFaults.{IsFormFault};
 use crate::fault::RecordFault;
 use crate::fields::{numbers, split_field};
 use crate::line::Line;
-use crate::members::Members;
+use crate::listed::Members;
 use network::Pair;
 use std::alloc::Global;
 

@@ -17,7 +17,6 @@ pub least_said : (p : Problem) (rows : Rows) (starts : List ℤ) (n : ℕ) (last
 least_said p rows starts n last d text is m earliest count at said =
     let none = All-nil (λ (q : Pair). (q.before < activity_count p) × (q.after < activity_count p)) in
     let are = earliest p [] (record { limits = is; named = none; matrix = m }) in
-    let two = is.two_dummies in
     let long : length starts ≡ activity_count p = are.limits.count in
     let same : n ≡ length starts = count ∙ sym long in
     let inside : length starts - 1 < length starts = omega arith in

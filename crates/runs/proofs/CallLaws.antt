@@ -1,37 +1,31 @@
 -- What jobs answer, and what is read where they don't.
-use Rattle.std.proofs.Common.{◌≡◌, ℕ, Bool, true, false, List, [], Option, None, Some, Err, refl, ap, ◌∙◌, inl, inr, ◌⊎◌, arith}
+use Rattle.std.proofs.Common.{◌≡◌, ℕ, Bool, true, false, List, Option, None, Some, Err, refl, ap, ◌∙◌, inl, inr}
 use Rattle.std.specs.Prelude.{Result}
 use Rattle.std.specs.Option.{MatchOption}
 use Rattle.runs.specs.declared.job.Job.{Job}
 use Rattle.runs.specs.declared.job.Job.TheVariants as jobs
 use Rattle.answers.specs.declared.fault.Fault.{Fault}
 use Rattle.answers.specs.declared.fault.Fault.TheVariants as faults
-use Rattle.std.proofs.KnownBytes.{Consumes-nil}
-use Rattle.runs.specs.Devices.{Span, span, GaveUpTo}
-use Rattle.runs.specs.Runs.{HasRead, IsNoReply, RecordsWhereAsked}
+use Rattle.runs.specs.Devices.{Span}
+use Rattle.runs.specs.Runs.{HasRead, HasReadUpTo, IsNoReply, RecordsWhereAsked}
 use Rattle.answers.specs.Faults.{exit_of, IsSearchFault}
 use Rattle.answers.specs.Answers.{IsFoundText, IsStartedText}
 use Rattle.answers.specs.Outcomes.{IsAloneText}
-use Rattle.runs.specs.Jobs.{has_workers, project_is_second, reads_second, writes_record}
-use Rattle.runs.specs.Outcome.{SpellsOne, GivesStarts, HasFault, IsFirstStartsFault, IsAnswer, IsRefusal}
+use Rattle.runs.specs.Jobs.{has_workers, input_limit, writes_record}
+use Rattle.runs.specs.Outcome.{SpellsOne, GivesStarts, IsFirstStartsFault, IsAnswer, IsRefusal}
 
 -- a job without workers writes no record
 pub records_none : (job : Job) → has_workers job ≡ false → writes_record job ≡ false
-records_none jobs.Earliest alone = refl
-records_none jobs.Check alone = refl
-records_none jobs.Tidy alone = refl
-records_none jobs.Verify alone = refl
 records_none (jobs.Solve None takes false json recorded) alone = alone
 records_none (jobs.Solve None takes true json recorded) alone = cc
 records_none (jobs.Solve (Some n) takes start json recorded) alone = cc
+records_none job alone = refl
 
 -- what a search in one thread by itself answers is an answer of a job without workers
 pub answers_alone : (job : Job) (workers : Option ℕ) (takes : ℕ) (start json recorded : Bool) (text more : List ℕ) (exit : ℕ) (written : List ℕ) →
     job ≡ jobs.Solve workers takes start json recorded → has_workers job ≡ false → SpellsOne text (λ p. IsAloneText p takes json exit written) → IsAnswer job text more exit written
 answers_alone job None takes false json false text more exit written is alone h = rw is h
-answers_alone job None takes false json true text more exit written is alone h = let no : true ≡ false = rw is at alone in cc
-answers_alone job None takes true json recorded text more exit written is alone h = let no : true ≡ false = rw is at alone in cc
-answers_alone job (Some n) takes start json recorded text more exit written is alone h = let no : true ≡ false = rw is at alone in cc
+answers_alone job workers takes start json recorded text more exit written is alone h = let no : true ≡ false = rw is at alone in cc
 
 -- what workers answer without a start is an answer of a job with workers
 pub answers_unstarted : (job : Job) (workers : Option ℕ) (takes : ℕ) (start json recorded : Bool) (text more : List ℕ) (exit : ℕ) (written : List ℕ) →
@@ -61,7 +55,7 @@ write_is_no_search fault is (inr (inl e)) = cc
 write_is_no_search fault is (inr (inr e)) = cc
 
 -- no answer, but this fault
-abbrev failed_with : (A : Type 0) → Fault → Result A Fault
+abbrev pub failed_with : (A : Type 0) → Fault → Result A Fault
 failed_with A fault = Err fault
 
 pub MatchOption-weaker : {T : Type 0} (o : Option T) {P P' : Type 0} {Q Q' : T → Type 0} → MatchOption o P Q → (P → P') → ((x : T) → Q x → Q' x) → MatchOption o P' Q'
@@ -71,27 +65,31 @@ MatchOption-weaker (Some x) h p q = q x h
 -- ---- what was read
 
 -- the failure is told in other words
-pub read_where : {I S P Q : Type 0} (job : Job) (first : Span I) (second : Span S) → (P → Q) → (Q → P) → HasRead job P first second → HasRead job Q first second
-read_where job first second to from read = record {
-  inputs = record {
-    within = read.inputs.within;
-    second_within = read.inputs.second_within;
-    failed = record {
-      here = λ q. read.inputs.failed.here (from q);
-      elsewhere = λ no. read.inputs.failed.elsewhere (λ p. no (to p));
-    };
+inputs_where : {I S P Q : Type 0} (most : ℕ) (first : Span I) (second : Span S) → (P → Q) → (Q → P) → HasReadUpTo most P first second → HasReadUpTo most Q first second
+inputs_where most first second to from read = record {
+  within = read.within;
+  second_within = read.second_within;
+  failed = record {
+    here = λ q. read.failed.here (from q);
+    elsewhere = λ no. read.failed.elsewhere (λ p. no (to p));
   };
+}
+
+-- a failure to read is told as it is
+pub inputs_are_told : {I S : Type 0} (A : Type 0) (most : ℕ) (first : Span I) (second : Span S) (fault : Fault) (told : Option Fault) → told ≡ Some fault →
+    HasReadUpTo most (failed_with A fault ≡ failed_with A faults.ReadFailed) first second → HasReadUpTo most (told ≡ Some faults.ReadFailed) first second
+inputs_are_told A most first second fault told tells = inputs_where most first second
+    (λ (e : failed_with A fault ≡ failed_with A faults.ReadFailed). let is : fault ≡ faults.ReadFailed = cc in tells ∙ ap Some is)
+    (λ (e : told ≡ Some faults.ReadFailed). let is : fault ≡ faults.ReadFailed = cc in ap (failed_with A) is)
+
+pub read_is_told : {I S : Type 0} (A : Type 0) (job : Job) (first : Span I) (second : Span S) (fault : Fault) (told : Option Fault) → told ≡ Some fault →
+    HasRead job (failed_with A fault ≡ failed_with A faults.ReadFailed) first second → HasRead job (told ≡ Some faults.ReadFailed) first second
+read_is_told A job first second fault told tells read = record {
+  inputs = inputs_are_told A (input_limit job) first second fault told tells read.inputs;
   unused = read.unused;
   project_second = read.project_second;
   project_first = read.project_first;
 }
-
--- a failure to read is told as it is
-pub read_is_told : {I S : Type 0} (A : Type 0) (job : Job) (first : Span I) (second : Span S) (fault : Fault) (told : Option Fault) → told ≡ Some fault →
-    HasRead job (failed_with A fault ≡ failed_with A faults.ReadFailed) first second → HasRead job (told ≡ Some faults.ReadFailed) first second
-read_is_told A job first second fault told tells = read_where job first second
-    (λ (e : failed_with A fault ≡ failed_with A faults.ReadFailed). let is : fault ≡ faults.ReadFailed = cc in tells ∙ ap Some is)
-    (λ (e : told ≡ Some faults.ReadFailed). let is : fault ≡ faults.ReadFailed = cc in ap (failed_with A) is)
 
 -- ---- replies
 

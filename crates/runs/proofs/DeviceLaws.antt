@@ -1,31 +1,13 @@
 -- Pieces that a device gave or took, one after another.
-use Rattle.std.proofs.Common.{◌≡◌, ℕ, zero, suc, ◌+◌, ◌≤◌, List, [], ◌∷◌, ◌++◌, length, take, drop, Option, Some, None, refl, sym, ap, ◌∙◌, append-nil, arith}
+use Rattle.std.proofs.Common.{◌≡◌, ℕ, ◌+◌, ◌≤◌, List, [], ◌++◌, length, take, drop, Option, Some, None, sym, ap, ◌∙◌, append-nil}
 use Rattle.std.proofs.lemmas.List.{take_all}
-use Rattle.std.proofs.Math.Seq.{take-append_seam}
+use Rattle.std.proofs.Math.Seq.{take-add, take-append_seam}
 use Rattle.std.proofs.KnownBytes.{Appends-trans}
-use Rattle.std.specs.Io.KnownBytes.{Appends, Consumes, IsAtEnd, Keeps}
-
-abbrev none : List ℕ
-none = []
-
-take-none : (n : ℕ) → take n none ≡ none
-take-none zero = refl
-take-none (suc n) = refl
-
-pub take-add : (xs : List ℕ) (i n : ℕ) → take (i + n) xs ≡ take i xs ++ take n (drop i xs)
-take-add xs zero n = let e : 0 + n ≡ n = omega arith in rw e refl
-take-add [] (suc i) n = let e : suc i + n ≡ suc (i + n) = omega arith in rw e (sym (take-none n))
-take-add (x ∷ xs) (suc i) n = let e : suc i + n ≡ suc (i + n) = omega arith in rw e (ap (λ (r : List ℕ). x ∷ r) (take-add xs i n))
+use Rattle.std.specs.Io.KnownBytes.{Appends, Consumes, IsAtEnd}
 
 -- a front of the bytes was taken, and then a front of the rest
 pub taken_more : (old mid new : Option (List ℕ)) (bytes : List ℕ) (i n : ℕ) → Appends old mid (take i bytes) → Appends mid new (take n (drop i bytes)) → Appends old new (take (i + n) bytes)
-taken_more old mid new bytes i n p q = rw (take-add bytes i n) (Appends-trans old mid new (take i bytes) (take n (drop i bytes)) p q)
-
--- a write that took nothing kept what was held
-pub Keeps-none : (old new : Option (List ℕ)) → Appends old new [] → Keeps old new
-Keeps-none None new p = tt
-Keeps-none (Some xs) None p = p
-Keeps-none (Some xs) (Some ys) p = p ∙ append-nil xs
+taken_more old mid new bytes i n p q = rw (take-add i n bytes) (Appends-trans old mid new (take i bytes) (take n (drop i bytes)) p q)
 
 -- what was read is a beginning of what the input told
 begins : (xs text ys : List ℕ) → xs ≡ text ++ ys → take (length text) xs ≡ text

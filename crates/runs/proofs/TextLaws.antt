@@ -13,15 +13,14 @@ use Rattle.sch_reader.specs.Text.{Spells, IsFirstFault}
 use Rattle.words.specs.declared.TheConstants.{MAX_TEXT_BYTES}
 use Rattle.record_text.specs.declared.TheConstants.{MAX_RECORD_BYTES}
 use Rattle.record_text.specs.declared.fault.RecordFault.{RecordFault}
-use Rattle.record_text.specs.declared.fault.Why.{Why}
 use Rattle.record_text.specs.declared.fault.Why.TheVariants as why
 use Rattle.record_text.specs.Kinds.{Kind, RecordOf}
 use Rattle.record_text.specs.TextFaults.{IsFirstTextFault}
 use Rattle.search_record.specs.Faults as wrongs
 use Rattle.answers.specs.declared.fault.Fault.{Fault}
 use Rattle.answers.specs.declared.fault.Fault.TheVariants as faults
-use Rattle.answers.specs.Faults.{fault_of, line_fault, record_fault_of, exit_of, IsTextFault}
-use Rattle.runs.specs.Outcome.{HasFault, GivesStarts, IsFirstStartsFault, GivesRecord, Tells, IsNoProof}
+use Rattle.answers.specs.Faults.{fault_of}
+use Rattle.runs.specs.Outcome.{SpellsOne, HasFault, GivesStarts, IsFirstStartsFault, GivesRecord, Tells, IsNoProof}
 
 same_or_long : (most : ℕ) (text bytes : List ℕ) → text ≡ take (most + 1) bytes → (text ≡ bytes) ⊎ ((most < length text) × (most < length bytes))
 same_or_long most text bytes e = by_length (length bytes) refl
@@ -37,6 +36,10 @@ same_or_long most text bytes e = by_length (length bytes) refl
         | inr large ↦ inr (omega (arith, long, length-take (most + 1) bytes), omega arith)
       ]
     ]
+
+-- a text that was read as a project spells it
+pub spells_one : {Told : List ℕ → Type 0} (p : Problem) (text : List ℕ) (P : Problem → Type 0) → IsProject p × ((bytes : List ℕ) → Told bytes → Spells bytes p) → Told text → P p → SpellsOne text P
+spells_one p text P read told has = record { project = p; is_project = read.0; spells = read.1 text told; has = has }
 
 pub spells_whole : (text bytes : List ℕ) (p : Problem) → text ≡ take (MAX_TEXT_BYTES + 1) bytes → Spells text p → Spells bytes p
 spells_whole text bytes p e h = elim (same_or_long MAX_TEXT_BYTES text bytes e) [

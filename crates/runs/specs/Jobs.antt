@@ -13,57 +13,39 @@ worker_count workers = unwrap_or workers ONE_WORKER
 
 -- the numbers of a job are within the limits
 abbrev pub IsJob : Job → Type 0
-IsJob jobs.Earliest = Unit {0}
-IsJob jobs.Check = Unit {0}
-IsJob jobs.Tidy = Unit {0}
-IsJob jobs.Verify = Unit {0}
 IsJob (jobs.Solve workers takes start json recorded) = AreAllowed (worker_count workers) takes
+IsJob job = Unit {0}
 
 -- whether a job reads a second input
 abbrev pub reads_second : Job → Bool
-reads_second jobs.Earliest = false
 reads_second jobs.Check = true
-reads_second jobs.Tidy = false
 reads_second jobs.Verify = true
 reads_second (jobs.Solve workers takes start json recorded) = start
+reads_second job = false
 
 -- whether it writes a record
 abbrev pub writes_record : Job → Bool
-writes_record jobs.Earliest = false
-writes_record jobs.Check = false
-writes_record jobs.Tidy = false
-writes_record jobs.Verify = false
 writes_record (jobs.Solve workers takes start json recorded) = recorded
+writes_record job = false
 
 -- whether it reads its project from the second input, and not from the first
 abbrev pub project_is_second : Job → Bool
-project_is_second jobs.Earliest = false
 project_is_second jobs.Check = true
-project_is_second jobs.Tidy = false
 project_is_second jobs.Verify = true
-project_is_second (jobs.Solve workers takes start json recorded) = false
+project_is_second job = false
 
 -- whether workers search; one thread searches by itself where no workers are asked for, no starts are handed
 -- in and no record is made
 abbrev pub has_workers : Job → Bool
-has_workers jobs.Earliest = false
-has_workers jobs.Check = false
-has_workers jobs.Tidy = false
-has_workers jobs.Verify = false
 has_workers (jobs.Solve workers takes start json recorded) = is_some workers || (start || recorded)
+has_workers job = false
 
 -- whether it answers by a line of JSON
 abbrev pub answers_json : Job → Bool
-answers_json jobs.Earliest = false
-answers_json jobs.Check = false
-answers_json jobs.Tidy = false
-answers_json jobs.Verify = false
 answers_json (jobs.Solve workers takes start json recorded) = json
+answers_json job = false
 
 -- how many bytes its first input may have: a project, starts, or a record
 abbrev pub input_limit : Job → ℕ
-input_limit jobs.Earliest = MAX_TEXT_BYTES
-input_limit jobs.Check = MAX_TEXT_BYTES
-input_limit jobs.Tidy = MAX_TEXT_BYTES
 input_limit jobs.Verify = MAX_RECORD_BYTES
-input_limit (jobs.Solve workers takes start json recorded) = MAX_TEXT_BYTES
+input_limit job = MAX_TEXT_BYTES

@@ -79,12 +79,10 @@ IsAnswer jobs.Verify text second exit written = SpellsOne second (λ p. GivesRec
 
 -- why a job has no answer to its two texts
 abbrev pub IsRefusal : Job → List ℕ → List ℕ → Fault → Type 0
-IsRefusal jobs.Earliest text second fault = HasFault text fault
-IsRefusal (jobs.Solve workers takes false json recorded) text second fault = HasFault text fault
 IsRefusal (jobs.Solve workers takes true json recorded) text second fault = HasFault text fault ⊎ SpellsOne text (λ p. IsFirstStartsFault p second fault)
 IsRefusal jobs.Check text second fault = HasFault second fault ⊎ SpellsOne second (λ p. IsFirstStartsFault p text fault)
-IsRefusal jobs.Tidy text second fault = HasFault text fault
 IsRefusal jobs.Verify text second fault = HasFault second fault ⊎ SpellsOne second (λ p. IsNoProof search_kind (wrongs.IsFirstFault p) text fault)
+IsRefusal job text second fault = HasFault text fault
 
 -- workers have searched: the text spells a project, and starts that were handed in are a feasible
 -- schedule of it

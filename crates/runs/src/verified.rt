@@ -1,9 +1,7 @@
 //! What `verify` says of a record.
 
 ghost use Rattle.std.specs.Prelude.{◌≡◌, ◌≢◌, IfOk, IfErr};
-ghost use Rattle.record_text.specs.Kinds as records;
 ghost use Rattle.record_text.specs.Text.{search_kind};
-ghost use Rattle.record_text.specs.TextFaults.{IsFirstTextFault};
 ghost use Rattle.search_record.specs.Faults as wrongs;
 ghost use Rattle.answers.specs.declared.fault.Fault.{Fault};
 ghost use Rattle.answers.specs.Answers.{IsProvedText};
@@ -14,15 +12,6 @@ use answers::{Answer, Fault, proved_text};
 use network::Project;
 use search_record::{Record, verify};
 use std::alloc::Global;
-
-/// The record that a text is that of.
-fn record_of(alloc: Global, text: &[u8]) -> Result<Record, Fault>
-    ensures read { IfOk result (λ shown. records.Spells search_kind text.now shown) }
-    ensures refused { IfErr result (λ fault. exit_of fault ≢ 1 → Tells (IsFirstTextFault search_kind text.now) fault) }
-    ensures cause { IfErr result IsTextFault }
-{
-    Ok(Record::read(alloc, text)?)
-}
 
 /// What a record proves of a project.
 fn proof_of(alloc: Global, project: &Project, shown: &Record) -> Result<Answer, Fault>
@@ -42,6 +31,6 @@ pub(crate) fn verified(alloc: Global, project: &Project, text: &[u8]) -> Result<
     ensures refused { IfErr result (λ fault. exit_of fault ≢ 1 → IsNoProof search_kind (wrongs.IsFirstFault project.now) text.now fault) }
     ensures cause { IfErr result IsTextFault }
 {
-    let shown = record_of(alloc, text)?;
+    let shown = Record::read(alloc, text)?;
     proof_of(alloc, project, &shown)
 }

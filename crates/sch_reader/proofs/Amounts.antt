@@ -26,8 +26,6 @@ pub record IsRequestAt (last resources i : ℕ) (d : ℤ) (row : List ℤ) : Typ
 pub requests_from : (last resources id : ℕ) (durations : List ℤ) (demands : List (List ℤ)) → length durations ≡ length demands
     → ((i : ℕ) → i < length durations → IsRequestAt last resources (id + i) (get_or durations i (pos 0)) (get_or demands i [])) → AreRequests last resources id durations demands
 requests_from last resources id [] [] e each = tt
-requests_from last resources id [] (row ∷ demands) e each = absurd (omega (arith, e))
-requests_from last resources id (d ∷ durations) [] e each = absurd (omega (arith, e))
 requests_from last resources id (d ∷ durations) (row ∷ demands) e each =
     let here : IsRequestAt last resources id d row = subst (λ (k : ℕ). IsRequestAt last resources k d row) (add-zero id) (each 0 (omega arith)) in (
       here.count,
@@ -37,12 +35,12 @@ requests_from last resources id (d ∷ durations) (row ∷ demands) e each =
           let next : id + suc i ≡ (id + 1) + i = omega arith in
           subst (λ (k : ℕ). IsRequestAt last resources k (get_or durations i (pos 0)) (get_or demands i [])) next (each (suc i) (omega arith))),
     )
+requests_from last resources id durations demands e each = absurd (omega (arith, e))
 
 pub requests_count : (last resources id : ℕ) (durations : List ℤ) (demands : List (List ℤ)) → AreRequests last resources id durations demands → length demands ≡ length durations
 requests_count last resources id [] [] h = refl
-requests_count last resources id [] (row ∷ demands) h = absurd h
-requests_count last resources id (d ∷ durations) [] h = absurd h
 requests_count last resources id (d ∷ durations) (row ∷ demands) h = ap suc (requests_count last resources (id + 1) durations demands h.3)
+requests_count last resources id durations demands h = absurd h
 
 pub request_at : (last resources id : ℕ) (durations : List ℤ) (demands : List (List ℤ)) → AreRequests last resources id durations demands → (i : ℕ) → i < length durations
     → IsRequestAt last resources (id + i) (get_or durations i (pos 0)) (get_or demands i [])

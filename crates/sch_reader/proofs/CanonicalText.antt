@@ -88,11 +88,10 @@ network_size (suc count) i lags =
 -- ---- request rows
 
 request_size : (i width : ℕ) (durations : List ℤ) (demands : List (List ℤ)) → All (λ row. length row ≡ width) demands → length (request_numbers i durations demands) ≤ (3 + width) * length durations
-request_size i width [] demands each = omega arith
-request_size i width (time ∷ durations) [] each = omega arith
 request_size i width (time ∷ durations) (row ∷ demands) each =
     let here : length row ≡ width = All-head (λ (r : List ℤ). length r ≡ width) row demands each in
     omega (arith, here, length-append row (request_numbers (i + 1) durations demands), request_size (i + 1) width durations demands (All-tail (λ (r : List ℤ). length r ≡ width) row demands each))
+request_size i width durations demands each = omega arith
 
 light : (z : ℤ) → IsAmount z → IsWithin MAX_LAG_WEIGHT z
 light z h = record { at_least = omega (arith, ints, h.at_least); at_most = omega (arith, ints, h.at_most) }

@@ -51,16 +51,10 @@ filler _ = pos 0
 
 filler-fits : (p : Place) → fits p (filler p) ≡ true
 unfolding filler
-filler-fits places.Activities = refl
-filler-fits places.Resources = refl
-filler-fits places.OtherResources = refl
 filler-fits (places.Id row id) = grind arith
-filler-fits (places.Mode row) = refl
 filler-fits (places.Count left) = grind arith
 filler-fits (places.Successor row last) = grind arith
-filler-fits places.Lag = refl
-filler-fits (places.Nothing row) = refl
-filler-fits places.Amount = refl
+filler-fits p = refl
 
 -- every layout can be gone through to its end
 pub record Completed {A : Type 0} (l : Layout A) : Type 0 where

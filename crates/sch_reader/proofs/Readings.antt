@@ -119,14 +119,13 @@ pub reading_again : {A : Type 0} (l : Layout A) (x : A) (numbers : List ℤ) (in
     → reading l (record { index = index; rest = front ++ more }) ≡ Ok (x, record { index = index + length front; rest = more })
 unfolding number_at
 reading_again l x [] index [] more h s = subst (λ (j : Layout _). reading j (record { index = index; rest = more }) ≡ Ok (x, record { index = index + 0; rest = more })) (sym h) (rw (add-zero) refl)
-reading_again l x [] index (w ∷ ws) more h s = absurd cc
 reading_again (done y) x (z ∷ zs) index front more h s = absurd h
-reading_again (place p next) x (z ∷ zs) index [] more h s = absurd cc
 reading_again (place p next) x (z ∷ zs) index (w ∷ ws) more h s =
     let t : token w ≡ Some z = cc in
     let others : Spell ws zs = cc in
     let at : (index + 1) + length ws ≡ index + length (w ∷ ws) = omega arith in
     rw (t, h.0) (reading_again (next z) x zs (index + 1) ws more h.1 others ∙ ap (λ (i : ℕ). Ok (x, record { index = i; rest = more })) at)
+reading_again l x numbers index front more h s = absurd cc
 
 bind_assoc : {A B C : Type 0} (r : Result A SchFault) (f : A → Result B SchFault) (g : B → Result C SchFault) (h : A → Result C SchFault) → ((x : A) → h x ≡ (f x >>= g)) → (r >>= h) ≡ ((r >>= f) >>= g)
 bind_assoc (Ok x) f g h e = e x

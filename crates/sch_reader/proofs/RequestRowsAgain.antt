@@ -35,9 +35,8 @@ pub request_rows_again : (last resources id : ℕ) (durations : List ℤ) (deman
     → Reaches (request_rows (length durations) last resources id) (request_numbers id durations demands) (done (requests durations demands))
 unfolding request_rows
 request_rows_again last resources id [] [] h = refl
-request_rows_again last resources id [] (row ∷ demands) h = absurd h
-request_rows_again last resources id (d ∷ durations) [] h = absurd h
 request_rows_again last resources id (d ∷ durations) (row ∷ demands) h =
     Reaches-bind (request_row last resources id) (λ v. request_rows (length durations) last resources (id + 1) >>= λ others. done (both (one v) others)) (done (requests (d ∷ durations) (row ∷ demands)))
     (pair_of d row) (pos id ∷ pos 1 ∷ d ∷ row) (request_numbers (id + 1) durations demands) (request_row_again last resources id d row h.0 h.1 h.2)
     (Reaches-made (request_rows (length durations) last resources (id + 1)) (λ others. both (one (pair_of d row)) others) (requests durations demands) (request_numbers (id + 1) durations demands) (request_rows_again last resources (id + 1) durations demands h.3))
+request_rows_again last resources id durations demands h = absurd h

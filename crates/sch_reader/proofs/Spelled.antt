@@ -55,17 +55,8 @@ read_alone text p q h fit s = let other = spelled_is_read exact text q fit s in 
 
 -- a fault that can be nothing but Memory is Memory
 memory_alone : (e : SchFault) → (e ≢ faults.Memory → ⊥) → e ≡ faults.Memory
-memory_alone faults.TooLong h = absurd (h (λ x. absurd cc))
-memory_alone (faults.Token index) h = absurd (h (λ x. absurd cc))
-memory_alone (faults.Short index) h = absurd (h (λ x. absurd cc))
-memory_alone (faults.Trailing index) h = absurd (h (λ x. absurd cc))
-memory_alone faults.NotRenewable h = absurd (h (λ x. absurd cc))
-memory_alone (faults.Modes row) h = absurd (h (λ x. absurd cc))
-memory_alone (faults.RowNumber row found) h = absurd (h (λ x. absurd cc))
-memory_alone (faults.Activity row found) h = absurd (h (λ x. absurd cc))
-memory_alone (faults.Range index) h = absurd (h (λ x. absurd cc))
-memory_alone (faults.Dummy row) h = absurd (h (λ x. absurd cc))
 memory_alone faults.Memory h = refl
+memory_alone e h = absurd (h (λ x. absurd cc))
 
 -- where the text spells a project the fault is Memory
 pub fault_of_spelled : (text : List ℕ) (p : Problem) (e : SchFault) → IsProject p → Spells text p → (e ≢ faults.Memory → whole_reading (text_words text) ≡ Err e) → e ≡ faults.Memory

@@ -16,9 +16,8 @@ AllPrint (word ∷ others) (z ∷ zs) = Prints word z × AllPrint others zs
 
 pub AllPrint-append : (words more : List (List ℕ)) (zs ys : List ℤ) → AllPrint words zs → AllPrint more ys → AllPrint (words ++ more) (zs ++ ys)
 AllPrint-append [] more [] ys h g = g
-AllPrint-append [] more (z ∷ zs) ys h g = absurd h
-AllPrint-append (word ∷ words) more [] ys h g = absurd h
 AllPrint-append (word ∷ words) more (z ∷ zs) ys h g = (h.0, AllPrint-append words more zs ys h.1 g)
+AllPrint-append words more zs ys h g = absurd h
 
 pub AllPrint-map : {X : Type 0} (P : X → Type 0) (f : X → List ℕ) (g : X → ℤ) (xs : List X) → ((x : X) → P x → Prints (f x) (g x)) → All P xs → AllPrint (map f xs) (map g xs)
 AllPrint-map P f g [] prints each = tt
@@ -34,8 +33,6 @@ line_writes word [] z [] p h = record {
   size = omega (arith, p.size, length-append word (10 ∷ []));
   reads = λ rest. ap (λ (r : List ℕ). map token (text_words r)) (append_assoc word (10 ∷ []) rest) ∙ p.reads 10 rest refl;
 }
-line_writes word [] z (y ∷ zs) p h = absurd h
-line_writes word (next ∷ others) z [] p h = absurd h
 line_writes word (next ∷ others) z (y ∷ zs) p h =
     let more = line_writes next others y zs h.0 h.1 in
     let tail = line (next ∷ others) in
@@ -45,6 +42,7 @@ line_writes word (next ∷ others) z (y ∷ zs) p h =
       reads = λ rest. ap (λ (r : List ℕ). map token (text_words r)) (append_assoc word (9 ∷ tail) rest) ∙ p.reads 9 (tail ++ rest) refl ∙ ap (λ (r : List (Option ℤ)). Some z ∷ r) (more.reads rest);
     } in
     subst (λ (t : List ℕ). Writes t (z ∷ y ∷ zs)) (sym same) all
+line_writes word others z zs p h = absurd h
 
 pub Writes-nil : Writes [] []
 Writes-nil = record { size = omega arith; reads = λ rest. refl }

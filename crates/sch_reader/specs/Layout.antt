@@ -27,16 +27,12 @@ fits places.Amount z = is_between (pos 0) MAX_AMOUNT z
 
 -- the fault of a number that does not fit, at this word
 abbrev pub misfit : Place → ℕ → ℤ → SchFault
-misfit places.Activities index z = faults.Range index
-misfit places.Resources index z = faults.Range index
 misfit places.OtherResources index z = faults.NotRenewable
 misfit (places.Id row id) index z = faults.RowNumber row z
 misfit (places.Mode row) index z = faults.Modes row
-misfit (places.Count left) index z = faults.Range index
 misfit (places.Successor row last) index z = faults.Activity row z
-misfit places.Lag index z = faults.Range index
 misfit (places.Nothing row) index z = faults.Dummy row
-misfit places.Amount index z = faults.Range index
+misfit other index z = faults.Range index
 
 -- A layout: nothing more, or a place, and for each number there the layout after it.
 pub data Layout (A : Type 0) : Type 0 where

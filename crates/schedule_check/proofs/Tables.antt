@@ -79,8 +79,7 @@ same_fault n before line (Gives activity start) =
 -- an entry without a fault gives an activity its first start
 pub fine_parts : (activity line : ℕ) (b d : Bool) → cond b (cond d (Some (faults.Repeated line)) None) (Some (faults.Activity line)) ≡ None → (b ≡ true) × (d ≡ false)
 fine_parts activity line true false h = (refl, refl)
-fine_parts activity line true true h = absurd (cc)
-fine_parts activity line false d h = absurd (cc)
+fine_parts activity line b d h = absurd (cc)
 
 none_by : (o : Option ℤ) → is_some o ≡ false → o ≡ None
 none_by None h = refl
@@ -103,9 +102,8 @@ more_given n before line e fine =
     fill_by_all (start_given (before ++ e ∷ [])) (with_entry (starts_given n before) e) n None (same_length e) (λ k lt. place e fine k lt ∙ sym (given_later before e k))
   where
     same_length : (e : Entry) → length (with_entry (starts_given n before) e) ≡ n
-    same_length Nothing = given_length n before
-    same_length Wrong = given_length n before
     same_length (Gives activity start) = length-set (starts_given n before) activity (Some start) ∙ given_length n before
+    same_length e = given_length n before
 
     place : (e : Entry) → entry_fault n before line e ≡ None → (k : ℕ) → k < n → get_or (with_entry (starts_given n before) e) k None ≡ cond (is_some (start_given before k)) (start_given before k) (start_in k e)
     place Nothing fine k lt = given_at n before k lt ∙ sym (or_none (start_given before k))

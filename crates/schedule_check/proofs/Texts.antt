@@ -46,9 +46,8 @@ fault_of_table n text table fault short fine is missing =
 -- ---- each start is a time
 
 abbrev IsTimely : Entry → Type 0
-IsTimely Nothing = Unit {0}
-IsTimely Wrong = Unit {0}
 IsTimely (Gives activity start) = IsTime start
+IsTimely _ = Unit {0}
 
 -- what a start's digits spell is a time
 time_of_digits : (z : ℤ) → nat_abs z < 10 ^ START_DIGITS → IsTime z
@@ -56,16 +55,13 @@ time_of_digits (pos n) below = record { at_least = omega (arith, ints); at_most 
 time_of_digits (negsuc n) below = record { at_least = omega (arith, ints); at_most = omega (arith, ints) }
 
 given_timely : (a : Option ℕ) (o : Option ℤ) → ((z : ℤ) → o ≡ Some z → IsTime z) → IsTimely (given a o)
-given_timely None o h = tt
-given_timely (Some a) None h = tt
 given_timely (Some a) (Some z) h = h z refl
+given_timely a o h = tt
 
 entry_timely : (words : List (List ℕ)) → IsTimely (entry_of words)
 unfolding entry_of
-entry_timely [] = tt
-entry_timely (a ∷ []) = tt
 entry_timely (a ∷ s ∷ []) = given_timely (natural ACTIVITY_DIGITS a) (integer START_DIGITS s) (λ z spelled. time_of_digits z (integer-below START_DIGITS s z spelled))
-entry_timely (a ∷ s ∷ more ∷ others) = tt
+entry_timely words = tt
 
 lines_timely : (ls : List (List ℕ)) → AllByRecursion IsTimely (line_entries ls)
 lines_timely [] = tt
@@ -90,9 +86,8 @@ start_timely (e ∷ es) activity all = first (start_in activity e) (in_entry e a
     by_name false start h = zero_time
 
     in_entry : (e : Entry) → IsTimely e → IsTime (unwrap_or (start_in activity e) (pos 0))
-    in_entry Nothing h = zero_time
-    in_entry Wrong h = zero_time
     in_entry (Gives named start) h = by_name (eqb named activity) start h
+    in_entry e h = zero_time
 
     first : (o : Option ℤ) → IsTime (unwrap_or o (pos 0)) → IsTime (unwrap_or (start_given es activity) (pos 0)) → IsTime (unwrap_or (cond (is_some o) o (start_given es activity)) (pos 0))
     first None h rest = rest

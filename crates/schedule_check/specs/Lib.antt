@@ -1,3 +1,4 @@
 pub mod Violations
 pub mod Starts
 pub mod Table
+pub mod Members

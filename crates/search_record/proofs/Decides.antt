@@ -1,5 +1,5 @@
 -- What a node's matrix decides of a line.
-use Rattle.std.proofs.Common.{◌≡◌, sym, ◌∙◌, subst, ℕ, ◌<◌, ◌≤◌, arith, ℤ, pos, ◌+ℤ◌, ◌≤ℤ◌, ◌<ℤ◌, List, length, Option, None, Some, false}
+use Rattle.std.proofs.Common.{◌≡◌, sym, ap, ◌∙◌, subst, ℕ, ◌<◌, ◌≤◌, arith, ℤ, pos, ◌+ℤ◌, ◌≤ℤ◌, ◌<ℤ◌, List, length, Option, None, Some, false}
 use Rattle.std.specs.Prelude.{◌↔◌, IsTrue, neg_ℤ}
 use Rattle.std.specs.Int.Signed.{lt_z, le_z}
 use Rattle.std.proofs.lemmas.Int.{ints}
@@ -42,15 +42,10 @@ same_some x y e = cc
 weight_is : (arcs : List Lag) (a b : ℕ) (x : ℤ) (o : Option ℤ) → IsGreatestWeight arcs a b (Some x) → IsGreatestWeight arcs a b o → o ≡ Some x
 weight_is arcs a b x None of_x of = absurd (of of_x.0.0 of_x.0.1)
 weight_is arcs a b x (Some y) of_x of =
-    let x_is : weight of_x.0.0 ≡ x = of_x.0.2 in
-    let y_is : weight of.0.0 ≡ y = of.0.2 in
     let low : weight of_x.0.0 ≤ℤ y = of.1 of_x.0.0 of_x.0.1 in
     let high : weight of.0.0 ≤ℤ x = of_x.1 of.0.0 of.0.1 in
     let same : y ≡ x = omega (arith, ints) in
-    rw same refl_some
-  where
-    refl_some : Some x ≡ Some x
-    refl_some = cc
+    ap Some same
 
 pub too_late : (p : Problem) (pairs : List Pair) (pair : Pair) (rows : Rows) (w : ℤ) → IsProjectMatrix p pairs rows → pair.before < activity_count p → pair.after < activity_count p → entry rows pair.before pair.after ≡ Some w →
     IsTrue (lt_z (pos 0) (w +ℤ duration p pair.after)) ↔ IsTooLateFor p pairs pair
@@ -106,6 +101,5 @@ pub not_solved : (p : Problem) (pairs : List Pair) (starts : List ℤ) (limit t 
 not_solved p pairs starts limit t k least found solved =
     let same : solved.starts ≡ starts = least_is p pairs solved.starts starts solved.least least in
     let within : IsWithinCapacities p starts = subst (λ (s : List ℤ). IsWithinCapacities p s) same solved.feasible.within in
-    let over : capacity p k < use_at p starts k t = found.least_resource.overloaded in
     let under : use_at p starts k t ≤ capacity p k = within t k found.least_resource.in_range in
     absurd (omega arith)

@@ -5,7 +5,7 @@ use Rattle.branching.specs.Pairs.{ordered_pairs}
 use Rattle.branching.proofs.OrderedPairs.{count_pairs}
 use Rattle.record_text.specs.declared.line.Line.{Line}
 use Rattle.record_text.specs.declared.line.Line.TheVariants as kind
-use Rattle.record_text.specs.Tree.{Tree, force, solved, cut, dead, split, Trees, no_trees, tree, count_trees, pair_count, IsTree, AreTrees, lines_of, lines_of_all}
+use Rattle.record_text.specs.Tree.{Tree, force, split, Trees, no_trees, tree, count_trees, pair_count, IsTree, AreTrees, lines_of, lines_of_all}
 use Rattle.search_record.specs.Places.{Place, place, places, kid_places}
 use Rattle.search_record.specs.Due.{due_after}
 
@@ -25,37 +25,31 @@ with_pair pairs pair = pairs ++ pair ∷ []
 mutual
   pub flat_tree : (t : Tree) (pairs : List Pair) (due : List (List Pair)) (rest : List Line) → IsTree t → flat (pairs ∷ due) (lines_of t ++ rest) ≡ places pairs t ++ flat due rest
   flat_tree (force pair t) pairs due rest shape = ap (λ (xs : List Place). place pairs (kind.Force pair) ∷ xs) (flat_tree t (pairs ++ pair ∷ []) due rest shape)
-  flat_tree solved pairs due rest shape = refl
-  flat_tree cut pairs due rest shape = refl
-  flat_tree dead pairs due rest shape = refl
   flat_tree (split resource members kids) pairs due rest shape =
       ap (λ (xs : List Place). place pairs (kind.Split resource members) ∷ xs) (flat_kids (ordered_pairs members) kids pairs due rest (kid_for_each members kids shape.1) shape.2)
+  flat_tree t pairs due rest shape = refl
 
   pub flat_kids : (added : List Pair) (kids : Trees) (pairs : List Pair) (due : List (List Pair)) (rest : List Line) → count_trees kids ≡ length added → AreTrees kids
       → flat (map (with_pair pairs) added ++ due) (lines_of_all kids ++ rest) ≡ kid_places pairs added kids ++ flat due rest
   flat_kids [] no_trees pairs due rest count shapes = refl
-  flat_kids [] (tree t ts) pairs due rest count shapes = absurd (omega arith)
-  flat_kids (first ∷ added) no_trees pairs due rest count shapes = absurd (omega arith)
   flat_kids (first ∷ added) (tree t ts) pairs due rest count shapes =
       ap (flat ((pairs ++ first ∷ []) ∷ (map (with_pair pairs) added ++ due))) (append_assoc (lines_of t) (lines_of_all ts) rest)
       ∙ flat_tree t (pairs ++ first ∷ []) (map (with_pair pairs) added ++ due) (lines_of_all ts ++ rest) shapes.0
       ∙ ap (λ (xs : List Place). places (pairs ++ first ∷ []) t ++ xs) (flat_kids added ts pairs due rest (omega arith) shapes.1)
       ∙ sym (append_assoc (places (pairs ++ first ∷ []) t) (kid_places pairs added ts) (flat due rest))
+  flat_kids added kids pairs due rest count shapes = absurd (omega arith)
 
 mutual
   pub length_places : (t : Tree) (pairs : List Pair) → IsTree t → length (places pairs t) ≡ length (lines_of t)
   length_places (force pair t) pairs shape = ap suc (length_places t (pairs ++ pair ∷ []) shape)
-  length_places solved pairs shape = refl
-  length_places cut pairs shape = refl
-  length_places dead pairs shape = refl
   length_places (split resource members kids) pairs shape = ap suc (length_kids (ordered_pairs members) kids pairs (kid_for_each members kids shape.1) shape.2)
+  length_places t pairs shape = refl
 
   pub length_kids : (added : List Pair) (kids : Trees) (pairs : List Pair) → count_trees kids ≡ length added → AreTrees kids → length (kid_places pairs added kids) ≡ length (lines_of_all kids)
   length_kids [] no_trees pairs count shapes = refl
-  length_kids [] (tree t ts) pairs count shapes = absurd (omega arith)
-  length_kids (first ∷ added) no_trees pairs count shapes = absurd (omega arith)
   length_kids (first ∷ added) (tree t ts) pairs count shapes =
       omega (arith, length-append (places (pairs ++ first ∷ []) t) (kid_places pairs added ts), length-append (lines_of t) (lines_of_all ts), length_places t (pairs ++ first ∷ []) shapes.0, length_kids added ts pairs (omega arith) shapes.1)
+  length_kids added kids pairs count shapes = absurd (omega arith)
 
 -- the places of the tree, from its lines
 pub flat_whole : (t : Tree) (lines : List Line) → IsTree t → lines_of t ≡ lines → flat ([] ∷ []) lines ≡ places [] t

@@ -1,4 +1,3 @@
-pub mod Lists
 pub mod Decides
 pub mod Along
 pub mod Steps

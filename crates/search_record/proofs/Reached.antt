@@ -1,5 +1,5 @@
 -- How far a check of a record's lines has come.
-use Rattle.std.proofs.Common.{◌≡◌, ◌≢◌, ℕ, ◌+◌, ◌<◌, List, [], ◌∷◌, ◌++◌, length, refl, sym, ap, ◌∙◌, arith, append_assoc, append-nil, length-append, get_or, drop, Option, None, Some, ℤ, pos, ◌≤ℤ◌, ◌<ℤ◌}
+use Rattle.std.proofs.Common.{◌≡◌, ◌≢◌, ℕ, ◌+◌, ◌<◌, List, [], ◌∷◌, ◌++◌, length, refl, sym, ap, ◌∙◌, arith, append_assoc, append-nil, length-append, get_or, drop, Option, None, Some, ℤ, pos, ◌≤ℤ◌}
 use Rattle.std.specs.List.{All}
 use Rattle.std.proofs.lemmas.Int.{ints}
 use Rattle.std.proofs.lemmas.List.{drop_more}
@@ -12,7 +12,6 @@ use Rattle.branching.specs.Pairs.{ordered_pairs}
 use Rattle.branching.specs.Right.{IsDead, IsCutUnder, IsSolvedUnder}
 use Rattle.branching.specs.Subproblem.{IsLive}
 use Rattle.record_text.specs.declared.fault.RecordFault.{RecordFault}
-use Rattle.record_text.specs.declared.fault.Why.{Why}
 use Rattle.record_text.specs.declared.line.Line.{Line}
 use Rattle.record_text.specs.declared.line.Line.TheVariants as kind
 use Rattle.record_text.specs.SearchRecord.{IsTreeOf}
@@ -22,9 +21,6 @@ use Rattle.search_record.specs.Places.{Place, place, places, kid_places}
 use Rattle.search_record.specs.Right.{IsRightLine, IsRightPlace, AreRightLines}
 use Rattle.search_record.specs.Faults.{why_wrong, IsFirstWrong}
 use Rattle.search_record.proofs.Flat.{flat, flat_whole, length_places}
-
-abbrev pub fault_at : ℕ → Why → RecordFault
-fault_at line why = record { line = line; why = why }
 
 -- so many lines are right, and the others come with these nodes due
 pub record Reached (p : Problem) (limit : Option ℤ) (lines : List Line) (due : List (List Pair)) (rest : List Line) (count : ℕ) : Type 0 where
@@ -71,14 +67,16 @@ pub reached_wrong : (p : Problem) (limit : Option ℤ) (first : ℕ) (lines : Li
 reached_wrong p limit first lines pairs due line rest count t fault of so_far no_right is = record {
   whole = t;
   tree_of = of;
-  before = so_far.before;
-  here = place pairs line;
-  after = flat (due_after line (pairs ∷ due)) rest;
-  placed = sym (flat_whole t lines of.shape of.spelled) ∙ so_far.placed;
-  right = so_far.right;
-  wrong = no_right;
-  line = ap (λ (f : RecordFault). f.line) is ∙ ap (λ (n : ℕ). first + n) (sym so_far.counted);
-  why = ap (λ (f : RecordFault). f.why) is;
+  first_of = record {
+    before = so_far.before;
+    here = place pairs line;
+    behind = flat (due_after line (pairs ∷ due)) rest;
+    placed = sym (flat_whole t lines of.shape of.spelled) ∙ so_far.placed;
+    right = so_far.right;
+    wrong = no_right;
+    line = ap (λ (f : RecordFault). f.line) is ∙ ap (λ (n : ℕ). first + n) (sym so_far.counted);
+    why = ap (λ (f : RecordFault). f.why) is;
+  };
 }
 
 -- the lines from an index on are the line there and those behind it
@@ -90,7 +88,6 @@ line_there lines i line within is = drop_more lines i line within ∙ ap (λ (x 
 not_both : (arcs : List Lag) → HasNoPositiveCycle arcs → HasPositiveCycle arcs → ⊥
 not_both arcs live cycle =
     let low : weight cycle.1 ≤ℤ pos 0 = live cycle.0 cycle.1 cycle.2.closed in
-    let high : pos 0 <ℤ weight cycle.1 = cycle.2.positive in
     omega (arith, ints)
 
 solved_lives : (p : Problem) (pairs : List Pair) (limit : Option ℤ) → IsSolvedUnder p pairs limit → IsLive p pairs
@@ -149,15 +146,14 @@ dead_wrong p limit first lines line t fault of at other died is =
     record {
       whole = t;
       tree_of = of;
-      before = [];
-      here = place [] line;
-      after = head.after;
-      placed = head.placed ∙ ap (λ (l : Line). place [] l ∷ head.after) (sym same);
-      right = All-nil (IsRightPlace p limit);
-      wrong = dead_alone p limit [] line died other;
-      line = ap (λ (f : RecordFault). f.line) is ∙ no_more first;
-      why = ap (λ (f : RecordFault). f.why) is;
+      first_of = record {
+        before = [];
+        here = place [] line;
+        behind = head.after;
+        placed = head.placed ∙ ap (λ (l : Line). place [] l ∷ head.after) (sym same);
+        right = All-nil (IsRightPlace p limit);
+        wrong = dead_alone p limit [] line died other;
+        line = omega (arith, ap (λ (f : RecordFault). f.line) is);
+        why = ap (λ (f : RecordFault). f.why) is;
+      };
     }
-  where
-    no_more : (n : ℕ) → n ≡ n + 0
-    no_more n = omega arith

@@ -16,7 +16,7 @@ use Rattle.record_text.specs.declared.line.Claim.TheVariants as claims
 use Rattle.record_text.specs.declared.line.Line.{Line}
 use Rattle.record_text.specs.declared.line.Line.TheVariants as kind
 use Rattle.record_text.specs.Text.{IsNumber, IsWritableTime, IsWritableClaim, IsWritableLine}
-use Rattle.record_text.specs.Tree.{Tree, force, solved, cut, dead, split, Trees, no_trees, tree, count_trees, IsTree, AreTrees, lines_of, lines_of_all}
+use Rattle.record_text.specs.Tree.{Tree, force, split, Trees, no_trees, tree, count_trees, IsTree, AreTrees, lines_of, lines_of_all}
 use Rattle.search_record.specs.Places.{Place, places, kid_places}
 use Rattle.search_record.specs.Right.{IsRightLine, IsRightPlace}
 use Rattle.search_record.proofs.Flat.{kid_for_each}
@@ -31,11 +31,9 @@ numbers_below limit (i ∷ members) few below =
 
 spelled_line : (p : Problem) (limit : Option ℤ) → IsProject p → (pairs : List Pair) (line : Line) → IsRightLine p limit pairs line → IsWritableLine line
 spelled_line p limit is pairs (kind.Force pair) right = (omega (arith, right.incompatible.first_named, is.activity_limit), omega (arith, right.incompatible.second_named, is.activity_limit))
-spelled_line p limit is pairs kind.Solved right = tt
-spelled_line p limit is pairs kind.Cut right = tt
-spelled_line p limit is pairs kind.Dead right = tt
 spelled_line p limit is pairs (kind.Split resource members) right =
     (omega (arith, right.1.in_range, is.resource_limit), numbers_below (activity_count p) members (omega (arith, is.activity_limit)) right.1.named)
+spelled_line p limit is pairs _ right = tt
 
 abbrev line_at : Place → Line
 line_at here = here.line
@@ -49,19 +47,16 @@ spelled_places p limit is (here ∷ all) right =
 mutual
   lines_at : (t : Tree) (pairs : List Pair) → IsTree t → map line_at (places pairs t) ≡ lines_of t
   lines_at (force pair t) pairs shape = ap (λ (ls : List Line). kind.Force pair ∷ ls) (lines_at t (pairs ++ pair ∷ []) shape)
-  lines_at solved pairs shape = refl
-  lines_at cut pairs shape = refl
-  lines_at dead pairs shape = refl
   lines_at (split resource members kids) pairs shape = ap (λ (ls : List Line). kind.Split resource members ∷ ls) (lines_at_kids (ordered_pairs members) kids pairs (kid_for_each members kids shape.1) shape.2)
+  lines_at t pairs shape = refl
 
   lines_at_kids : (added : List Pair) (kids : Trees) (pairs : List Pair) → count_trees kids ≡ length added → AreTrees kids → map line_at (kid_places pairs added kids) ≡ lines_of_all kids
   lines_at_kids [] no_trees pairs count shapes = refl
-  lines_at_kids [] (tree t ts) pairs count shapes = absurd (omega arith)
-  lines_at_kids (first ∷ added) no_trees pairs count shapes = absurd (omega arith)
   lines_at_kids (first ∷ added) (tree t ts) pairs count shapes =
       map-append line_at (places (pairs ++ first ∷ []) t) (kid_places pairs added ts)
       ∙ ap (λ (ls : List Line). ls ++ map line_at (kid_places pairs added ts)) (lines_at t (pairs ++ first ∷ []) shapes.0)
       ∙ ap (λ (ls : List Line). lines_of t ++ ls) (lines_at_kids added ts pairs (omega arith) shapes.1)
+  lines_at_kids added kids pairs count shapes = absurd (omega arith)
 
 pub spelled_tree : (p : Problem) (limit : Option ℤ) → IsProject p → (t : Tree) → IsTree t → All (IsRightPlace p limit) (places [] t) → AllByRecursion IsWritableLine (lines_of t)
 spelled_tree p limit is t shape right = rw (sym (lines_at t [] shape)) (spelled_places p limit is (places [] t) right)

@@ -1,8 +1,8 @@
 -- The nodes that are due, step by step.
-use Rattle.std.proofs.Common.{◌≡◌, ℕ, zero, suc, ◌≤◌, Bool, true, false, List, [], ◌∷◌, ◌++◌, length, map, take, drop, reverse, refl, sym, ap, ◌∙◌, arith, length-append, append_assoc, ◌+◌, ◌<◌, Result, Ok, Err, ℤ, Option}
+use Rattle.std.proofs.Common.{◌≡◌, ℕ, ◌≤◌, Bool, true, false, List, [], ◌∷◌, ◌++◌, length, map, take, drop, reverse, refl, sym, ap, ◌∙◌, arith, length-append, append_assoc, ◌+◌, ◌<◌, Result, Ok, Err, ℤ, Option}
 use Rattle.std.specs.Prelude.{OnOk, OnErr}
 use Rattle.std.specs.List.{All}
-use Rattle.std.proofs.lemmas.List.{reverse-append, take-append-le, length-take-le, map-append}
+use Rattle.std.proofs.lemmas.List.{reverse-append, take-append-le, take-take, take_all, length-take-le, map-append}
 use Rattle.std.proofs.lemmas.List.Elements.{All-nil, All-cons, All-contains}
 use Rattle.network.specs.declared.lag.Pair.{Pair}
 use Rattle.network.specs.Problem.{Problem, activity_count, NameActivities}
@@ -27,17 +27,8 @@ same_nodes p d old new same (k ∷ ks) h =
     ap (λ (kept : List Pair). (kept ++ k.pair ∷ []) ∷ map (pairs_at new) ks) (same k.depth h.0)
     ∙ ap (λ (nodes : List (List Pair)). pairs_at old k ∷ nodes) (same_nodes p k.depth old new (λ n few. same n (omega (arith, h.0))) ks h.2)
 
-take_pushed : (path : List Pair) (pair : Pair) (n : ℕ) → n ≤ length path → take n (path ++ pair ∷ []) ≡ take n path
-take_pushed path pair n few = take-append-le n path (pair ∷ []) few
-
-take_twice : (n d : ℕ) (path : List Pair) → n ≤ d → take n (take d path) ≡ take n path
-take_twice zero d path few = refl
-take_twice (suc n) zero path few = absurd (omega arith)
-take_twice (suc n) (suc d) [] few = refl
-take_twice (suc n) (suc d) (x ∷ xs) few = ap (λ (rest : List Pair). x ∷ rest) (take_twice n d xs (omega arith))
-
 take_moved : (path : List Pair) (pair : Pair) (d n : ℕ) → d ≤ length path → n ≤ d → take n (take d path ++ pair ∷ []) ≡ take n path
-take_moved path pair d n deep few = take-append-le n (take d path) (pair ∷ []) (omega (arith, length-take-le d path deep)) ∙ take_twice n d path few
+take_moved path pair d n deep few = take-append-le n (take d path) (pair ∷ []) (omega (arith, length-take-le d path deep)) ∙ take-take n d path few
 
 -- where no node is there, none is due
 none_due : (path : List Pair) (later : List Later) → later ≡ [] → map (pairs_at path) later ≡ []
@@ -47,7 +38,7 @@ none_due path (k ∷ ks) over = cc
 pub forced_due : (p : Problem) (there : Bool) (path : List Pair) (later : List Later) (pair : Pair) → AreNested p (length path) later → IsOver there later
     → nodes_due there (path ++ pair ∷ []) later ≡ due_forced pair (nodes_due there path later)
 forced_due p true path later pair nested over =
-    ap (λ (nodes : List (List Pair)). (path ++ pair ∷ []) ∷ nodes) (same_nodes p (length path) path (path ++ pair ∷ []) (λ n few. take_pushed path pair n few) later nested)
+    ap (λ (nodes : List (List Pair)). (path ++ pair ∷ []) ∷ nodes) (same_nodes p (length path) path (path ++ pair ∷ []) (λ n few. take-append-le n path (pair ∷ []) few) later nested)
 forced_due p false path later pair nested over =
     none_due (path ++ pair ∷ []) later over ∙ sym (ap (due_forced pair) (none_due path later over))
 
@@ -72,14 +63,10 @@ pub left_over : (there : Bool) (k : Later) (ks : List Later) → IsOver there (k
 left_over true k ks h = tt
 left_over false k ks h = cc
 
-take_whole : (path : List Pair) → take (length path) path ≡ path
-take_whole [] = refl
-take_whole (x ∷ xs) = ap (λ (rest : List Pair). x ∷ rest) (take_whole xs)
-
 kids_due : (path : List Pair) (added : List Pair) (later : List Later) → map (pairs_at path) (map (later_at (length path)) added ++ later) ≡ map (λ (pair : Pair). path ++ pair ∷ []) added ++ map (pairs_at path) later
 kids_due path [] later = refl
 kids_due path (pair ∷ added) later =
-    ap (λ (kept : List Pair). (kept ++ pair ∷ []) ∷ map (pairs_at path) (map (later_at (length path)) added ++ later)) (take_whole path)
+    ap (λ (kept : List Pair). (kept ++ pair ∷ []) ∷ map (pairs_at path) (map (later_at (length path)) added ++ later)) (take_all (length path) path (omega arith))
     ∙ ap (λ (nodes : List (List Pair)). (path ++ pair ∷ []) ∷ nodes) (kids_due path added later)
 
 pub split_due : (there : Bool) (path : List Pair) (later new : List Later) (members : List ℕ) → new ≡ map (later_at (length path)) (ordered_pairs members) ++ later → IsOver there later → 0 < length (nodes_due there path later)
@@ -145,7 +132,5 @@ named_pairs p members named =
 
 pub named_line : (p : Problem) (limit : Option ℤ) (pairs : List Pair) (line : Line) → IsRightLine p limit pairs line → NamesActivities p line
 named_line p limit pairs (kind.Force pair) right = All-cons (λ (q : Pair). (q.before < activity_count p) × (q.after < activity_count p)) pair [] (right.incompatible.first_named, right.incompatible.second_named) (All-nil (λ (q : Pair). (q.before < activity_count p) × (q.after < activity_count p)))
-named_line p limit pairs kind.Solved right = tt
-named_line p limit pairs kind.Cut right = tt
-named_line p limit pairs kind.Dead right = tt
 named_line p limit pairs (kind.Split resource members) right = right.1.named
+named_line p limit pairs line right = tt

@@ -1,5 +1,5 @@
 -- The lines of a trail's tree, one node after another.
-use Rattle.std.proofs.Common.{◌≡◌, ℕ, zero, suc, ◌+◌, ◌*◌, ◌<◌, ◌≤◌, List, [], ◌∷◌, ◌++◌, length, map, reverse, refl, sym, ap, ◌∙◌, subst, arith, append_assoc, append-nil, length-append, Option}
+use Rattle.std.proofs.Common.{◌≡◌, ℕ, suc, ◌+◌, ◌*◌, ◌<◌, ◌≤◌, List, [], ◌∷◌, ◌++◌, length, map, reverse, refl, sym, ap, ◌∙◌, subst, arith, append_assoc, append-nil, length-append, Option}
 use Rattle.std.specs.Prelude.{ℤ}
 use Rattle.std.specs.List.{All, AllZip}
 use Rattle.std.proofs.lemmas.List.{reverse-append}
@@ -24,17 +24,14 @@ lead_on p limit entries name (pair ∷ added) (fate ∷ fates) h = (leads fate h
   where
     leads : (fate : PairFate) → IsRightFate p limit entries name pair fate → LeadsOn (length entries) name fate
     leads (was_named later) under = (under.is_later, under.named)
-    leads (was_dead forced) under = tt
-    leads (was_not_opened forced) under = tt
+    leads fate under = tt
 
 pub kids_are_later : (p : Problem) (limit : Option ℤ) (entries : List Entry) → IsRightTrail p limit entries → KidsAreLater entries
 kids_are_later p limit entries right name known = of (entry_at entries name).ending (right.endings name known)
   where
     of : (ending : Ending) → IsRightEnding p limit entries name ending → LeadOn (length entries) name (ending_fates ending)
-    of not_ended h = tt
-    of was_cut h = tt
-    of was_solved h = tt
     of (was_split resource members fates) h = lead_on p limit entries name (ordered_pairs members) fates h.2
+    of ending h = tt
 
 -- ---- a deeper look changes nothing
 
@@ -45,19 +42,16 @@ fates_agree count name f g same (was_dead forced ∷ fates) h = ap (tree (with_f
 fates_agree count name f g same (was_not_opened forced ∷ fates) h = ap (tree (with_forced forced cut)) (fates_agree count name f g same fates h.1)
 
 pub endings_agree : (count name : ℕ) (f g : ℕ → Tree) → ((later : ℕ) → name < later → later < count → f later ≡ g later) → (ending : Ending) → LeadOn count name (ending_fates ending) → ending_tree f ending ≡ ending_tree g ending
-endings_agree count name f g same not_ended h = refl
-endings_agree count name f g same was_cut h = refl
-endings_agree count name f g same was_solved h = refl
 endings_agree count name f g same (was_split resource members fates) h = ap (split resource members) (fates_agree count name f g same fates h)
+endings_agree count name f g same ending h = refl
 
 pub depths_agree : (entries : List Entry) → KidsAreLater entries → (d e name : ℕ) → length entries ≤ name + d → length entries ≤ name + e → name < length entries → tree_within entries d name ≡ tree_within entries e name
-depths_agree entries later zero e name deep_d deep_e known = absurd (omega arith)
-depths_agree entries later (suc d) zero name deep_d deep_e known = absurd (omega arith)
 depths_agree entries later (suc d) (suc e) name deep_d deep_e known =
     ap (with_forced (entry_at entries name).forced)
     (endings_agree (length entries) name (tree_within entries d) (tree_within entries e)
     (λ kid_name above below. depths_agree entries later d e kid_name (omega arith) (omega arith) below)
     (entry_at entries name).ending (later name known))
+depths_agree entries later _ e name deep_d deep_e known = absurd (omega arith)
 
 -- the tree under a name is made of those under its kids
 pub tree_opens : (entries : List Entry) → KidsAreLater entries → (name : ℕ) → name < length entries → tree_under entries name ≡ entry_tree (tree_under entries) (entry_at entries name)
@@ -95,8 +89,7 @@ lines_fate entries later (was_not_opened forced) known = lines_node forced kind.
 
 pub behind_named : (entries : List Entry) → KidsAreLater entries → (fate : PairFate) → IsNamed (length entries) fate → All (IsNamed (length entries)) (fates_behind entries fate)
 behind_named entries later (was_named name) known = are_named (length entries) name (ending_fates (entry_at entries name).ending) (later name known)
-behind_named entries later (was_dead forced) known = All-nil (IsNamed (length entries))
-behind_named entries later (was_not_opened forced) known = All-nil (IsNamed (length entries))
+behind_named entries later _ known = All-nil (IsNamed (length entries))
 
 -- ---- the walk
 

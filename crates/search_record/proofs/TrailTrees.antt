@@ -60,8 +60,6 @@ record AreRightKids (p : Problem) (limit : Option ℤ) (pairs added : List Pair)
 fates_right : (p : Problem) (limit : Option ℤ) (entries : List Entry) (name : ℕ) (named : ℕ → Tree) → NamedAreRight p limit entries name named → (added : List Pair) (fates : List PairFate) → AllZip (IsRightFate p limit entries name) added fates
     → AreRightKids p limit (path_to entries name) added (fate_trees named fates)
 fates_right p limit entries name named later_right [] [] h = record { count = refl; shapes = tt; right = All-nil (IsRightPlace p limit) }
-fates_right p limit entries name named later_right [] (fate ∷ fates) h = absurd h
-fates_right p limit entries name named later_right (pair ∷ added) [] h = absurd h
 fates_right p limit entries name named later_right (pair ∷ added) (fate ∷ fates) h =
     let one = fate_right p limit entries name named later_right pair fate h.0 in
     let others = fates_right p limit entries name named later_right added fates h.1 in
@@ -70,6 +68,7 @@ fates_right p limit entries name named later_right (pair ∷ added) (fate ∷ fa
       shapes = (one.shape, others.shapes);
       right = All-append (IsRightPlace p limit) (places (path_to entries name ++ pair ∷ []) (fate_tree named fate)) (kid_places (path_to entries name) added (fate_trees named fates)) one.right others.right;
     }
+fates_right p limit entries name named later_right _ _ h = absurd h
 
 -- a forbidden set has a member
 some_member : (p : Problem) (k : ℕ) (members : List ℕ) → IsForbidden p k members → 0 < length members

@@ -19,11 +19,12 @@ use Rattle.branching.proofs.Fates.{cut_holds}
 use Rattle.record_text.specs.declared.line.Claim.{Claim}
 use Rattle.record_text.specs.declared.line.Claim.TheVariants as claims
 use Rattle.record_text.specs.declared.line.Line.TheVariants as kind
-use Rattle.record_text.specs.Tree.{Tree, force, solved, cut, dead, split, Trees, no_trees, tree, count_trees, IsTree, AreTrees}
+use Rattle.record_text.specs.Tree.{Tree, force, solved, cut, dead, split, Trees, tree, count_trees, IsTree, AreTrees}
 use Rattle.search_record.specs.Places.{place, places, kid_places}
+use Rattle.branching.proofs.Covers.{all_left}
+use Rattle.record_text.proofs.FirstWrong.{all_right}
 use Rattle.search_record.specs.Right.{limit_of, IsRightPlace, AreRightStarts}
 use Rattle.search_record.specs.Proves.{proved_of, IsTrueOf, RightIsTrue}
-use Rattle.search_record.proofs.Lists.{all_left, all_right}
 use Rattle.search_record.proofs.Flat.{kid_for_each}
 
 -- the schedule is not below the limit, and there is none where there is no limit
@@ -71,9 +72,6 @@ mutual
 
   kids_reach : (p : Problem) (limit : Option ℤ) (pairs added : List Pair) (kids : Trees) (s : List ℤ) → count_trees kids ≡ length added → AreTrees kids → All (IsRightPlace p limit) (kid_places pairs added kids) → StandsFor p pairs s →
       (pair : Pair) → Contains added pair → Keeps p s pair → ReachesLimit limit s
-  kids_reach p limit pairs [] no_trees s count shapes right stands pair (k, l, e) keeps = absurd (omega arith)
-  kids_reach p limit pairs [] (tree t ts) s count shapes right stands pair (k, l, e) keeps = absurd (omega arith)
-  kids_reach p limit pairs (first ∷ added) no_trees s count shapes right stands pair within keeps = absurd (omega arith)
   kids_reach p limit pairs (first ∷ added) (tree t ts) s count shapes right stands pair within keeps =
       let mine = places (pairs ++ first ∷ []) t in
       let others = kid_places pairs added ts in
@@ -81,6 +79,7 @@ mutual
       (λ (same : first ≡ pair). node_reaches p limit (pairs ++ first ∷ []) t s shapes.0 (all_left (IsRightPlace p limit) mine others right) (with_pair p pairs first s stands (subst (Keeps p s) (sym same) keeps)))
       (λ (later : Contains added pair). kids_reach p limit pairs added ts s (omega arith) shapes.1 (all_right (IsRightPlace p limit) mine others right) stands pair later keeps)
       (contains_cases first added pair within)
+  kids_reach p limit pairs added kids s count shapes right stands pair within keeps = absurd (omega arith)
 
 pub right_is_true : RightIsTrue
 right_is_true p r right = by_claim r.claim right.starts (λ s feasible. node_reaches p (limit_of r.claim) [] right.lines.whole s right.lines.tree_of.shape right.lines.right (record { feasible = feasible; keeps = All-nil (Keeps p s) }))

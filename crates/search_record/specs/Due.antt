@@ -39,6 +39,4 @@ due_split members (pairs ∷ nodes) = map (λ pair. pairs ++ pair ∷ []) (order
 abbrev pub due_after : Line → List (List Pair) → List (List Pair)
 due_after (kind.Force pair) nodes = due_forced pair nodes
 due_after (kind.Split resource members) nodes = due_split members nodes
-due_after kind.Solved nodes = drop 1 nodes
-due_after kind.Cut nodes = drop 1 nodes
-due_after kind.Dead nodes = drop 1 nodes
+due_after leaf nodes = drop 1 nodes

@@ -1,14 +1,9 @@
 -- Which lines name activities alone.
-use Rattle.std.specs.Prelude.{ℕ, ◌<◌, pos, ◌<ℤ◌, [], ◌∷◌}
+use Rattle.std.specs.Prelude.{◌<◌, [], ◌∷◌}
 use Rattle.std.specs.List.{All}
-use Rattle.network.specs.Problem.{Problem, activity_count, duration, NameActivities}
+use Rattle.network.specs.Problem.{Problem, activity_count, NameActivities}
 use Rattle.record_text.specs.declared.line.Line.{Line}
 use Rattle.record_text.specs.declared.line.Line.TheVariants as kind
-
--- an activity that takes time
-pub record TakesTime (p : Problem) (i : ℕ) : Type 0 where
-  pub named : i < activity_count p
-  pub long : pos 0 <ℤ duration p i
 
 -- the numbers of the line are those of activities
 abbrev pub NamesActivities : Problem → Line → Type 0

@@ -1,12 +1,11 @@
 //! When a line of a record is right at its node.
 
-ghost use Rattle.std.specs.Prelude.{◌∷◌, [], IfOk};
+ghost use Rattle.std.specs.Prelude.{◌∷◌, [], ◌↔◌, IfOk, IsTrue};
 ghost use Rattle.network.specs.Problem.{NameActivities};
 ghost use Rattle.bounds.specs.Bound.{IsMatrixFor};
-ghost use Rattle.branching.specs.Right.{IsTooLateFor, IsForced, IsCut, IsSolved};
+ghost use Rattle.branching.specs.Right.{IsTooLateFor, IsForced, IsCut, IsSolved, IsRightSet};
 ghost use Rattle.search_record.specs.Right.{IsRightLine, Tells};
 
-use crate::members::is_right_set;
 use bounds::bound;
 use earliest::least_starts;
 use longest_path::Matrix;
@@ -14,6 +13,7 @@ use network::{Pair, Project};
 use profile::first_overload;
 use record_text::Line;
 use rivals::are_incompatible;
+use schedule_check::{are_members, is_forbidden};
 use std::alloc::{AllocError, Global};
 
 /// Whether the pair's second activity can't end before its first starts.
@@ -65,6 +65,19 @@ fn is_solved(
         Some(_) => Ok(false),
         None => Ok(starts[end] >= limit),
     }
+}
+
+/// Whether the members of a resource may be split.
+fn is_right_set(project: &Project, resource: usize, members: &[usize]) -> bool
+    ensures { IsTrue result ↔ IsRightSet project.now resource members.now }
+{
+    if resource >= project.resource_count() {
+        return false;
+    }
+    if !are_members(project, members) {
+        return false;
+    }
+    is_forbidden(project, resource, members)
 }
 
 /// Whether a line is right in a node that isn't dead, by the node's matrix. No limit stands for a claim

@@ -11,7 +11,6 @@ mod judge;
 mod later;
 mod laws;
 mod lines;
-mod members;
 mod node;
 mod proved;
 mod verification;

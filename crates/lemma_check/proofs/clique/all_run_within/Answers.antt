@@ -12,17 +12,15 @@ pub returns-then-not-runs_within : goal.returns-then-not-runs_within
 returns-then-not-runs_within c = λ arcs m.
     let from_fits : SFits w64 c.args.from = search rules in
     let to_fits : SFits w64 c.args.to = search rules in
-    let i = c.loop-member.member-index in
     let here : IsTrue c.runs_within.result ↔ RunsWithin c.args.project.now arcs c.args.from c.args.to (get_or c.args.members.now c.loop-member.member-index 0) = simp to_z-of_z at (c.runs_within.ensures arcs m) in
-    some_fails (RunsWithin c.args.project.now arcs c.args.from c.args.to) c.args.members.now i 0 c.loop-member-test.true (iff_false here c.if-not-runs_within.true)
+    some_fails (RunsWithin c.args.project.now arcs c.args.from c.args.to) c.args.members.now c.loop-member.member-index 0 c.loop-member-test.true (iff_false here c.if-not-runs_within.true)
 
 pub loop-member-preserved : goal.loop-member-preserved
 loop-member-preserved c = λ arcs m.
     let from_fits : SFits w64 c.args.from = search rules in
     let to_fits : SFits w64 c.args.to = search rules in
-    let i = c.loop-member.member-index in
     let here : IsTrue c.runs_within.result ↔ RunsWithin c.args.project.now arcs c.args.from c.args.to (get_or c.args.members.now c.loop-member.member-index 0) = simp to_z-of_z at (c.runs_within.ensures arcs m) in
-    simp to_z-of_z (All-more (RunsWithin c.args.project.now arcs c.args.from c.args.to) c.args.members.now i 0 c.loop-member-test.true (simp to_z-of_z at (c.loop-member.invariant arcs m)) (here.0 c.if-not-runs_within.false))
+    simp to_z-of_z (All-more (RunsWithin c.args.project.now arcs c.args.from c.args.to) c.args.members.now c.loop-member.member-index 0 c.loop-member-test.true (simp to_z-of_z at (c.loop-member.invariant arcs m)) (here.0 c.if-not-runs_within.false))
 
 pub returns : goal.returns
 returns c = λ arcs m.

@@ -26,7 +26,6 @@ returns c = λ arcs m.
     let to_fits : SFits w64 c.args.to = search rules in
     let within : IsTrue c.all_run_within.result ↔ All (RunsWithin c.args.project.now arcs c.args.from c.args.to) c.args.members.now = simp to_z-of_z at (c.all_run_within.ensures arcs m) in
     let total : c.total_duration.result ≡ sum_by (λ i. unsigned_abs (duration c.args.project.now i)) c.args.members.now = c.total_duration.ensures.value in
-    let small : c.total_duration.result < 2000000000 = c.total_duration.ensures.small in
     let wide : to_z w64 c.total_duration.result ≡ pos c.total_duration.result = omega (arith, ints) in
     let fits : SFits w64 (c.args.from +ℤ pos c.total_duration.result) = omega (arith, ints, c.requires.from_time.at_least, c.requires.from_time.at_most) in (
       λ yes.

@@ -1,7 +1,18 @@
-use Rattle.std.proofs.Common.{arith}
+use Rattle.std.proofs.Common.{ℕ, ◌≤◌, List, length, arith}
 use Rattle.std.proofs.lemmas.Int.{ints}
-use Rattle.lemma_check.proofs.MembersSoFar.{few_members}
+use Rattle.network.specs.declared.limits.TheConstants.{MAX_ACTIVITIES}
+use Rattle.network.specs.Limits.{IsProject}
+use Rattle.network.specs.Problem.{Problem, activity_count}
+use Rattle.rivals.proofs.Rising.{rising_length}
+use Rattle.schedule_check.specs.Members.{AreMembers}
+use Rattle.lemma_check.proofs.Overlaps.{begins}
 use Rattle.lemma_check.proofs.clique.total_duration.Goals as goal
+
+-- there are no more members than activities
+few_members : (p : Problem) (members : List ℕ) → IsProject p → AreMembers p members → length members ≤ 1002
+few_members p members is are =
+    let few : activity_count p ≤ MAX_ACTIVITIES = is.activity_limit in
+    rising_length 0 1002 members (begins members) are.rising (λ k d l. omega (arith, few, (are.take_time k d l).named))
 
 pub overflow_add-total : goal.overflow_add-total
 overflow_add-total c =

@@ -1,15 +1,16 @@
-use Rattle.std.proofs.Common.{◌≡◌, ◌≢◌, refl, sym, ap, ◌+◌, None}
+use Rattle.std.proofs.Common.{◌≡◌, ◌≢◌, refl, sym, ap, ◌+◌}
 use Rattle.std.proofs.lemmas.Bool.{iff_false}
 use Rattle.std.proofs.lemmas.List.Elements.{All-nil}
 use Rattle.std.proofs.lemmas.Option.{slice_get_read}
 use Rattle.std.proofs.lemmas.Result.{on_ok_weaker, IfErr-weaker}
 use Rattle.network.specs.Problem.{Problem}
 use Rattle.record_text.specs.declared.fault.Why.TheVariants.{Memory}
+use Rattle.record_text.proofs.FirstWrong.{fault_at}
 use Rattle.lemma_check.specs.Faults.{first_line, why_wrong, IsFirstWrong}
 use Rattle.lemma_check.specs.Places.{Place, first_place}
 use Rattle.lemma_check.specs.Standing.{IsDeadAt}
 use Rattle.lemma_check.specs.Right.{IsRightAt, IsRightLine}
-use Rattle.lemma_check.proofs.Reached.{fault_at, memory_says, place_at, place_more, right_more, right_all, first_wrong}
+use Rattle.lemma_check.proofs.Reached.{memory_says, place_at, place_more, right_more, right_all, first_wrong}
 use Rattle.lemma_check.proofs.lines.check_lines.Goals as goal
 
 pub returns-in_default-clause-right : goal.returns-in_default-clause-right
@@ -36,9 +37,8 @@ returns-then-not-is_right-clause-fault c = λ _.
     let p = c.args.project.now in
     let at : Place = first_place c.args.project.now c.args.claim.now in
     let i = c.loop-index.index in
-    let line = c.index-lines-index.result in
     let told : fault_at (c.first_line-first.result + c.loop-index.index) c.why_wrong.result ≡ fault_at (c.first_line-first.result + c.loop-index.index) (why_wrong c.index-lines-index.result) = ap (fault_at (c.first_line-first.result + i)) c.why_wrong.ensures in
-    rw (sym c.first_line-first.ensures) (first_wrong p at c.first_line-first.result c.args.lines.now i line (fault_at (c.first_line-first.result + i) c.why_wrong.result) c.loop-index-test.true c.index-lines-index.is c.loop-index.invariant.right
+    rw (sym c.first_line-first.ensures) (first_wrong p at c.first_line-first.result c.args.lines.now i c.index-lines-index.result (fault_at (c.first_line-first.result + i) c.why_wrong.result) c.loop-index-test.true c.index-lines-index.is c.loop-index.invariant.right
     (iff_false (c.is_right.ensures (place_at p at c.args.lines.now i) c.loop-index.invariant.stands) c.if-not-is_right.true) told)
 
 pub returns-in_err-go_on-clause-fault : goal.returns-in_err-go_on-clause-fault

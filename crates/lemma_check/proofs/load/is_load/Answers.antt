@@ -3,12 +3,13 @@ use Rattle.std.specs.Prelude.{unsigned_abs}
 use Rattle.std.specs.Prelude.{◌<ℤ◌}
 use Rattle.std.specs.List.{sum_by}
 use Rattle.std.proofs.lemmas.Int.{ints, to_z-of_z}
+use Rattle.std.proofs.lemmas.Bool.{ltb-true, lt-ltb}
 use Rattle.std.proofs.lemmas.Nat.{mul-le}
 use mir.Val.{SFits}
 use Rattle.network.specs.Problem.{activities, capacity, demand}
 use Rattle.lemma_check.specs.Reasons.{IsLoad}
 use Rattle.lemma_check.specs.Parts.{part_of, load_of}
-use Rattle.lemma_check.proofs.PartLaws.{part_is, load_most, less_test, test_less}
+use Rattle.lemma_check.proofs.PartLaws.{part_is, load_most}
 use Rattle.lemma_check.proofs.load.is_load.Goals as goal
 
 pub overflow_mul-result : goal.overflow_mul-result
@@ -30,7 +31,7 @@ returns c = λ arcs m.
     let some : c.args.from <ℤ c.args.to = grind (arith, ints, c.if-from-to.false) in
     let load : c.load.result ≡ load_of c.args.project.now c.args.weights.now c.args.resource c.args.from c.args.to (activities c.args.project.now) = simp to_z-of_z at c.load.ensures in (
       λ yes.
-          let over : c.unsigned_abs-units.result * c.capacity.result < c.load.result = less_test (c.unsigned_abs-units.result * c.capacity.result) c.load.result yes in
+          let over : c.unsigned_abs-units.result * c.capacity.result < c.load.result = ltb-true (c.unsigned_abs-units.result * c.capacity.result) c.load.result yes in
           record {
             in_range = omega (arith, c.if-resource-resource_count.false, c.resource_count.ensures.value);
             units = c.unsigned_abs-units.result;
@@ -46,5 +47,5 @@ returns c = λ arcs m.
           let exceeds : c.unsigned_abs-units.result * capacity c.args.project.now c.args.resource < sum_by (λ i. k.parts i * demand c.args.project.now c.args.resource i) (activities c.args.project.now) = rw long at k.over in
           let over : c.unsigned_abs-units.result * capacity c.args.project.now c.args.resource < c.load.result = omega (arith, exceeds, most, load) in
           let tested : c.unsigned_abs-units.result * c.capacity.result < c.load.result = rw c.capacity.ensures.value over in
-          test_less (c.unsigned_abs-units.result * c.capacity.result) c.load.result tested,
+          lt-ltb (c.unsigned_abs-units.result * c.capacity.result) c.load.result tested,
     )

@@ -2,7 +2,7 @@ use Rattle.std.proofs.Common.{◌∙◌, ◌≡◌, inl, inr}
 use Rattle.std.proofs.lemmas.Result.{MatchResult-weaker, err_from_is_err_and}
 use Rattle.lemma_text.specs.Text.{lemma_kind}
 use Rattle.lemma_check.specs.Faults.{IsFirstFault}
-use Rattle.runs.proofs.TextLaws.{record_whole, no_proof_whole}
+use Rattle.runs.proofs.TextLaws.{spells_one, record_whole, no_proof_whole}
 use Rattle.lemma_runs.specs.Outcome.{IsProvedText}
 use Rattle.lemma_runs.proofs.running.proof.Goals as goal
 
@@ -18,12 +18,8 @@ returns-clause-said g c =
     MatchResult-weaker c.verified.result c.verified.ensures.said
     (λ a said. (
       said.0,
-      λ text told more told_more. record {
-        project = p;
-        is_project = c.in_ok-project.ensures.project.0;
-        spells = c.in_ok-project.ensures.project.1 more told_more;
-        has = record_whole lemma_kind c.deref.result.now text (λ shown. IsProvedText p shown a.text.items) (c.deref.ensures.value ∙ c.in_ok-project.ensures.told text told) said.1;
-      },
+      λ text told more told_more. spells_one p more _ c.in_ok-project.ensures.project told_more
+          (record_whole lemma_kind c.deref.result.now text (λ shown. IsProvedText p shown a.text.items) (c.deref.ensures.value ∙ c.in_ok-project.ensures.told text told) said.1),
     ))
     (λ _ _. tt)
 
@@ -31,9 +27,5 @@ pub returns-clause-refused : goal.returns-clause-refused
 returns-clause-refused g c =
     let p = c.in_ok-project.project in
     MatchResult-weaker c.verified.result c.verified.ensures.refused (λ _ _. tt)
-    (λ fault refused other text told more told_more. inr (record {
-      project = p;
-      is_project = c.in_ok-project.ensures.project.0;
-      spells = c.in_ok-project.ensures.project.1 more told_more;
-      has = no_proof_whole lemma_kind (IsFirstFault p) c.deref.result.now text fault (c.deref.ensures.value ∙ c.in_ok-project.ensures.told text told) (refused other);
-    }))
+    (λ fault refused other text told more told_more. inr (spells_one p more _ c.in_ok-project.ensures.project told_more
+    (no_proof_whole lemma_kind (IsFirstFault p) c.deref.result.now text fault (c.deref.ensures.value ∙ c.in_ok-project.ensures.told text told) (refused other))))

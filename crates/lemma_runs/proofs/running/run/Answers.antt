@@ -1,8 +1,7 @@
 use Rattle.std.proofs.Common.{ap, ◌∙◌}
-use Rattle.runs.proofs.CallLaws.{MatchOption-weaker}
+use Rattle.runs.proofs.CallLaws.{MatchOption-weaker, inputs_are_told}
 use Rattle.answers.specs.declared.answer.Answer.{Answer}
 use Rattle.answers.specs.Faults.{exit_of}
-use Rattle.lemma_runs.proofs.ReadLaws.{read_is_told}
 use Rattle.lemma_runs.proofs.running.run.Goals as goal
 
 pub returns-in-Ok-clause-proved : goal.returns-in-Ok-clause-proved
@@ -34,4 +33,4 @@ pub returns-in-Err-clause-refused : goal.returns-in-Err-clause-refused
 returns-in-Err-clause-refused g c = rw c.with.ensures.fault c.in-Err.ensures.refused
 
 pub returns-in-Err-clause-read : goal.returns-in-Err-clause-read
-returns-in-Err-clause-read g c = read_is_told Answer _ _ _ c.in-Err.fault c.with.result.fault c.with.ensures.fault c.in-Err.ensures.read
+returns-in-Err-clause-read g c = inputs_are_told Answer _ _ _ c.in-Err.fault c.with.result.fault c.with.ensures.fault c.in-Err.ensures.read

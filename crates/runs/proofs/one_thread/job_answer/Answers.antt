@@ -1,7 +1,7 @@
 use Rattle.std.proofs.Common.{◌≡◌, ◌∙◌, refl, inl, inr}
 use Rattle.std.proofs.lemmas.Result.{MatchResult-weaker, err_from_is_err_and}
 use Rattle.runs.proofs.CallLaws.{answers_alone}
-use Rattle.runs.proofs.TextLaws.{starts_whole, starts_fault_whole, record_whole, no_proof_whole}
+use Rattle.runs.proofs.TextLaws.{spells_one, starts_whole, starts_fault_whole, record_whole, no_proof_whole}
 use Rattle.record_text.specs.Text.{search_kind}
 use Rattle.search_record.specs.Faults.{IsFirstFault}
 use Rattle.answers.specs.Answers.{IsCheckText, IsProvedText}
@@ -23,56 +23,36 @@ pub returns-in_ok-project-in-Check-clause-said : goal.returns-in_ok-project-in-C
 returns-in_ok-project-in-Check-clause-said g c =
     let p = c.in_ok-project-in-Check.project in
     MatchResult-weaker c.check.result c.check.ensures.said
-    (λ a said text more told told_more. rw c.in-Check.is (record {
-      project = p;
-      is_project = c.in_ok-project-in-Check.ensures.project.0;
-      spells = c.in_ok-project-in-Check.ensures.project.1 more (told_more (rw c.in-Check.is refl));
-      has = starts_whole p c.deref.result.now text (λ starts. IsCheckText p starts a.exit a.text.items) (c.deref.ensures.value ∙ c.in_ok-project-in-Check.ensures.told text told) said;
-    }))
+    (λ a said text more told told_more. rw c.in-Check.is (spells_one p more _ c.in_ok-project-in-Check.ensures.project (told_more (rw c.in-Check.is refl))
+    (starts_whole p c.deref.result.now text (λ starts. IsCheckText p starts a.exit a.text.items) (c.deref.ensures.value ∙ c.in_ok-project-in-Check.ensures.told text told) said)))
     (λ _ _. tt)
 
 pub returns-in_ok-project-in-Check-clause-refused : goal.returns-in_ok-project-in-Check-clause-refused
 returns-in_ok-project-in-Check-clause-refused g c =
     let p = c.in_ok-project-in-Check.project in
     MatchResult-weaker c.check.result c.check.ensures.refused (λ _ _. tt)
-    (λ fault refused other text more told told_more. rw c.in-Check.is (inr (record {
-      project = p;
-      is_project = c.in_ok-project-in-Check.ensures.project.0;
-      spells = c.in_ok-project-in-Check.ensures.project.1 more (told_more (rw c.in-Check.is refl));
-      has = starts_fault_whole p c.deref.result.now text fault (c.deref.ensures.value ∙ c.in_ok-project-in-Check.ensures.told text told) (refused other);
-    })))
+    (λ fault refused other text more told told_more. rw c.in-Check.is (inr (spells_one p more _ c.in_ok-project-in-Check.ensures.project (told_more (rw c.in-Check.is refl))
+    (starts_fault_whole p c.deref.result.now text fault (c.deref.ensures.value ∙ c.in_ok-project-in-Check.ensures.told text told) (refused other)))))
 
 pub returns-in_ok-project-in-Verify-clause-said : goal.returns-in_ok-project-in-Verify-clause-said
 returns-in_ok-project-in-Verify-clause-said g c =
     let p = c.in_ok-project-in-Verify.project in
     MatchResult-weaker c.verified.result c.verified.ensures.said
-    (λ a said text more told told_more. rw c.in-Verify.is (record {
-      project = p;
-      is_project = c.in_ok-project-in-Verify.ensures.project.0;
-      spells = c.in_ok-project-in-Verify.ensures.project.1 more (told_more (rw c.in-Verify.is refl));
-      has = record_whole search_kind c.deref-in-Verify.result.now text (λ shown. IsProvedText p shown a.exit a.text.items) (c.deref-in-Verify.ensures.value ∙ c.in_ok-project-in-Verify.ensures.told text told) said;
-    }))
+    (λ a said text more told told_more. rw c.in-Verify.is (spells_one p more _ c.in_ok-project-in-Verify.ensures.project (told_more (rw c.in-Verify.is refl))
+    (record_whole search_kind c.deref-in-Verify.result.now text (λ shown. IsProvedText p shown a.exit a.text.items) (c.deref-in-Verify.ensures.value ∙ c.in_ok-project-in-Verify.ensures.told text told) said)))
     (λ _ _. tt)
 
 pub returns-in_ok-project-in-Verify-clause-refused : goal.returns-in_ok-project-in-Verify-clause-refused
 returns-in_ok-project-in-Verify-clause-refused g c =
     let p = c.in_ok-project-in-Verify.project in
     MatchResult-weaker c.verified.result c.verified.ensures.refused (λ _ _. tt)
-    (λ fault refused other text more told told_more. rw c.in-Verify.is (inr (record {
-      project = p;
-      is_project = c.in_ok-project-in-Verify.ensures.project.0;
-      spells = c.in_ok-project-in-Verify.ensures.project.1 more (told_more (rw c.in-Verify.is refl));
-      has = no_proof_whole search_kind (IsFirstFault p) c.deref-in-Verify.result.now text fault (c.deref-in-Verify.ensures.value ∙ c.in_ok-project-in-Verify.ensures.told text told) (refused other);
-    })))
+    (λ fault refused other text more told told_more. rw c.in-Verify.is (inr (spells_one p more _ c.in_ok-project-in-Verify.ensures.project (told_more (rw c.in-Verify.is refl))
+    (no_proof_whole search_kind (IsFirstFault p) c.deref-in-Verify.result.now text fault (c.deref-in-Verify.ensures.value ∙ c.in_ok-project-in-Verify.ensures.told text told) (refused other)))))
 
 pub returns-in_ok-solve-in-Solve-clause-said : goal.returns-in_ok-solve-in-Solve-clause-said
 returns-in_ok-solve-in-Solve-clause-said g c = λ text more told told_more.
-    answers_alone c.args.job c.in-Solve.workers c.in-Solve.takes c.in-Solve.start c.in-Solve.json c.in-Solve.recorded text more c.in_ok-solve-in-Solve.field-0.exit c.in_ok-solve-in-Solve.field-0.text.items c.in-Solve.is c.requires.alone (record {
-      project = c.in_ok-project-in-Solve.project;
-      is_project = c.in_ok-project-in-Solve.ensures.project.0;
-      spells = c.in_ok-project-in-Solve.ensures.project.1 text told;
-      has = c.in_ok-solve-in-Solve.ensures;
-    })
+    answers_alone c.args.job c.in-Solve.workers c.in-Solve.takes c.in-Solve.start c.in-Solve.json c.in-Solve.recorded text more c.in_ok-solve-in-Solve.field-0.exit c.in_ok-solve-in-Solve.field-0.text.items c.in-Solve.is c.requires.alone
+    (spells_one c.in_ok-project-in-Solve.project text _ c.in_ok-project-in-Solve.ensures.project told c.in_ok-solve-in-Solve.ensures)
 
 pub returns-in_ok-project-in-Verify-clause-cause : goal.returns-in_ok-project-in-Verify-clause-cause
 returns-in_ok-project-in-Verify-clause-cause g c =

@@ -24,14 +24,12 @@ returns-in-Some c = λ pairs m.
 pub index-requires : goal.index-requires
 index-requires c =
     let early = c.in_ok-starts.ensures.earliest c.args.project.now c.requires.pairs c.requires.matrix in
-    let count : length c.in_ok-starts.starts.items ≡ activity_count c.args.project.now = early.limits.count in
     let two : 2 ≤ activity_count c.args.project.now = c.activity_count-end.ensures.limits.two_dummies in
     omega (arith, c.activity_count-end.ensures.value)
 
 pub returns : goal.returns
 returns c = λ pairs m.
     let early = c.in_ok-starts.ensures.earliest c.args.project.now pairs m in
-    let count : length c.in_ok-starts.starts.items ≡ activity_count c.args.project.now = early.limits.count in
     let within : IsWithinCapacities c.args.project.now c.in_ok-starts.starts.items = rw c.as_slice.ensures.value at (rw c.in-None.is at c.in_ok-found.ensures.none) in
     let end : c.activity_count-end.result - 1 ≡ length c.in_ok-starts.starts.items - 1 = omega (arith, c.activity_count-end.ensures.value) in
     let two : 2 ≤ activity_count c.args.project.now = c.activity_count-end.ensures.limits.two_dummies in

@@ -1,7 +1,8 @@
 use Rattle.std.proofs.Common.{◌≡◌, ◌<◌, ◌∙◌, [], ◌∷◌, ◌++◌}
 use Rattle.network.specs.declared.lag.Pair.{Pair}
 use Rattle.network.specs.Problem.{activity_count}
-use Rattle.search_record.proofs.Lists.{all_left, all_right}
+use Rattle.branching.proofs.Covers.{all_left}
+use Rattle.record_text.proofs.FirstWrong.{all_right}
 use Rattle.search_record.proofs.Steps.{pushed_later, pushed_nested}
 use Rattle.search_record.proofs.later.push_later.Goals as goal
 

@@ -5,7 +5,8 @@ use Rattle.search_record.specs.Due.{DueNodes}
 use Rattle.search_record.specs.Right.{IsRightLine}
 use Rattle.search_record.specs.Faults.{why_wrong}
 use Rattle.search_record.proofs.Steps.{named_line}
-use Rattle.search_record.proofs.Reached.{Reached, reached_start, reached_more, reached_end, reached_wrong, some_due, line_there, fault_at}
+use Rattle.record_text.proofs.FirstWrong.{fault_at}
+use Rattle.search_record.proofs.Reached.{Reached, reached_start, reached_more, reached_end, reached_wrong, some_due, line_there}
 use Rattle.search_record.proofs.lines.check_lines.Goals as goal
 
 pub loop-index-init : goal.loop-index-init
@@ -26,7 +27,6 @@ overflow_add-result c = let few : c.args.first ≤ 4 = c.requires.few in search 
 
 pub returns-then-not-right-clause-fault : goal.returns-then-not-right-clause-fault
 returns-then-not-right-clause-fault c = λ _.
-    let p = c.args.project.now in
     let i = c.loop-index.index in
     let line = c.index-lines-index.result in
     let next = c.next.ensures.nodes in
@@ -35,7 +35,7 @@ returns-then-not-right-clause-fault c = λ _.
     let project : c.next.result.now.project ≡ c.args.project.now = c.next.ensures.project ∙ c.loop-index.invariant.project in
     let wrong : ¬ IsRightLine c.args.project.now c.args.limit c.next.result.now.pairs c.index-lines-index.result = rw project at (iff_false c.in_ok-right.ensures c.if-not-right.true) in
     let why : fault_at (c.args.first + i) c.why_wrong.result ≡ fault_at (c.args.first + i) (why_wrong line) = ap (fault_at (c.args.first + i)) c.why_wrong.ensures in
-    reached_wrong p c.args.limit c.args.first c.args.lines.now c.next.result.now.pairs next.0 line (drop (i + 1) c.args.lines.now) i c.requires.tree.0 (fault_at (c.args.first + i) c.why_wrong.result) c.requires.tree.1 so_far wrong why
+    reached_wrong c.args.project.now c.args.limit c.args.first c.args.lines.now c.next.result.now.pairs next.0 line (drop (i + 1) c.args.lines.now) i c.requires.tree.0 (fault_at (c.args.first + i) c.why_wrong.result) c.requires.tree.1 so_far wrong why
 
 pub go_on-requires-clause-there : goal.go_on-requires-clause-there
 go_on-requires-clause-there c =
@@ -48,7 +48,6 @@ go_on-requires-clause-named c =
 
 pub loop-index-preserved : goal.loop-index-preserved
 loop-index-preserved c =
-    let p = c.args.project.now in
     let i = c.loop-index.index in
     let line = c.index-lines-index.result in
     let next = c.next.ensures.nodes in
@@ -58,7 +57,7 @@ loop-index-preserved c =
     let right : IsRightLine c.args.project.now c.args.limit c.next.result.now.pairs c.index-lines-index.result = rw project at (c.in_ok-right.ensures.0 c.if-not-right.false) in
     record {
       project = c.go_on.ensures.project ∙ c.loop-index.invariant.project;
-      reached = rw (c.in_ok-go_on.ensures.nodes, next.1) (reached_more p c.args.limit c.args.lines.now c.next.result.now.pairs next.0 line (drop (i + 1) c.args.lines.now) i so_far right);
+      reached = rw (c.in_ok-go_on.ensures.nodes, next.1) (reached_more c.args.project.now c.args.limit c.args.lines.now c.next.result.now.pairs next.0 line (drop (i + 1) c.args.lines.now) i so_far right);
     }
 
 pub returns-clause-right : goal.returns-clause-right

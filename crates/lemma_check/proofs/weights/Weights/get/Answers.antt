@@ -23,7 +23,6 @@ get-last-requires-clause-to_activity c = rw (sym (length-rows_with c.self.inside
 pub returns-clause-value : goal.returns-clause-value
 returns-clause-value c =
     let rows : Rows = c.self.inside.matrix.now in
-    let arc = c.in-Some.arc in
     let low : length rows ≡ length c.args.self.now = sym (length-rows_with c.self.inside.added c.self.inside.matrix.now) ∙ ap length c.self.view_is in
     let la : c.args.a < length c.self.inside.matrix.now = rw low c.requires.from_activity in
     let lb : c.args.b < length c.self.inside.matrix.now = rw low c.requires.to_activity in
@@ -31,4 +30,4 @@ returns-clause-value c =
     let sum : c.way.result ≡ joined (joined c.get-first.result (Some c.in-Some.arc.weight)) c.get-last.result = simp to_z-of_z at c.way.ensures.sum in
     let over : c.greater.result ≡ entry_over c.in-Some.arc c.self.inside.matrix.now c.args.a c.args.b = rw (c.greater.ensures, sum, c.get-weight.ensures.value, c.get-first.ensures.value, c.get-last.ensures.value) refl in
     let view : rows_over c.in-Some.arc c.self.inside.matrix.now ≡ c.args.self.now = rw c.in-Some.is at c.self.view_is in
-    over ∙ sym (entry-rows_over arc rows c.args.a c.args.b la lb) ∙ ap (λ (rows : Rows). entry rows c.args.a c.args.b) view
+    over ∙ sym (entry-rows_over c.in-Some.arc rows c.args.a c.args.b la lb) ∙ ap (λ (rows : Rows). entry rows c.args.a c.args.b) view

@@ -8,10 +8,9 @@ use Rattle.search_record.proofs.due.Due.force.Goals as goal
 
 pub invariant_of-self : goal.invariant_of-self
 invariant_of-self c =
-    let node = c.self.inside.node in
     let later = reverse c.self.inside.later.items in
     either (IsDueAlong c.self.inside.is_there c.add.new.self later) _ _ c.add.result c.add.ensures.added c.add.ensures.unchanged
-    (λ added. forced_along c.self.inside.is_there node c.add.new.self later c.args.pair c.self.invariant added)
+    (λ added. forced_along c.self.inside.is_there c.self.inside.node c.add.new.self later c.args.pair c.self.invariant added)
     (λ same. rw same c.self.invariant)
 
 pub returns-clause-nodes : goal.returns-clause-nodes

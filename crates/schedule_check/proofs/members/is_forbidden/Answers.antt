@@ -2,7 +2,7 @@ use Rattle.std.proofs.Common.{◌≡◌, refl, ◌+◌, ◌<◌, arith, length, 
 use Rattle.std.specs.List.{sum_by}
 use Rattle.std.proofs.lemmas.List.Sums.{sum_by_more, sum_by-take-le}
 use Rattle.network.specs.Problem.{demand, capacity}
-use Rattle.search_record.proofs.members.is_forbidden.Goals as goal
+use Rattle.schedule_check.proofs.members.is_forbidden.Goals as goal
 
 pub returns-then-total-capacity : goal.returns-then-total-capacity
 returns-then-total-capacity c =

@@ -2,8 +2,8 @@ use Rattle.std.proofs.Common.{refl, rules, ◌<◌, arith, length, take, get_or}
 use Rattle.std.specs.List.{All}
 use Rattle.std.proofs.lemmas.List.{take_more, take_all}
 use Rattle.std.proofs.lemmas.List.Elements.{All-push}
-use Rattle.search_record.specs.Members.{TakesTime}
-use Rattle.search_record.proofs.members.all_take_time.Goals as goal
+use Rattle.schedule_check.specs.Members.{TakesTime}
+use Rattle.schedule_check.proofs.members.all_take_time.Goals as goal
 
 pub loop-member-preserved : goal.loop-member-preserved
 loop-member-preserved c =

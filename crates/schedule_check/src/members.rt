@@ -1,12 +1,11 @@
-//! When members are a forbidden set as a record has it.
+//! When numbers are members of a set of activities, and when these ask for more of a resource than there is.
 
 ghost use Rattle.std.specs.Prelude.{◌<◌, ◌↔◌, IsTrue};
 ghost use Rattle.std.specs.List.{All};
 ghost use Rattle.std.specs.List.Sorted.{IsStrictlyIncreasing};
-ghost use Rattle.network.specs.Problem.{resource_count};
 ghost use Rattle.network.specs.Forbidden.{IsForbidden};
-ghost use Rattle.branching.specs.Right.{IsRightSet};
-ghost use Rattle.search_record.specs.Members.{TakesTime};
+ghost use Rattle.network.specs.Problem.{resource_count};
+ghost use Rattle.schedule_check.specs.Members.{TakesTime, AreMembers};
 
 use network::Project;
 
@@ -44,10 +43,20 @@ fn rises(members: &[usize]) -> bool
     true
 }
 
+/// Whether these are rising activities that take time.
+pub fn are_members(project: &Project, members: &[usize]) -> bool
+    ensures { IsTrue result ↔ AreMembers project.now members.now }
+{
+    if !rises(members) {
+        return false;
+    }
+    all_take_time(project, members)
+}
+
 /// Whether the activities ask together for more of a resource than there is.
-fn is_forbidden(project: &Project, resource: usize, members: &[usize]) -> bool
+pub fn is_forbidden(project: &Project, resource: usize, members: &[usize]) -> bool
     requires resource { resource < resource_count project.now }
-    requires members { All (TakesTime project.now) members.now }
+    requires members { AreMembers project.now members.now }
     ensures { IsTrue result ↔ IsForbidden project.now resource members.now }
 {
     let capacity = project.capacity(resource);
@@ -59,20 +68,4 @@ fn is_forbidden(project: &Project, resource: usize, members: &[usize]) -> bool
         }
     }
     false
-}
-
-/// Whether the members of a resource may be split.
-pub(crate) fn is_right_set(project: &Project, resource: usize, members: &[usize]) -> bool
-    ensures { IsTrue result ↔ IsRightSet project.now resource members.now }
-{
-    if resource >= project.resource_count() {
-        return false;
-    }
-    if !rises(members) {
-        return false;
-    }
-    if !all_take_time(project, members) {
-        return false;
-    }
-    is_forbidden(project, resource, members)
 }

@@ -1,7 +1,7 @@
 use Rattle.std.proofs.Common.{◌≡◌, ◌≤◌, take}
 use Rattle.std.specs.List.{sum_by}
 use Rattle.network.specs.Problem.{demand}
-use Rattle.lemma_check.proofs.members.is_forbidden.Given as goal
+use Rattle.schedule_check.proofs.members.is_forbidden.Given as goal
 
 abbrev pub invariant-loop-member : goal.invariant-loop-member
 invariant-loop-member l = record {

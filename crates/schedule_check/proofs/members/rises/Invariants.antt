@@ -1,6 +1,6 @@
 use Rattle.std.proofs.Common.{ℕ, ◌+◌, ◌<◌}
 use Rattle.std.specs.Prelude.{slice_index}
-use Rattle.search_record.proofs.members.rises.Given as goal
+use Rattle.schedule_check.proofs.members.rises.Given as goal
 
 abbrev pub invariant-loop-place : goal.invariant-loop-place
 invariant-loop-place l = (k : ℕ) → k + 1 < l.place → slice_index l.members k < slice_index l.members (k + 1)
