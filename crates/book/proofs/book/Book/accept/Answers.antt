@@ -1,6 +1,7 @@
 use Rattle.std.proofs.Common.{◌≡◌, ◌+◌, ℕ, ℤ, true, false, List, Option, None, Some, subst, sym, ap, ◌∙◌, arith, rules}
 use Rattle.std.specs.Option.{is_some, option_or}
 use Rattle.std.specs.Prelude.{IfSome, option_map}
+use Rattle.std.specs.Arc.{arc_value}
 use Rattle.network.specs.Schedule.{ScheduleOf}
 use Rattle.branching.specs.Covered.{ceiling_of}
 use Rattle.std.proofs.Math.ListN.{set}
@@ -73,7 +74,7 @@ invariant_of-self-then-is_none c =
     let limit : InsertsKids c.self.inside.opened (option_or c.shorter_found-shorter.result c.makespan_of-best.result) c.args.report.kids c.in-Ok.opened c.self.inside.waiting c.open_kids.new.nodes = subst (λ (l : Option ℤ). InsertsKids c.self.inside.opened l c.args.report.kids c.in-Ok.opened c.self.inside.waiting c.open_kids.new.nodes) c.or-limit.ensures inserts in
     let done = accepted_as_before c.self.inside c.args.worker c.args.name c.args.report c.shorter_found-shorter.result c.makespan_of-best.result c.in-Ok.opened c.open_kids.new.nodes c.empty.new.self c.open_kids.new.trail c.makespan_of-best.ensures c.shorter_found-shorter.ensures none limit c.empty.ensures noted in
     let kept = kept_accepted (state_of c.self.inside) c.args.worker c.args.name c.args.report _ _ told may done c.self.invariant.kept in
-    let project = subst (λ (t : Option TrailOf). IfSome t (λ (t : TrailOf). t.project ≡ c.self.inside.project)) (sym noted) (project_kept c.self.inside.project c.self.inside.trail (checked_in (option_or c.shorter_found-shorter.result c.makespan_of-best.result) c.args.name c.args.report) c.self.invariant.of_trail) in
+    let project = subst (λ (t : Option TrailOf). IfSome t (λ (t : TrailOf). t.project ≡ arc_value c.self.inside.project)) (sym noted) (project_kept (arc_value c.self.inside.project) c.self.inside.trail (checked_in (option_or c.shorter_found-shorter.result c.makespan_of-best.result) c.args.name c.args.report) c.self.invariant.of_trail) in
     record { kept = kept; of_trail = project }
 
 pub returns-then-is_none-clause-ok : goal.returns-then-is_none-clause-ok
@@ -95,7 +96,7 @@ invariant_of-self-2 c =
     let limit : InsertsKids c.self.inside.opened (option_or c.shorter_found-shorter.result c.makespan_of-best.result) c.args.report.kids c.in-Ok.opened c.self.inside.waiting c.open_kids.new.nodes = subst (λ (l : Option ℤ). InsertsKids c.self.inside.opened l c.args.report.kids c.in-Ok.opened c.self.inside.waiting c.open_kids.new.nodes) c.or-limit.ensures inserts in
     let done = accepted_as_better c.self.inside c.args.worker c.args.name c.args.report c.into_parts-found.result.0 c.shorter_found-shorter.result c.makespan_of-best.result c.in-Ok.opened c.open_kids.new.nodes c.empty.new.self c.open_kids.new.trail c.makespan_of-best.ensures c.shorter_found-shorter.ensures some c.into_parts-found.ensures.found limit c.empty.ensures noted in
     let kept = kept_accepted (state_of c.self.inside) c.args.worker c.args.name c.args.report _ _ told may done c.self.invariant.kept in
-    let project = subst (λ (t : Option TrailOf). IfSome t (λ (t : TrailOf). t.project ≡ c.self.inside.project)) (sym noted) (project_kept c.self.inside.project c.self.inside.trail (checked_in (option_or c.shorter_found-shorter.result c.makespan_of-best.result) c.args.name c.args.report) c.self.invariant.of_trail) in
+    let project = subst (λ (t : Option TrailOf). IfSome t (λ (t : TrailOf). t.project ≡ arc_value c.self.inside.project)) (sym noted) (project_kept (arc_value c.self.inside.project) c.self.inside.trail (checked_in (option_or c.shorter_found-shorter.result c.makespan_of-best.result) c.args.name c.args.report) c.self.invariant.of_trail) in
     record { kept = kept; of_trail = project }
 
 pub returns-clause-ok : goal.returns-clause-ok
