@@ -1,5 +1,6 @@
 -- The fields of this crate's types, as contracts see them.
 use Rattle.std.specs.Prelude.{◌≡◌, option_map, IfSome}
+use Rattle.std.specs.Arc.{arc_value}
 use Rattle.book.specs.State.{BookState}
 use Rattle.book.specs.Sound.{IsSound, IsWithinLimits}
 use Rattle.trail.specs.Trail.{TrailOf}
@@ -9,7 +10,7 @@ use Rattle.book.specs.declared.book.Book.TheInside.{Inside}
 abbrev pub state_of : Inside → BookState
 state_of b =
     record {
-      project = b.project;
+      project = arc_value b.project;
       best = b.best;
       waiting = b.waiting;
       hands = b.hands;
@@ -31,4 +32,4 @@ pub record IsKept (s : BookState) : Type 0 where
 -- the same, and the trail's project is the book's
 pub record KeepsBook (b : Inside) : Type 0 where
   pub kept : IsKept (state_of b)
-  pub of_trail : IfSome b.trail (λ (t : TrailOf). t.project ≡ b.project)
+  pub of_trail : IfSome b.trail (λ (t : TrailOf). t.project ≡ arc_value b.project)

@@ -26,7 +26,7 @@ use crate::open_nodes::OpenNodes;
 use crate::recording::{clear_open, open_kids};
 use branching::{Branches, Report, is_below, is_in_time, makespan_of, root};
 use longest_path::PathFault;
-use network::{Project, Schedule, SharedProject};
+use network::{Project, Schedule};
 use plain_search::MAX_TAKES;
 use std::alloc::{AllocError, Global};
 use std::marker::Model;
@@ -37,7 +37,7 @@ use trail::Trail;
 /// which it opened them.
 #[derive(Drop, Debug)]
 pub struct Book {
-    project: SharedProject,
+    project: Arc<Project>,
     best: Option<Schedule>,
     waiting: OpenNodes,
     hands: Hands,
@@ -83,13 +83,6 @@ fn first_nodes(alloc: Global, project: &Arc<Project>) -> Result<OpenNodes, Alloc
     Ok(nodes)
 }
 
-/// Whether the projects are the same, by value.
-pub fn is_same_project(left: &Project, right: &Project) -> bool
-    ensures { IsTrue result ↔ (left.now ≡ right.now) }
-{
-    left == right
-}
-
 impl Book {
     /// A book for a project, with 1 to [`MAX_WORKERS`] workers, that allows 1 to [`MAX_TAKES`] takes. Its root is open.
     /// If the project's rules have a closed walk of positive weight, there is no schedule and no open node.
@@ -107,7 +100,6 @@ impl Book {
         }
         let hands = Hands::new(alloc, workers)?;
         let waiting = first_nodes(alloc, &project)?;
-        let project = SharedProject::new(alloc, project)?;
         let opened = waiting.len() as u64;
         Ok(Book {
             project,
@@ -148,7 +140,7 @@ impl Book {
         ensures step { Offers self.old schedule result self.new }
         ensures sound { IsSound self.new }
     {
-        if !is_same_project(schedule.project(), self.project.project()) {
+        if !schedule.project().is_same(&self.project) {
             return Err((schedule, OtherProject));
         }
         if !is_below(schedule.makespan(), makespan_of(&self.best)) {
@@ -239,7 +231,7 @@ impl Book {
         let Some((worker, node)) = self.hands.find(name) else {
             return Err(CheckFault::NotInHand);
         };
-        if !node.pairs().is_same(report.node().pairs()) {
+        if !node.pairs().is_same(&report.node().pairs()) {
             return Err(CheckFault::OtherNode);
         }
         if !report.node().is_of(&self.project) {
@@ -348,7 +340,7 @@ impl Book {
         ensures project { arc_value result.now ≡ self.now.project }
         ensures sound { IsSound self.now }
     {
-        self.project.project()
+        &self.project
     }
 
     /// How many nodes there are and were.

@@ -20,7 +20,7 @@ mod recording;
 pub use answers::{
     BookFault, CheckFault, CheckedIn, MAX_WORKERS, OtherProject, Take, Ticket, Verdict,
 };
-pub use book::{Book, are_allowed, is_same_project};
+pub use book::{Book, are_allowed};
 pub use counts::Counts;
 pub use events::{Event, Reply, run_events};
 pub use nodes_left::NodesLeft;

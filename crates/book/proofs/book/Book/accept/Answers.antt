@@ -1,6 +1,7 @@
 use Rattle.std.proofs.Common.{◌≡◌, ◌+◌, ℕ, ℤ, true, false, List, Option, None, Some, subst, sym, ap, ◌∙◌, arith, rules}
 use Rattle.std.specs.Option.{is_some, option_or}
 use Rattle.std.specs.Prelude.{IfSome, option_map}
+use Rattle.std.specs.Arc.{arc_value}
 use Rattle.network.specs.Schedule.{ScheduleOf}
 use Rattle.branching.specs.Covered.{ceiling_of}
 use Rattle.std.proofs.Math.ListN.{set}
@@ -65,10 +66,10 @@ accepted_as_better b worker name report now shorter best limit count waiting han
 
 -- the book is kept
 kept_after : (b : Inside) (worker name : ℕ) (report : Expansion) (s : BookState) (done : CheckedIn) (limit : Option ℤ) (new : BookState) (trail : Option TrailOf) → state_of b ≡ s → MayCheckIn s worker name report → IsReport report → KeepsBook b → Accepts (state_of b) worker name report done new → trail ≡ option_map (with_entries (checked_in limit name report)) b.trail →
-    IsKept new × IfSome trail (λ (t : TrailOf). t.project ≡ b.project)
+    IsKept new × IfSome trail (λ (t : TrailOf). t.project ≡ arc_value b.project)
 kept_after b worker name report s done limit new trail is may told kept accepted noted = (
   kept_accepted (state_of b) worker name report done new told (may_check_in b s worker name report is may) accepted kept.kept,
-  subst (λ (t : Option TrailOf). IfSome t (λ (t : TrailOf). t.project ≡ b.project)) (sym noted) (project_kept b.project b.trail (checked_in limit name report) kept.of_trail),
+  subst (λ (t : Option TrailOf). IfSome t (λ (t : TrailOf). t.project ≡ arc_value b.project)) (sym noted) (project_kept (arc_value b.project) b.trail (checked_in limit name report) kept.of_trail),
 )
 
 pub returns-then-is_none-clause-ok : goal.returns-then-is_none-clause-ok

@@ -3,6 +3,7 @@ use Rattle.std.specs.Prelude.{IfSome, option_map}
 use Rattle.std.specs.List.{All, Any, Contains}
 use Rattle.std.proofs.lemmas.Int.{ints}
 use Rattle.std.proofs.lemmas.List.Elements.{All-nil, All-cons, All-head, All-tail}
+use Rattle.std.specs.Arc.{arc_value}
 use Rattle.branching.specs.Ceiling.{IsUnder, Reaches}
 use Rattle.book.specs.State.{Named, BookState, best_makespan}
 use Rattle.book.specs.Verdicts.{IsLeast, bounds_of}
@@ -54,7 +55,7 @@ invariant_of-self c =
     let reaches : Reaches (best_makespan (state_of c.self.inside)) c.in-Some.bound = search rules in
     let count : c.len.result ≡ length c.self.inside.waiting = search rules in
     let cut : entries_in c.clear_open.new.trail ≡ option_map (note_cut s.waiting) s.trail = ap entries_in c.clear_open.ensures.trail ∙ entries_changed c.self.inside.trail (note_cut s.waiting) in
-    let project = subst (λ (t : Option TrailOf). IfSome t (λ (t : TrailOf). t.project ≡ c.self.inside.project)) (sym c.clear_open.ensures.trail) (project_kept c.self.inside.project c.self.inside.trail (note_cut s.waiting) c.self.invariant.of_trail) in
+    let project = subst (λ (t : Option TrailOf). IfSome t (λ (t : TrailOf). t.project ≡ arc_value c.self.inside.project)) (sym c.clear_open.ensures.trail) (project_kept (arc_value c.self.inside.project) c.self.inside.trail (note_cut s.waiting) c.self.invariant.of_trail) in
     let kept = subst IsKept (sym (same_cut s c.clear_open.new.nodes c.len.result (entries_in c.clear_open.new.trail) c.clear_open.ensures.nodes count cut)) (kept_cut s (all_reach (best_makespan s) c.in-Some.bound c.self.inside.waiting least.1 reaches) c.self.invariant.kept) in
     record { kept = kept; of_trail = project }
 

@@ -31,7 +31,7 @@ returns-then-not-is_of-clause-judged c =
     let node : Subproblem = arc_value c.in-Some.node.now in
     let holds : slice_get c.self.inside.hands c.in-Some.worker ≡ Some (Some (record { name = c.args.name; node = node })) = search rules in
     let pairs : node.pairs ≡ c.args.report.now.node.pairs = search rules in
-    let other : c.args.report.now.node.project ≢ c.self.inside.project = search rules in
+    let other : c.args.report.now.node.project ≢ arc_value c.self.inside.project = search rules in
     (record { name = c.args.name; node = node }, found_in_hand c.self.inside c.args.self.now c.in-Some.worker c.args.name node c.self.view_is holds, pairs, subst (λ (s : BookState). c.args.report.now.node.project ≢ s.project) c.self.view_is other)
 
 pub returns-then-not-is_in_time-clause-judged : goal.returns-then-not-is_in_time-clause-judged
@@ -39,7 +39,7 @@ returns-then-not-is_in_time-clause-judged c =
     let node : Subproblem = arc_value c.in-Some.node.now in
     let holds : slice_get c.self.inside.hands c.in-Some.worker ≡ Some (Some (record { name = c.args.name; node = node })) = search rules in
     let pairs : node.pairs ≡ c.args.report.now.node.pairs = search rules in
-    let project : c.args.report.now.node.project ≡ c.self.inside.project = search rules in
+    let project : c.args.report.now.node.project ≡ arc_value c.self.inside.project = search rules in
     let found_late : ¬ IsInTime c.ceiling.result c.makespan_of-best.result = c.if-not-is_in_time.ensures.no in
     let ceiling : c.ceiling.result ≡ c.args.report.now.ceiling = search rules in
     let late : ¬ IsInTime c.args.report.now.ceiling c.makespan_of-best.result = subst (λ (o : Option ℤ). ¬ IsInTime o c.makespan_of-best.result) ceiling found_late in
@@ -57,7 +57,7 @@ returns-clause-judged c =
     let node : Subproblem = arc_value c.in-Some.node.now in
     let holds : slice_get c.self.inside.hands c.in-Some.worker ≡ Some (Some (record { name = c.args.name; node = node })) = search rules in
     let pairs : node.pairs ≡ c.args.report.now.node.pairs = search rules in
-    let project : c.args.report.now.node.project ≡ c.self.inside.project = search rules in
+    let project : c.args.report.now.node.project ≡ arc_value c.self.inside.project = search rules in
     let in_time : IsInTime c.args.report.now.ceiling (best_makespan (state_of c.self.inside)) = search rules in
     record {
       held = record { name = c.args.name; node = node };
