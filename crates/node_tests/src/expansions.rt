@@ -4,7 +4,7 @@ use bounds::bound;
 use branching::{Branches, Fate, Lean, Report, Searcher, expand, ordered_pairs, rebuild, root};
 use earliest::least_starts;
 use longest_path::{MarkedMatrix, Matrix, PathFault, longest};
-use network::{Pair, Project, SharedProject};
+use network::{Pair, Project};
 use plain_search::{Outcome, search_alone};
 use rivals::are_incompatible;
 use std::alloc::{AllocError, Global};
@@ -234,10 +234,7 @@ fn is_same(alloc: Global, one: &str, other: &str) -> Result<[bool; 2], Fail> {
         root(alloc, Arc::try_clone(&other)?)?,
     );
     let searcher = Searcher::for_node(alloc, node.lean())?;
-    Ok([
-        node.lean().is_of(&SharedProject::new(alloc, other)?),
-        searcher.is_for(far.lean()),
-    ])
+    Ok([node.lean().is_of(&other), searcher.is_for(far.lean())])
 }
 
 /// That two matrices have the same entries.
@@ -272,7 +269,7 @@ fn kids_of(
     let (found, fresh) = expand(alloc, &node, None)?.into_parts();
     assert!(rt; searcher.is_for(lean));
     let (again, moved) = searcher.expand(alloc, lean, None)?.into_parts();
-    assert_same(rt, searcher.matrix(), &whole);
+    assert_same(rt, searcher.node(alloc, lean)?.matrix(), &whole);
     assert_eq!(rt; again.is_some(), found.is_some());
     assert_eq!(rt; moved.kids.len(), fresh.kids.len());
     searcher.reuse(moved);

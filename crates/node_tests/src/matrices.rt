@@ -58,10 +58,10 @@ fn matrices_of_projects(rt: HostRuntime) -> Result<(), Fail> {
     Ok(())
 }
 
-/// A matrix with copies of it, one for each mark, and a marked matrix that is to be the same.
+/// A matrix without marks with copies of it, one for each mark of a marked matrix that is to be the same.
 #[derive(Drop)]
 struct Twice {
-    plain: Matrix,
+    plain: MarkedMatrix,
     copies: Vec<Matrix>,
     marked: MarkedMatrix,
 }
@@ -83,7 +83,7 @@ fn insert(rt: &impl Abort, twice: &mut Twice, i: usize, j: usize, w: i64) -> Res
     if matches!(marked, Err(PathFault::Memory)) {
         return marked;
     }
-    let size = twice.plain.activity_count();
+    let size = twice.plain.matrix().activity_count();
     assert!(rt; i < size && j < size);
     assert_eq!(rt; twice.plain.insert(i, j, w), marked);
     marked
@@ -100,18 +100,18 @@ fn play(rt: &impl Abort, alloc: Global, twice: &mut Twice, step: &Step) -> Resul
         },
         Step::Mark => {
             twice.marked.mark()?;
-            twice.copies.push(twice.plain.try_copy(alloc)?)?;
+            twice.copies.push(twice.plain.matrix().try_copy(alloc)?)?;
         }
         Step::Back => {
             assert!(rt; twice.marked.mark_count() > 0);
             twice.marked.go_back();
             if let Some(copy) = twice.copies.pop() {
-                twice.plain = copy;
+                twice.plain = MarkedMatrix::new(alloc, copy);
             }
         }
     }
     let matrix = told(alloc, twice.marked.matrix())?;
-    assert_eq!(rt; told(alloc, &twice.plain)?, matrix);
+    assert_eq!(rt; told(alloc, twice.plain.matrix())?, matrix);
     assert_eq!(rt; twice.marked.mark_count(), twice.copies.len());
     text.push_str(matrix.as_str())?;
     Ok(text)
@@ -119,8 +119,9 @@ fn play(rt: &impl Abort, alloc: Global, twice: &mut Twice, step: &Step) -> Resul
 
 #[test]
 fn arcs_are_inserted_and_taken_back(rt: HostRuntime) -> Result<(), Fail> {
-    let plain = longest(rt.alloc(), &one_machine(rt.alloc(), &[])?, &[])?;
-    let marked = MarkedMatrix::new(rt.alloc(), plain.try_copy(rt.alloc())?);
+    let matrix = longest(rt.alloc(), &one_machine(rt.alloc(), &[])?, &[])?;
+    let marked = MarkedMatrix::new(rt.alloc(), matrix.try_copy(rt.alloc())?);
+    let plain = MarkedMatrix::new(rt.alloc(), matrix);
     let copies = Vec::new(rt.alloc());
     let mut twice = Twice {
         plain,

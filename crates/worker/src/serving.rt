@@ -44,7 +44,7 @@ fn searcher_at(alloc: Global, kept: Option<Searcher>, node: &Lean) -> Result<Sea
     ensures { IfOk result (λ searcher. IsAt searcher node.now) }
 {
     let mut searcher = searcher_for(alloc, kept, node)?;
-    searcher.move_to(node.pairs())?;
+    searcher.move_to(&node.pairs())?;
     Ok(searcher)
 }
 

@@ -14,7 +14,7 @@ use crate::fault::SolveFault;
 use crate::gate::Gate;
 use crate::shared::Shared;
 use crate::threads::run_workers;
-use book::{Book, Counts, NodesLeft, Verdict, are_allowed, is_same_project};
+use book::{Book, Counts, NodesLeft, Verdict, are_allowed};
 use network::{Project, Schedule};
 use plain_search::Outcome;
 use std::alloc::{AllocError, Global};
@@ -142,7 +142,7 @@ fn conclude<R: Threads>(
     ensures trail { IfOk result (λ r. IfSome r.1 (IsTrailOf project.now r.0.outcome)) }
     ensures fault { IfErr result IsWithinLimits }
 {
-    if !is_same_project(book.project(), project) {
+    if !book.project().is_same(project) {
         return Err(SolveFault::OtherProject);
     }
     offer_again(&mut book, start)?;
