@@ -1,8 +1,8 @@
 //! The activities whose predecessors are placed, by priority.
 
-use crate::chance::{CHANCES, Chance};
 use crate::paths::Paths;
 use crate::precedence::Precedence;
+use search_parts::{RANDOMS, Random};
 use std::alloc::{AllocError, Global};
 use tables::{Table, narrow};
 
@@ -26,12 +26,12 @@ impl Eligible {
     }
 
     /// The longest tail goes first, with so many thousandths of the longest path by chance.
-    pub(crate) fn draw_keys(&mut self, paths: &Paths, chance: &mut Chance, noise: i64) {
+    pub(crate) fn draw_keys(&mut self, paths: &Paths, random: &mut Random, noise: i64) {
         let critical = paths.critical();
         let range = critical.wrapping_mul(noise);
         for activity in 0..paths.activity_count() {
             let slack = critical.wrapping_sub(paths.tail(activity));
-            let part = range.wrapping_mul(chance.draw()) / CHANCES;
+            let part = range.wrapping_mul(i64::from(random.draw())) / i64::from(RANDOMS);
             let key = slack.wrapping_mul(1_000).wrapping_add(part);
             self.keys.set(activity, key);
         }

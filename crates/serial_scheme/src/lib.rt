@@ -8,7 +8,6 @@
 //! Nothing here needs to be trusted: whoever takes a schedule has it checked.
 #![tactic(auto)]
 
-mod chance;
 mod eligible;
 mod needs;
 mod partial;

@@ -2,7 +2,7 @@
 
 use network::Project;
 use std::alloc::{AllocError, Global};
-use tables::{NO_SPAN, Span, Table, narrow};
+use tables::{Rows, Table, narrow};
 
 /// What an activity needs of a resource while it runs, and the most that others may use beside it.
 #[derive(Clone, Copy)]
@@ -17,8 +17,7 @@ pub(crate) struct Need {
 pub(crate) struct Needs {
     resources: usize,
     durations: Table<i64>,
-    needs: Table<Need>,
-    spans: Table<Span>,
+    needs: Rows<Need>,
 }
 
 /// A number of a project, which is at most 1,000,000.
@@ -28,12 +27,12 @@ fn amount(x: u64) -> i64 {
 
 /// Adds what an activity needs, if it takes time.
 fn push_needs(
-    needs: &mut Table<Need>,
+    needs: &mut Rows<Need>,
     project: &Project,
     activity: usize,
 ) -> Result<(), AllocError> {
     if activity >= project.activity_count() || project.duration(activity) == 0 {
-        return Ok(());
+        return needs.close();
     }
     for k in 0..project.resource_count() {
         let demand = amount(project.demand(k, activity));
@@ -47,7 +46,7 @@ fn push_needs(
             })?;
         }
     }
-    Ok(())
+    needs.close()
 }
 
 impl Needs {
@@ -58,20 +57,15 @@ impl Needs {
             room: 0,
         };
         let mut durations = Table::new(alloc, 0);
-        let mut needs = Table::new(alloc, no_need);
-        let mut spans = Table::new(alloc, NO_SPAN);
+        let mut needs = Rows::new(alloc, no_need);
         for activity in 0..project.activity_count() {
             durations.push(project.duration(activity))?;
-            let from = needs.count();
             push_needs(&mut needs, project, activity)?;
-            let to = needs.count();
-            spans.push(Span { from, to })?;
         }
         Ok(Needs {
             resources: project.resource_count(),
             durations,
             needs,
-            spans,
         })
     }
 
@@ -87,7 +81,7 @@ impl Needs {
 
     /// What an activity needs.
     pub(crate) fn of(&self, activity: usize) -> &[Need] {
-        self.needs.part(self.spans.get(activity))
+        self.needs.row(narrow(activity))
     }
 
     /// Whether there is enough for each activity where it runs alone.

@@ -1,10 +1,10 @@
 //! A partial schedule: places activities, and unschedules them.
 
-use crate::chance::Chance;
 use crate::eligible::Eligible;
 use crate::profile::Profile;
 use crate::rules::Rules;
 use crate::windows::{FAR, Windows};
+use search_parts::Random;
 use std::alloc::{AllocError, Global};
 
 /// How far a pass goes.
@@ -157,12 +157,12 @@ impl Partial {
     pub(crate) fn pass(
         &mut self,
         rules: &Rules,
-        chance: &mut Chance,
+        random: &mut Random,
         noise: i64,
         limits: Limits,
     ) -> Result<bool, AllocError> {
         let mut limits = limits;
-        self.eligible.draw_keys(&rules.paths, chance, noise);
+        self.eligible.draw_keys(&rules.paths, random, noise);
         self.begin(rules)?;
         for _ in 0..limits.steps {
             let Some(activity) = self.eligible.take() else {

@@ -2,13 +2,12 @@
 
 use crate::paths::Paths;
 use std::alloc::{AllocError, Global};
-use tables::{NO_SPAN, Span, Table, narrow};
+use tables::{Rows, Table, narrow};
 
 /// Which activities are placed after which, by the lags alone.
 #[derive(Drop)]
 pub(crate) struct Precedence {
-    later: Table<u32>,
-    spans: Table<Span>,
+    later: Rows<u32>,
     before: Table<u32>,
 }
 
@@ -22,8 +21,7 @@ impl Precedence {
     pub(crate) fn new(alloc: Global, paths: &Paths) -> Result<Precedence, AllocError> {
         let count = paths.activity_count();
         let mut precedence = Precedence {
-            later: Table::new(alloc, 0),
-            spans: Table::new(alloc, NO_SPAN),
+            later: Rows::new(alloc, 0),
             before: Table::filled(alloc, count, 0, 0)?,
         };
         for a in 0..count {
@@ -34,7 +32,6 @@ impl Precedence {
 
     /// Finds those that come after an activity.
     fn push_later(&mut self, paths: &Paths, a: usize) -> Result<(), AllocError> {
-        let from = self.later.count();
         for b in 0..paths.activity_count() {
             if precedes(paths, a, b) {
                 self.later.push(narrow(b))?;
@@ -42,13 +39,12 @@ impl Precedence {
                 self.before.set(b, before);
             }
         }
-        let to = self.later.count();
-        self.spans.push(Span { from, to })
+        self.later.close()
     }
 
     /// Those that come after an activity.
     pub(crate) fn after(&self, activity: usize) -> &[u32] {
-        self.later.part(self.spans.get(activity))
+        self.later.row(narrow(activity))
     }
 
     /// For each activity how many come before it.

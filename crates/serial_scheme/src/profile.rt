@@ -2,7 +2,7 @@
 
 use crate::needs::Need;
 use std::alloc::{AllocError, Global};
-use tables::{Table, narrow};
+use tables::Table;
 
 /// From a time on, up to that of the next piece, the resources are used as a row says.
 #[derive(Clone, Copy)]
@@ -89,27 +89,10 @@ impl Profile {
         }
     }
 
-    /// How many pieces begin by a time.
-    fn begun_by(&self, time: i64) -> usize {
-        let mut low = 0;
-        let mut high = self.pieces.len();
-        for _ in 0..64 {
-            if low >= high {
-                break;
-            }
-            let middle = low + (high - low) / 2;
-            if self.piece(middle).from <= time {
-                low = middle + 1;
-            } else {
-                high = middle;
-            }
-        }
-        low
-    }
-
     /// The piece that a time from 0 on is in.
     fn piece_at(&self, time: i64) -> usize {
-        self.begun_by(time).saturating_sub(1)
+        let begun = self.pieces.partition_point(|piece| piece.from <= time);
+        begun.saturating_sub(1)
     }
 
     /// One more piece at a place.

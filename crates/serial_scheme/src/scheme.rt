@@ -1,11 +1,11 @@
 //! Passes of the serial scheme, and their best schedule.
 
-use crate::chance::Chance;
 use crate::partial::{Limits, Partial};
 use crate::rules::Rules;
 use crate::windows::FAR;
 use longest_path::{PathFault, longest};
 use network::Project;
+use search_parts::Random;
 use std::alloc::{AllocError, Global};
 
 /// The noise of a pass after the first one, in thousandths of the longest path.
@@ -29,7 +29,7 @@ pub enum State {
 struct Engine {
     rules: Rules,
     partial: Partial,
-    chance: Chance,
+    random: Random,
     passes: u64,
     best: Vec<i64>,
     /// The makespan of the best schedule, if there is one.
@@ -48,7 +48,7 @@ impl Engine {
         Ok(Engine {
             rules,
             partial,
-            chance: Chance::new(seed),
+            random: Random::new(seed),
             passes: 0,
             best: Vec::new(alloc),
             ceiling: FAR,
@@ -90,7 +90,7 @@ impl Engine {
         let limits = self.limits();
         if self
             .partial
-            .pass(&self.rules, &mut self.chance, noise, limits)?
+            .pass(&self.rules, &mut self.random, noise, limits)?
         {
             let starts = self.partial.starts();
             self.best = Vec::from_slice(alloc, starts)?;
@@ -138,24 +138,6 @@ impl Scheme {
             engine.pass(alloc)?;
         }
         Ok(engine.state())
-    }
-
-    /// Takes a feasible schedule by its starts in periods, from another search say. One that isn't shorter than the
-    /// best is left.
-    pub fn lower_ceiling(
-        &mut self,
-        alloc: Global,
-        starts: &[i64],
-        makespan: i64,
-    ) -> Result<(), AllocError> {
-        let Some(engine) = &mut self.engine else {
-            return Ok(());
-        };
-        if makespan < engine.ceiling {
-            engine.best = Vec::from_slice(alloc, starts)?;
-            engine.ceiling = makespan;
-        }
-        Ok(())
     }
 
     /// The starts of the shortest schedule known, in periods.

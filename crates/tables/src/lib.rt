@@ -1,8 +1,10 @@
 //! Lists that answer at each place, for code that is to be safe whatever its numbers are.
 #![tactic(auto)]
 
+mod rows;
 mod span;
 mod table;
 
-pub use span::{NO_SPAN, Span, narrow};
+pub use rows::Rows;
+pub use span::{NO_SPAN, Placed, Span, narrow};
 pub use table::Table;

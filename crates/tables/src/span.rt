@@ -7,6 +7,13 @@ pub struct Span {
     pub to: u32,
 }
 
+/// A value, and the row that it is to stand in.
+#[derive(Clone, Copy)]
+pub struct Placed<T: Copy> {
+    pub row: u32,
+    pub value: T,
+}
+
 /// No places.
 pub const NO_SPAN: Span = Span { from: 0, to: 0 };
 

@@ -71,6 +71,34 @@ impl<T: Copy> Table<T> {
         Ok(())
     }
 
+    /// More places, with these values. Gives where they are.
+    pub fn push_all(&mut self, values: &[T]) -> Result<Span, AllocError> {
+        let from = self.count();
+        for value in values {
+            self.push(*value)?;
+        }
+        Ok(self.span_from(from))
+    }
+
+    /// The places from one on.
+    pub fn span_from(&self, from: u32) -> Span {
+        Span {
+            from,
+            to: self.count(),
+        }
+    }
+
+    /// What some places hold moves up to a place. Gives where it is then.
+    pub fn move_up(&mut self, places: Span, to: u32) -> Span {
+        let mut at = to;
+        for x in places.from..places.to {
+            let value = self.get(x as usize);
+            self.set(at as usize, value);
+            at = at.wrapping_add(1);
+        }
+        Span { from: to, to: at }
+    }
+
     /// Takes the last place away.
     #[inline(always)]
     pub fn pop(&mut self) -> Option<T> {

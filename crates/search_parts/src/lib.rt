@@ -1,0 +1,14 @@
+//! What the searches that learn from conflicts share, on pairs and on bounds. Neither is named here.
+#![tactic(auto)]
+
+mod chains;
+mod nogoods;
+mod random;
+mod restarts;
+mod stop;
+
+pub use chains::Chains;
+pub use nogoods::{Idle, Nogood, Nogoods, least_half};
+pub use random::{RANDOMS, Random};
+pub use restarts::Restarts;
+pub use stop::Stop;
