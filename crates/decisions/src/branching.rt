@@ -20,8 +20,6 @@ pub enum Choice {
 /// How starts are branched on.
 #[derive(Clone, Copy, PartialEq, Eq)]
 pub enum Starts {
-    /// Not at all.
-    Never,
     /// Beside orders, by weight.
     ByWeight,
     /// Where no order of rivals is open.
@@ -151,9 +149,8 @@ impl Brancher {
         a: u32,
     ) -> Option<Candidate> {
         let mut best = first;
-        let rivals = rules.rivals_of(a);
-        for x in rivals.from..rivals.to {
-            let b = rules.rival(x);
+        for rival in rules.rivals_of(a) {
+            let b = *rival;
             if b > a && is_open(rules, trail, a, b) {
                 best = self.better_order(rules, trail, best, a, b);
             }

@@ -1,6 +1,7 @@
 //! How often an activity or a pair took part in recent conflicts.
 
 use lemma_trail::Literal;
+use search_parts::Random;
 use std::alloc::{AllocError, Global};
 use tables::Table;
 
@@ -12,21 +13,13 @@ pub struct Weights {
     pub bump: f64,
 }
 
-/// The next of a row of numbers, of Knuth's MMIX.
-fn next_number(number: u64) -> u64 {
-    number
-        .wrapping_mul(6_364_136_223_846_793_005)
-        .wrapping_add(1_442_695_040_888_963_407)
-}
-
 impl Weights {
     /// All weights are alike, or differ a little by the seed.
     pub fn new(alloc: Global, count: usize, seed: u64) -> Result<Weights, AllocError> {
         let mut list = Table::new(alloc, 0.0);
-        let mut number = seed;
+        let mut random = Random::new(seed);
         for _ in 0..count.wrapping_mul(count) {
-            number = next_number(number);
-            let part = f64::from(((number >> 44) & 0xf_ffff) as i32);
+            let part = f64::from(random.draw());
             list.push(if seed == 0 { 0.0 } else { part * 1e-9 })?;
         }
         Ok(Weights {

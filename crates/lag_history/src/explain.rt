@@ -74,11 +74,7 @@ impl History {
 
     /// Marks a step for what both ways leave to it. Gives what the three make together.
     fn mark_own(&mut self, index: u32, least: i32, ways: i32) -> Result<i32, AllocError> {
-        let need = if self.lifts {
-            least.wrapping_sub(ways)
-        } else {
-            self.step(index).arc.weight
-        };
+        let need = least.wrapping_sub(ways);
         self.marks.mark(index, need)?;
         Ok(need.wrapping_add(ways))
     }

@@ -69,7 +69,6 @@ pub struct History {
     pub(crate) marks: Marks,
     pub(crate) columns: Table<u32>,
     pub(crate) tasks: Table<Task>,
-    pub(crate) lifts: bool,
 }
 
 /// A weight in 32 bits; a lag of a period and more below any makespan says nothing.
@@ -96,9 +95,8 @@ fn cells_of(alloc: Global, matrix: &Matrix) -> Result<Table<i32>, AllocError> {
 }
 
 impl History {
-    /// The history that begins with a matrix. If it lifts, a marked step needs the smallest weight that is enough;
-    /// otherwise it needs its own.
-    pub fn new(alloc: Global, matrix: &Matrix, lifts: bool) -> Result<History, AllocError> {
+    /// The history that begins with a matrix.
+    pub fn new(alloc: Global, matrix: &Matrix) -> Result<History, AllocError> {
         let cells = cells_of(alloc, matrix)?;
         let last = Table::filled(alloc, cells.len(), 0, 0)?;
         let no_change = Change {
@@ -125,7 +123,6 @@ impl History {
             marks: Marks::new(alloc),
             columns: Table::new(alloc, 0),
             tasks: Table::new(alloc, no_task),
-            lifts,
         })
     }
 

@@ -46,8 +46,7 @@ impl Blocks {
 
     /// The lines since a place are a block.
     fn close(&mut self, lemma: Option<u32>, from: u32) -> Result<(), AllocError> {
-        let to = self.lines.count();
-        let lines = Span { from, to };
+        let lines = self.lines.span_from(from);
         self.blocks.push(Block { lemma, lines })
     }
 
@@ -157,7 +156,7 @@ impl Blocks {
 
 /// Adds the literals of a lemma. Whether they close a positive walk.
 fn suppose(history: &mut History, lemmas: &Lemmas, number: u32) -> Result<bool, AllocError> {
-    for literal in lemmas.literals_of(number) {
+    for literal in lemmas.list.literals_of(number) {
         if !history.try_insert(*literal)? {
             return Ok(true);
         }
@@ -176,7 +175,7 @@ pub fn blocks_of(
     events: &[Event],
     is_dead: bool,
 ) -> Result<Blocks, AllocError> {
-    let mut blocks = Blocks::new(alloc, lemmas.count())?;
+    let mut blocks = Blocks::new(alloc, lemmas.list.count())?;
     if is_dead {
         blocks.lines.push(end_of(Why::Plain))?;
         blocks.close(None, 0)?;

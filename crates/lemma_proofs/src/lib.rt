@@ -11,6 +11,6 @@ mod telling;
 pub use blocks::{Blocks, blocks_of};
 pub use lines::lines_of;
 pub use proofs::{Forced, Proofs};
-pub use reasons::{Link, Why};
+pub use reasons::{Link, NO_LINK, Why};
 pub use shown::Shown;
 pub use telling::{Event, outline};

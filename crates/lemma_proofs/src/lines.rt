@@ -115,7 +115,7 @@ impl LineWriter {
         lemma: u32,
     ) -> Result<(), AllocError> {
         let mut arcs = Vec::new(alloc);
-        for literal in lemmas.literals_of(lemma) {
+        for literal in lemmas.list.literals_of(lemma) {
             arcs.push(self.lag_of(*literal))?;
         }
         self.lines.push(Line::Lemma {
@@ -158,7 +158,7 @@ pub fn lines_of(
 ) -> Result<Option<Vec<Line>>, AllocError> {
     let mut writer = LineWriter {
         lines: Vec::new(alloc),
-        names: Table::filled(alloc, lemmas.count() as usize, 0, 0)?,
+        names: Table::filled(alloc, lemmas.list.count() as usize, 0, 0)?,
         lemmas: 0,
         is_writable: true,
     };

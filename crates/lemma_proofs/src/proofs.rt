@@ -1,7 +1,7 @@
 //! The proofs of all lemmas of a search.
 
-use crate::reasons::{Link, Why};
-use lemma_trail::{Cause, Literal, NO_LITERAL, Trail};
+use crate::reasons::{Link, NO_LINK, Why};
+use lemma_trail::{Cause, Literal, Trail};
 use std::alloc::{AllocError, Global};
 use tables::{NO_SPAN, Span, Table};
 
@@ -40,13 +40,9 @@ impl Proofs {
             base: NO_SPAN,
             root_steps: 0,
         };
-        let no_link = Link {
-            arc: NO_LITERAL,
-            why: Why::Plain,
-        };
         Proofs {
             list: Table::new(alloc, no_proof),
-            links: Table::new(alloc, no_link),
+            links: Table::new(alloc, NO_LINK),
             base: Table::new(alloc, 0),
             members: Table::new(alloc, 0),
         }
@@ -69,8 +65,7 @@ impl Proofs {
         for part in trail.parts(members) {
             self.members.push(part.activity)?;
         }
-        let to = self.members.count();
-        Ok(Span { from, to })
+        Ok(self.members.span_from(from))
     }
 
     /// Keeps a cause.
@@ -104,8 +99,7 @@ impl Proofs {
             let arc = forced.arc;
             self.links.push(Link { arc, why })?;
         }
-        let to = self.links.count();
-        Ok(Span { from, to })
+        Ok(self.links.span_from(from))
     }
 
     /// Keeps the marked steps of the root.
@@ -116,8 +110,7 @@ impl Proofs {
                 self.base.push(*step)?;
             }
         }
-        let to = self.base.count();
-        Ok(Span { from, to })
+        Ok(self.base.span_from(from))
     }
 
     /// One more proof. It has the literals that follow, from the last to the first, and the marked steps of the root.
@@ -148,14 +141,10 @@ impl Proofs {
     /// One more proof that needs no step of the root: of links from the first to the last, and the end. Gives its
     /// number.
     pub fn push_links(&mut self, links: &[Link], end: Why) -> Result<u32, AllocError> {
-        let from = self.links.count();
-        for link in links {
-            self.links.push(*link)?;
-        }
-        let to = self.links.count();
+        let links = self.links.push_all(links)?;
         let number = self.list.count();
         self.list.push(Proof {
-            links: Span { from, to },
+            links,
             end,
             base: NO_SPAN,
             root_steps: 0,
@@ -184,26 +173,15 @@ impl Proofs {
         }
     }
 
-    /// Members move up to the place that is given; gives where they stand.
-    fn move_members(&mut self, members: Span, to: u32) -> Span {
-        let mut at = to;
-        for x in members.from..members.to {
-            let member = self.members.get(x as usize);
-            self.members.set(at as usize, member);
-            at = at.wrapping_add(1);
-        }
-        Span { from: to, to: at }
-    }
-
     /// Moves the members of a reason up to the given place, and gives the next place.
     fn move_why(&mut self, why: Why, next: u32) -> (Why, u32) {
         match why {
             Why::Set { resource, members } => {
-                let members = self.move_members(members, next);
+                let members = self.members.move_up(members, next);
                 (Why::Set { resource, members }, members.to)
             }
             Why::Clique { from, to, members } => {
-                let members = self.move_members(members, next);
+                let members = self.members.move_up(members, next);
                 (Why::Clique { from, to, members }, members.to)
             }
             _ => (why, next),
@@ -224,17 +202,6 @@ impl Proofs {
         (Span { from: to, to: at }, next)
     }
 
-    /// Steps of the root move up to a place; gives where they stand.
-    fn move_base(&mut self, base: Span, to: u32) -> Span {
-        let mut at = to;
-        for x in base.from..base.to {
-            let step = self.base.get(x as usize);
-            self.base.set(at as usize, step);
-            at = at.wrapping_add(1);
-        }
-        Span { from: to, to: at }
-    }
-
     /// Gives up the proofs that aren't needed. Those that are left move up, and keep their numbers.
     pub fn give_up(&mut self, is_needed: &Table<bool>) {
         let (mut links, mut base, mut members) = (NO_SPAN, NO_SPAN, 0u32);
@@ -248,7 +215,7 @@ impl Proofs {
             if is_needed.get(number) {
                 let (moved, next) = self.move_links(proof.links, links.to, members);
                 let (end, next) = self.move_why(proof.end, next);
-                base = self.move_base(proof.base, base.to);
+                base = self.base.move_up(proof.base, base.to);
                 links = moved;
                 members = next;
                 kept = Proof {

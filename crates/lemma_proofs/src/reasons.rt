@@ -1,6 +1,6 @@
 //! Why a literal follows, as a record says it.
 
-use lemma_trail::Literal;
+use lemma_trail::{Literal, NO_LITERAL};
 use tables::Span;
 
 /// Why a literal is forced, or why the literals end, as a record says it. Members are places of the proofs.
@@ -21,6 +21,12 @@ pub struct Link {
     pub arc: Literal,
     pub why: Why,
 }
+
+/// The link of no literal.
+pub const NO_LINK: Link = Link {
+    arc: NO_LITERAL,
+    why: Why::Plain,
+};
 
 impl Why {
     /// The lemma that is used.

@@ -1,8 +1,8 @@
 //! What a last proof needs, gathered backward.
 
 use crate::proofs::{Proof, Proofs};
-use crate::reasons::{Link, Why};
-use lemma_trail::{Cause, Lemmas, NO_LITERAL, Rules, Trail};
+use crate::reasons::{Link, NO_LINK};
+use lemma_trail::{Cause, Lemmas, Rules, Trail};
 use std::alloc::{AllocError, Global};
 use tables::Table;
 
@@ -28,14 +28,10 @@ struct Needs {
 impl Needs {
     /// Nothing is needed yet, of so many steps of the root and lemmas.
     fn new(alloc: Global, steps: u32, lemmas: u32) -> Result<Needs, AllocError> {
-        let no_link = Link {
-            arc: NO_LITERAL,
-            why: Why::Plain,
-        };
         Ok(Needs {
             needs_step: Table::filled(alloc, steps as usize, false, false)?,
             needs_lemma: Table::filled(alloc, lemmas as usize, false, false)?,
-            events: Table::new(alloc, Event::Root(no_link)),
+            events: Table::new(alloc, Event::Root(NO_LINK)),
         })
     }
 

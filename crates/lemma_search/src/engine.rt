@@ -9,12 +9,10 @@ use lemma_proofs::Proofs;
 use lemma_trail::{Cause, Conflict, History, Lemmas, Literal, Rules, Stop, Trail, is_there};
 use longest_path::Matrix;
 use network::Project;
-use propagators::{Chosen, Propagators};
+use propagators::Propagators;
+use search_parts::Restarts;
 use std::alloc::{AllocError, Global};
 use tables::Table;
-
-/// How many conflicts the first restarts are apart.
-const LUBY_UNIT: u64 = 100;
 
 /// How many lemmas are watched at most, at first.
 const FIRST_LEMMAS: u32 = 5_000;
@@ -36,14 +34,6 @@ pub(crate) enum Next {
     Decide,
 }
 
-/// When the search restarts at the root, and how many lemmas it keeps.
-#[derive(Clone, Copy)]
-struct Pace {
-    restarts: u64,
-    since_restart: u64,
-    lemmas: u32,
-}
-
 /// The state of a search.
 #[derive(Drop)]
 pub(crate) struct Engine {
@@ -60,37 +50,11 @@ pub(crate) struct Engine {
     pub(crate) state: State,
     /// The proof that no schedule is below the ceiling.
     pub(crate) last_proof: Option<u32>,
-    pace: Pace,
+    restarts: Restarts,
+    /// How many lemmas are watched at most.
+    most_lemmas: u32,
     probe: Probe,
     options: Options,
-}
-
-/// The numbers 1 1 2 1 1 2 4 .. of Luby, Sinclair and Zuckerman (1993).
-fn luby(place: u64) -> u64 {
-    let mut i = place;
-    for _ in 0..64 {
-        let mut power = 1u64;
-        for _ in 0..63 {
-            if power > i {
-                break;
-            }
-            power = power.wrapping_mul(2);
-        }
-        if i.wrapping_add(1) == power {
-            return power / 2;
-        }
-        i = i.wrapping_sub((power / 2).wrapping_sub(1));
-    }
-    1
-}
-
-/// What is probed at the root.
-fn first_probe(options: Options) -> Probe {
-    if options.parts.probes {
-        Probe::FIRST
-    } else {
-        Probe::NONE
-    }
 }
 
 impl Engine {
@@ -101,15 +65,9 @@ impl Engine {
         options: Options,
     ) -> Result<Engine, AllocError> {
         let rules = Rules::new(alloc, project)?;
-        let history = History::new(alloc, matrix, options.parts.lifting)?;
+        let history = History::new(alloc, matrix)?;
         let count = history.activity_count();
-        let chosen = Chosen {
-            time_table: options.parts.time_table,
-            energy: options.parts.energy,
-            cliques: options.parts.cliques,
-            ordered_cliques: options.parts.ordered_cliques,
-        };
-        let propagators = Propagators::new(alloc, &rules, &history, chosen)?;
+        let propagators = Propagators::new(alloc, &rules, &history, options.propagators)?;
         Ok(Engine {
             rules,
             trail: Trail::new(alloc, history),
@@ -120,19 +78,12 @@ impl Engine {
             brancher: Brancher::new(alloc, count, options.seed)?,
             incumbent: Incumbent::new(alloc),
             next: Next::Rescan,
-            counts: Counts {
-                conflicts: 0,
-                decisions: 0,
-                lemmas: 0,
-            },
+            counts: Counts::NOTHING,
             state: State::Going,
             last_proof: None,
-            pace: Pace {
-                restarts: 0,
-                since_restart: 0,
-                lemmas: FIRST_LEMMAS,
-            },
-            probe: first_probe(options),
+            restarts: Restarts::NONE,
+            most_lemmas: FIRST_LEMMAS,
+            probe: Probe::FIRST,
             options,
         })
     }
@@ -175,30 +126,23 @@ impl Engine {
             starts.push(self.trail.history.head(i) as i64)?;
         }
         self.incumbent.take(starts, makespan);
-        self.pace.since_restart = 0;
+        self.restarts.put_off();
         self.next = Next::Rescan;
         Ok(())
     }
 
     /// Goes back to the root where it is time for that.
     fn restart(&mut self) {
-        let most = luby(self.pace.restarts.wrapping_add(1)).wrapping_mul(LUBY_UNIT);
-        if self.options.parts.restarts
-            && self.pace.since_restart >= most
-            && self.trail.level() > 0
-        {
-            self.pace.since_restart = 0;
-            self.pace.restarts = self.pace.restarts.wrapping_add(1);
-            self.probe = first_probe(self.options);
+        if self.restarts.is_due() && self.trail.level() > 0 {
+            self.restarts.restart();
+            self.probe = Probe::FIRST;
             self.go_back(0);
         }
     }
 
     /// The way starts are branched on, in turn by restarts.
     fn starts(&self) -> Starts {
-        if !self.options.parts.starts {
-            Starts::Never
-        } else if self.pace.restarts % 2 == 0 {
+        if self.restarts.count() % 2 == 0 {
             Starts::ByWeight
         } else {
             Starts::Last
@@ -208,9 +152,9 @@ impl Engine {
     /// The deadline to try first at the root: that of the least makespan that isn't refuted.
     fn dive(&self) -> Option<Literal> {
         let least = self.trail.history.head(self.rules.end());
-        let is_time = self.counts.conflicts >= FIRST_DIVE && self.pace.restarts % 2 == 1;
+        let is_time = self.counts.conflicts >= FIRST_DIVE && self.restarts.count() % 2 == 1;
         let has_room = least.wrapping_add(1) < self.incumbent.ceiling;
-        if self.options.parts.dives && is_time && has_room && self.trail.level() == 0 {
+        if self.options.dives && is_time && has_room && self.trail.level() == 0 {
             Some(Literal::at_most(self.rules.end(), least))
         } else {
             None
@@ -277,7 +221,6 @@ impl Engine {
             .push(&self.trail, self.learner.chain.all(), end)?;
         let is_watched = self.learner.literals.len() > 1;
         self.lemmas.push(self.learner.literals.all(), is_watched)?;
-        self.counts.lemmas = self.counts.lemmas.wrapping_add(1);
         Ok(number)
     }
 
@@ -286,7 +229,7 @@ impl Engine {
         self.next = Next::Decide;
         self.probe.refute();
         self.counts.conflicts = self.counts.conflicts.wrapping_add(1);
-        self.pace.since_restart = self.pace.since_restart.wrapping_add(1);
+        self.restarts.note_conflict();
         let end = self.learner.analyse(
             &self.rules,
             &mut self.trail,
@@ -310,9 +253,9 @@ impl Engine {
 
     /// Watches fewer lemmas, where there are too many.
     fn reduce(&mut self, alloc: Global) -> Result<(), AllocError> {
-        if self.lemmas.watched() > self.pace.lemmas {
+        if self.lemmas.watched() > self.most_lemmas {
             self.lemmas.reduce(alloc)?;
-            self.pace.lemmas = self.pace.lemmas.wrapping_add(self.pace.lemmas / 10);
+            self.most_lemmas = self.most_lemmas.wrapping_add(self.most_lemmas / 10);
         }
         Ok(())
     }
@@ -328,10 +271,10 @@ impl Engine {
 
     /// Gives up the lemmas that are neither watched nor causes, nor needed by the proofs of those.
     fn give_up(&mut self, alloc: Global) -> Result<(), AllocError> {
-        let count = self.lemmas.count();
+        let count = self.lemmas.list.count();
         let mut is_needed = Table::filled(alloc, count as usize, false, false)?;
         for lemma in 0..count {
-            is_needed.set(lemma as usize, self.lemmas.lemma(lemma).is_watched);
+            is_needed.set(lemma as usize, self.lemmas.is_watched(lemma));
         }
         for step in 0..self.trail.history.step_count() {
             if let Cause::Use { lemma } = self.trail.cause_of(step) {
@@ -340,7 +283,7 @@ impl Engine {
         }
         self.proofs.note_all_uses(&mut is_needed);
         self.proofs.give_up(&is_needed);
-        self.lemmas.give_up(&is_needed);
+        self.lemmas.list.give_up(&is_needed);
         Ok(())
     }
 

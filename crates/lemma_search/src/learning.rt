@@ -159,7 +159,7 @@ impl Learner {
         }
         self.resolve_all(rules, trail, lemmas, weights)?;
         weights.raise_bump();
-        lemmas.raise_bump();
+        lemmas.list.raise_bump();
         Ok(end)
     }
 }
@@ -167,7 +167,7 @@ impl Learner {
 /// The lemma of a cause was needed, if it has one.
 fn raise_used(lemmas: &mut Lemmas, cause: Cause) {
     if let Cause::Use { lemma } = cause {
-        lemmas.raise(lemma);
+        lemmas.list.raise(lemma);
     }
 }
 

@@ -16,5 +16,6 @@ mod search;
 mod showing;
 
 pub use lemma_proofs::Shown;
-pub use options::{Counts, Options, Parts, State};
+pub use options::{Counts, Options, State};
+pub use propagators::Chosen;
 pub use search::Search;

@@ -17,13 +17,6 @@ impl Probe {
         is_on: false,
     };
 
-    /// A probe that has nothing to try.
-    pub(crate) const NONE: Probe = Probe {
-        step: 0,
-        grows: false,
-        is_on: false,
-    };
-
     /// Whether a deadline is on trial.
     pub(crate) fn is_on(&self) -> bool {
         self.is_on

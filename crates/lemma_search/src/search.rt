@@ -107,11 +107,7 @@ impl Search {
     pub fn counts(&self) -> Counts {
         match &self.engine {
             Some(engine) => engine.counts,
-            None => Counts {
-                conflicts: 0,
-                decisions: 0,
-                lemmas: 0,
-            },
+            None => Counts::NOTHING,
         }
     }
 

@@ -87,7 +87,7 @@ impl Trail {
 
     /// Marks the steps that make the literals of a lemma hold, but the one that was refuted.
     fn explain_use(&mut self, lemmas: &Lemmas, query: Query, lemma: u32) -> Result<(), AllocError> {
-        for literal in lemmas.literals_of(lemma) {
+        for literal in lemmas.list.literals_of(lemma) {
             let is_refuted = match query.arc {
                 Some(arc) => arc.reverse().is_beside(*literal),
                 None => false,

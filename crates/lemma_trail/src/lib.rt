@@ -11,7 +11,7 @@ mod watching;
 
 pub use cause::{Cause, Part};
 pub use lag_history::{History, Literal, NO_LITERAL, is_there};
-pub use lemmas::{Lemma, Lemmas};
+pub use lemmas::Lemmas;
 pub use rules::Rules;
 pub use stop::{Conflict, Stop};
 pub use trail::Trail;

@@ -2,7 +2,7 @@
 
 use network::Project;
 use std::alloc::{AllocError, Global};
-use tables::{Span, Table, narrow};
+use tables::{Rows, Table, narrow};
 
 /// The numbers of a project, and which activities are rivals: no two of them can run at once.
 #[derive(Drop)]
@@ -14,9 +14,8 @@ pub struct Rules {
     capacities: Table<i64>,
     /// For two activities whether they are rivals.
     are_rivals: Table<bool>,
-    /// The rivals of all activities, and where those of each one end.
-    rivals: Table<u32>,
-    rival_ends: Table<u32>,
+    /// The rivals of each activity.
+    rivals: Rows<u32>,
 }
 
 /// A number of a project, which is at most 1,000,000.
@@ -48,8 +47,7 @@ impl Rules {
                 self.rivals.push(b)?;
             }
         }
-        let end = self.rivals.count();
-        self.rival_ends.push(end)
+        self.rivals.close()
     }
 
     /// The rules without the rivals.
@@ -73,8 +71,7 @@ impl Rules {
             demands,
             capacities,
             are_rivals: Table::new(alloc, false),
-            rivals: Table::new(alloc, 0),
-            rival_ends: Table::new(alloc, 0),
+            rivals: Rows::new(alloc, 0),
         })
     }
 
@@ -148,23 +145,9 @@ impl Rules {
         self.are_rivals.get(row.wrapping_add(b as usize))
     }
 
-    /// The places of the rivals of an activity.
+    /// The rivals of an activity.
     #[inline(always)]
-    pub fn rivals_of(&self, activity: u32) -> Span {
-        let from = if activity == 0 {
-            0
-        } else {
-            self.rival_ends.get((activity - 1) as usize)
-        };
-        Span {
-            from,
-            to: self.rival_ends.get(activity as usize),
-        }
-    }
-
-    /// The rival at a place.
-    #[inline(always)]
-    pub fn rival(&self, at: u32) -> u32 {
-        self.rivals.get(at as usize)
+    pub fn rivals_of(&self, activity: u32) -> &[u32] {
+        self.rivals.row(activity)
     }
 }

@@ -1,8 +1,7 @@
-//! Why a step did not end well: a conflict, or want of memory.
+//! Why the literals can't all hold.
 
 use crate::cause::Cause;
 use lag_history::Literal;
-use std::alloc::{AllocError, AllocFailed};
 
 /// Why the literals can't all hold.
 #[derive(Clone, Copy, PartialEq, Eq, Debug)]
@@ -13,21 +12,5 @@ pub enum Conflict {
     Plain(Cause),
 }
 
-/// Why a step of a search did not end well.
-#[derive(Clone, Copy, PartialEq, Eq, Debug)]
-pub enum Stop {
-    Conflict(Conflict),
-    Memory,
-}
-
-impl From<AllocError> for Stop {
-    fn from(_error: AllocError) -> Stop {
-        Stop::Memory
-    }
-}
-
-impl<T: Drop> From<AllocFailed<T>> for Stop {
-    fn from(_error: AllocFailed<T>) -> Stop {
-        Stop::Memory
-    }
-}
+/// Why a step of the search on pairs did not end well.
+pub type Stop = search_parts::Stop<Conflict>;

@@ -107,15 +107,7 @@ impl Trail {
 
     /// The members since a place.
     pub fn parts_from(&self, from: u32) -> Span {
-        Span {
-            from,
-            to: self.parts.count(),
-        }
-    }
-
-    /// Forgets the members since a place, which no step has.
-    pub fn drop_parts(&mut self, from: u32) {
-        self.parts.truncate(from as usize);
+        self.parts.span_from(from)
     }
 
     /// A step of this level.

@@ -9,7 +9,6 @@ mod choosing;
 mod counts;
 mod handing;
 mod neighbourhoods;
-mod random;
 mod sizes;
 
 pub use counts::Counts;

@@ -3,9 +3,9 @@
 use crate::choosing::Choosing;
 use crate::counts::Counts;
 use crate::handing::Handing;
-use crate::random::Random;
 use crate::sizes::{Kind, Sizes};
 use network::Project;
+use search_parts::Random;
 use start_search::{Arcs, Engine, Incumbent, Limits, Pair, Rules, State};
 use std::alloc::{AllocError, Global};
 use tables::Table;
@@ -74,6 +74,8 @@ impl Neighbourhoods {
         let ceiling = rules.horizon().wrapping_add(1);
         let unit = rules.unit();
         let handing = Handing::new(alloc, &rules)?;
+        let mut random = Random::new(seed);
+        random.draw();
         let state = if rules.may_have_schedule() {
             State::Going
         } else {
@@ -85,7 +87,7 @@ impl Neighbourhoods {
             choosing: Choosing::new(alloc, count)?,
             handing,
             sizes: Sizes::FIRST,
-            random: Random::new(seed),
+            random,
             counts: Counts::NOTHING,
             state,
             memory,
@@ -134,10 +136,8 @@ impl Neighbourhoods {
             return self.incumbent.copy(&engine.incumbent);
         }
         if state == State::Ended {
-            self.counts.refuted = self.counts.refuted.wrapping_add(1);
             self.refute(kind);
         } else {
-            self.counts.stopped = self.counts.stopped.wrapping_add(1);
             self.sizes.shrink(kind);
         }
         Ok(())
@@ -172,7 +172,6 @@ impl Neighbourhoods {
             State::Going => self.search(alloc, probe, same, kind),
             State::Full => Err(AllocError),
             State::Ended => {
-                self.counts.shut = self.counts.shut.wrapping_add(1);
                 self.refute(kind);
                 Ok(())
             }

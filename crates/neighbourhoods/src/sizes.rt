@@ -1,6 +1,6 @@
 //! Kinds of neighbourhoods, and how many activities are free by each.
 
-use crate::random::Random;
+use search_parts::Random;
 
 /// How the free activities of a neighbourhood are chosen.
 #[derive(Clone, Copy, PartialEq, Eq, Debug)]

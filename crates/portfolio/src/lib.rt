@@ -4,7 +4,8 @@
 //! Nothing here needs to be trusted: whoever takes a schedule has it checked.
 #![tactic(auto)]
 
-mod incumbent;
+mod best;
 mod portfolio;
 
+pub use best::Best;
 pub use portfolio::Portfolio;

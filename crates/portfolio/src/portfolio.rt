@@ -1,19 +1,19 @@
 //! The searches of a portfolio, and their turns.
 
-use crate::incumbent::Incumbent;
+use crate::best::Best;
 use lemma_proofs::Shown;
 use neighbourhoods::{Neighbourhoods, State};
 use network::Project;
 use serial_scheme::Scheme;
 use start_records::record_of;
-use start_search::{Options, Search};
+use start_search::Search;
 use std::alloc::{AllocError, Global};
 
 /// How many conflicts the search on bounds meets in a turn.
 const CONFLICTS: u64 = 512;
 
-/// How many neighbourhoods are searched in a turn: the most where the last turn's had a shorter schedule, and an eighth fewer
-/// after each turn in vain, down to the least.
+/// How many neighbourhoods are searched in a turn: the most where the last turn's had a shorter schedule, and an eighth
+/// fewer after each turn in vain, down to the least.
 const MOST_ROUNDS: u64 = 32;
 
 const LEAST_ROUNDS: u64 = 8;
@@ -30,7 +30,7 @@ pub struct Portfolio {
     neighbourhoods: Neighbourhoods,
     /// How many of them are searched in the next turn.
     rounds: u64,
-    incumbent: Incumbent,
+    best: Best,
     seed: u64,
     is_over: bool,
 }
@@ -44,13 +44,12 @@ impl Portfolio {
         seed: u64,
         memory: u64,
     ) -> Result<Portfolio, AllocError> {
-        let options = Options { memory, pairs: 0 };
         Ok(Portfolio {
-            search: Search::new(alloc, project, options)?,
+            search: Search::new(alloc, project, memory)?,
             scheme: None,
             neighbourhoods: Neighbourhoods::new(alloc, project, seed, memory)?,
             rounds: MOST_ROUNDS,
-            incumbent: Incumbent::new(alloc),
+            best: Best::none(),
             seed,
             is_over: false,
         })
@@ -58,9 +57,11 @@ impl Portfolio {
 
     /// A turn of the search on bounds.
     fn search_bounds(&mut self, alloc: Global) -> Result<State, AllocError> {
-        self.incumbent.tell_search(&mut self.search)?;
+        if let Some((starts, makespan)) = self.best.schedule() {
+            self.search.lower_ceiling(starts, makespan)?;
+        }
         let state = self.search.advance(alloc, CONFLICTS);
-        self.incumbent.take(alloc, self.search.best())?;
+        self.best.take(alloc, self.search.best())?;
         Ok(state)
     }
 
@@ -71,15 +72,16 @@ impl Portfolio {
             None => Scheme::new(alloc, project, self.seed)?,
         };
         scheme.advance(alloc, PASSES)?;
-        self.incumbent.take(alloc, scheme.best())?;
+        self.best.take(alloc, scheme.best())?;
         self.scheme = Some(scheme);
         Ok(())
     }
 
     /// A turn of neighbourhoods.
     fn search_neighbourhoods(&mut self, alloc: Global) -> Result<State, AllocError> {
-        self.incumbent
-            .tell_neighbourhoods(&mut self.neighbourhoods)?;
+        if let Some((starts, makespan)) = self.best.schedule() {
+            self.neighbourhoods.lower_ceiling(starts, makespan)?;
+        }
         let better = self.neighbourhoods.counts().better;
         let state = self.neighbourhoods.advance(alloc, self.rounds);
         self.rounds = if self.neighbourhoods.counts().better > better {
@@ -89,7 +91,7 @@ impl Portfolio {
                 .saturating_sub(self.rounds / 8)
                 .max(LEAST_ROUNDS)
         };
-        self.incumbent.take(alloc, self.neighbourhoods.best())?;
+        self.best.take(alloc, self.neighbourhoods.best())?;
         Ok(state)
     }
 
@@ -119,12 +121,12 @@ impl Portfolio {
 
     /// Takes a feasible schedule by its starts in periods, which another search may have, if it is shorter.
     pub fn take(&mut self, alloc: Global, starts: Option<&[i64]>) -> Result<(), AllocError> {
-        self.incumbent.take(alloc, starts)
+        self.best.take(alloc, starts)
     }
 
     /// The starts of the shortest schedule known, in periods.
     pub fn best(&self) -> Option<&[i64]> {
-        self.incumbent.starts()
+        self.best.starts()
     }
 
     /// Whether there is a proof that the best schedule is a shortest one.

@@ -94,9 +94,8 @@ impl Agenda {
 /// Rivals that start too early to run after `b` run before it.
 pub(crate) fn follow_head(rules: &Rules, trail: &mut Trail, b: u32) -> Result<(), Stop> {
     let end = trail.history.head(b).wrapping_add(rules.duration(b));
-    let rivals = rules.rivals_of(b);
-    for x in rivals.from..rivals.to {
-        let a = rules.rival(x);
+    for rival in rules.rivals_of(b) {
+        let a = *rival;
         if end > trail.history.latest(a) && trail.history.get(a, b) < rules.duration(a) {
             trail.force_order(rules, a, b)?;
         }
@@ -106,9 +105,8 @@ pub(crate) fn follow_head(rules: &Rules, trail: &mut Trail, b: u32) -> Result<()
 
 /// Rivals that end too late to run before `a` run after it.
 pub(crate) fn follow_latest(rules: &Rules, trail: &mut Trail, a: u32) -> Result<(), Stop> {
-    let rivals = rules.rivals_of(a);
-    for x in rivals.from..rivals.to {
-        let b = rules.rival(x);
+    for rival in rules.rivals_of(a) {
+        let b = *rival;
         let end = trail.history.head(b).wrapping_add(rules.duration(b));
         if end > trail.history.latest(a) && trail.history.get(a, b) < rules.duration(a) {
             trail.force_order(rules, a, b)?;
@@ -119,9 +117,8 @@ pub(crate) fn follow_latest(rules: &Rules, trail: &mut Trail, a: u32) -> Result<
 
 /// Orders of an activity and its rivals that follow from the matrix.
 pub(crate) fn follow_rivals(rules: &Rules, trail: &mut Trail, a: u32) -> Result<(), Stop> {
-    let rivals = rules.rivals_of(a);
-    for x in rivals.from..rivals.to {
-        let b = rules.rival(x);
+    for rival in rules.rivals_of(a) {
+        let b = *rival;
         let must = trail.history.full(a, b) > rules.duration(b).wrapping_neg();
         if must && trail.history.get(a, b) < rules.duration(a) {
             trail.force_order(rules, a, b)?;

@@ -3,7 +3,7 @@
 use crate::apart::Apart;
 use lemma_trail::Rules;
 use std::alloc::{AllocError, Global};
-use tables::{NO_SPAN, Span, Table};
+use tables::{Rows, Table};
 
 /// How many pairs a search for cliques looks at, at most.
 const BUDGET: u64 = 200_000_000;
@@ -17,8 +17,7 @@ pub(crate) struct CliqueSearch {
     promises: Table<i64>,
     clique: Vec<u32>,
     left: u64,
-    pub(crate) members: Table<u32>,
-    pub(crate) spans: Table<Span>,
+    pub(crate) found: Rows<u32>,
 }
 
 /// What an activity promises where all fit.
@@ -48,8 +47,7 @@ impl CliqueSearch {
             promises: Table::new(alloc, 0),
             clique: Vec::new(alloc),
             left: BUDGET,
-            members: Table::new(alloc, 0),
-            spans: Table::new(alloc, NO_SPAN),
+            found: Rows::new(alloc, 0),
         }
     }
 
@@ -111,8 +109,8 @@ impl CliqueSearch {
 
     /// Whether the clique was found before.
     fn is_known(&self) -> bool {
-        for span in self.spans.all() {
-            if self.members.part(*span) == self.clique.as_slice() {
+        for known in 0..self.found.count() {
+            if self.found.row(known) == self.clique.as_slice() {
                 return true;
             }
         }
@@ -125,12 +123,10 @@ impl CliqueSearch {
         if self.clique.len() < 3 || self.is_known() {
             return Ok(());
         }
-        let from = self.members.count();
         for a in &self.clique {
-            self.members.push(*a)?;
+            self.found.push(*a)?;
         }
-        let to = self.members.count();
-        self.spans.push(Span { from, to })
+        self.found.close()
     }
 
     /// The greedy clique from an activity that has begun.
@@ -155,7 +151,7 @@ impl CliqueSearch {
         let promises = promises_of(alloc, rules, apart)?;
         let mut search = CliqueSearch::new(alloc);
         for seed in 0..rules.activity_count() {
-            if search.left > 0 && rules.rivals_of(seed).count() > 1 {
+            if search.left > 0 && rules.rivals_of(seed).len() > 1 {
                 search.begin(rules, &promises)?;
                 search.search_from(rules, apart, seed)?;
             }

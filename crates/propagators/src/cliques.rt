@@ -4,7 +4,7 @@ use crate::apart::Apart;
 use crate::clique_search::CliqueSearch;
 use lemma_trail::{Cause, Conflict, Rules, Stop, Trail};
 use std::alloc::{AllocError, Global};
-use tables::{NO_SPAN, Span, Table};
+use tables::{Rows, Table};
 
 /// A member of a clique by its head.
 #[derive(Clone, Copy, PartialEq, Eq, PartialOrd, Ord)]
@@ -26,11 +26,9 @@ pub(crate) struct ByEnd {
 /// Cliques over all resources: their members run one at a time.
 #[derive(Drop)]
 pub(crate) struct Cliques {
-    members: Table<u32>,
-    spans: Table<Span>,
-    /// The cliques of all activities, and where those of each one are.
-    inside: Table<u32>,
-    inside_spans: Table<Span>,
+    members: Rows<u32>,
+    /// The cliques of each activity.
+    inside: Rows<u32>,
     has_moved: Table<bool>,
     pub(crate) heads: Vec<ByHead>,
     pub(crate) ends: Vec<ByEnd>,
@@ -40,12 +38,11 @@ impl Cliques {
     /// The cliques that were found, or none.
     pub(crate) fn new(alloc: Global, rules: &Rules, apart: &Apart) -> Result<Cliques, AllocError> {
         let search = CliqueSearch::cliques_of(alloc, rules, apart)?;
-        let has_moved = Table::filled(alloc, search.spans.len(), true, false)?;
+        let count = search.found.count() as usize;
+        let has_moved = Table::filled(alloc, count, true, false)?;
         let mut cliques = Cliques {
-            members: search.members,
-            spans: search.spans,
-            inside: Table::new(alloc, 0),
-            inside_spans: Table::new(alloc, NO_SPAN),
+            members: search.found,
+            inside: Rows::new(alloc, 0),
             has_moved,
             heads: Vec::new(alloc),
             ends: Vec::new(alloc),
@@ -58,20 +55,17 @@ impl Cliques {
 
     /// Finds the cliques of an activity.
     fn find_inside(&mut self, activity: u32) -> Result<(), AllocError> {
-        let from = self.inside.count();
-        for x in 0..self.spans.count() {
-            let members = self.members.part(self.spans.get(x as usize));
-            if members.binary_search(&activity).is_ok() {
-                self.inside.push(x)?;
+        for clique in 0..self.members.count() {
+            if self.members.row(clique).binary_search(&activity).is_ok() {
+                self.inside.push(clique)?;
             }
         }
-        let to = self.inside.count();
-        self.inside_spans.push(Span { from, to })
+        self.inside.close()
     }
 
     /// The window of an activity moved.
     pub(crate) fn touch(&mut self, activity: u32) {
-        for x in self.inside.part(self.inside_spans.get(activity as usize)) {
+        for x in self.inside.row(activity) {
             self.has_moved.set(*x as usize, true);
         }
     }
@@ -90,7 +84,7 @@ impl Cliques {
     ) -> Result<(), AllocError> {
         self.heads.clear();
         self.ends.clear();
-        for i in self.members.part(self.spans.get(clique as usize)) {
+        for i in self.members.row(clique) {
             let duration = rules.duration(*i);
             let end = trail.history.latest(*i).wrapping_add(duration);
             self.heads.push(ByHead {
@@ -150,7 +144,7 @@ impl Cliques {
 
     /// What follows from the cliques whose members moved.
     pub(crate) fn propagate(&mut self, rules: &Rules, trail: &mut Trail) -> Result<(), Stop> {
-        for clique in 0..self.spans.count() {
+        for clique in 0..self.members.count() {
             if self.has_moved.get(clique as usize) {
                 self.has_moved.set(clique as usize, false);
                 self.take_windows(rules, trail, clique)?;

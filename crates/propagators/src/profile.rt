@@ -103,37 +103,11 @@ impl Profile {
 
     /// How many pieces end by a time.
     pub(crate) fn ended_by(&self, time: i32) -> usize {
-        let mut low = 0;
-        let mut high = self.pieces.len();
-        for _ in 0..64 {
-            if low >= high {
-                break;
-            }
-            let middle = low + (high - low) / 2;
-            if self.pieces.get(middle).to <= time {
-                low = middle + 1;
-            } else {
-                high = middle;
-            }
-        }
-        low
+        self.pieces.all().partition_point(|piece| piece.to <= time)
     }
 
     /// How many pieces begin before a time.
     pub(crate) fn begun_before(&self, time: i32) -> usize {
-        let mut low = 0;
-        let mut high = self.pieces.len();
-        for _ in 0..64 {
-            if low >= high {
-                break;
-            }
-            let middle = low + (high - low) / 2;
-            if self.pieces.get(middle).from < time {
-                low = middle + 1;
-            } else {
-                high = middle;
-            }
-        }
-        low
+        self.pieces.all().partition_point(|piece| piece.from < time)
     }
 }

@@ -8,12 +8,12 @@ use crate::time_table::TimeTable;
 use lemma_trail::{History, Lemmas, Rules, Stop, Trail};
 use std::alloc::{AllocError, Global};
 
-/// Which propagators are on, besides rivals and lemmas.
+/// Which of the propagators that can be left out are on.
 #[derive(Clone, Copy, PartialEq, Eq, Debug)]
 pub struct Chosen {
-    pub time_table: bool,
+    /// Loads between a head and a latest end.
     pub energy: bool,
-    pub cliques: bool,
+    /// Cliques of rivals and of activities that the project's lags bring in an order.
     pub ordered_cliques: bool,
 }
 
@@ -30,7 +30,7 @@ pub struct Propagators {
     cliques: Cliques,
     /// Of rivals, and of activities that the project's lags bring in an order, if they are on.
     ordered_cliques: Option<Cliques>,
-    chosen: Chosen,
+    energy_is_on: bool,
 }
 
 impl Propagators {
@@ -54,7 +54,7 @@ impl Propagators {
             energy: Energy::new(alloc, rules)?,
             cliques: Cliques::new(alloc, rules, &rivals)?,
             ordered_cliques,
-            chosen,
+            energy_is_on: chosen.energy,
         })
     }
 
@@ -99,7 +99,7 @@ impl Propagators {
 
     /// What follows from cliques, until something changes.
     fn follow_cliques(&mut self, rules: &Rules, trail: &mut Trail) -> Result<(), Stop> {
-        if !self.agenda.is_behind(trail) && self.chosen.cliques {
+        if !self.agenda.is_behind(trail) {
             self.cliques.propagate(rules, trail)?;
         }
         match &mut self.ordered_cliques {
@@ -114,10 +114,10 @@ impl Propagators {
     fn follow_windows(&mut self, rules: &Rules, trail: &mut Trail) -> Result<(), Stop> {
         self.follow_heads(rules, trail)?;
         self.follow_ends(rules, trail)?;
-        if !self.agenda.is_behind(trail) && self.chosen.time_table {
+        if !self.agenda.is_behind(trail) {
             self.time_table.propagate(rules, trail)?;
         }
-        if !self.agenda.is_behind(trail) && self.chosen.energy {
+        if !self.agenda.is_behind(trail) && self.energy_is_on {
             self.energy.propagate(rules, trail)?;
         }
         self.follow_cliques(rules, trail)

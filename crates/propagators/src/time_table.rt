@@ -190,8 +190,8 @@ impl TimeTable {
         if self.profile.count() == 0 {
             return Ok(());
         }
-        for x in 0..self.users.of(index).len() {
-            let activity = self.users.user(index, x);
+        for at in 0..self.users.user_count(index) {
+            let activity = self.users.user(index, at);
             self.push_window(rules, trail, index, activity)?;
         }
         Ok(())

@@ -2,14 +2,13 @@
 
 use lemma_trail::Rules;
 use std::alloc::{AllocError, Global};
-use tables::{NO_SPAN, Span, Table};
+use tables::{Rows, Table};
 
 /// The activities that use each resource of a list, and the resources whose users moved since the last look at them.
 #[derive(Drop)]
 pub(crate) struct Users {
     resources: Table<u32>,
-    users: Table<u32>,
-    spans: Table<Span>,
+    users: Rows<u32>,
     has_moved: Table<bool>,
 }
 
@@ -41,23 +40,20 @@ impl Users {
     fn none(alloc: Global) -> Users {
         Users {
             resources: Table::new(alloc, 0),
-            users: Table::new(alloc, 0),
-            spans: Table::new(alloc, NO_SPAN),
+            users: Rows::new(alloc, 0),
             has_moved: Table::new(alloc, false),
         }
     }
 
     /// One more resource.
     fn push(&mut self, rules: &Rules, resource: u32) -> Result<(), AllocError> {
-        let from = self.users.count();
         for i in 1..rules.end() {
             if rules.uses(resource, i) {
                 self.users.push(i)?;
             }
         }
-        let to = self.users.count();
+        self.users.close()?;
         self.resources.push(resource)?;
-        self.spans.push(Span { from, to })?;
         self.has_moved.push(true)
     }
 
@@ -89,13 +85,17 @@ impl Users {
 
     /// The users of a resource of the list.
     pub(crate) fn of(&self, index: u32) -> &[u32] {
-        self.users.part(self.spans.get(index as usize))
+        self.users.row(index)
+    }
+
+    /// How many users a resource of the list has.
+    pub(crate) fn user_count(&self, index: u32) -> u32 {
+        self.users.span(index).count()
     }
 
     /// One user of a resource of the list.
-    pub(crate) fn user(&self, index: u32, at: usize) -> u32 {
-        let span = self.spans.get(index as usize);
-        self.users.get((span.from as usize).wrapping_add(at))
+    pub(crate) fn user(&self, index: u32, at: u32) -> u32 {
+        self.users.get(self.users.span(index).from.wrapping_add(at))
     }
 
     /// The window of an activity moved.

@@ -4,7 +4,7 @@ ghost use Rattle.std.specs.Prelude.{◌≡◌};
 ghost use Rattle.solve_runs.specs.Asking.{job_of};
 
 use crate::turns::SMALL;
-use lemma_search::{Options, Parts};
+use lemma_search::{Chosen, Options};
 use runs::{Job, ONE_WORKER};
 
 /// How many searches can go on side by side.
@@ -45,19 +45,18 @@ impl Asked {
         }
     }
 
-    /// The options of a search for so many activities. Every second job leaves dives out, which slow proofs down. Two of
-    /// four leave energy out, which seldom tells more than the time table. Cliques with an order raise bounds, which
-    /// pays where proofs are rare.
+    /// The options of a search for so many activities. Every second job leaves dives out, which slow proofs down. Two
+    /// of four leave energy out, which seldom tells more than the time table. Cliques with an order raise bounds,
+    /// which pays where proofs are rare.
     pub(crate) fn options(self, activities: usize, job: u64) -> Options {
         Options {
             seed: self.seed.wrapping_add(job),
             memory: self.memory,
-            parts: Parts {
-                dives: job % 2 == 0,
+            propagators: Chosen {
                 energy: job % 4 < 2,
                 ordered_cliques: activities > SMALL,
-                ..Parts::ALL
             },
+            dives: job % 2 == 0,
         }
     }
 }

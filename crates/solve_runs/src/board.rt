@@ -3,14 +3,14 @@
 use crate::progress::{Told, Watch};
 use crate::report::Report;
 use lemma_search::{Counts, State};
+use portfolio::Best;
 use std::alloc::{AllocError, Global};
 use std::time::Clock;
 
 /// What any of the searches knows. It lies under a lock.
 #[derive(Drop)]
 pub(crate) struct Board {
-    /// The starts of the shortest schedule, in periods.
-    best: Option<Vec<i64>>,
+    pub(crate) best: Best,
     told: Told,
     /// Whether the searches stop: one of them has ended, or ran out of memory.
     pub(crate) is_over: bool,
@@ -22,16 +22,11 @@ pub(crate) struct Board {
     pub(crate) decisions: u64,
 }
 
-/// The makespan of starts, in periods; none where there is no schedule.
-fn makespan_of(starts: Option<&[i64]>) -> Option<i64> {
-    starts?.last().copied()
-}
-
 impl Board {
     /// A board that may know the starts of a schedule.
     pub(crate) fn new(alloc: Global, start: Option<&[i64]>) -> Result<Board, AllocError> {
         let mut board = Board {
-            best: None,
+            best: Best::none(),
             told: Told::NOTHING,
             is_over: false,
             is_short_of_memory: false,
@@ -39,38 +34,13 @@ impl Board {
             conflicts: 0,
             decisions: 0,
         };
-        board.offer(alloc, start)?;
+        board.best.take(alloc, start)?;
         Ok(board)
-    }
-
-    /// The starts of the shortest schedule, in periods.
-    pub(crate) fn best(&self) -> Option<&[i64]> {
-        self.best.as_deref()
-    }
-
-    /// The makespan of the shortest schedule, in periods.
-    pub(crate) fn makespan(&self) -> Option<i64> {
-        makespan_of(self.best())
-    }
-
-    /// Takes a schedule that a search may have, where it is shorter.
-    pub(crate) fn offer(
-        &mut self,
-        alloc: Global,
-        starts: Option<&[i64]>,
-    ) -> Result<(), AllocError> {
-        let known = self.makespan().unwrap_or(i64::MAX);
-        if let Some(starts) = starts {
-            if makespan_of(Some(starts)).unwrap_or(i64::MAX) < known {
-                self.best = Some(Vec::from_slice(alloc, starts)?);
-            }
-        }
-        Ok(())
     }
 
     /// Tells on standard error what is new: a shorter schedule, or a greater bound of a search.
     pub(crate) fn tell<R: Clock + Eprint>(&mut self, rt: &R, watch: Watch, bound: i64) {
-        let makespan = self.makespan();
+        let makespan = self.best.makespan();
         let seconds = watch.seconds(rt).unwrap_or(0);
         self.told.tell(rt, makespan, bound, seconds);
     }
@@ -111,7 +81,7 @@ impl Board {
         } = self;
         match report {
             Some(report) if report.state == State::Ended || !is_short_of_memory => {
-                Ok((best, report))
+                Ok((best.into_starts(), report))
             }
             _ => Err(AllocError),
         }

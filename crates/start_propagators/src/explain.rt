@@ -120,7 +120,7 @@ impl Explainer {
         nogood: u32,
     ) -> Result<(), AllocError> {
         let refuted = literal.reverse();
-        for other in nogoods.literals_of(nogood) {
+        for other in nogoods.list.literals_of(nogood) {
             if other.slot != refuted.slot || other.value > refuted.value {
                 self.literals.push(*other)?;
             }
@@ -211,7 +211,7 @@ impl Explainer {
             Reason::Order { slot } => self.explain_order(rules, pairs, asked.literal, slot),
             Reason::Lost => self.explain_lost(rules, pairs, trail, asked),
             Reason::Use { nogood } => {
-                nogoods.raise(nogood);
+                nogoods.list.raise(nogood);
                 self.explain_use(nogoods, asked.literal, nogood)
             }
             Reason::Full { resource, time } => self.explain_full(
@@ -265,10 +265,8 @@ impl Explainer {
                 self.explain_crowd(rules, trail, crowd)
             }
             Conflict::Nogood { nogood } => {
-                nogoods.raise(nogood);
-                for literal in nogoods.literals_of(nogood) {
-                    self.literals.push(*literal)?;
-                }
+                nogoods.list.raise(nogood);
+                self.literals.push_all(nogoods.list.literals_of(nogood))?;
                 Ok(())
             }
         }

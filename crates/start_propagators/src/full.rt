@@ -63,11 +63,9 @@ impl TimeTable {
         let mut from = trail.least(activity);
         let to = from.wrapping_add(rules.duration(activity));
         let mut last = None;
-        let uses = rules.uses_of(activity);
-        for x in uses.from..uses.to {
-            let user = rules.use_at(x);
+        for user in rules.uses_of(activity) {
             let resource = user.resource;
-            if let Some(time) = self.last_full(rules, user, from, to) {
+            if let Some(time) = self.last_full(rules, *user, from, to) {
                 last = Some(FullTime { resource, time });
                 from = time.wrapping_add(1);
             }
@@ -80,11 +78,9 @@ impl TimeTable {
         let from = trail.greatest(activity);
         let mut to = from.wrapping_add(rules.duration(activity));
         let mut first = None;
-        let uses = rules.uses_of(activity);
-        for x in uses.from..uses.to {
-            let user = rules.use_at(x);
+        for user in rules.uses_of(activity) {
             let resource = user.resource;
-            if let Some(time) = self.first_full(rules, user, from, to) {
+            if let Some(time) = self.first_full(rules, *user, from, to) {
                 first = Some(FullTime { resource, time });
                 to = time;
             }

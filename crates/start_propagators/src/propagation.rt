@@ -20,10 +20,8 @@ pub struct Propagators {
 /// What arcs say of a slot that moved.
 #[inline(always)]
 fn follow_arcs(arcs: &Arcs, trail: &mut Trail, slot: u32) -> Result<(), Stop> {
-    let edges = arcs.edges_of(slot);
     let value = trail.value(slot);
-    for x in edges.from..edges.to {
-        let edge = arcs.edge(x);
+    for edge in arcs.edges_of(slot) {
         let literal = Literal {
             slot: edge.to,
             value: value.wrapping_add(edge.weight),
@@ -69,9 +67,8 @@ impl Propagators {
     /// What follows for the orders of an activity, and from them.
     #[inline(always)]
     fn follow_pairs(&self, rules: &Rules, trail: &mut Trail, activity: u32) -> Result<(), Stop> {
-        let places = self.pairs.of(activity);
-        for x in places.from..places.to {
-            self.pairs.follow(rules, trail, self.pairs.variable(x))?;
+        for variable in self.pairs.of(activity) {
+            self.pairs.follow(rules, trail, *variable)?;
         }
         Ok(())
     }
@@ -168,7 +165,7 @@ impl Propagators {
     fn table_event(&mut self, rules: &Rules, trail: &Trail, number: u32) -> Result<(), Stop> {
         let slot = trail.event(number).slot;
         let activity = slot / 2;
-        if activity < rules.activity_count() && rules.uses_of(activity).count() > 0 {
+        if activity < rules.activity_count() && !rules.uses_of(activity).is_empty() {
             self.time_table.update(rules, trail, activity)?;
             let look = Look {
                 least: slot % 2 == 0,

@@ -205,16 +205,15 @@ impl TimeTable {
             to: trail.least(activity).wrapping_add(rules.duration(activity)),
         };
         let old = self.parts.get(activity as usize);
-        if uses.count() == 0 || new.is_empty() || old == new {
+        if uses.is_empty() || new.is_empty() || old == new {
             return Ok(());
         }
         self.changes.push(Change { activity, old })?;
         self.parts.set(activity as usize, new);
         let mut overload = None;
-        for x in uses.from..uses.to {
-            let user = rules.use_at(x);
+        for user in uses {
             let resource = user.resource;
-            if let Some(time) = self.grow(rules, trail, user, old, new)? {
+            if let Some(time) = self.grow(rules, trail, *user, old, new)? {
                 overload = Some(Conflict::Overload { resource, time });
             }
         }
@@ -237,9 +236,8 @@ impl TimeTable {
         };
         let new = self.parts.get(change.activity as usize);
         self.parts.set(change.activity as usize, change.old);
-        let uses = rules.uses_of(change.activity);
-        for x in uses.from..uses.to {
-            self.shrink(rules.use_at(x), change.old, new)?;
+        for user in rules.uses_of(change.activity) {
+            self.shrink(*user, change.old, new)?;
         }
         Ok(())
     }

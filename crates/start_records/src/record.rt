@@ -3,7 +3,7 @@
 use crate::needs::needs_of;
 use crate::writer::Writer;
 use lag_history::{History, Literal};
-use lemma_proofs::{Event, Shown, blocks_of, lines_of};
+use lemma_proofs::{Shown, blocks_of, lines_of};
 use lemma_text::Claim;
 use longest_path::{PathFault, longest};
 use network::Project;
@@ -15,43 +15,6 @@ use tables::{Table, narrow};
 /// No schedule of a makespan above this has a record.
 const MAX_MAKESPAN: i64 = 1_000_000;
 
-/// Tells links of the root between two places, the last first.
-fn tell_roots(
-    events: &mut Table<Event>,
-    trace: &Trace,
-    writer: &Writer,
-    from: u32,
-    to: u32,
-) -> Result<(), AllocError> {
-    for at in (from..to).rev() {
-        events.push(writer.root(trace.root(at)))?;
-    }
-    Ok(())
-}
-
-/// What a record tells for the last proof, from the last to the first.
-fn told(
-    alloc: Global,
-    trace: &Trace,
-    writer: &Writer,
-    is_needed: &Table<bool>,
-) -> Result<Table<Event>, AllocError> {
-    let last = trace.count().wrapping_sub(1);
-    let mut to = trace.proof(last).roots;
-    let mut events = Table::new(alloc, writer.last(last));
-    events.push(writer.last(last))?;
-    for number in (0..last).rev() {
-        let roots = trace.proof(number).roots;
-        tell_roots(&mut events, trace, writer, roots, to)?;
-        to = roots.min(to);
-        if is_needed.get(number as usize) {
-            events.push(writer.lemma(number))?;
-        }
-    }
-    tell_roots(&mut events, trace, writer, 0, to)?;
-    Ok(events)
-}
-
 /// Writes the nogoods that are needed, with their proofs.
 fn written(
     alloc: Global,
@@ -59,10 +22,12 @@ fn written(
     trace: &Trace,
     is_needed: &Table<bool>,
 ) -> Result<Writer, AllocError> {
-    let mut writer = Writer::new(alloc, activities, trace.count())?;
+    let mut writer = Writer::new(alloc, activities)?;
     for number in 0..trace.count() {
         if is_needed.get(number as usize) {
             writer.write(alloc, trace, number)?;
+        } else {
+            writer.skip()?;
         }
     }
     Ok(writer)
@@ -76,16 +41,15 @@ fn lines(
     deadline: Literal,
     claim: Claim,
 ) -> Result<Option<Shown>, AllocError> {
-    let is_needed = needs_of(alloc, trace)?;
-    let writer = written(alloc, history.activity_count(), trace, &is_needed)?;
-    let events = told(alloc, trace, &writer, &is_needed)?;
+    let needs = needs_of(alloc, trace)?;
+    let writer = written(alloc, history.activity_count(), trace, &needs.is_needed)?;
     let is_dead = !history.try_insert(deadline)?;
     let blocks = blocks_of(
         alloc,
         history,
         &writer.lemmas,
         &writer.proofs,
-        events.all(),
+        needs.events.all(),
         is_dead,
     )?;
     match lines_of(alloc, &writer.lemmas, &writer.proofs, &blocks)? {
@@ -113,7 +77,7 @@ pub fn record_of(
         Err(PathFault::Memory) => return Err(AllocError),
         Err(_) => return Ok(None),
     };
-    let mut history = History::new(alloc, &matrix, false)?;
+    let mut history = History::new(alloc, &matrix)?;
     let end = narrow(starts.len()).wrapping_sub(1);
     let last = makespan.clamp(0, MAX_MAKESPAN) as i32;
     let deadline = Literal::at_most(end, last.wrapping_sub(1));

@@ -5,13 +5,11 @@ use crate::incumbent::Incumbent;
 use crate::learning::Learner;
 use crate::options::{Counts, Limits, State};
 use crate::trace::Trace;
+use search_parts::Restarts;
 use start_propagators::{Pair, Propagators};
-use start_trail::{Arcs, Conflict, Literal, Nogoods, Reason, Rules, Stop, Trail};
+use start_trail::{Arcs, Conflict, Literal, Nogoods, Note, Reason, Rules, Stop, Trail};
 use std::alloc::{AllocError, Global};
 use tables::Table;
-
-/// How many conflicts the first restarts are apart.
-const LUBY_UNIT: u64 = 100;
 
 /// How many nogoods are kept at most, at first.
 const FIRST_NOGOODS: u32 = 6_000;
@@ -27,14 +25,6 @@ enum Next {
     Decide,
 }
 
-/// When the search restarts at the root, how many nogoods it keeps, and how many bytes it may take.
-#[derive(Clone, Copy)]
-struct Pace {
-    since_restart: u64,
-    nogoods: u32,
-    memory: u64,
-}
-
 /// The state of a search. The rules of its project stand beside it, since many searches share them.
 #[derive(Drop)]
 pub struct Engine {
@@ -47,22 +37,12 @@ pub struct Engine {
     next: Next,
     pub counts: Counts,
     pub state: State,
-    pace: Pace,
+    restarts: Restarts,
+    /// How many nogoods it keeps at most, and how many bytes it may take.
+    most_nogoods: u32,
+    memory: u64,
     /// What a record needs, where the search keeps it.
     pub(crate) trace: Option<Trace>,
-}
-
-/// The numbers 1 1 2 1 1 2 4 .. of Luby, Sinclair and Zuckerman (1993).
-fn luby(place: u64) -> u64 {
-    let mut i = place;
-    for _ in 0..64 {
-        let power = 1u64.wrapping_shl(63u32.wrapping_sub(i.leading_zeros()));
-        if i.wrapping_add(1) == power.wrapping_mul(2) {
-            return power;
-        }
-        i = i.wrapping_sub(power.wrapping_sub(1));
-    }
-    1
 }
 
 /// The values of all slots at first: a schedule ends before a ceiling, and so many pairs have no order yet.
@@ -134,11 +114,9 @@ impl Engine {
             next: Next::Begin,
             counts: Counts::NOTHING,
             state,
-            pace: Pace {
-                since_restart: 0,
-                nogoods: FIRST_NOGOODS,
-                memory,
-            },
+            restarts: Restarts::NONE,
+            most_nogoods: FIRST_NOGOODS,
+            memory,
             trace: None,
         })
     }
@@ -152,12 +130,6 @@ impl Engine {
     /// Whether two activities are rivals that can run in either order.
     pub fn is_open(&self, rules: &Rules, a: u32, b: u32) -> bool {
         rules.are_rivals(a, b) && self.fits(rules, a, b) && self.fits(rules, b, a)
-    }
-
-    /// What is known of the least start of an activity at the root.
-    pub fn root_start(&self, activity: u32) -> i32 {
-        let slot = activity.wrapping_mul(2);
-        self.trail.value_at(slot, self.trail.root())
     }
 
     /// The variables of events that are taken back are open again.
@@ -239,24 +211,17 @@ impl Engine {
         let makespan = self.incumbent.periods(self.trail.least(rules.end()));
         self.incumbent.take(&starts, makespan)?;
         self.counts.schedules = self.counts.schedules.wrapping_add(1);
-        self.pace.since_restart = 0;
+        self.restarts.put_off();
         self.lower_deadline(rules)
-    }
-
-    /// Whether it is time to restart.
-    fn is_restart_due(&self) -> bool {
-        let most = luby(self.counts.restarts.wrapping_add(1)).wrapping_mul(LUBY_UNIT);
-        self.pace.since_restart >= most
     }
 
     /// Restarts at the root, with fewer nogoods if there are too many.
     fn restart(&mut self, alloc: Global, rules: &Rules) -> Result<(), AllocError> {
-        self.pace.since_restart = 0;
-        self.counts.restarts = self.counts.restarts.wrapping_add(1);
+        self.restarts.restart();
         self.go_back(rules, 0)?;
-        if self.nogoods.count() > self.pace.nogoods {
+        if self.nogoods.list.count() > self.most_nogoods {
             self.reduce(alloc)?;
-            self.pace.nogoods = self.pace.nogoods.wrapping_add(self.pace.nogoods / 10);
+            self.most_nogoods = self.most_nogoods.wrapping_add(self.most_nogoods / 10);
         }
         Ok(())
     }
@@ -272,11 +237,11 @@ impl Engine {
     fn go_on(&mut self, alloc: Global, rules: &Rules) -> Result<(), Stop> {
         self.propagators
             .propagate(rules, &mut self.trail, &mut self.nogoods)?;
-        if self.is_restart_due() {
+        if self.restarts.is_due() {
             self.restart(alloc, rules)?;
             return Ok(());
         }
-        let by_time = self.counts.restarts % 2 == 0;
+        let by_time = self.restarts.count() % 2 == 0;
         let choice = self.brancher.choose(
             rules,
             &self.trail,
@@ -295,7 +260,7 @@ impl Engine {
     fn learn(&mut self, rules: &Rules, conflict: Conflict) -> Result<(), Stop> {
         self.next = Next::Decide;
         self.counts.conflicts = self.counts.conflicts.wrapping_add(1);
-        self.pace.since_restart = self.pace.since_restart.wrapping_add(1);
+        self.restarts.note_conflict();
         self.learner.analyse(
             rules,
             &self.propagators.pairs,
@@ -314,8 +279,11 @@ impl Engine {
         let first = self.learner.literals.get(0);
         let mut reason = Reason::Given;
         if self.learner.literals.len() > 1 {
-            let glue = self.learner.glue;
-            let nogood = self.nogoods.push(self.learner.literals.all(), glue, proof)?;
+            let note = Note {
+                glue: self.learner.glue,
+                proof,
+            };
+            let nogood = self.nogoods.push(self.learner.literals.all(), note)?;
             reason = Reason::Use { nogood };
         } else if let Some(trace) = &mut self.trace {
             trace.note_unit(first.reverse(), proof)?;
@@ -324,7 +292,7 @@ impl Engine {
     }
 
     /// How many bytes the search takes.
-    pub fn bytes(&self) -> u64 {
+    fn bytes(&self) -> u64 {
         self.trail
             .bytes()
             .wrapping_add(self.nogoods.bytes())
@@ -334,7 +302,7 @@ impl Engine {
     /// Gives the proofs up where they take too much.
     fn drop_trace(&mut self) {
         if let Some(trace) = &self.trace {
-            if trace.bytes() > self.pace.memory {
+            if trace.bytes() > self.memory {
                 self.trace = None;
             }
         }
@@ -343,12 +311,12 @@ impl Engine {
     /// Makes room where the search takes too much, and stops where that doesn't help.
     fn make_room(&mut self, alloc: Global, rules: &Rules) -> Result<(), AllocError> {
         self.drop_trace();
-        if self.bytes() <= self.pace.memory {
+        if self.bytes() <= self.memory {
             return Ok(());
         }
         self.go_back(rules, 0)?;
         self.reduce(alloc)?;
-        if self.bytes() > (self.pace.memory / 4).wrapping_mul(3) {
+        if self.bytes() > (self.memory / 4).wrapping_mul(3) {
             self.state = State::Full;
         }
         Ok(())

@@ -268,7 +268,7 @@ impl Learner {
         }
         self.forget();
         weights.raise_bump();
-        nogoods.raise_bump();
+        nogoods.list.raise_bump();
         Ok(())
     }
 }

@@ -16,7 +16,7 @@ mod weights;
 
 pub use engine::Engine;
 pub use incumbent::Incumbent;
-pub use options::{Counts, Limits, Options, State};
+pub use options::{Counts, Limits, State};
 pub use search::Search;
 pub use start_propagators::Pair;
 pub use start_trail::{Arcs, Literal, Rules};

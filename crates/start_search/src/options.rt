@@ -1,13 +1,4 @@
-//! How a search on bounds goes, where it stands, and how much it did.
-
-/// How a search goes. The same options give the same search.
-#[derive(Clone, Copy, PartialEq, Eq, Debug)]
-pub struct Options {
-    /// How many bytes the search may take, besides the rules of the project.
-    pub memory: u64,
-    /// How many pairs of rivals have a variable for their order at most. Where there are more, none has.
-    pub pairs: u32,
-}
+//! How far a search on bounds goes, where it stands, and how much it did.
 
 /// How far a search goes on at once.
 #[derive(Clone, Copy, PartialEq, Eq, Debug)]
@@ -36,7 +27,6 @@ pub struct Counts {
     pub decisions: u64,
     /// Schedules that were found.
     pub schedules: u64,
-    pub restarts: u64,
 }
 
 impl Counts {
@@ -45,6 +35,5 @@ impl Counts {
         conflicts: 0,
         decisions: 0,
         schedules: 0,
-        restarts: 0,
     };
 }

@@ -1,10 +1,9 @@
 //! The search on bounds, as callers see it.
 
 use crate::engine::Engine;
-use crate::options::{Counts, Limits, Options, State};
+use crate::options::{Counts, Limits, State};
 use crate::trace::Trace;
 use network::Project;
-use start_propagators::Pair;
 use start_trail::{Arcs, Rules};
 use std::alloc::{AllocError, Global};
 
@@ -18,54 +17,13 @@ pub struct Search {
     engine: Engine,
 }
 
-/// The pairs of rivals that either order fits; none where there are more than so many.
-fn open_pairs(
-    alloc: Global,
-    rules: &Rules,
-    engine: &Engine,
-    most: u32,
-) -> Result<Vec<Pair>, AllocError> {
-    let mut pairs = Vec::new(alloc);
-    for a in 1..rules.end() {
-        push_open_pairs(rules, engine, a, most as usize, &mut pairs)?;
-    }
-    if pairs.len() > most as usize {
-        pairs.clear();
-    }
-    Ok(pairs)
-}
-
-/// The same pairs of an activity with later ones, until there are more than so many.
-fn push_open_pairs(
-    rules: &Rules,
-    engine: &Engine,
-    a: u32,
-    most: usize,
-    pairs: &mut Vec<Pair>,
-) -> Result<(), AllocError> {
-    for b in a.wrapping_add(1)..rules.end() {
-        if pairs.len() > most {
-            break;
-        }
-        if engine.is_open(rules, a, b) {
-            pairs.push(Pair { a, b })?;
-        }
-    }
-    Ok(())
-}
-
 impl Search {
-    /// A search that has done nothing yet.
-    pub fn new(alloc: Global, project: &Project, options: Options) -> Result<Search, AllocError> {
+    /// A search that has done nothing yet. It may take so many bytes, besides the rules of the project.
+    pub fn new(alloc: Global, project: &Project, memory: u64) -> Result<Search, AllocError> {
         let rules = Rules::new(alloc, project)?;
         let ceiling = rules.horizon().wrapping_add(1);
-        let memory = options.memory;
         let mut engine = Engine::new(alloc, &rules, ceiling, Arcs::new(alloc), &[], memory)?;
-        if options.pairs > 0 {
-            engine.begin(&rules);
-            let pairs = open_pairs(alloc, &rules, &engine, options.pairs)?;
-            engine = Engine::new(alloc, &rules, ceiling, Arcs::new(alloc), &pairs, memory)?;
-        } else if rules.unit() == 1 {
+        if rules.unit() == 1 {
             engine.trace = Some(Trace::new(alloc));
         }
         Ok(Search { rules, engine })
@@ -97,20 +55,8 @@ impl Search {
         }
     }
 
-    /// What the search says that no feasible schedule is shorter than, in periods. Where there is no schedule this says
-    /// nothing.
-    pub fn bound(&self) -> i64 {
-        let incumbent = &self.engine.incumbent;
-        if self.engine.state == State::Ended && incumbent.is_known() {
-            incumbent.periods(incumbent.ceiling())
-        } else {
-            incumbent.periods(self.engine.root_start(self.rules.end()))
-        }
-    }
-
     /// The proof that the best schedule is a shortest one: the last of the trace. None if the search hasn't ended or
-    /// keeps no proofs. It keeps none if times count units of several periods, if orders of pairs are variables, or if
-    /// there was no room.
+    /// keeps no proofs. It keeps none if times count units of several periods, or if there was no room.
     pub fn trace(&self) -> Option<&Trace> {
         if self.engine.state == State::Ended && self.engine.incumbent.is_known() {
             self.engine.trace.as_ref()
@@ -122,10 +68,5 @@ impl Search {
     /// How much was done.
     pub fn counts(&self) -> Counts {
         self.engine.counts
-    }
-
-    /// How many bytes the search and its rules take.
-    pub fn bytes(&self) -> u64 {
-        self.engine.bytes().wrapping_add(self.rules.bytes())
     }
 }

@@ -55,7 +55,7 @@ pub struct Trace {
 fn ground_of(nogoods: &Nogoods, reason: Reason) -> Option<Ground> {
     match reason {
         Reason::Use { nogood } => Some(Ground::Use {
-            proof: nogoods.nogood(nogood).proof,
+            proof: nogoods.list.get(nogood).note.proof,
         }),
         Reason::Full { resource, time } => Some(Ground::Full { resource, time }),
         _ => None,
@@ -68,7 +68,7 @@ fn end_of(nogoods: &Nogoods, conflict: Conflict) -> Ground {
         Conflict::Forced { .. } => Ground::Walk,
         Conflict::Overload { resource, time } => Ground::Full { resource, time },
         Conflict::Nogood { nogood } => Ground::Use {
-            proof: nogoods.nogood(nogood).proof,
+            proof: nogoods.list.get(nogood).note.proof,
         },
     }
 }
@@ -123,8 +123,7 @@ impl Trace {
                 self.links.push(Link { literal, ground })?;
             }
         }
-        let to = self.links.count();
-        Ok(Span { from, to })
+        Ok(self.links.span_from(from))
     }
 
     /// The proof of one nogood more. Gives its number.
@@ -137,15 +136,11 @@ impl Trace {
         conflict: Conflict,
     ) -> Result<u32, AllocError> {
         self.note_root(trail, nogoods)?;
-        let from = self.literals.count();
-        for literal in nogood {
-            self.literals.push(*literal)?;
-        }
-        let to = self.literals.count();
+        let literals = self.literals.push_all(nogood)?;
         let links = self.push_links(nogoods, chain)?;
         let number = self.proofs.count();
         self.proofs.push(Proof {
-            literals: Span { from, to },
+            literals,
             links,
             end: end_of(nogoods, conflict),
             roots: self.roots.count(),

@@ -14,9 +14,9 @@ mod rules;
 mod trail;
 mod watching;
 
-pub use arcs::{Arcs, Edge};
-pub use literal::{Literal, NO_LITERAL, greatest_slot, least_slot, variable_of};
-pub use nogoods::{Nogood, Nogoods};
+pub use arcs::Arcs;
+pub use literal::{Literal, NO_LITERAL, greatest_slot, least_slot};
+pub use nogoods::{Nogoods, Note};
 pub use reason::{Conflict, Reason, Stop};
-pub use rules::{MAX_HORIZON, Rules, Use};
+pub use rules::{Rules, Use};
 pub use trail::{Event, Trail};

@@ -22,12 +22,6 @@ pub fn greatest_slot(variable: u32) -> u32 {
     variable.wrapping_mul(2).wrapping_add(1)
 }
 
-/// The variable of a slot.
-#[inline(always)]
-pub fn variable_of(slot: u32) -> u32 {
-    slot / 2
-}
-
 impl Literal {
     /// The variable is at least so much.
     #[inline(always)]

@@ -111,9 +111,8 @@ pub(crate) fn arcs_of(alloc: Global, project: &Project, unit: i64) -> Result<Arc
 /// The longest that an activity keeps another one from starting.
 fn longest_delay(numbers: &Numbers, arcs: &Arcs, activity: u32) -> i32 {
     let mut longest = numbers.durations.get(activity as usize);
-    let edges = arcs.edges_of(least_slot(activity));
-    for x in edges.from..edges.to {
-        longest = longest.max(arcs.edge(x).weight);
+    for edge in arcs.edges_of(least_slot(activity)) {
+        longest = longest.max(edge.weight);
     }
     longest
 }

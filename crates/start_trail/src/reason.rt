@@ -1,7 +1,6 @@
 //! Why an event came, and why literals contradict each other.
 
 use crate::literal::Literal;
-use std::alloc::{AllocError, AllocFailed};
 
 /// Why an event moved a slot. What it doesn't say follows from the slot.
 #[derive(Clone, Copy, PartialEq, Eq, Debug)]
@@ -33,21 +32,5 @@ pub enum Conflict {
     Nogood { nogood: u32 },
 }
 
-/// Why a step did not end well.
-#[derive(Clone, Copy, PartialEq, Eq, Debug)]
-pub enum Stop {
-    Conflict(Conflict),
-    Memory,
-}
-
-impl From<AllocError> for Stop {
-    fn from(_error: AllocError) -> Stop {
-        Stop::Memory
-    }
-}
-
-impl<T: Drop> From<AllocFailed<T>> for Stop {
-    fn from(_error: AllocFailed<T>) -> Stop {
-        Stop::Memory
-    }
-}
+/// Why a step of the search on bounds did not end well.
+pub type Stop = search_parts::Stop<Conflict>;

@@ -5,10 +5,10 @@ use crate::literal::least_slot;
 use crate::making::{Numbers, arcs_of, horizon_of, numbers_of};
 use network::Project;
 use std::alloc::{AllocError, Global};
-use tables::{Span, Table};
+use tables::{Rows, Table};
 
 /// No start is after this: more than all durations and lags of a project in a row.
-pub const MAX_HORIZON: i32 = 1_100_000_000;
+pub(crate) const MAX_HORIZON: i32 = 1_100_000_000;
 
 /// An activity needs so much of a resource.
 #[derive(Clone, Copy, PartialEq, Eq, PartialOrd, Ord)]
@@ -30,11 +30,9 @@ pub struct Rules {
     numbers: Numbers,
     pub arcs: Arcs,
     /// Those that run and need a resource that isn't enough for all, by resource and then by falling demand.
-    users: Table<Use>,
-    user_ends: Table<u32>,
+    users: Rows<Use>,
     /// The same by activity and then by resource.
-    uses: Table<Use>,
-    use_ends: Table<u32>,
+    uses: Rows<Use>,
     /// The earliest starts by the arcs alone.
     least: Table<i32>,
     horizon: i32,
@@ -51,10 +49,8 @@ impl Rules {
         let mut rules = Rules {
             numbers,
             arcs,
-            users: Table::new(alloc, NO_USE),
-            user_ends: Table::new(alloc, 0),
-            uses: Table::new(alloc, NO_USE),
-            use_ends: Table::new(alloc, 0),
+            users: Rows::new(alloc, NO_USE),
+            uses: Rows::new(alloc, NO_USE),
             least: Table::filled(alloc, count, 0, 0)?,
             horizon,
             has_schedule: true,
@@ -103,16 +99,13 @@ impl Rules {
             self.has_schedule &= demand <= self.capacity(resource);
             self.users.push(Use { demand, ..*user })?;
         }
-        let end = self.users.count();
-        self.user_ends.push(end)
+        self.users.close()
     }
 
     /// Finds what each activity needs of resources that have users.
     fn find_uses(&mut self) -> Result<(), AllocError> {
         for activity in 0..self.activity_count() {
             self.push_uses(activity)?;
-            let end = self.uses.count();
-            self.use_ends.push(end)?;
         }
         Ok(())
     }
@@ -129,16 +122,14 @@ impl Rules {
                 })?;
             }
         }
-        Ok(())
+        self.uses.close()
     }
 
     /// Moves the followers of an activity to where its arcs let them start. Whether one moved.
     fn push_followers(&mut self, activity: u32) -> bool {
         let start = self.least.get(activity as usize);
         let mut has_moved = false;
-        let edges = self.arcs.edges_of(least_slot(activity));
-        for x in edges.from..edges.to {
-            let edge = self.arcs.edge(x);
+        for edge in self.arcs.edges_of(least_slot(activity)) {
             let to = (edge.to / 2) as usize;
             let value = start.wrapping_add(edge.weight);
             if value > self.least.get(to) && value <= MAX_HORIZON {
@@ -231,35 +222,13 @@ impl Rules {
     /// Those that run and need a resource, by falling demand; none where there is enough for all.
     #[inline(always)]
     pub fn users_of(&self, resource: u32) -> &[Use] {
-        let at = resource as usize;
-        let from = if at == 0 {
-            0
-        } else {
-            self.user_ends.get(at - 1)
-        };
-        let to = self.user_ends.get(at);
-        self.users.part(Span { from, to })
+        self.users.row(resource)
     }
 
-    /// The places of what an activity needs of resources that aren't enough for all.
+    /// What an activity needs of resources that aren't enough for all.
     #[inline(always)]
-    pub fn uses_of(&self, activity: u32) -> Span {
-        let at = activity as usize;
-        let from = if at == 0 {
-            0
-        } else {
-            self.use_ends.get(at - 1)
-        };
-        Span {
-            from,
-            to: self.use_ends.get(at),
-        }
-    }
-
-    /// What an activity needs, at a place.
-    #[inline(always)]
-    pub fn use_at(&self, at: u32) -> Use {
-        self.uses.get(at as usize)
+    pub fn uses_of(&self, activity: u32) -> &[Use] {
+        self.uses.row(activity)
     }
 
     /// Whether some resource isn't enough for two activities that run at once.
@@ -267,24 +236,13 @@ impl Rules {
         if a == b || self.duration(b) == 0 {
             return false;
         }
-        let uses = self.uses_of(a);
-        for x in uses.from..uses.to {
-            let found = self.use_at(x);
+        for found in self.uses_of(a) {
             let sum = found.demand.wrapping_add(self.demand(found.resource, b));
             if sum > self.capacity(found.resource) {
                 return true;
             }
         }
         false
-    }
-
-    /// How many bytes the rules take.
-    pub fn bytes(&self) -> u64 {
-        let uses = (self.users.len() as u64).wrapping_mul(24);
-        let rows = (self.least.len() as u64).wrapping_mul(12);
-        let demands = (self.least.len() as u64).wrapping_mul(self.resource_count() as u64);
-        let numbers = demands.wrapping_mul(4).wrapping_add(rows);
-        self.arcs.bytes().wrapping_add(uses).wrapping_add(numbers)
     }
 
     /// How many activities run.
