@@ -35,13 +35,6 @@ impl<T> Listed<T> {
     {
         &self.list
     }
-
-    /// The elements as a `Vec`, without taking memory.
-    pub fn into_vec(self) -> Vec<T>
-        ensures { result.items ≡ self }
-    {
-        self.list
-    }
 }
 
 /// The members of a set, rising.
