@@ -1,21 +1,58 @@
 -- The texts of answers.
-use Rattle.std.specs.Prelude.{◌≡◌, ℕ, ◌+◌, Bool, true, false, Option, Some, None, List, [], ◌∷◌, ◌++◌, ℤ, ◌<ℤ◌, ◌≤ℤ◌, codes, ◌⊎◌}
-use Rattle.std.specs.List.{flat_map}
-use Rattle.std.specs.Fmt.{decimal, signed_decimal}
+use Rattle.std.specs.Prelude.{ℕ, List, ◌++◌, map, ℤ, Option, Some, None, codes, ◌≡◌, ◌+◌, Bool, true, false, [], ◌∷◌, ◌<ℤ◌, ◌≤ℤ◌, ◌⊎◌}
+use Rattle.std.specs.List.{join_with_byte, flat_map}
+use Rattle.std.specs.Fmt.{signed_decimal, decimal}
+use Rattle.serde_json.specs.Data.{Data, null, number, string, array, object, no_members, member}
+use Rattle.serde_json.specs.Find.{of_integer}
+use Rattle.serde_json.specs.View.{items_of}
 use Rattle.network.specs.Problem.{Problem, rules}
-use Rattle.network.specs.Schedule.{IsLeastSchedule, IsFeasible, makespan}
-use Rattle.network.specs.Verdict.{IsLowerBound, IsShortest, HasNoSchedule}
+use Rattle.network.specs.Schedule.{IsLeastSchedule, IsFeasible, makespan, IsLowerBound, IsShortest, HasNoSchedule}
 use Rattle.network.specs.Walk.{IsLeastCycleTop}
-use Rattle.sch_reader.specs.Canonical.{canonical_text}
+use Rattle.sch_reader.specs.Text.{canonical_text}
 use Rattle.schedule_check.specs.declared.violation.Violation.{Violation}
 use Rattle.schedule_check.specs.declared.violation.Violation.TheVariants as violation
 use Rattle.schedule_check.specs.Violations.{violations}
-use Rattle.record_text.specs.SearchRecord.{SearchRecord}
-use Rattle.search_record.specs.Right.{IsRight}
-use Rattle.search_record.specs.Proves.{proved_of, IsTrueOf}
-use Rattle.search_record.specs.declared.proved.Proved.{Proved}
-use Rattle.search_record.specs.declared.proved.Proved.TheVariants as proved
-use Rattle.answers.specs.JsonLine.{json_line}
+use Rattle.record_text.specs.Tree.{SearchRecord}
+use Rattle.search_record.specs.Right.{IsRight, proved_of, IsTrueOf}
+use Rattle.search_record.specs.declared.verification.Proved.{Proved}
+use Rattle.search_record.specs.declared.verification.Proved.TheVariants as proved
+
+-- ---- An answer as one line of JSON.
+
+-- a number, or null
+abbrev pub number_text : Option ℤ → List ℕ
+number_text None = codes "null"
+number_text (Some z) = signed_decimal z
+
+-- a list of numbers, or null
+abbrev pub list_text : Option (List ℤ) → List ℕ
+list_text None = codes "null"
+list_text (Some zs) = codes "[" ++ (join_with_byte 44 (map signed_decimal zs) ++ codes "]")
+
+-- the line, with its keys in this order
+abbrev pub json_line : Option ℤ → Option ℤ → Option (List ℤ) → List ℕ → List ℕ
+json_line bound makespan starts status =
+    codes "{\"bound\":" ++ (number_text bound
+    ++ (codes ",\"makespan\":" ++ (number_text makespan
+    ++ (codes ",\"starts\":" ++ (list_text starts
+    ++ (codes ",\"status\":\"" ++ (status ++ codes "\"}\n")))))))
+
+-- ---- the value of which it is the text
+
+abbrev pub number_data : Option ℤ → Data
+number_data None = null
+number_data (Some z) = number (of_integer z)
+
+abbrev pub list_data : Option (List ℤ) → Data
+list_data None = null
+list_data (Some zs) = array (items_of (map (λ z. number (of_integer z)) zs))
+
+abbrev pub answer_data : Option ℤ → Option ℤ → Option (List ℤ) → List ℕ → Data
+answer_data bound makespan starts status =
+    object (member (codes "bound") (number_data bound)
+    (member (codes "makespan") (number_data makespan)
+    (member (codes "starts") (list_data starts)
+    (member (codes "status") (string status) no_members))))
 
 -- a line for each activity, from this one on: its number and its start
 abbrev pub start_lines : ℕ → List ℤ → List ℕ

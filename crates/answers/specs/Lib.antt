@@ -1,4 +1,3 @@
-pub mod JsonLine
 pub mod Answers
 pub mod Faults
 pub mod Outcomes

@@ -2,13 +2,13 @@
 use Rattle.std.specs.Prelude.{◌≡◌, ℕ, ℤ, List, Bool, true, false, Option, Some, None, IfSome}
 use Rattle.network.specs.Problem.{Problem}
 use Rattle.network.specs.Schedule.{makespan}
-use Rattle.plain_search.specs.declared.outcome.Outcome.{Outcome}
-use Rattle.plain_search.specs.declared.outcome.Outcome.TheVariants.{Optimal, NoSchedule, Stopped}
+use Rattle.plain_search.specs.declared.search.Outcome.{Outcome}
+use Rattle.plain_search.specs.declared.search.Outcome.TheVariants.{Optimal, NoSchedule, Stopped}
 use Rattle.plain_search.specs.Takes.{IsStoppedAfter, StopsOnlyAfter}
 use Rattle.plain_search.specs.Verdicts.{IsNoLongerThan, IsTrueOf, StopsBelowBest}
 use Rattle.record_text.specs.declared.line.Claim.{Claim}
 use Rattle.record_text.specs.declared.line.Claim.TheVariants as claims
-use Rattle.record_text.specs.SearchRecord.{SearchRecord}
+use Rattle.record_text.specs.Tree.{SearchRecord}
 use Rattle.record_text.specs.Kinds.{record_text}
 use Rattle.record_text.specs.Text.{search_kind}
 use Rattle.search_record.specs.Right.{IsRight}

@@ -4,7 +4,7 @@ ghost use Rattle.std.specs.Prelude.{◌≡◌, ◌++◌, ◌∷◌, [], IfOk, st
 ghost use Rattle.json.specs.Print.{escape};
 ghost use Rattle.serde_json.specs.View.{view};
 ghost use Rattle.serde_json.specs.Written.{compact_text, has_float};
-ghost use Rattle.answers.specs.JsonLine.{number_data, list_data, answer_data, json_line};
+ghost use Rattle.answers.specs.Answers.{number_data, list_data, answer_data, json_line};
 
 use serde_json::{Value, json};
 use std::alloc::{AllocError, Global};

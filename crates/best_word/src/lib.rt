@@ -10,7 +10,6 @@ mod rule;
 mod seat;
 #[cfg(test)]
 mod tests;
-mod view;
 mod word;
 
 pub use seat::BestSeat;

@@ -1,8 +1,7 @@
 //! The rule of the word, and what each kind of step on it tells the seat.
-ghost use Rattle.best_word.specs.View.{Sees, Lowers, opening_view};
-ghost use Rattle.best_word.specs.Word.{HoldsLeast};
+ghost use Rattle.best_word.specs.Word.{Sees, Lowers, opening_view, HoldsLeast};
 
-use crate::view::View;
+use crate::seat::View;
 use atomic_table::{Play, Split, TableRule};
 
 /// The word is the least number that was offered. It holds between any two steps, whatever threads take them.

@@ -1,8 +1,16 @@
 //! A thread's seat at the shared word: what it has seen of it.
 
-use crate::view::View;
 use atomic_table::Seat;
 use std::marker::Model;
+
+/// What a seat knows and has offered. It is for contracts alone: no value of it is made.
+pub(crate) struct View {
+    /// The least number that the seat found in the word or offered.
+    pub(crate) known: u64,
+    /// The least number that the seat offered. What the word was opened with counts as offered by its first seat. What
+    /// a seat offered before it was split counts as offered by both.
+    pub(crate) offered: u64,
+}
 
 /// What one thread reaches a [`BestWord`](crate::BestWord) with. Contracts see of which word it is, what it knows and
 /// what it has offered; it has no bytes. It can be dropped at any time, and what it offered stays offered.

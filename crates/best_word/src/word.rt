@@ -1,11 +1,10 @@
 //! A number that threads lower together.
 
 ghost use Rattle.std.specs.Prelude.{◌≡◌, ℕ, IfOk};
-ghost use Rattle.best_word.specs.View.{Sees, Lowers, opening_view};
+ghost use Rattle.best_word.specs.Word.{Sees, Lowers, opening_view};
 
 use crate::rule::{Alike, Least, Look, Offer};
-use crate::seat::BestSeat;
-use crate::view::View;
+use crate::seat::{BestSeat, View};
 use atomic_table::Table;
 use std::alloc::{AllocError, Global};
 use std::marker::Model;

@@ -1,7 +1,6 @@
 -- A book's nodes go on to cover what is shorter than its best, as they move, as they are cut, and as one gives way to
 -- its kids.
-use Rattle.std.proofs.Common.{◌≡◌, ◌∙◌, ◌<ℤ◌, ℕ, ℤ, Bool, true, false, cond, List, [], ◌∷◌, ◌++◌, Option, Some, None, refl, sym, ap, subst, length, inl, inr, ⊎_elim, ◌⊎◌, arith}
-use Rattle.std.specs.Prelude.{IfSome}
+use Rattle.std.proofs.Common.{◌≡◌, ◌∙◌, ◌<ℤ◌, ℕ, ℤ, Bool, true, false, cond, List, [], ◌∷◌, ◌++◌, Option, Some, None, refl, sym, ap, subst, length, inl, inr, ⊎_elim, ◌⊎◌, arith, IfSome}
 use Rattle.std.specs.List.{All, Contains, filter}
 use Rattle.std.specs.List.Sorted.{IsPermutation}
 use Rattle.std.proofs.lemmas.Int.{ints}
@@ -11,19 +10,15 @@ use Rattle.std.proofs.lemmas.List.Sorted.{IsPermutation-map, All-permutation, Co
 use Rattle.network.specs.Problem.{Problem}
 use Rattle.network.specs.Schedule.{ScheduleOf, makespan}
 use Rattle.branching.specs.Subproblem.{Subproblem}
-use Rattle.branching.specs.Ceiling.{IsBelow, IsUnder, Reaches, is_below, IsInTime}
-use Rattle.branching.specs.Covered.{IsNodeOf, IsCovered, IsScheduleFor, ceiling_of}
-use Rattle.branching.specs.Fair.{Expansion, IsFair, IsShorterThan}
-use Rattle.branching.specs.Covered.{IsShorterOf}
-use Rattle.branching.proofs.Lists.{here, there, contains_cases}
+use Rattle.branching.specs.Right.{IsBelow, IsUnder, Reaches, is_below, IsInTime}
+use Rattle.branching.specs.Fair.{IsNodeOf, IsCovered, IsScheduleFor, ceiling_of, Expansion, IsFair, IsShorterThan, IsShorterOf}
+use Rattle.branching.proofs.OrderedPairs.{here, there, contains_cases}
 use Rattle.branching.proofs.Covers.{covered_still, expansion_keeps}
 use Rattle.book.specs.State.{Named}
 use Rattle.book.specs.Sound.{nodes_of}
-use Rattle.book.specs.Offering.{Improves}
-use Rattle.trail.specs.Below.{kids_below}
-use Rattle.book.specs.CheckingIn.{named_from}
-use Rattle.book.proofs.Lists.{all_left, all_right}
-use Rattle.book.proofs.Names.{nodes_of_named}
+use Rattle.book.specs.Steps.{Improves, named_from}
+use Rattle.trail.specs.RightTrail.{kids_below}
+use Rattle.book.proofs.Names.{all_left, all_right, nodes_of_named}
 
 -- nodes may change places
 pub covered_moved : (p : Problem) (best : Option ScheduleOf) (old new : List Named) → IsPermutation old new → IsCovered p best (nodes_of old) → IsCovered p best (nodes_of new)

@@ -1,25 +1,79 @@
 -- The entries of the open nodes, as one goes in.
-use Rattle.std.proofs.Common.{◌≡◌, ◌<◌, ◌+◌, ◌-◌, ℕ, ℤ, Bool, true, false, List, [], ◌∷◌, ◌++◌, Option, refl, sym, ap, subst, ◌∙◌, arith, map, length, length-append, cond}
-use Rattle.std.specs.List.{All, filter}
-use Rattle.std.specs.Arc.{arc_value}
+use Rattle.std.proofs.Common.{◌≡◌, ◌<◌, ◌<ℤ◌, ◌≤ℤ◌, ℤ, List, [], ◌∷◌, Some, sym, ap, subst, inl, inr, ◌∙◌, map, arith, false, ◌⊎◌, slice_get, ◌+◌, ◌-◌, ℕ, Bool, true, ◌++◌, Option, refl, length, length-append, cond, zero, suc, None, take, get_or}
+use Rattle.std.specs.List.{All, filter, count_by}
+use Rattle.std.specs.declared.cmp.Ordering.{Ordering}
 use Rattle.std.specs.declared.cmp.Ordering.TheVariants.{Less, Equal, Greater}
-use Rattle.std.specs.Ordering.{ordering_then, int_cmp, nat_cmp, match_ordering}
+use Rattle.std.specs.Ordering.{ordering_then, int_cmp, nat_cmp, is_gt, MatchOrdering, match_ordering}
+use Rattle.std.specs.Cmp.{int_ranks}
 use Rattle.std.proofs.lemmas.Cmp.{ranked}
+use Rattle.std.proofs.lemmas.Int.{ints}
+use Rattle.std.specs.Map.{keys_of}
+use Rattle.std.specs.BTreeMap.Range.{IsLeBy, IsLtBy}
+use Rattle.std.proofs.lemmas.List.Elements.{All-nil, All-cons, All-head, All-tail, All-weaker, filter-append}
+use Rattle.book.specs.Steps.{GoesBefore, named_from}
+use Rattle.book.specs.Sound.{IsLeast, bounds_of, AreNamedBelow}
+use Rattle.book.specs.OpenNodes.{open_node, IsFiled, IsNamedOtherThan, is_older, Inserts, InsertsKids, Rank, OpenNode}
+use Rattle.std.specs.Arc.{arc_value}
 use Rattle.std.specs.BTreeMap.{insert_entry}
 use Rattle.std.specs.List.Sorted.{IsPermutation}
-use Rattle.std.proofs.lemmas.List.Elements.{All-nil, All-cons, All-head, All-tail, All-weaker, filter-append}
-use Rattle.std.proofs.lemmas.List.Sorted.{IsPermutation-refl, IsPermutation-trans, IsPermutation-cons, IsPermutation-middle, IsPermutation-append_left, IsPermutation-to_front, All-permutation}
+use Rattle.std.proofs.lemmas.List.Sorted.{IsPermutation-refl, IsPermutation-trans, IsPermutation-cons, IsPermutation-middle, IsPermutation-append_left, IsPermutation-to_front, All-permutation, IsPermutation-append_right}
 use Rattle.branching.specs.Subproblem.{Subproblem}
-use Rattle.book.specs.State.{Named}
-use Rattle.book.specs.Sound.{AreNamedBelow}
-use Rattle.branching.specs.Ceiling.{is_below}
-use Rattle.trail.specs.Below.{kids_below}
-use Rattle.book.specs.CheckingIn.{named_from}
-use Rattle.book.specs.OpenNodes.{open_node, IsFiled, IsNamedOtherThan, is_older, Inserts, InsertsKids}
-use Rattle.book.specs.declared.open_nodes.Rank.{Rank}
-use Rattle.book.specs.declared.open_nodes.OpenNode.{OpenNode}
+use Rattle.book.specs.State.{Named, BookState, in_hand, live, hand_of, Held}
+use Rattle.branching.specs.Right.{is_below}
+use Rattle.trail.specs.RightTrail.{kids_below}
 use Rattle.book.proofs.Names.{named_from_more}
-use Rattle.book.proofs.Ranks.{rank_cmp}
+use Rattle.std.specs.Option.{is_some}
+use Rattle.std.proofs.Math.ListN.{set, replicate}
+use Rattle.std.proofs.lemmas.List.{take_more, map-append}
+use Rattle.std.proofs.lemmas.List.Sums.{sum_by-cons}
+
+-- ---- What the order of the open nodes says of their bounds and names.
+
+-- what the derived order of ranks comes to
+abbrev pub rank_cmp : Rank → Rank → Ordering
+rank_cmp a b = ordering_then (int_cmp a.bound b.bound) (nat_cmp b.name.0 a.name.0)
+
+bound_at_least : (a b : Rank) → IsLeBy rank_cmp a b → a.bound ≤ℤ b.bound
+bound_at_least a b h =
+    (elim (int_cmp a.bound b.bound) as (λ r. MatchOrdering r (a.bound <ℤ b.bound) (a.bound ≡ b.bound) (b.bound <ℤ a.bound) → is_gt (ordering_then r (nat_cmp b.name.0 a.name.0)) ≡ false → a.bound ≤ℤ b.bound) [
+      | Less ↦ λ l _. omega (arith, ints)
+      | Equal ↦ λ e _. omega (arith, ints)
+      | Greater ↦ λ g f. absurd (cc)
+    ]) (int_ranks a.bound b.bound) h
+
+before : (a b : Rank) → IsLtBy rank_cmp a b → (a.bound <ℤ b.bound) ⊎ ((a.bound ≡ b.bound) × (b.name.0 < a.name.0))
+before a b h =
+    (elim (int_cmp a.bound b.bound) as (λ r. MatchOrdering r (a.bound <ℤ b.bound) (a.bound ≡ b.bound) (b.bound <ℤ a.bound) → ordering_then r (nat_cmp b.name.0 a.name.0) ≡ Less → (a.bound <ℤ b.bound) ⊎ ((a.bound ≡ b.bound) × (b.name.0 < a.name.0))) [
+      | Less ↦ λ l _. inl l
+      | Equal ↦ λ e f. inr (e, ranked b.name.0 a.name.0 Less (sym f))
+      | Greater ↦ λ g f. absurd (cc)
+    ]) (int_ranks a.bound b.bound) h
+
+-- the first open node goes before each other
+pub goes_before_others : (first : Rank × OpenNode) (es : List (Rank × OpenNode)) → IsFiled first → All (IsLtBy rank_cmp first.0) (keys_of es) → All IsFiled es → All (GoesBefore (open_node first)) (map open_node es)
+goes_before_others first [] f lt filed = All-nil (GoesBefore (open_node first))
+goes_before_others first (e ∷ es) f lt filed =
+    let this = All-head IsFiled e es filed in
+    let goes = before first.0 e.0 (All-head (IsLtBy rank_cmp first.0) e.0 (keys_of es) lt) in
+    All-cons (GoesBefore (open_node first)) (open_node e) (map open_node es)
+    (subst (λ (x : ℤ). (x <ℤ (open_node e).node.bound) ⊎ ((x ≡ (open_node e).node.bound) × (e.0.name.0 < first.0.name.0))) f.bound
+    (subst (λ (x : ℤ). (first.0.bound <ℤ x) ⊎ ((first.0.bound ≡ x) × (e.0.name.0 < first.0.name.0))) this.bound goes))
+    (goes_before_others first es f (All-tail (IsLtBy rank_cmp first.0) e.0 (keys_of es) lt) (All-tail IsFiled e es filed))
+
+each_above : (rank : Rank) (es : List (Rank × OpenNode)) → All (IsLeBy rank_cmp rank) (keys_of es) → All IsFiled es → All (λ n. rank.bound ≤ℤ n) (bounds_of (map open_node es))
+each_above rank [] le filed = All-nil (λ n. rank.bound ≤ℤ n)
+each_above rank (e ∷ es) le filed =
+    All-cons (λ n. rank.bound ≤ℤ n) (open_node e).node.bound (bounds_of (map open_node es))
+    (subst (λ (x : ℤ). rank.bound ≤ℤ x) (All-head IsFiled e es filed).bound (bound_at_least rank e.0 (All-head (IsLeBy rank_cmp rank) e.0 (keys_of es) le)))
+    (each_above rank es (All-tail (IsLeBy rank_cmp rank) e.0 (keys_of es) le) (All-tail IsFiled e es filed))
+
+-- the first open node has the least bound
+pub first_is_least : (es : List (Rank × OpenNode)) (rank : Rank) (opened : OpenNode) → slice_get es 0 ≡ Some (rank, opened) → All (IsLeBy rank_cmp rank) (keys_of es) → All IsFiled es → IsLeast (bounds_of (map open_node es)) (Some rank.bound)
+first_is_least [] rank opened first le filed = absurd (cc)
+first_is_least (e ∷ es) rank opened first le filed =
+    let same : e ≡ (rank, opened) = cc in
+    let bound : (open_node e).node.bound ≡ rank.bound = sym (All-head IsFiled e es filed).bound ∙ ap (λ (p : Rank × OpenNode). p.0.bound) same in
+    ((0, omega arith, bound), each_above rank (e ∷ es) le filed)
 
 -- ranks that tie have one name
 same_name : (a b : Rank) → rank_cmp a b ≡ Equal → b.name.0 ≡ a.name.0
@@ -140,3 +194,54 @@ older_nodes first (e ∷ es) =
       | true ↦ ap (λ (ns : List Named). open_node e ∷ ns) (older_nodes first es)
       | false ↦ older_nodes first es
     ])
+
+-- ---- The nodes in hand, as one hand is filled or emptied.
+
+swapped : (x y : Named) (rest : List Named) → IsPermutation (x ∷ y ∷ rest) (y ∷ x ∷ rest)
+swapped x y rest = IsPermutation-middle (x ∷ []) y rest
+
+-- an empty hand takes a node
+pub in_hand_filled : (hands : List (Option Named)) (i : ℕ) (held : Named) → slice_get hands i ≡ Some None → IsPermutation (held ∷ in_hand hands) (in_hand (set hands i (Some held)))
+in_hand_filled [] i held h = absurd (cc)
+in_hand_filled (None ∷ hands) zero held h = IsPermutation-refl _
+in_hand_filled (Some x ∷ hands) zero held h = absurd (cc)
+in_hand_filled (None ∷ hands) (suc i) held h = in_hand_filled hands i held h
+in_hand_filled (Some x ∷ hands) (suc i) held h =
+    IsPermutation-trans _ _ _ (swapped held x (in_hand hands)) (IsPermutation-cons x _ _ (in_hand_filled hands i held h))
+
+-- a hand gives up its node
+pub in_hand_emptied : (hands : List (Option Named)) (i : ℕ) (held : Named) → slice_get hands i ≡ Some (Some held) → IsPermutation (in_hand hands) (held ∷ in_hand (set hands i None))
+in_hand_emptied [] i held h = absurd (cc)
+in_hand_emptied (None ∷ hands) zero held h = absurd (cc)
+in_hand_emptied (Some x ∷ hands) zero held h =
+    let e : x ≡ held = cc in subst (λ (y : Named). IsPermutation (x ∷ in_hand hands) (y ∷ in_hand hands)) e (IsPermutation-refl _)
+in_hand_emptied (None ∷ hands) (suc i) held h = in_hand_emptied hands i held h
+in_hand_emptied (Some x ∷ hands) (suc i) held h =
+    IsPermutation-trans _ _ _ (IsPermutation-cons x _ _ (in_hand_emptied hands i held h)) (swapped x held (in_hand (set hands i None)))
+
+-- no hand holds a node
+pub in_hand_none : (workers : ℕ) → in_hand (replicate workers None) ≡ []
+in_hand_none zero = refl
+in_hand_none (suc workers) = in_hand_none workers
+
+in_hand_append : (xs ys : List (Option Named)) → in_hand (xs ++ ys) ≡ in_hand xs ++ in_hand ys
+in_hand_append [] ys = refl
+in_hand_append (None ∷ xs) ys = in_hand_append xs ys
+in_hand_append (Some x ∷ xs) ys = ap (λ (zs : List Named). x ∷ zs) (in_hand_append xs ys)
+
+-- the hands up to the next one
+pub in_hand_more : (hands : List (Option Held)) (i : ℕ) (hand : Option Held) → i < length hands → hand ≡ get_or hands i hand → in_hand (map hand_of (take (i + 1) hands)) ≡ in_hand (map hand_of (take i hands)) ++ in_hand (hand_of hand ∷ [])
+in_hand_more hands i hand l e =
+    ap (λ (hs : List (Option Held)). in_hand (map hand_of hs)) (take_more hands i hand l ∙ ap (λ (x : Option Held). take i hands ++ x ∷ []) (sym e))
+    ∙ (ap in_hand (map-append hand_of (take i hands) (hand ∷ [])) ∙ in_hand_append (map hand_of (take i hands)) (hand_of hand ∷ []))
+
+-- as many nodes are in hand as hands are full
+pub length_in_hand : (hands : List (Option Held)) → length (in_hand (map hand_of hands)) ≡ count_by is_some hands
+length_in_hand [] = refl
+length_in_hand (None ∷ hands) = omega (arith, sum_by-cons (λ (x : Option Held). cond (is_some x) 1 0) None hands, length_in_hand hands)
+length_in_hand (Some h ∷ hands) = omega (arith, sum_by-cons (λ (x : Option Held). cond (is_some x) 1 0) (Some h) hands, length_in_hand hands)
+
+-- the node in a hand, before the other nodes open or in hand
+pub held_first : (s : BookState) (worker : ℕ) (held : Named) → slice_get s.hands worker ≡ Some (Some held) → IsPermutation (live s) (held ∷ (s.waiting ++ in_hand (set s.hands worker None)))
+held_first s worker held holds =
+    IsPermutation-trans _ _ _ (IsPermutation-append_right s.waiting _ _ (in_hand_emptied s.hands worker held holds)) (IsPermutation-middle s.waiting held (in_hand (set s.hands worker None)))

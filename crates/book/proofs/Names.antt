@@ -1,16 +1,18 @@
 -- Names of nodes: how often each stands, as nodes move and kids are opened.
-use Rattle.std.proofs.Common.{◌≡◌, ◌<◌, ◌≤◌, ◌+◌, ◌==◌, ℕ, Bool, true, false, cond, List, [], ◌∷◌, ◌++◌, length, refl, ap, ◌∙◌, arith, ⊎_elim}
-use Rattle.std.specs.List.{All, count_by}
+use Rattle.std.proofs.Common.{◌≡◌, ◌<◌, ◌≤◌, ◌+◌, ◌==◌, ℕ, Bool, true, false, cond, List, [], ◌∷◌, ◌++◌, length, refl, ap, ◌∙◌, arith, ⊎_elim, map, ◌≤ℤ◌, ℤ, Option, Some, None}
+use Rattle.std.specs.List.{All, count_by, Any, filter}
 use Rattle.std.specs.List.Sorted.{IsPermutation}
 use Rattle.std.proofs.lemmas.Bool.{cases_lt}
 use Rattle.std.proofs.lemmas.List.Sums.{sum_by-cons, sum_by-append}
-use Rattle.std.proofs.lemmas.List.Elements.{All-nil, All-cons, All-head, All-tail, All-weaker}
+use Rattle.std.proofs.lemmas.List.Elements.{All-nil, All-cons, All-head, All-tail, All-weaker, All-append, Contains-append_left, Contains-append_right}
 use Rattle.std.proofs.lemmas.List.Sorted.{sum_by-IsPermutation}
 use Rattle.branching.specs.Subproblem.{Subproblem}
 use Rattle.book.specs.State.{Named}
-use Rattle.book.specs.Sound.{AreNamedOnce, AreNamedBelow, nodes_of}
-use Rattle.book.specs.CheckingIn.{named_from}
+use Rattle.book.specs.Sound.{AreNamedOnce, AreNamedBelow, nodes_of, IsLeast}
+use Rattle.book.specs.Steps.{named_from}
 use Rattle.book.specs.OpenNodes.{IsNamedOtherThan}
+use Rattle.std.specs.Option.{option_to_list}
+use Rattle.std.proofs.lemmas.Int.{ints}
 
 -- one where the node has the name, else none
 abbrev has : ℕ → Named → ℕ
@@ -101,3 +103,51 @@ others_named held rest once =
     let more = sum_by-cons (has held.name) held rest in
     let here : (held.name == held.name) ≡ true = grind arith in
     none_named held.name rest (omega (arith, more, has_one (held.name == held.name) here, once held.name))
+
+-- ---- Parts of lists, and what holds of all their elements.
+
+pub all_left : {X : Type 0} (P : X → Type 0) (xs ys : List X) → All P (xs ++ ys) → All P xs
+all_left P [] ys all = All-nil P
+all_left P (x ∷ xs) ys all = All-cons P x xs (All-head P x (xs ++ ys) all) (all_left P xs ys (All-tail P x (xs ++ ys) all))
+
+pub all_right : {X : Type 0} (P : X → Type 0) (xs ys : List X) → All P (xs ++ ys) → All P ys
+all_right P [] ys all = all
+all_right P (x ∷ xs) ys all = all_right P xs ys (All-tail P x (xs ++ ys) all)
+
+pub all_unmapped : {X Y : Type 0} (P : Y → Type 0) (f : X → Y) (xs : List X) → All P (map f xs) → All (λ x. P (f x)) xs
+all_unmapped P f [] all = All-nil (λ x. P (f x))
+all_unmapped P f (x ∷ xs) all = All-cons (λ x. P (f x)) x xs (All-head P (f x) (map f xs) all) (all_unmapped P f xs (All-tail P (f x) (map f xs) all))
+
+pub filter_at_most : {X : Type 0} (p : X → Bool) (xs : List X) → length (filter p xs) ≤ length xs
+filter_at_most p [] = omega arith
+filter_at_most p (x ∷ xs) =
+    (elim (p x) as (λ b. length (cond b (x ∷ filter p xs) (filter p xs)) ≤ length (x ∷ xs)) [
+      | true ↦ omega (arith, filter_at_most p xs)
+      | false ↦ omega (arith, filter_at_most p xs)
+    ])
+
+pub nothing_of_length : {X : Type 0} (xs : List X) → length xs ≡ 0 → xs ≡ []
+nothing_of_length [] e = refl
+nothing_of_length (x ∷ xs) e = absurd (omega arith)
+
+pub none_of_nothing : {X : Type 0} (P : X → Type 0) → Any P [] → ⊥
+none_of_nothing P some = absurd (omega arith)
+
+-- ---- The least of a list of numbers, as the list grows.
+
+append_none : (xs : List ℤ) → xs ++ [] ≡ xs
+append_none [] = refl
+append_none (x ∷ xs) = ap (λ ys. x ∷ ys) (append_none xs)
+
+pub least_left : (xs ys : List ℤ) (a b : ℤ) → IsLeast xs (Some a) → IsLeast ys (Some b) → a ≤ℤ b → IsLeast (xs ++ ys) (Some a)
+least_left xs ys a b f g l = (Contains-append_left xs ys a f.0, All-append (λ n. a ≤ℤ n) xs ys f.1 (All-weaker (λ n. b ≤ℤ n) (λ n. a ≤ℤ n) (λ n h. omega (arith, ints)) ys g.1))
+
+pub least_right : (xs ys : List ℤ) (a b : ℤ) → IsLeast xs (Some a) → IsLeast ys (Some b) → b ≤ℤ a → IsLeast (xs ++ ys) (Some b)
+least_right xs ys a b f g l = (Contains-append_right xs ys b g.0, All-append (λ n. b ≤ℤ n) xs ys (All-weaker (λ n. a ≤ℤ n) (λ n. b ≤ℤ n) (λ n h. omega (arith, ints)) xs f.1) g.1)
+
+pub least_of_one : (n : ℤ) → IsLeast (n ∷ []) (Some n)
+least_of_one n = ((0, omega arith, refl), All-cons (λ m. n ≤ℤ m) n [] (omega (arith, ints)) (All-nil (λ m. n ≤ℤ m)))
+
+pub least_of_option : (o : Option ℤ) → IsLeast (option_to_list o) o
+least_of_option None = refl
+least_of_option (Some n) = least_of_one n

@@ -1,30 +1,32 @@
 -- The trail of a book, as nodes end and kids are opened.
-use Rattle.std.proofs.Common.{◌≡◌, ◌≢◌, ℕ, ◌+◌, ◌<◌, List, [], ◌∷◌, ◌++◌, length, map, refl, sym, ap, ◌∙◌, subst, arith, append_assoc, append-nil, length-append, Option, ⊎_elim}
-use Rattle.std.specs.Prelude.{ℤ}
+use Rattle.std.proofs.Common.{◌≡◌, ◌≢◌, ℕ, ◌+◌, ◌<◌, List, [], ◌∷◌, ◌++◌, length, map, refl, sym, ap, ◌∙◌, subst, arith, append_assoc, append-nil, length-append, Option, ⊎_elim, Bool, true, false, get_or, Some, None, slice_get, ℤ, IfSome, option_map}
 use Rattle.std.specs.List.{All, count_by}
 use Rattle.std.proofs.Math.Seq.{get_or-append_seam}
-use Rattle.std.proofs.lemmas.List.{get_or_append_left}
-use Rattle.std.proofs.lemmas.List.Elements.{All-nil, All-cons, All-head, All-tail}
+use Rattle.std.proofs.lemmas.List.{get_or_append_left, length-map}
+use Rattle.std.proofs.lemmas.List.Elements.{All-nil, All-cons, All-head, All-tail, All-append, All-filter}
 use Rattle.network.specs.Problem.{Problem}
-use Rattle.network.specs.declared.lag.Pair.{Pair}
+use Rattle.network.specs.declared.parts.Pair.{Pair}
 use Rattle.branching.specs.Subproblem.{Subproblem}
-use Rattle.branching.specs.Covered.{IsNodeOf}
-use Rattle.branching.specs.Ceiling.{Reaches}
-use Rattle.branching.specs.Fair.{IsKidOf}
-use Rattle.branching.specs.Right.{IsCutUnder}
+use Rattle.branching.specs.Fair.{IsNodeOf, IsKidOf, ceiling_of, Expansion, IsReport}
+use Rattle.branching.specs.Right.{Reaches, IsCutUnder, is_below, IsInTime}
 use Rattle.branching.proofs.Together.{node_cut}
-use Rattle.book.specs.State.{Named}
-use Rattle.book.specs.Sound.{AreNamedOnce, nodes_of}
-use Rattle.book.specs.CheckingIn.{named_from}
+use Rattle.book.specs.State.{Named, BookState, in_hand, live, best_makespan}
+use Rattle.book.specs.Sound.{AreNamedOnce, nodes_of, note_cut, IsNoted, IsSound, IsRecorded}
+use Rattle.book.specs.Steps.{named_from, Improves, MayCheckIn, Accepts, CheckedIn}
 use Rattle.book.specs.OpenNodes.{IsNamedOtherThan}
-use Rattle.trail.specs.Trail.{Ending, was_cut, Entry, no_entry, entry_at, path_to}
-use Rattle.trail.specs.RightTrail.{IsRightTrail, IsRightEnding, has_ended}
-use Rattle.trail.specs.Recording.{ended_as, kid_entry}
-use Rattle.book.specs.Recorded.{note_cut, IsNoted}
-use Rattle.book.proofs.Names.{named_once_right, others_named}
-use Rattle.trail.proofs.TrailPaths.{path_kept, path_opens}
-use Rattle.trail.proofs.TrailGrowing.{kid_forced, kid_entry_is}
-use Rattle.trail.proofs.TrailSteps.{ended_cases, length_ended, extends_grown, trail_grown, count_ended}
+use Rattle.trail.specs.Trail.{Ending, was_cut, Entry, no_entry, entry_at, path_to, not_ended, TrailOf, with_entries}
+use Rattle.trail.specs.RightTrail.{IsRightTrail, IsRightEnding, has_ended, kids_below, IsWholeTree}
+use Rattle.trail.specs.Recording.{ended_as, kid_entry, fates_under, ending_of, checked_in}
+use Rattle.book.proofs.Names.{named_once_right, others_named, named_once_moved}
+use Rattle.trail.proofs.TrailGrowing.{path_kept, path_opens, kid_forced, kid_entry_is, ended_paths, trail_falls}
+use Rattle.trail.proofs.TrailSteps.{ended_cases, length_ended, extends_grown, trail_grown, count_ended, ending_right, ending_ends, kids_open, one_ended, count_kids, all_ended}
+use Rattle.std.specs.List.Sorted.{IsPermutation}
+use Rattle.std.proofs.Math.ListN.{set}
+use Rattle.std.proofs.lemmas.Int.{ints}
+use Rattle.std.proofs.lemmas.List.Sums.{sum_by-append}
+use Rattle.std.proofs.lemmas.List.Sorted.{IsPermutation-append_left, All-permutation}
+use Rattle.network.specs.Schedule.{ScheduleOf, makespan}
+use Rattle.book.proofs.Filing.{held_first}
 
 -- a node that goes on is noted as before where another ends and kids come
 noted_kept : (entries : List Entry) (name : ℕ) (ending : Ending) (more : List Entry) (n : Named) → n.name ≢ name → n.name < length entries → IsNoted entries n → IsNoted (ended_as entries name ending ++ more) n
@@ -107,3 +109,163 @@ kids_noted node name (kid ∷ kids) before known path kids_of =
     (subst (λ (es : List Entry). All (IsNoted es) (named_from (length before + 1) kids)) (append_assoc before (entry ∷ []) later)
     (subst (λ (next : ℕ). All (IsNoted ((before ++ entry ∷ []) ++ later)) (named_from next kids)) longer
     (kids_noted node name kids (before ++ entry ∷ []) (omega (arith, known, longer)) (path_kept before (entry ∷ []) name known ∙ path) (All-tail (IsKidOf node) kid kids kids_of))))
+
+-- ---- Each step of a book leaves its trail right.
+
+-- a trail that changes, where one is kept
+changed : (trail : Option (List Entry)) (f : List Entry → List Entry) (P Q : List Entry → Type 0) → ((entries : List Entry) → P entries → Q (f entries)) → IfSome trail P → IfSome (option_map f trail) Q
+changed None f P Q step old = tt
+changed (Some entries) f P Q step old = step entries old
+
+unchanged : (trail : Option (List Entry)) (P Q : List Entry → Type 0) → ((entries : List Entry) → P entries → Q entries) → IfSome trail P → IfSome trail Q
+unchanged None P Q step old = tt
+unchanged (Some entries) P Q step old = step entries old
+
+-- ---- nodes that move
+
+pub recorded_moved : (s : BookState) (waiting : List Named) (hands : List (Option Named)) (taken : ℕ) → IsPermutation (live s) (waiting ++ in_hand hands) → IfSome s.trail (IsRecorded s) → IfSome s.trail (IsRecorded (record s { waiting = waiting; hands = hands; taken = taken }))
+recorded_moved s waiting hands taken moved =
+    unchanged s.trail (IsRecorded s) (IsRecorded (record s { waiting = waiting; hands = hands; taken = taken }))
+    (λ entries old. record { right = old.right; all_named = old.all_named; noted = All-permutation (IsNoted entries) (live s) (waiting ++ in_hand hands) moved old.noted; ended = old.ended })
+
+-- ---- a best that falls
+
+in_time_self : (limit : Option ℤ) → IsInTime limit limit
+in_time_self None = tt
+in_time_self (Some limit) = omega (arith, ints)
+
+in_time_trans : (a b c : Option ℤ) → IsInTime a b → IsInTime b c → IsInTime a c
+in_time_trans None b c ab bc = tt
+in_time_trans (Some a) None c ab bc = absurd ab
+in_time_trans (Some a) (Some b) None ab bc = absurd bc
+in_time_trans (Some a) (Some b) (Some c) ab bc = omega (arith, ints, ab, bc)
+
+-- the new best is in time for what the old one was
+improves_in_time : (old found new : Option ScheduleOf) (improved : Bool) → Improves old found improved new → IsInTime (ceiling_of old) (ceiling_of new)
+improves_in_time old found new false improves = subst (λ (o : Option ScheduleOf). IsInTime (ceiling_of old) (ceiling_of o)) (sym improves.1) (in_time_self (ceiling_of old))
+improves_in_time None found new true improves = tt
+improves_in_time (Some old) found new true (schedule, is_found, under, same) =
+    subst (λ (o : Option ScheduleOf). IsInTime (ceiling_of (Some old)) (ceiling_of o)) (sym (same ∙ is_found)) (omega (arith, ints, under))
+
+-- what was found is at least the new best
+found_reaches : (old found new : Option ScheduleOf) (improved : Bool) → Improves old found improved new → IfSome found (λ f. Reaches (ceiling_of new) (makespan f.starts))
+found_reaches old found new false improves = subst (λ (o : Option ScheduleOf). IfSome found (λ f. Reaches (ceiling_of o) (makespan f.starts))) (sym improves.1) improves.0
+found_reaches old found new true (schedule, is_found, under, same) =
+    subst (λ (o : Option ScheduleOf). IfSome o (λ f. Reaches (ceiling_of new) (makespan f.starts))) (sym is_found)
+    (subst (λ (o : Option ScheduleOf). Reaches (ceiling_of o) (makespan schedule.starts)) (sym (same ∙ is_found)) (omega (arith, ints)))
+
+pub recorded_improved : (s : BookState) (found new : Option ScheduleOf) (improved : Bool) → Improves s.best found improved new → IfSome s.trail (IsRecorded s) → IfSome s.trail (IsRecorded (record s { best = new }))
+recorded_improved s found new improved improves =
+    unchanged s.trail (IsRecorded s) (IsRecorded (record s { best = new }))
+    (λ entries old. record { right = trail_falls s.project (ceiling_of s.best) (ceiling_of new) entries (improves_in_time s.best found new improved improves) old.right; all_named = old.all_named; noted = old.noted; ended = old.ended })
+
+-- ---- open nodes that are cut
+
+nodes_left : (p : Problem) (xs ys : List Named) → All (IsNodeOf p) (nodes_of (xs ++ ys)) → All (IsNodeOf p) (nodes_of xs)
+nodes_left p [] ys all = All-nil (IsNodeOf p)
+nodes_left p (x ∷ xs) ys all = All-cons (IsNodeOf p) x.node (nodes_of xs) (All-head (IsNodeOf p) x.node (nodes_of (xs ++ ys)) all) (nodes_left p xs ys (All-tail (IsNodeOf p) x.node (nodes_of (xs ++ ys)) all))
+
+abbrev pub cut_state : BookState → BookState
+cut_state s = record s { waiting = []; cut = s.cut + length s.waiting; trail = option_map (note_cut s.waiting) s.trail }
+
+pub recorded_cut : (s : BookState) → All (λ (n : Named). Reaches (best_makespan s) n.node.bound) s.waiting → IsSound s → IfSome s.trail (IsRecorded s) → IfSome (option_map (note_cut s.waiting) s.trail) (IsRecorded (cut_state s))
+recorded_cut s reach sound =
+    changed s.trail (note_cut s.waiting) (IsRecorded s) (IsRecorded (cut_state s))
+    (λ entries old.
+    let cut = nodes_cut s.project (best_makespan s) s.waiting (in_hand s.hands) entries old.right (subst (λ (count : ℕ). All (λ (n : Named). n.name < count) (live s)) (sym old.all_named) sound.named_below) old.noted sound.named_once (nodes_left s.project s.waiting (in_hand s.hands) sound.covered.of_nodes) reach in
+    record { right = cut.right; all_named = cut.all_named ∙ old.all_named; noted = cut.noted; ended = omega (arith, cut.ended, old.ended) })
+
+-- ---- a node that is checked in
+
+-- the trail after the check-in of a report on a node that is noted
+pub recorded_after : (p : Problem) (old new : Option ℤ) (report : Expansion) (name : ℕ) (held : Named) (rest : List Named) (entries : List Entry) (opened ended : ℕ) → IsReport report → report.node.project ≡ p → IsInTime old new → IsInTime report.ceiling old
+    → IfSome report.found (λ f. Reaches new (makespan f.starts)) → held.name ≡ name → held.node.pairs ≡ report.node.pairs → AreNamedOnce (held ∷ rest) → All (λ (n : Named). n.name < length entries) (held ∷ rest) → All (IsNoted entries) (held ∷ rest)
+    → IsRightTrail p old entries → length entries ≡ opened → count_by (λ (e : Entry). has_ended e.ending) entries ≡ ended
+    → IsRightTrail p new (checked_in new name report entries) × (length (checked_in new name report entries) ≡ opened + length (kids_below new report.kids)) × All (IsNoted (checked_in new name report entries)) (named_from opened (kids_below new report.kids) ++ rest) × (count_by (λ (e : Entry). has_ended e.ending) (checked_in new name report entries) ≡ ended + 1)
+recorded_after p old new report name held rest entries opened ended told same falls less reach is_name pairs once known noted right count so_far =
+    let depth = length report.node.pairs in
+    let kids = kids_below new report.kids in
+    let more = map (kid_entry name depth) kids in
+    let ending = ending_of new (length entries) report in
+    let before = ended_as entries name ending in
+    let longer : length before ≡ length entries = length_ended entries name ending in
+    let here : name < length entries = subst (λ (n : ℕ). n < length entries) is_name (All-head (λ (n : Named). n.name < length entries) held rest known) in
+    let this = All-head (IsNoted entries) held rest noted in
+    let path_old : path_to entries name ≡ report.node.pairs = subst (λ (n : ℕ). path_to entries n ≡ report.node.pairs) is_name (sym this.pairs ∙ pairs) in
+    let path : path_to before name ≡ report.node.pairs = path_before entries name ending here ∙ path_old in
+    let there : name < length before = omega (arith, here, longer) in
+    let own : IsRightEnding p new (before ++ more) name ending = subst (λ (next : ℕ). IsRightEnding p new (before ++ more) name (ending_of new next report)) longer (ending_right p new report name before told same (in_time_trans report.ceiling old new less falls) there path reach) in
+    let others : All (IsNamedOtherThan name) rest = subst (λ (n : ℕ). All (IsNamedOtherThan n) rest) is_name (others_named held rest once) in
+    let going = subst (λ (n : ℕ). (entry_at entries n).ending ≡ not_ended) is_name this.going in
+    let new_names : named_from (length before) kids ≡ named_from opened kids = ap (λ (n : ℕ). named_from n kids) (longer ∙ count) in (
+      trail_grown p new entries name ending more here (trail_falls p old new entries falls right) own (kids_open name depth kids),
+      omega (arith, length-append before more, longer, count, length-map kids (kid_entry name depth)),
+      All-append (IsNoted (before ++ more)) (named_from opened kids) rest
+          (subst (λ (ns : List Named). All (IsNoted (before ++ more)) ns) new_names (kids_noted report.node name kids before there path (All-filter (λ (kid : Subproblem). is_below new kid.bound) (IsKidOf report.node) report.kids told.fair.of_kids)))
+          (all_noted entries name ending more rest others (All-tail (λ (n : Named). n.name < length entries) held rest known) (All-tail (IsNoted entries) held rest noted)),
+      omega (arith, sum_by-append one_ended before more, count_ended entries name ending here going (ending_ends report.split report.found (fates_under new depth (length entries) report.fates report.kids)), count_kids name depth kids, so_far),
+    )
+  where
+    path_before : (entries : List Entry) (name : ℕ) (ending : Ending) → name < length entries → path_to (ended_as entries name ending) name ≡ path_to entries name
+    path_before entries name ending here = ap (λ paths. get_or paths name []) (ended_paths [] entries name ending)
+
+-- what a check-in leaves of a trail
+pub recorded_accepted : (old : BookState) (worker name : ℕ) (report : Expansion) (done : CheckedIn) (new : BookState) → IsReport report → MayCheckIn old worker name report → Accepts old worker name report done new → IsSound old → IfSome old.trail (IsRecorded old)
+    → IfSome new.trail (IsRecorded (record old { best = new.best; waiting = new.waiting; hands = set old.hands worker None; opened = old.opened + done.opened; checked = old.checked + 1; trail = new.trail }))
+recorded_accepted old worker name report done new told may accepts sound recorded =
+    let limit = best_makespan new in
+    let hands = set old.hands worker None in
+    let rest = old.waiting ++ in_hand hands in
+    let kids = named_from old.opened (kids_below limit report.kids) in
+    let left : BookState = record old { best = new.best; waiting = new.waiting; hands = hands; opened = old.opened + done.opened; checked = old.checked + 1; trail = new.trail } in
+    let before : IsPermutation (live old) (may.held ∷ rest) = held_first old worker may.held may.holds in
+    let after : IsPermutation (kids ++ rest) (new.waiting ++ in_hand hands) = subst (λ ns. IsPermutation ns (new.waiting ++ in_hand hands)) (append_assoc kids old.waiting (in_hand hands)) (IsPermutation-append_left (in_hand hands) _ _ accepts.opened) in
+    let once : AreNamedOnce (may.held ∷ rest) = named_once_moved (live old) (may.held ∷ rest) before sound.named_once in
+    let below = All-permutation (λ (n : Named). n.name < old.opened) (live old) (may.held ∷ rest) before sound.named_below in
+    subst (λ (t : Option (List Entry)). IfSome t (IsRecorded left)) (sym accepts.noted)
+    (changed old.trail (checked_in limit name report) (IsRecorded old) (IsRecorded left)
+    (λ entries was.
+    let step = recorded_after old.project (best_makespan old) limit report name may.held rest entries old.opened (old.checked + old.cut) told may.project (improves_in_time old.best report.found new.best done.improved accepts.best) may.in_time
+    (found_reaches old.best report.found new.best done.improved accepts.best) may.named may.pairs once
+    (subst (λ (count : ℕ). All (λ (n : Named). n.name < count) (may.held ∷ rest)) (sym was.all_named) below) (All-permutation (IsNoted entries) (live old) (may.held ∷ rest) before was.noted) was.right was.all_named was.ended in
+    record {
+      right = step.0;
+      all_named = omega (arith, step.1, accepts.count);
+      noted = All-permutation (IsNoted (checked_in limit name report entries)) (kids ++ rest) (new.waiting ++ in_hand hands) after step.2;
+      ended = omega (arith, step.3);
+    })
+    recorded)
+
+-- ---- a book whose search is over
+
+-- where no node is open or in hand, the trail is a whole tree
+pub trail_whole : (s : BookState) → IsSound s → live s ≡ [] → IfSome s.trail (IsRecorded s) → IfSome s.trail (IsWholeTree s.project (best_makespan s))
+trail_whole s sound over =
+    unchanged s.trail (IsRecorded s) (IsWholeTree s.project (best_makespan s))
+    (λ entries old.
+    let none : length (live s) ≡ 0 = ap length over in
+    record { right = old.right; ended = all_ended entries (omega (arith, old.ended, old.all_named, sound.counted, none)) })
+
+-- ---- The trail that a book keeps, as its steps change it.
+
+abbrev pub entries_in : Option TrailOf → Option (List Entry)
+entries_in trail = option_map (λ (t : TrailOf). t.entries) trail
+
+pub entries_changed : (trail : Option TrailOf) (f : List Entry → List Entry) → entries_in (option_map (with_entries f) trail) ≡ option_map f (entries_in trail)
+entries_changed None f = refl
+entries_changed (Some t) f = refl
+
+pub project_kept : (p : Problem) (trail : Option TrailOf) (f : List Entry → List Entry) → IfSome trail (λ (t : TrailOf). t.project ≡ p) → IfSome (option_map (with_entries f) trail) (λ (t : TrailOf). t.project ≡ p)
+project_kept p None f same = tt
+project_kept p (Some t) f same = same
+
+-- a node in hand has an entry
+held_below : (s : BookState) (worker : ℕ) (held : Named) → IsSound s → slice_get s.hands worker ≡ Some (Some held) → held.name < s.opened
+held_below s worker held sound holds = All-head (λ (n : Named). n.name < s.opened) held (s.waiting ++ in_hand (set s.hands worker None)) (All-permutation (λ (n : Named). n.name < s.opened) (live s) _ (held_first s worker held holds) sound.named_below)
+
+known_there : (trail : Option TrailOf) (s : BookState) (name : ℕ) → IfSome (entries_in trail) (IsRecorded s) → name < s.opened → IfSome trail (λ (t : TrailOf). (name < length t.entries) × (length t.entries ≡ s.opened))
+known_there None s name recorded below = tt
+known_there (Some t) s name recorded below = (omega (arith, recorded.all_named, below), recorded.all_named)
+
+pub held_known : (trail : Option TrailOf) (s : BookState) (worker : ℕ) (held : Named) (name : ℕ) → IfSome (entries_in trail) (IsRecorded s) → IsSound s → slice_get s.hands worker ≡ Some (Some held) → held.name ≡ name → IfSome trail (λ (t : TrailOf). (name < length t.entries) × (length t.entries ≡ s.opened))
+held_known trail s worker held name recorded sound holds named = known_there trail s name recorded (subst (λ (n : ℕ). n < s.opened) named (held_below s worker held sound holds))

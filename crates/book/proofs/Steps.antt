@@ -1,32 +1,33 @@
 -- Each step of a book leads from a sound state to a sound state.
-use Rattle.std.proofs.Common.{◌≡◌, ◌∙◌, ◌<◌, ◌≤◌, ◌+◌, ℕ, Bool, false, List, ◌∷◌, ◌++◌, Option, Some, None, sym, subst, length, length-append, append_assoc, arith, slice_get}
-use Rattle.std.specs.Prelude.{IfSome}
+use Rattle.std.proofs.Common.{◌≡◌, ◌∙◌, ◌<◌, ◌≤◌, ◌+◌, ℕ, Bool, false, List, ◌∷◌, ◌++◌, Option, Some, None, sym, subst, length, length-append, append_assoc, arith, slice_get, ◌^◌, ℤ, true, refl, ap, ◌==◌, [], append-nil, ⊎_elim, ◌⊎◌, inl, inr, IfSome, option_map}
 use Rattle.std.specs.List.{All}
 use Rattle.std.specs.List.Sorted.{IsPermutation}
-use Rattle.std.proofs.Math.ListN.{set}
-use Rattle.std.proofs.lemmas.List.Elements.{All-tail, All-append, All-weaker}
+use Rattle.std.proofs.Math.ListN.{set, replicate}
+use Rattle.std.proofs.lemmas.List.Elements.{All-tail, All-append, All-weaker, All-nil, All-cons, All-head}
 use Rattle.std.proofs.lemmas.List.Sorted.{IsPermutation-sym, IsPermutation-trans, IsPermutation-middle, IsPermutation-append_left, IsPermutation-append_right, All-permutation, length_permutation}
-use Rattle.network.specs.Schedule.{ScheduleOf}
+use Rattle.network.specs.Schedule.{ScheduleOf, makespan}
 use Rattle.branching.specs.Subproblem.{Subproblem}
-use Rattle.branching.specs.Ceiling.{Reaches, is_below}
-use Rattle.branching.specs.Covered.{IsScheduleFor}
-use Rattle.branching.specs.Fair.{Expansion, IsFair, IsReport}
+use Rattle.branching.specs.Right.{Reaches, is_below, IsUnder}
+use Rattle.branching.specs.Fair.{IsScheduleFor, Expansion, IsFair, IsReport, ceiling_of, IsNodeOf, IsRootOf, IsCovered}
 use Rattle.book.specs.State.{Named, BookState, in_hand, live, best_makespan}
 use Rattle.book.specs.Sound.{AreNamedOnce, AreNamedBelow, nodes_of, IsSound}
-use Rattle.book.specs.Offering.{Improves}
-use Rattle.book.specs.Taking.{IsFull, HandsOut}
-use Rattle.trail.specs.Below.{kids_below}
-use Rattle.book.specs.CheckingIn.{named_from, MayCheckIn, Accepts}
-use Rattle.book.specs.GivingBack.{ReturnsNode}
+use Rattle.book.specs.Steps.{Improves, IsFull, HandsOut, named_from, MayCheckIn, Accepts, ReturnsNode, IsShorterFound, AreAllowed, AreFirst, new_state, MayTake, Cuts, Takes, CheckedIn, Ticket}
+use Rattle.trail.specs.RightTrail.{kids_below}
 use Rattle.book.specs.Views.{IsKept}
-use Rattle.book.specs.OpenNodes.{IsNamedOtherThan}
-use Rattle.book.specs.declared.answers.CheckedIn.{CheckedIn}
-use Rattle.book.specs.declared.answers.Ticket.{Ticket}
-use Rattle.book.proofs.Lists.{all_left, all_right, filter_at_most}
-use Rattle.book.proofs.Names.{named_once_moved, named_once_right, named_once_opened, length_named, below_named, others_named}
-use Rattle.book.proofs.InHand.{in_hand_filled, in_hand_emptied, held_first}
-use Rattle.book.proofs.RecordedSteps.{cut_state, recorded_moved, recorded_cut, recorded_improved, recorded_accepted}
+use Rattle.book.specs.OpenNodes.{IsNamedOtherThan, InsertsKids}
+use Rattle.book.proofs.Names.{all_left, all_right, filter_at_most, named_once_moved, named_once_right, named_once_opened, length_named, below_named, others_named}
+use Rattle.book.proofs.Filing.{in_hand_filled, in_hand_emptied, held_first, in_hand_none}
+use Rattle.book.proofs.Recorded.{cut_state, recorded_moved, recorded_cut, recorded_improved, recorded_accepted}
 use Rattle.book.proofs.Covering.{covered_moved, covered_cut, covered_improved, covered_expanded}
+use Rattle.std.specs.Option.{is_some, option_or}
+use Rattle.trail.specs.Recording.{checked_in}
+use Rattle.std.proofs.lemmas.List.Sums.{count_by-le-length}
+use Rattle.network.specs.Problem.{Problem, arcs_of}
+use Rattle.network.specs.Walk.{HasPositiveCycle}
+use Rattle.branching.proofs.Covers.{root_covers, none_on_cycle}
+use Rattle.book.specs.Events.{Step, Run, Reply}
+use Rattle.book.specs.declared.events.Event.{Event}
+use Rattle.book.specs.declared.answers.Take.TheVariants as answer
 
 -- ---- nodes that move
 
@@ -149,3 +150,121 @@ kept_accepted old worker name report done new told may accepts kept =
       };
       recorded = recorded_accepted old worker name report done new told may accepts kept.sound kept.recorded;
     })
+
+-- ---- What is found in a report is counted, and a report's kids are opened.
+
+-- nothing shorter was found
+pub not_improved : (old found : Option ScheduleOf) (shorter limit : Option ℤ) → limit ≡ ceiling_of old → IsShorterFound found limit shorter → is_some shorter ≡ false → Improves old found false old × (option_or shorter limit ≡ ceiling_of old)
+not_improved old found None limit is none e = ((subst (λ (l : Option ℤ). IfSome found (λ s. Reaches l (makespan s.starts))) is none, refl), is)
+not_improved old found (Some length) limit is none e = absurd (cc)
+
+-- a shorter schedule was found
+pub improved : (old found new : Option ScheduleOf) (shorter limit : Option ℤ) → limit ≡ ceiling_of old → IsShorterFound found limit shorter → is_some shorter ≡ true → new ≡ found → Improves old found true new × (option_or shorter limit ≡ ceiling_of new)
+improved old found new None limit is some e same = absurd (cc)
+improved old found new (Some length) limit is (s, f, l, below) e same = (
+  (s, f, subst (λ (n : ℤ). IsUnder (ceiling_of old) n) l (subst (λ (o : Option ℤ). IsUnder o length) is below), same),
+  ap (λ (n : ℤ). let o : Option ℤ = Some n in o) l ∙ sym (ap ceiling_of (same ∙ f)),
+)
+
+-- the kids were opened
+pub accepts : (old : BookState) (worker name : ℕ) (report : Expansion) (better : Bool) (limit : Option ℤ) (count : ℕ) (new : BookState) → Improves old.best report.found better new.best → limit ≡ best_makespan new → InsertsKids old.opened limit report.kids count old.waiting new.waiting → new.trail ≡ option_map (checked_in limit name report) old.trail → new ≡ record old { best = new.best; waiting = new.waiting; hands = set old.hands worker None; opened = old.opened + count; checked = old.checked + 1; trail = new.trail } → Accepts old worker name report (record { opened = count; improved = better }) new
+accepts old worker name report better limit count new improves is inserts noted others = record {
+  best = improves;
+  count = inserts.count_is ∙ ap (λ (l : Option ℤ). length (kids_below l report.kids)) is;
+  opened = subst (λ (l : Option ℤ). IsPermutation (named_from old.opened (kids_below l report.kids) ++ old.waiting) new.waiting) is inserts.nodes;
+  noted = subst (λ (l : Option ℤ). new.trail ≡ option_map (checked_in l name report) old.trail) is noted;
+  others = others;
+}
+
+-- the open nodes are named below the next name
+pub older_than_next : (s : BookState) → IsKept s → AreNamedBelow s.opened s.waiting
+older_than_next s kept = all_left (λ (n : Named). n.name < s.opened) s.waiting (in_hand s.hands) kept.sound.named_below
+
+-- names do not run out
+pub names_last : (s : BookState) (report : Expansion) → IsKept s → IsFair report → s.opened + length report.kids < 2 ^ 64
+names_last s report kept fair = omega (arith, kept.within.opened, kept.within.tickets, kept.within.taken, kept.within.limit, fair.few)
+
+pub names_last_opened : (s : BookState) (report : Expansion) (limit : Option ℤ) (count : ℕ) → IsKept s → IsFair report → count ≡ length (kids_below limit report.kids) → s.opened + count < 2 ^ 64
+names_last_opened s report limit count kept fair is = omega (arith, is, names_last s report kept fair, filter_at_most (λ (kid : Subproblem). is_below limit kid.bound) report.kids)
+
+-- ---- A book that is opened is sound.
+
+-- a list of one element is the only order of it
+pub only_order : (x : Named) (new : List Named) → IsPermutation (x ∷ []) new → new ≡ x ∷ []
+only_order x new moved = whole new (length_permutation (x ∷ []) new moved) (All-permutation (λ y. y ≡ x) (x ∷ []) new moved (All-cons (λ y. y ≡ x) x [] refl (All-nil (λ y. y ≡ x))))
+  where
+    whole : (new : List Named) → length new ≡ 1 → All (λ y. y ≡ x) new → new ≡ x ∷ []
+    whole [] e all = absurd (omega arith)
+    whole (y ∷ []) e all = ap (λ (z : Named). z ∷ []) (All-head (λ y. y ≡ x) y [] all)
+    whole (y ∷ z ∷ more) e all = absurd (omega arith)
+
+no_nodes_cover : (p : Problem) → HasPositiveCycle (arcs_of p []) → IsCovered p None []
+no_nodes_cover p cycle = record {
+  of_best = tt;
+  of_nodes = All-nil (IsNodeOf p);
+  covers = λ s feasible shorter. absurd (none_on_cycle p cycle s feasible);
+}
+
+first_covers : (p : Problem) (nodes : List Named) → AreFirst p nodes → IsCovered p None (nodes_of nodes)
+first_covers p nodes first =
+    ⊎_elim
+    (λ (opened : (root : Subproblem) × IsRootOf p root × (nodes ≡ record { name = 0; node = root } ∷ [])).
+    subst (λ (ns : List Named). IsCovered p None (nodes_of ns)) (sym opened.2) (root_covers p opened.0 opened.1))
+    (λ (none : HasPositiveCycle (arcs_of p []) × (nodes ≡ [])). subst (λ (ns : List Named). IsCovered p None (nodes_of ns)) (sym none.1) (no_nodes_cover p none.0))
+    first
+
+-- the root's name is 0, and there is one root at most
+first_names : (p : Problem) (nodes : List Named) → AreFirst p nodes → (length nodes ≤ 1) × All (λ (n : Named). n.name < length nodes) nodes
+first_names p nodes first =
+    ⊎_elim
+    (λ (opened : (root : Subproblem) × IsRootOf p root × (nodes ≡ record { name = 0; node = root } ∷ [])).
+    let n : Named = record { name = 0; node = opened.0 } in
+    subst (λ (ns : List Named). (length ns ≤ 1) × All (λ (n : Named). n.name < length ns) ns) (sym opened.2)
+    (omega arith, All-cons (λ (n : Named). n.name < 1) n [] (omega arith) (All-nil (λ (n : Named). n.name < 1))))
+    (λ (none : HasPositiveCycle (arcs_of p []) × (nodes ≡ [])).
+    subst (λ (ns : List Named). (length ns ≤ 1) × All (λ (n : Named). n.name < length ns) ns) (sym none.1) (omega arith, All-nil (λ (n : Named). n.name < 0)))
+    first
+
+pub kept_opened : (p : Problem) (workers takes : ℕ) (nodes : List Named) → AreAllowed workers takes → AreFirst p nodes → IsKept (new_state p workers takes nodes)
+kept_opened p workers takes nodes allowed first =
+    let names = first_names p nodes first in
+    let hands : List (Option Named) = replicate workers None in
+    let empty : in_hand hands ≡ [] = in_hand_none workers in
+    let whole : nodes ≡ nodes ++ in_hand hands = sym (ap (λ ns. nodes ++ ns) empty ∙ append-nil nodes) in
+    let held : length (in_hand hands) ≡ 0 = ap length empty in
+    let count : length (nodes ++ in_hand hands) ≡ length nodes = ap length (sym whole) in
+    record {
+      sound = record {
+        covered = subst (λ ns. IsCovered p None (nodes_of ns)) whole (first_covers p nodes first);
+        named_once = subst AreNamedOnce whole (λ name. omega (arith, names.0, count_by-le-length (λ (n : Named). n.name == name) nodes));
+        named_below = subst (λ ns. All (λ (n : Named). n.name < length nodes) ns) whole names.1;
+        counted = omega (arith, count);
+      };
+      within = record {
+        tickets = omega (arith, held);
+        taken = omega arith;
+        limit = allowed.few_takes;
+        opened = omega (arith, names.0);
+      };
+      recorded = tt;
+    }
+
+-- ---- A run goes on by one step.
+
+pub run_more : (old between new : BookState) (events : List Event) (replies : List Reply) (event : Event) (reply : Reply) → Run old events replies between → Step between event reply new → Run old (events ++ event ∷ []) (replies ++ reply ∷ []) new
+run_more old between new [] [] event reply run step = (new, subst (λ (s : BookState). Step s event reply new) run step, refl)
+run_more old between new (e ∷ events) (r ∷ replies) event reply run step = (run.0, run.1, run_more run.0 between new events replies event reply run.2 step)
+run_more old between new [] (r ∷ replies) event reply run step = absurd run
+run_more old between new (e ∷ events) [] event reply run step = absurd run
+
+-- ---- What a take that hands a node out comes to.
+
+-- a book that still has open nodes once it was looked whether to cut them is as it was
+pub takes_ticket : (old between new : BookState) (worker : ℕ) (ticket : Ticket) → MayTake old worker → Cuts old between → 0 < length between.waiting → between.taken < between.limit → HandsOut between worker ticket new → Takes old worker (answer.Ticket ticket) new
+takes_ticket old between new worker ticket may (inl settled) some within out =
+    let none : between.waiting ≡ [] = ap (λ (s : BookState). s.waiting) settled.1 in
+    absurd (omega (arith, some, ap (λ (ns : List Named). length ns) none))
+takes_ticket old between new worker ticket may (inr ((inl none), same)) some within out =
+    absurd (omega (arith, some, ap (λ (s : BookState). length s.waiting) same, ap (λ (ns : List Named). length ns) none))
+takes_ticket old between new worker ticket may (inr ((inr can), same)) some within out =
+    (may, can, subst (λ (s : BookState). s.taken < s.limit) same within, subst (λ (s : BookState). HandsOut s worker ticket new) same out)

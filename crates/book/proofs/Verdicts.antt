@@ -1,22 +1,18 @@
 -- What a sound state says of its project.
-use Rattle.std.proofs.Common.{◌≡◌, ◌<ℤ◌, ◌≤ℤ◌, zero, suc, ℤ, List, [], ◌∷◌, ◌++◌, Option, Some, None, refl, sym, ap, subst, length, arith}
-use Rattle.std.specs.Prelude.{IfSome}
+use Rattle.std.proofs.Common.{◌≡◌, ◌<ℤ◌, ◌≤ℤ◌, zero, suc, ℤ, List, [], ◌∷◌, ◌++◌, Option, Some, None, refl, sym, ap, subst, length, arith, IfSome}
 use Rattle.std.specs.List.{All, Any, Contains}
 use Rattle.std.specs.Option.{option_to_list}
 use Rattle.std.proofs.lemmas.Int.{ints, by_lt_z}
 use Rattle.std.proofs.lemmas.List.Elements.{All-head, All-map, All-contains}
 use Rattle.network.specs.Problem.{Problem}
-use Rattle.network.specs.Schedule.{ScheduleOf, IsFeasible, makespan}
-use Rattle.network.specs.Verdict.{HasNoSchedule}
+use Rattle.network.specs.Schedule.{ScheduleOf, IsFeasible, makespan, HasNoSchedule}
 use Rattle.branching.specs.Subproblem.{Subproblem, NodeStandsFor}
-use Rattle.branching.specs.Covered.{IsNodeOf, IsScheduleFor, ceiling_of}
-use Rattle.branching.specs.Fair.{IsShorterThan}
+use Rattle.branching.specs.Fair.{IsNodeOf, IsScheduleFor, ceiling_of, IsShorterThan}
 use Rattle.book.specs.State.{Named, BookState, live, best_makespan}
-use Rattle.book.specs.Sound.{nodes_of, IsSound}
-use Rattle.book.specs.Verdicts.{IsLeast, bounds_of, known_bounds, IsBoundFor, IsReached, IsTrueOf, IsVerdictOf}
+use Rattle.book.specs.Sound.{nodes_of, IsSound, IsLeast, bounds_of, known_bounds, IsBoundFor, IsReached, IsTrueOf, IsVerdictOf}
 use Rattle.book.specs.declared.answers.Verdict.{Verdict}
 use Rattle.book.specs.declared.answers.Verdict.TheVariants as verdict
-use Rattle.book.proofs.Lists.{all_right, all_unmapped, none_of_nothing}
+use Rattle.book.proofs.Names.{all_right, all_unmapped, none_of_nothing}
 
 -- a schedule below each bound is shorter than the best
 below_is_shorter : (best : Option ScheduleOf) (bound : ℤ) (others : List ℤ) (s : List ℤ) → All (λ n. bound ≤ℤ n) (option_to_list (ceiling_of best) ++ others) → makespan s <ℤ bound → IsShorterThan best s

@@ -1,13 +1,10 @@
 -- Whole lists of events.
 use Rattle.std.specs.Prelude.{◌≡◌, true, List, [], ◌∷◌}
 use Rattle.book.specs.State.{BookState}
-use Rattle.book.specs.Offering.{Offers}
-use Rattle.book.specs.Taking.{Takes}
-use Rattle.book.specs.CheckingIn.{ChecksIn}
-use Rattle.book.specs.GivingBack.{GivesBack}
+use Rattle.book.specs.Steps.{Offers, Takes, ChecksIn, GivesBack}
 use Rattle.book.specs.declared.events.Event.{Event}
 use Rattle.book.specs.declared.events.Event.TheVariants.{Take, CheckIn, GiveBack, Offer, Halt}
-use Rattle.book.specs.declared.events.Reply.{Reply}
+pub use Rattle.book.specs.declared.events.Reply.{Reply}
 use Rattle.book.specs.declared.events.Reply.TheVariants.{Taken, CheckedIn, GivenBack, Offered, Halted}
 
 -- the event has this reply, and leads from the one state to the other

@@ -5,10 +5,10 @@ use Rattle.std.specs.List.{filter}
 use Rattle.std.specs.List.Sorted.{IsPermutation}
 use Rattle.branching.specs.Subproblem.{Subproblem}
 use Rattle.book.specs.State.{Named, node_named}
-use Rattle.trail.specs.Below.{kids_below}
-use Rattle.book.specs.CheckingIn.{named_from}
-use Rattle.book.specs.declared.open_nodes.Rank.{Rank}
-use Rattle.book.specs.declared.open_nodes.OpenNode.{OpenNode}
+use Rattle.trail.specs.RightTrail.{kids_below}
+use Rattle.book.specs.Steps.{named_from}
+pub use Rattle.book.specs.declared.open_nodes.Rank.{Rank}
+pub use Rattle.book.specs.declared.open_nodes.OpenNode.{OpenNode}
 
 abbrev pub open_node : Rank × OpenNode → Named
 open_node e = record { name = e.0.name.0; node = arc_value e.1.node }

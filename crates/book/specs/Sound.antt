@@ -1,11 +1,19 @@
 -- What is true of a book whenever nobody is changing it.
-use Rattle.std.specs.Prelude.{◌≡◌, ℕ, ◌+◌, ◌*◌, ◌<◌, ◌≤◌, ◌==◌, List, map, length}
-use Rattle.std.specs.List.{All, count_by}
+use Rattle.std.specs.Prelude.{◌≡◌, ℕ, ◌+◌, ◌*◌, ◌<◌, ◌≤◌, ◌==◌, List, map, length, [], ◌∷◌, IfSome, ◌≤ℤ◌, ℤ, ◌++◌, Option, Some, None}
+use Rattle.std.specs.List.{All, count_by, Contains}
 use Rattle.branching.specs.Subproblem.{Subproblem}
-use Rattle.branching.specs.Covered.{IsCovered}
+use Rattle.branching.specs.Fair.{IsCovered}
 use Rattle.branching.specs.declared.report.TheConstants.{MAX_KIDS}
 use Rattle.plain_search.specs.declared.search.TheConstants.{MAX_TAKES}
-use Rattle.book.specs.State.{Named, BookState, in_hand, live}
+use Rattle.book.specs.State.{Named, BookState, in_hand, live, best_makespan}
+use Rattle.trail.specs.Trail.{Entry, not_ended, was_cut, entry_at, path_to}
+use Rattle.trail.specs.Recording.{ended_as}
+use Rattle.trail.specs.RightTrail.{IsRightTrail, IsWholeTree, has_ended}
+use Rattle.std.specs.Option.{option_to_list}
+use Rattle.network.specs.Problem.{Problem}
+use Rattle.network.specs.Schedule.{IsFeasible, makespan, IsShortest, IsLowerBound, HasNoSchedule}
+use Rattle.book.specs.declared.answers.Verdict.{Verdict}
+use Rattle.book.specs.declared.answers.Verdict.TheVariants as verdict
 
 abbrev pub nodes_of : List Named → List Subproblem
 nodes_of named = map (λ (n : Named). n.node) named
@@ -33,3 +41,64 @@ pub record IsWithinLimits (s : BookState) : Type 0 where
   pub taken : s.taken ≤ s.limit
   pub limit : s.limit ≤ MAX_TAKES
   pub opened : s.opened ≤ 1 + MAX_KIDS * s.checked
+
+-- ---- What a book notes in its trail when nodes are cut, and what is true of the trail whenever nobody is changing it.
+
+-- these nodes end as cut
+abbrev pub note_cut : List Named → List Entry → List Entry
+note_cut [] entries = entries
+note_cut (n ∷ nodes) entries = note_cut nodes (ended_as entries n.name was_cut)
+
+-- the node stands under its name with its pairs, and has not ended
+pub record IsNoted (entries : List Entry) (n : Named) : Type 0 where
+  pub going : (entry_at entries n.name).ending ≡ not_ended
+  pub pairs : n.node.pairs ≡ path_to entries n.name
+
+-- Each entry that ended is right for its pairs and the best makespan, and there is one for each node that was opened.
+-- The nodes open or in hand have not ended, and as many ended as were checked in and cut.
+pub record IsRecorded (s : BookState) (entries : List Entry) : Type 0 where
+  pub right : IsRightTrail s.project (best_makespan s) entries
+  pub all_named : length entries ≡ s.opened
+  pub noted : All (IsNoted entries) (live s)
+  pub ended : count_by (λ (e : Entry). has_ended e.ending) entries ≡ s.checked + s.cut
+
+-- once no node is open or in hand, the trail, if one is kept, is a whole tree
+abbrev pub EndsWhole : BookState → Type 0
+EndsWhole s = live s ≡ [] → IfSome s.trail (IsWholeTree s.project (best_makespan s))
+
+-- ---- What a book says of its project.
+
+-- the least of the numbers, none where there is none
+abbrev pub IsLeast : List ℤ → Option ℤ → Type 0
+IsLeast numbers None = numbers ≡ []
+IsLeast numbers (Some least) = Contains numbers least × All (λ number. least ≤ℤ number) numbers
+
+abbrev pub bounds_of : List Named → List ℤ
+bounds_of nodes = map (λ (n : Named). n.node.bound) nodes
+
+-- the best makespan, and the bounds of the nodes open or in hand
+abbrev pub known_bounds : BookState → List ℤ
+known_bounds s = option_to_list (best_makespan s) ++ bounds_of (live s)
+
+-- every feasible schedule takes at least the bound; where there is none, there is no feasible schedule
+abbrev pub IsBoundFor : Problem → Option ℤ → Type 0
+IsBoundFor p None = HasNoSchedule p
+IsBoundFor p (Some bound) = IsLowerBound p bound
+
+-- some feasible schedule has this makespan, and the bound is not above it
+pub record IsReached (p : Problem) (bound length : ℤ) : Type 0 where
+  pub schedule : (s : List ℤ) × IsFeasible p s × (makespan s ≡ length)
+  pub above : bound ≤ℤ length
+
+-- what a verdict says of the project
+abbrev pub IsTrueOf : Problem → Verdict → Type 0
+IsTrueOf p (verdict.Optimal length) = IsShortest p length
+IsTrueOf p verdict.NoSchedule = HasNoSchedule p
+IsTrueOf p (verdict.Open best bound) = IsLowerBound p bound × IfSome best (IsReached p bound)
+
+-- with no node open or in hand the best is optimal, or there is no schedule; else the best and the bound are told
+abbrev pub IsVerdictOf : BookState → Verdict → Type 0
+IsVerdictOf s (verdict.Optimal length) = (live s ≡ []) × (best_makespan s ≡ Some length)
+IsVerdictOf s verdict.NoSchedule = (live s ≡ []) × (best_makespan s ≡ None)
+IsVerdictOf s (verdict.Open best bound) =
+    (0 < length (live s)) × (best ≡ best_makespan s) × IsLeast (known_bounds s) (Some bound)

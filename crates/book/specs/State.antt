@@ -1,10 +1,12 @@
 -- The state of the search book: the best schedule so far, the nodes that are open or in hand, and counts.
-use Rattle.std.specs.Prelude.{◌≡◌, ℕ, ℤ, Bool, List, [], ◌∷◌, ◌++◌, Option, Some, None, slice_get}
+use Rattle.std.specs.Prelude.{◌≡◌, ℕ, ℤ, Bool, List, [], ◌∷◌, ◌++◌, Option, Some, None, slice_get, ◌+◌, length, option_map}
 use Rattle.network.specs.Problem.{Problem}
 use Rattle.network.specs.Schedule.{ScheduleOf}
 use Rattle.branching.specs.Subproblem.{Subproblem}
-use Rattle.branching.specs.Covered.{ceiling_of}
+use Rattle.branching.specs.Fair.{ceiling_of}
 use Rattle.trail.specs.Trail.{Entry}
+use Rattle.std.specs.Arc.{arc_value}
+pub use Rattle.book.specs.declared.hands.Held.{Held}
 
 -- a node that is open or in hand, and the name that it was opened under
 pub record Named : Type 0 where
@@ -50,3 +52,34 @@ live s = s.waiting ++ in_hand s.hands
 -- the makespan of the best schedule
 abbrev pub best_makespan : BookState → Option ℤ
 best_makespan s = ceiling_of s.best
+
+-- ---- How many nodes there are and were.
+
+pub record CountsOf : Type 0 where
+  pub opened : ℕ
+  pub checked : ℕ
+  pub cut : ℕ
+  pub taken : ℕ
+  -- the open ones
+  pub waiting : ℕ
+  pub hand : ℕ
+
+-- counts, in this order
+abbrev pub tally : ℕ → ℕ → ℕ → ℕ → ℕ → ℕ → CountsOf
+tally opened checked cut taken waiting hand =
+    record { opened = opened; checked = checked; cut = cut; taken = taken; waiting = waiting; hand = hand }
+
+abbrev pub counts_of : BookState → CountsOf
+counts_of s = tally s.opened s.checked s.cut s.taken (length s.waiting) (length (in_hand s.hands))
+
+-- each node that was opened was checked in, was cut, is open or is in hand
+abbrev pub AddUp : CountsOf → Type 0
+AddUp c = c.opened ≡ c.checked + c.cut + c.waiting + c.hand
+
+-- ---- The nodes in hand, as they are kept.
+
+abbrev pub held_node : Held → Named
+held_node h = node_named h.name (arc_value h.node)
+
+abbrev pub hand_of : Option Held → Option Named
+hand_of hand = option_map held_node hand

@@ -2,17 +2,11 @@
 
 ghost use Rattle.std.specs.Prelude.{◌≡◌, ◌↔◌, ◌<◌, IsTrue, true, false, length, IfOk, IfErr, IfSome, option_map};
 ghost use Rattle.std.specs.Arc.{arc_value};
-ghost use Rattle.branching.specs.ReportView.{AreListsOf};
-ghost use Rattle.book.specs.Sound.{IsSound, IsWithinLimits};
-ghost use Rattle.book.specs.Opening.{AreAllowed, AreFirst, Opens, OpensRecorded};
-ghost use Rattle.book.specs.Offering.{Offers};
-ghost use Rattle.book.specs.Taking.{IsFull, Cuts, HandsOut, Takes};
-ghost use Rattle.book.specs.CheckingIn.{MayCheckIn, Judges, Accepts, ChecksIn, ChecksInForReuse};
-ghost use Rattle.book.specs.GivingBack.{GivesBack};
-ghost use Rattle.book.specs.Counts.{counts_of};
-ghost use Rattle.book.specs.Recorded.{IsRecorded, EndsWhole};
-ghost use Rattle.trail.specs.TrailViews.{trail_for};
-ghost use Rattle.book.specs.Verdicts.{IsLeast, known_bounds, IsBoundFor, IsTrueOf, IsVerdictOf};
+ghost use Rattle.branching.specs.Fair.{AreListsOf};
+ghost use Rattle.book.specs.Sound.{IsSound, IsWithinLimits, IsRecorded, EndsWhole, IsLeast, known_bounds, IsBoundFor, IsTrueOf, IsVerdictOf};
+ghost use Rattle.book.specs.Steps.{AreAllowed, AreFirst, Opens, OpensRecorded, Offers, IsFull, Cuts, HandsOut, Takes, MayCheckIn, Judges, Accepts, ChecksIn, ChecksInForReuse, GivesBack};
+ghost use Rattle.book.specs.State.{counts_of};
+ghost use Rattle.trail.specs.Trail.{trail_for};
 
 use crate::answers::{
     BookFault, CheckFault, CheckedIn, MAX_WORKERS, OtherProject, Take, Ticket, Verdict,
@@ -20,10 +14,9 @@ use crate::answers::{
 use crate::counts::Counts;
 use crate::hands::Hands;
 use crate::least::lesser;
-use crate::found::shorter_found;
 use crate::nodes_left::NodesLeft;
 use crate::open_nodes::OpenNodes;
-use crate::recording::{clear_open, open_kids};
+use crate::recording::{clear_open, open_kids, shorter_found};
 use branching::{Branches, Report, is_below, is_in_time, makespan_of, root};
 use longest_path::PathFault;
 use network::{Project, Schedule};

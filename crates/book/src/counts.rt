@@ -1,7 +1,7 @@
 //! How many nodes a book opened, checked in, cut, and handed out.
 
 ghost use Rattle.std.specs.Prelude.{◌≡◌};
-ghost use Rattle.book.specs.Counts.{CountsOf, AddUp};
+ghost use Rattle.book.specs.State.{CountsOf, AddUp};
 
 use std::marker::Model;
 
@@ -17,7 +17,7 @@ pub struct Counts {
 }
 
 impl Model for Counts {
-    ghost use Rattle.book.specs.Counts.{CountsOf, tally, AddUp};
+    ghost use Rattle.book.specs.State.{CountsOf, tally, AddUp};
 
     ghost Value = { CountsOf };
 
@@ -36,7 +36,7 @@ impl Model for Counts {
 }
 
 impl Counts {
-    ghost use Rattle.book.specs.Counts.{CountsOf, tally, AddUp};
+    ghost use Rattle.book.specs.State.{CountsOf, tally, AddUp};
 
     /// Counts that add up.
     pub(crate) fn new(

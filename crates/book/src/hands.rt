@@ -3,10 +3,9 @@
 ghost use Rattle.std.specs.Prelude.{◌≡◌, ◌≢◌, ◌<◌, ◌≤◌, [], ◌∷◌, length, replicate, Some, None, IfOk, IfSome, IfNone, MatchOption, slice_set};
 ghost use Rattle.std.specs.Arc.{arc_value};
 ghost use Rattle.std.specs.List.{All};
-ghost use Rattle.book.specs.State.{Named, node_named, Holds, in_hand};
-ghost use Rattle.book.specs.Taking.{IsFull};
-ghost use Rattle.book.specs.Verdicts.{IsLeast, bounds_of};
-ghost use Rattle.book.specs.Hands.{held_node, hand_of};
+ghost use Rattle.book.specs.State.{Named, node_named, Holds, in_hand, held_node, hand_of};
+ghost use Rattle.book.specs.Steps.{IsFull};
+ghost use Rattle.book.specs.Sound.{IsLeast, bounds_of};
 
 use crate::least::lesser;
 use branching::Lean;
@@ -29,8 +28,7 @@ pub(crate) struct Hands {
 
 impl Model for Hands {
     ghost use Rattle.std.specs.Prelude.{List, Option, map};
-    ghost use Rattle.book.specs.State.{Named};
-    ghost use Rattle.book.specs.Hands.{hand_of};
+    ghost use Rattle.book.specs.State.{Named, hand_of};
 
     ghost Value = { List (Option Named) };
 

@@ -1,7 +1,7 @@
 //! The lesser of two bounds that may be missing.
 
 ghost use Rattle.std.specs.Prelude.{ℤ, List, ◌++◌};
-ghost use Rattle.book.specs.Verdicts.{IsLeast};
+ghost use Rattle.book.specs.Sound.{IsLeast};
 
 /// The lesser of two numbers that may be there.
 pub(crate) fn lesser(a: Option<i64>, b: Option<i64>) -> Option<i64>

@@ -10,7 +10,6 @@ mod answers;
 mod book;
 mod counts;
 mod events;
-mod found;
 mod hands;
 mod least;
 mod nodes_left;

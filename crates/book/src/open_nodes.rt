@@ -3,11 +3,9 @@
 ghost use Rattle.std.specs.Prelude.{◌≡◌, ◌+◌, ◌<◌, ◌^◌, [], ◌∷◌, map, length, IfOk, OnOk, OnErr, IfSome, IfNone};
 ghost use Rattle.std.specs.Arc.{arc_value};
 ghost use Rattle.std.specs.List.{All, filter};
-ghost use Rattle.book.specs.State.{Named};
-ghost use Rattle.book.specs.Sound.{AreNamedBelow};
-ghost use Rattle.book.specs.Taking.{GoesBefore};
-ghost use Rattle.book.specs.Verdicts.{IsLeast, bounds_of};
-ghost use Rattle.book.specs.Hands.{held_node};
+ghost use Rattle.book.specs.State.{Named, held_node};
+ghost use Rattle.book.specs.Sound.{AreNamedBelow, IsLeast, bounds_of};
+ghost use Rattle.book.specs.Steps.{GoesBefore};
 ghost use Rattle.book.specs.OpenNodes.{IsNamedOtherThan, Inserts, InsertsKids, is_older};
 
 use crate::hands::Held;

@@ -1,16 +1,27 @@
 //! What a step does to the open nodes and the trail together.
 
+ghost use Rattle.book.specs.Steps.{IsShorterFound};
 ghost use Rattle.std.specs.Prelude.{◌≡◌, ◌+◌, ◌^◌, ◌<◌, [], length, IfOk, OnOk, OnErr, IfSome, option_map};
-ghost use Rattle.book.specs.Sound.{AreNamedBelow};
+ghost use Rattle.book.specs.Sound.{AreNamedBelow, note_cut};
 ghost use Rattle.book.specs.OpenNodes.{InsertsKids};
-ghost use Rattle.book.specs.Recorded.{note_cut};
 ghost use Rattle.trail.specs.Recording.{checked_in, MayNote};
-ghost use Rattle.trail.specs.TrailViews.{with_entries};
+ghost use Rattle.trail.specs.Trail.{with_entries};
 
 use crate::open_nodes::OpenNodes;
-use branching::Report;
+use branching::{Report, is_below};
 use std::alloc::AllocError;
 use trail::{NodeEnding, Trail};
+
+/// The makespan of what a report found, where that is below the limit.
+pub(crate) fn shorter_found(report: &Report, limit: Option<i64>) -> Option<i64>
+    ensures { IsShorterFound report.now.found limit result }
+{
+    let length = report.found()?.makespan();
+    if is_below(length, limit) {
+        return Some(length);
+    }
+    None
+}
 
 /// Takes out all nodes, and ends them as cut.
 fn cut_all(nodes: &mut OpenNodes, trail: &mut Trail)

@@ -20,7 +20,7 @@
 #![tactic(auto)]
 
 ghost use Rattle.std.specs.Prelude.{IsTrue};
-ghost use Rattle.network.specs.Limits.{AreStarts};
+ghost use Rattle.network.specs.Problem.{AreStarts};
 
 mod replies;
 mod trails;

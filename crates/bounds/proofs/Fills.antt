@@ -6,14 +6,10 @@ use Rattle.std.proofs.lemmas.Bool.{cases_lt}
 use Rattle.std.proofs.lemmas.List.{get_or_default}
 use Rattle.std.proofs.lemmas.List.Sums.{sum_by-cons, sum_by-take-le, sum_by-le-sum_by}
 use Rattle.std.proofs.Math.Nat.{mul-le-mul_left}
-use Rattle.bounds.specs.declared.load.Load.{Load}
 use Rattle.bounds.specs.declared.limits.TheConstants.{MAX_CAPACITY, MAX_END, MAX_WORK}
-use Rattle.bounds.specs.Loads.{IsSmall, AreLoads, work_after, share, IsReached, IsAbove}
-use Rattle.bounds.specs.Slots.{line_of, room_before, IsFilled}
+use Rattle.bounds.specs.Loads.{IsSmall, AreLoads, work_after, share, IsReached, IsAbove, line_of, room_before, IsFilled, Load}
 use Rattle.bounds.proofs.Rooms.{room_more}
-use Rattle.bounds.proofs.Marks.{line_marks, line_far}
-use Rattle.bounds.proofs.ShareLimits.{sum_small, product_small}
-use Rattle.bounds.proofs.LateWork.{late_work, late_work-late, late_work-early, late_work-le, work_after-low, work_after-early, work_after-le, IsTop, sum_more, passed, work_reaches}
+use Rattle.bounds.proofs.LateWork.{line_marks, line_far, sum_small, product_small, late_work, late_work-late, late_work-early, late_work-le, work_after-low, work_after-early, work_after-le, IsTop, sum_more, passed, work_reaches}
 
 -- ---- tops that are raised by a fill, over plain numbers
 

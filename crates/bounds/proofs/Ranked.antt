@@ -1,31 +1,52 @@
 -- Ranks along an order of all tasks are those of their tails, and loads along one are those of the tasks.
-use Rattle.std.proofs.Common.{◌≡◌, refl, sym, ap, ◌∙◌, subst, ℕ, ◌-◌, ◌<◌, ◌≤◌, ⊎_elim, ℤ, pos, List, length, get_or, map, take, arith}
-use Rattle.std.specs.Prelude.{unsigned_abs, nat_le, reverse}
-use Rattle.std.specs.List.{All, Contains, range_with_len}
+use Rattle.std.proofs.Common.{◌≡◌, sym, ap, ◌∙◌, ℕ, ◌+◌, ◌<◌, inl, inr, set, List, ◌++◌, append-nil, take, drop, map, length, get_or, arith, refl, subst, ◌-◌, ◌≤◌, ⊎_elim, ℤ, pos, unsigned_abs, nat_le, reverse}
+use Rattle.std.specs.List.{range_with_len, All, Contains}
+use Rattle.std.proofs.lemmas.Bool.{cases_eq, cases_lt, le-leb, lt-leb}
+use Rattle.std.proofs.lemmas.List.FromFn.{get_or-map-range_with_len, length-map-range_with_len, length-range_with_len}
+use Rattle.std.proofs.lemmas.List.{drop_all, take_all, ext_get_or, get_or-map, length-map, get_or-set_same, get_or-set_other, get_or-take, length-take-le, get_or_default, length-reverse, get_or-reverse}
 use Rattle.std.specs.List.Sorted.{IsPermutation}
-use Rattle.std.proofs.lemmas.Bool.{cases_lt, le-leb, lt-leb}
 use Rattle.std.proofs.lemmas.Grind.{get_or_default_zero}
-use Rattle.std.proofs.lemmas.List.{get_or-map, length-map, get_or-take, length-take-le, get_or_default, length-reverse, get_or-reverse}
 use Rattle.std.proofs.lemmas.List.Elements.{All-map, Contains-get_or}
-use Rattle.std.proofs.lemmas.List.FromFn.{length-range_with_len}
 use Rattle.std.proofs.lemmas.List.Sums.{prefix_len_is}
 use Rattle.std.proofs.lemmas.List.Sorted.{All-permutation, Contains-permutation, IsPermutation-map, IsPermutation-trans, IsPermutation-reverse, length_permutation}
-use Rattle.network.specs.Limits.{IsBetween}
+use Rattle.network.specs.Problem.{IsBetween}
 use Rattle.network.specs.declared.limits.TheConstants.{MAX_WALK_WEIGHT}
 use Rattle.network.specs.Schedule.{start}
-use Rattle.network.proofs.Running.{range_below}
-use Rattle.bounds.specs.declared.task_buffers.Task.{Task}
-use Rattle.bounds.specs.declared.load.Load.{Load}
-use Rattle.bounds.specs.Ends.{AreEnds}
+use Rattle.network.proofs.Schedules.{range_below}
+use Rattle.bounds.specs.Energy.{AreEnds, Task}
 use Rattle.orders.specs.Orders.{IsOrder, key_at, HaveKeys, Rises}
-use Rattle.bounds.specs.Loads.{tail_of, rank_of, load, AreTailsOf, AreFalling, AreLoadsOf}
-use Rattle.bounds.specs.Ranking.{IsRank, IsRanked}
-use Rattle.bounds.specs.Ranked.{task_at, AreKeysOf, keyed_load, AreRanked, AreRankedLoads}
-use Rattle.bounds.proofs.Between.{range_there}
-use Rattle.bounds.proofs.Tasks.{Contains-map}
-use Rattle.bounds.proofs.Terms.{end_above}
-use Rattle.bounds.proofs.Greatest.{abs_le}
-use Rattle.bounds.proofs.Writing.{made_by}
+use Rattle.bounds.specs.Loads.{tail_of, rank_of, load, AreTailsOf, AreFalling, AreLoadsOf, IsRank, IsRanked, task_at, AreKeysOf, keyed_load, AreRanked, AreRankedLoads, Load}
+use Rattle.bounds.proofs.Tasks.{range_there, Contains-map}
+use Rattle.bounds.proofs.Greatest.{end_above, abs_le}
+
+-- ---- Lists that are written place by place.
+
+-- one place more
+pub set_more : {X : Type 0} (d : X) (f : ℕ → X) (xs : List X) (i : ℕ) (v : X) → i < length xs → ((k : ℕ) → k < i → get_or xs k d ≡ f k) → v ≡ f i → (k : ℕ) → k < i + 1 → get_or (set xs i v) k d ≡ f k
+set_more d f xs i v lt done is k less =
+    elim (cases_eq k i) [
+      | inl e ↦ rw e (get_or-set_same xs i v d lt ∙ is)
+      | inr ne ↦ get_or-set_other xs i k v d ne ∙ done k (omega arith)
+    ]
+
+-- all places
+pub map_written : {X Y : Type 0} (d : X) (e : Y) (f : X → Y) (xs : List X) (ys : List Y) → length ys ≡ length xs → ((k : ℕ) → k < length xs → get_or ys k e ≡ f (get_or xs k d)) → ys ≡ map f xs
+map_written d e f xs ys long each =
+    ext_get_or e ys (map f xs) (long ∙ sym (length-map xs f)) (λ k short.
+    let lt : k < length xs = rw long at short in
+    each k lt ∙ sym (get_or-map f xs k d e lt))
+
+-- a list that has f at each place
+pub made_by : {X : Type 0} (d : X) (f : ℕ → X) (n : ℕ) (xs : List X) → length xs ≡ n → ((k : ℕ) → k < n → get_or xs k d ≡ f k) → xs ≡ map f (range_with_len 0 n)
+made_by d f n xs long each =
+    ext_get_or d xs (map f (range_with_len 0 n)) (long ∙ sym (length-map-range_with_len f 0 n)) (λ k short.
+    let lt : k < n = rw long at short in
+    each k lt ∙ sym (get_or-map-range_with_len f 0 n k k d lt (omega arith)))
+
+-- a buffer that is written whole
+pub written_back : {X : Type 0} (len : ℕ) (new items : List X) → len ≡ length items → length new ≡ length items → take len (new ++ drop (length new) items) ≡ new
+written_back {X} len new items e f =
+    ap (λ (xs : List X). take len (new ++ xs)) (drop_all (length new) items (omega arith)) ∙ ap (take len) (append-nil new) ∙ take_all len new (omega arith)
 
 -- ---- orders
 

@@ -1,10 +1,12 @@
 -- Ranks along an order by rising keys, one place after another.
-use Rattle.std.proofs.Common.{◌≡◌, refl, sym, ap, ◌∙◌, ℕ, ◌+◌, ◌-◌, ◌<◌, ◌≤◌, inl, inr, ⊎_elim, ℤ, pos, List, length, get_or, set, arith}
-use Rattle.std.specs.Prelude.{unsigned_abs}
-use Rattle.std.proofs.lemmas.Bool.{cases_eq, cases_lt}
-use Rattle.std.proofs.lemmas.List.{get_or-set_same, get_or-set_other}
+use Rattle.std.proofs.Common.{◌≡◌, refl, sym, ap, ◌∙◌, ℕ, ◌+◌, ◌-◌, ◌<◌, ◌≤◌, inl, inr, ⊎_elim, ℤ, pos, List, length, get_or, set, arith, unsigned_abs, nat_le, nat_lt, get_or-set_same, get_or-set_other}
+use Rattle.std.proofs.lemmas.Bool.{cases_eq, cases_lt, le-leb, leb-true, leb-false, lt-leb, ltb-true, ltb-false, lt-ltb, le-ltb}
 use Rattle.orders.specs.Orders.{key_at}
-use Rattle.bounds.specs.Ranking.{IsRank, IsKeyOf, IsRanked}
+use Rattle.bounds.specs.Loads.{IsRank, IsKeyOf, IsRanked, rank_of}
+use Rattle.std.specs.List.{Contains, prefix_len}
+use Rattle.std.specs.List.Sorted.{IsNonDecreasing}
+use Rattle.std.proofs.lemmas.Grind.{get_or_default_zero}
+use Rattle.std.proofs.lemmas.List.Sums.{prefix_len_passes, prefix_len_stops, prefix_len-le-length}
 
 -- the key at a place as a natural number
 abbrev amount_at : List ℤ → List ℕ → ℕ → ℕ
@@ -91,3 +93,77 @@ last_least keys order n count rising ranks s some rises =
     let k = s.keys_are (count - 1) (omega arith) in
     let is : get_or rising (count - 1) 0 ≡ unsigned_abs (key_at keys order k.at) = k.is in
     omega (arith, rises k.at k.early)
+
+-- ---- A tail's rank among rising ones.
+
+-- a tail is at most b where its place is below b's rank
+pub rank_tells : (rising : List ℕ) (b j : ℕ) → IsNonDecreasing rising → j < length rising → nat_lt j (rank_of rising b) ≡ nat_le (get_or rising j 0) b
+rank_tells rising b j up short =
+    ⊎_elim
+    (λ (below : j < rank_of rising b). lt-ltb j (rank_of rising b) below ∙ sym (prefix_len_passes (λ t. nat_le t b) rising j 0 below))
+    (λ (beyond : rank_of rising b ≤ j).
+    let inside : rank_of rising b < length rising = omega arith in
+    let stops : b < get_or rising (rank_of rising b) 0 = leb-false (get_or rising (rank_of rising b) 0) b (prefix_len_stops (λ t. nat_le t b) rising 0 inside) in
+    let rises : get_or rising (rank_of rising b) 0 ≤ get_or rising j 0 = up (rank_of rising b) j 0 beyond short in
+    le-ltb j (rank_of rising b) beyond ∙ sym (lt-leb (get_or rising j 0) b (omega arith)))
+    (cases_lt j (rank_of rising b))
+
+pub below_rank : (rising : List ℕ) (b j : ℕ) → IsNonDecreasing rising → j < length rising → get_or rising j 0 ≤ b → j < rank_of rising b
+below_rank rising b j up short at_most = ltb-true j (rank_of rising b) (rank_tells rising b j up short ∙ le-leb (get_or rising j 0) b at_most)
+
+pub from_below_rank : (rising : List ℕ) (b j : ℕ) → IsNonDecreasing rising → j < length rising → j < rank_of rising b → get_or rising j 0 ≤ b
+from_below_rank rising b j up short below = leb-true (get_or rising j 0) b (sym (rank_tells rising b j up short) ∙ lt-ltb j (rank_of rising b) below)
+
+pub rank_limit : (rising : List ℕ) (b : ℕ) → rank_of rising b ≤ length rising
+rank_limit rising b = prefix_len-le-length (λ t. nat_le t b) rising
+
+-- the place of a number
+pub record IsAt (rising : List ℕ) (b : ℕ) : Type 0 where
+  pub place : ℕ
+  pub short : place < length rising
+  pub is : get_or rising place 0 ≡ b
+
+pub place_of : (rising : List ℕ) (b : ℕ) → Contains rising b → IsAt rising b
+place_of rising b (j, lt, at) = record { place = j; short = lt; is = sym (get_or_default_zero rising j b lt) ∙ at }
+
+-- a tail that occurs has a rank above 0
+pub rank_some : (rising : List ℕ) (b : ℕ) → IsNonDecreasing rising → Contains rising b → 0 < rank_of rising b
+rank_some rising b up there =
+    let at = place_of rising b there in
+    let is : get_or rising at.place 0 ≡ b = at.is in
+    let below : at.place < rank_of rising b = below_rank rising b at.place up at.short (omega arith) in
+    omega arith
+
+-- the place of the first tail that is at least b
+abbrev pub first_from : List ℕ → ℕ → ℕ
+first_from rising b = prefix_len (λ t. nat_lt t b) rising
+
+pub first_late : (rising : List ℕ) (b : ℕ) → first_from rising b < length rising → b ≤ get_or rising (first_from rising b) 0
+first_late rising b short = ltb-false (get_or rising (first_from rising b) 0) b (prefix_len_stops (λ t. nat_lt t b) rising 0 short)
+
+-- a tail that occurs is at least b where its rank is above that place
+pub first_tells : (rising : List ℕ) (b t : ℕ) → IsNonDecreasing rising → Contains rising t → nat_lt (first_from rising b) (rank_of rising t) ≡ nat_le b t
+first_tells rising b t up there =
+    let at = place_of rising t there in
+    let is : get_or rising at.place 0 ≡ t = at.is in
+    ⊎_elim
+    (λ (early : t < b).
+    let beyond : rank_of rising t ≤ first_from rising b = ⊎_elim
+    (λ (less : first_from rising b < rank_of rising t).
+    let short : first_from rising b < length rising = omega (arith, less, rank_limit rising t) in
+    let low : get_or rising (first_from rising b) 0 ≤ t = from_below_rank rising t (first_from rising b) up short less in
+    let high : b ≤ get_or rising (first_from rising b) 0 = first_late rising b short in
+    absurd (omega arith))
+    (λ (more : rank_of rising t ≤ first_from rising b). more)
+    (cases_lt (first_from rising b) (rank_of rising t)) in
+    le-ltb (first_from rising b) (rank_of rising t) beyond ∙ sym (lt-leb b t early))
+    (λ (late : b ≤ t).
+    let before : first_from rising b ≤ at.place = ⊎_elim
+    (λ (less : at.place < first_from rising b).
+    let low : get_or rising at.place 0 < b = ltb-true (get_or rising at.place 0) b (prefix_len_passes (λ x. nat_lt x b) rising at.place 0 less) in
+    absurd (omega arith))
+    (λ (more : first_from rising b ≤ at.place). more)
+    (cases_lt at.place (first_from rising b)) in
+    let below : at.place < rank_of rising t = below_rank rising t at.place up at.short (omega arith) in
+    lt-ltb (first_from rising b) (rank_of rising t) (omega arith) ∙ sym (le-leb b t late))
+    (cases_lt t b)

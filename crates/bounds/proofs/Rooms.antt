@@ -1,12 +1,12 @@
 -- Rooms of slots, some of which are filled.
-use Rattle.std.proofs.Common.{◌≡◌, refl, ap, ◌∙◌, ℕ, zero, suc, ◌+◌, ◌<◌, ◌≤◌, ⊎_elim, ◌-◌, List, length, get_or, take, arith, add-zero}
+use Rattle.std.proofs.Common.{◌≡◌, ap, ◌∙◌, ℕ, zero, suc, ◌+◌, ◌<◌, ◌≤◌, ⊎_elim, ◌-◌, List, length, get_or, take, arith, add-zero}
 use Rattle.std.specs.List.{sum_by}
 use Rattle.std.proofs.Math.ListN.{set}
 use Rattle.std.proofs.Math.Seq.{take-set-lt}
 use Rattle.std.proofs.lemmas.Bool.{cases_lt}
 use Rattle.std.proofs.lemmas.List.{take-set-le, get_or-take, length-take-le, get_or-set_same, length-set}
 use Rattle.std.proofs.lemmas.List.Sums.{sum_by_more, sum_by-set}
-use Rattle.bounds.specs.Slots.{room_before, IsFilled}
+use Rattle.bounds.specs.Loads.{room_before, IsFilled}
 
 pub room_more : (xs : List ℕ) (q : ℕ) → q < length xs → room_before xs (q + 1) ≡ room_before xs q + get_or xs q 0
 room_more xs q lt = sum_by_more (λ r. r) xs q 0 lt
@@ -60,16 +60,6 @@ pub record IsFilling (start work place left : ℕ) (old new : List ℕ) : Type 0
   pub full : (q : ℕ) → start ≤ q → q ≤ place → room_before new q ≡ room_before old start
   pub within : (q : ℕ) → start ≤ q → q ≤ place → room_before old q ≤ room_before old start + work
   pub after : (q : ℕ) → place ≤ q → q ≤ length old → room_before new q + work ≡ room_before old q + left
-
-pub filling_start : (start work : ℕ) (rooms : List ℕ) → IsFilling start work start work rooms rooms
-filling_start start work rooms = record {
-  count = refl;
-  late = omega arith;
-  before = λ q l. refl;
-  full = λ q l h. let same : q ≡ start = omega arith in ap (room_before rooms) same;
-  within = λ q l h. let same : q ≡ start = omega arith in let rooms_same : room_before rooms q ≡ room_before rooms start = ap (room_before rooms) same in omega arith;
-  after = λ q l h. refl;
-}
 
 -- a slot is filled up
 pub filling_more : (start work place left : ℕ) (old mid : List ℕ) → IsFilling start work place left old mid → place < length old → get_or mid place 0 ≤ left →

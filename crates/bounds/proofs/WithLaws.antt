@@ -1,34 +1,30 @@
 -- The heads and tails of a matrix with one arc more, and its bound.
-use Rattle.std.proofs.Common.{◌≡◌, refl, sym, ap, ◌∙◌, subst, ℕ, ◌-◌, ◌<◌, ◌≤◌, arith, neg_ℤ, ℤ, pos, ◌+ℤ◌, ◌-ℤ◌, ◌≤ℤ◌, List, [], ◌∷◌, ◌++◌, length, get_or, Option, None, Some}
+use Rattle.std.proofs.Common.{◌≡◌, refl, sym, ap, ◌∙◌, subst, ℕ, ◌-◌, ◌<◌, ◌≤◌, arith, neg_ℤ, ℤ, pos, ◌+ℤ◌, ◌-ℤ◌, ◌≤ℤ◌, List, [], ◌∷◌, ◌++◌, length, get_or, Option, None, Some, ⊎_elim, ◌<ℤ◌, IfSome, FitsSigned, unsigned_abs}
 use Rattle.std.specs.Option.{unwrap_or}
-use Rattle.std.specs.Prelude.{IfSome, FitsSigned}
 use Rattle.std.specs.Int.{int_max, w64}
-use Rattle.std.proofs.lemmas.Int.{ints}
+use Rattle.std.proofs.lemmas.Int.{ints, int_max_is}
 use Rattle.std.proofs.lemmas.List.Elements.{All-head, All-push}
 use Rattle.std.proofs.lemmas.List.FromFn.{get_or-map-range_with_len}
-use Rattle.network.specs.declared.lag.Lag.{Lag}
-use Rattle.network.specs.declared.lag.Pair.{Pair}
-use Rattle.network.specs.Problem.{Problem, activity_count, end_of, duration, pair_arc, arcs_of, NameActivities}
-use Rattle.network.specs.Limits.{IsAmount, IsWithin}
-use Rattle.network.specs.ProjectMatrix.{IsProjectMatrix}
-use Rattle.network.specs.Walk.{Rows, entry, IsMatrixOf, weights_from}
+use Rattle.network.specs.declared.parts.Lag.{Lag}
+use Rattle.network.specs.declared.parts.Pair.{Pair}
+use Rattle.network.specs.Problem.{Problem, activity_count, end_of, duration, pair_arc, arcs_of, NameActivities, IsAmount, IsWithin}
+use Rattle.network.specs.Walk.{IsProjectMatrix, Rows, entry, IsMatrixOf, weights_from}
 use Rattle.network.specs.declared.limits.TheConstants.{MAX_AMOUNT}
-use Rattle.longest_path.specs.declared.with_arc.TheConstants.{MAX_WAY_WITH}
+use Rattle.longest_path.specs.declared.insert.TheConstants.{MAX_WAY_WITH}
 use Rattle.network.proofs.Schedules.{arcs_of-push}
-use Rattle.longest_path.specs.Relax.{joined}
+use Rattle.longest_path.specs.Matrix.{joined}
 use Rattle.longest_path.specs.Insert.{entry_over, rows_over, ClosesNone, AddsArc}
-use Rattle.longest_path.proofs.OneMatrix.{one_matrix}
-use Rattle.longest_path.proofs.RowsOver.{length-rows_over, entry-rows_over, AddsArc-rows_over}
-use Rattle.earliest.specs.Tails.{tail_weight, tail_weights}
-use Rattle.earliest.proofs.StartLaws.{AreEarliest-weights}
-use Rattle.earliest.proofs.TailLaws.{AreTails-weights}
-use Rattle.bounds.specs.Energy.{IsEnergyValue}
-use Rattle.bounds.specs.Ends.{AreEnds}
-use Rattle.bounds.specs.Bound.{critical_weight, IsEnergyOf, IsBoundOf}
-use Rattle.bounds.specs.With.{IsBoundBetween, IsBoundWith, IsTrueBoundWith}
-use Rattle.bounds.proofs.Writing.{made_by}
-use Rattle.bounds.proofs.BoundLaws.{IsBoundOf-max}
-use Rattle.bounds.proofs.TrueBounds.{IsTrueBoundFor-bound}
+use Rattle.longest_path.proofs.Bound.{one_matrix}
+use Rattle.longest_path.proofs.Inserted.{length-rows_over, entry-rows_over, AddsArc-rows_over}
+use Rattle.earliest.specs.Ends.{tail_weight, tail_weights}
+use Rattle.earliest.proofs.Ends.{AreEarliest-weights, AreTails-weights}
+use Rattle.bounds.specs.Energy.{IsEnergyValue, AreEnds, IsWithinTerm, IsEnergyTerm, IsEnergyUnder}
+use Rattle.bounds.specs.Bound.{critical_weight, IsEnergyOf, IsBoundOf, IsBoundBetween, IsBoundWith, IsTrueBoundWith, IsBoundUnder}
+use Rattle.bounds.proofs.Ranked.{made_by}
+use Rattle.bounds.proofs.TrueBounds.{IsBoundOf-max, IsTrueBoundFor-bound, critical_from_zero}
+use Rattle.network.specs.Schedule.{start, makespan}
+use Rattle.bounds.specs.declared.limits.TheConstants.{MAX_SHARE}
+use Rattle.bounds.proofs.Energies.{IsBoundOf-exists}
 
 pub heads_over : (e : Lag) (rows : Rows) (heads : List ℤ) → length heads ≡ length rows → ((k : ℕ) → k < length rows → get_or heads k (pos 0) ≡ unwrap_or (entry_over e rows 0 k) (pos 0)) → heads ≡ weights_from 0 (rows_over e rows)
 heads_over e rows heads long each =
@@ -119,3 +115,65 @@ pub IsBoundOf-over : (p : Problem) (pairs : List Pair) (pair : Pair) (rows : Row
     heads ≡ weights_from 0 (rows_over (pair_arc p pair) rows) → tails ≡ tail_weights p (rows_over (pair_arc p pair) rows) → IsBoundBetween p heads tails bound → IsBoundOf p (rows_over (pair_arc p pair) rows) bound
 IsBoundOf-over p pairs pair rows heads tails bound m named none heads_are tails_are is =
     IsBoundOf-between p (pairs ++ pair ∷ []) (rows_over (pair_arc p pair) rows) heads tails bound (matrix_more p pairs pair rows named none m) heads_are tails_are is
+
+-- ---- Bounds of a matrix with one pair more that stop at a ceiling.
+
+-- there is a bound with the pair
+pub IsBoundWith-exists : (p : Problem) (pair : Pair) (rows : Rows) → NameActivities p (pair ∷ []) → ClosesNone (pair_arc p pair) rows → (bound : ℤ) × IsBoundWith p rows pair bound
+IsBoundWith-exists p pair rows named none =
+    let has = IsBoundOf-exists p (rows_over (pair_arc p pair) rows) in
+    (has.0, IsBoundWith-over p pair rows has.0 named none has.1)
+
+-- what is not above it is a true bound
+pub IsTrueBoundWith-low : (p : Problem) (pair : Pair) (rows : Rows) (c : ℤ) → NameActivities p (pair ∷ []) → ClosesNone (pair_arc p pair) rows → ((bound : ℤ) → IsBoundWith p rows pair bound → c ≤ℤ bound) → IsTrueBoundWith p rows pair c
+IsTrueBoundWith-low p pair rows c named none low = λ pairs m s stands.
+    let has = IsBoundOf-exists p (rows_over (pair_arc p pair) rows) in
+    let below : c ≤ℤ has.0 = low has.0 (IsBoundWith-over p pair rows has.0 named none has.1) in
+    let above : has.0 ≤ℤ makespan s = IsTrueBoundWith-over p pair rows has.0 named none has.1 pairs m s stands in
+    omega (arith, ints)
+
+abbrev MOST : ℤ
+MOST = pos 9223372036854775807
+
+-- an energy below the ceiling
+energy_less : (ceiling : Option ℤ) (n : ℕ) (c : ℤ) → n ≤ MAX_SHARE → pos n ≤ℤ c → IfSome ceiling (λ limit. c <ℤ limit) → n < unsigned_abs (unwrap_or ceiling MOST)
+energy_less None n c small high under = omega (arith, ints)
+energy_less (Some limit) n c small high under = let less : c <ℤ limit = under in omega (arith, ints)
+
+-- the greater of the critical weight and the energy under the ceiling
+pub greater_under : (p : Problem) (pairs : List Pair) (pair : Pair) (rows : Rows) (heads tails : List ℤ) (ceiling : Option ℤ) (n : ℕ) → IsProjectMatrix p pairs rows → NameActivities p (pair ∷ []) → ClosesNone (pair_arc p pair) rows →
+    heads ≡ weights_from 0 (rows_over (pair_arc p pair) rows) → tails ≡ tail_weights p (rows_over (pair_arc p pair) rows) → start heads (end_of p) ≡ critical_weight (rows_over (pair_arc p pair) rows) →
+    IsEnergyUnder p heads tails (unsigned_abs (unwrap_or ceiling MOST)) n → n ≤ MAX_SHARE → IsBoundUnder p rows pair ceiling (int_max (start heads (end_of p)) (pos n))
+greater_under p pairs pair rows heads tails ceiling n m named none heads_are tails_are last energy small = record {
+  low = λ bound of. low bound (of pairs over m more);
+  exact = λ under.
+      let less : n < unsigned_abs (unwrap_or ceiling MOST) = energy_less ceiling n (int_max (start heads (end_of p)) (pos n)) small (omega (arith, ints, int_max_is (start heads (end_of p)) (pos n))) under in
+      IsBoundWith-over p pair rows (int_max (start heads (end_of p)) (pos n)) named none
+      (IsBoundOf-over p pairs pair rows heads tails (int_max (start heads (end_of p)) (pos n)) m named none heads_are tails_are (record { energy = pos n; of_energy = energy.exact less; is = refl }));
+}
+  where
+    over : Rows
+    over = rows_over (pair_arc p pair) rows
+
+    more : IsProjectMatrix p (pairs ++ pair ∷ []) over
+    more = matrix_more p pairs pair rows named none m
+
+    energy_low : (bound : ℤ) → IsBoundOf p over bound → pos n ≤ℤ bound
+    energy_low bound of =
+        ⊎_elim
+        (λ (none : n ≡ 0).
+        let from : pos 0 ≤ℤ critical_weight over = critical_from_zero p (pairs ++ pair ∷ []) over more in
+        let high : critical_weight over ≤ℤ bound = of.critical in
+        omega (arith, ints, none))
+        (λ (w : IsWithinTerm p heads tails n).
+        let term : IsEnergyTerm p (weights_from 0 over) (tail_weights p over) w.value = subst (λ (ts : List ℤ). IsEnergyTerm p (weights_from 0 over) ts w.value) tails_are (subst (λ (hs : List ℤ). IsEnergyTerm p hs tails w.value) heads_are w.term) in
+        let high : w.value ≤ℤ bound = of.greatest w.value term in
+        let within : pos n ≤ℤ w.value = w.within in
+        omega (arith, ints))
+        energy.low
+
+    low : (bound : ℤ) → IsBoundOf p over bound → int_max (start heads (end_of p)) (pos n) ≤ℤ bound
+    low bound of =
+        let of_energy : pos n ≤ℤ bound = energy_low bound of in
+        let of_critical : critical_weight over ≤ℤ bound = of.critical in
+        omega (arith, ints, last, int_max_is (start heads (end_of p)) (pos n))

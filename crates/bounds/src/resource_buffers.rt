@@ -3,9 +3,7 @@
 ghost use Rattle.std.specs.Prelude.{IfOk, ◌≡◌, ◌<◌, ◌≤◌, length};
 ghost use Rattle.bounds.specs.Bound.{IsMatrixFor, IsTrueBoundFor, IsEnergyOf};
 ghost use Rattle.network.specs.Problem.{activity_count, resource_count};
-ghost use Rattle.bounds.specs.Energy.{IsResourceEnergy, IsEnergyUnder};
-ghost use Rattle.bounds.specs.Ends.{AreEnds, IsGreatestEnds};
-ghost use Rattle.bounds.specs.Tasks.{all_tasks};
+ghost use Rattle.bounds.specs.Energy.{IsResourceEnergy, IsEnergyUnder, AreEnds, IsGreatestEnds, all_tasks};
 
 use crate::limits::MAX_SHARE;
 use crate::task_buffers::TaskBuffers;

@@ -3,8 +3,7 @@
 ghost use Rattle.std.specs.Prelude.{◌≡◌, ◌+◌, ◌<◌, ◌≤◌, length};
 ghost use Rattle.std.specs.List.{All};
 ghost use Rattle.std.specs.List.Sorted.{IsNonDecreasing};
-ghost use Rattle.bounds.specs.Loads.{AreLoads, IsGreatestShare};
-ghost use Rattle.bounds.specs.Slots.{line_of, room_before, AreRoomsOf, IsFilled};
+ghost use Rattle.bounds.specs.Loads.{AreLoads, IsGreatestShare, line_of, room_before, AreRoomsOf, IsFilled};
 
 use crate::limits::{FAR_MARK, MAX_CAPACITY, MAX_END, MAX_SHARE};
 use crate::load::Load;

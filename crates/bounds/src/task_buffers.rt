@@ -2,8 +2,7 @@
 
 ghost use Rattle.std.specs.Prelude.{◌≡◌, ◌<◌, IfOk, ◌+◌, ◌≤◌, length, take};
 ghost use Rattle.network.specs.Problem.{resource_count};
-ghost use Rattle.bounds.specs.Tasks.{tasks_of, AreTasks};
-ghost use Rattle.bounds.specs.Ends.{AreEnds};
+ghost use Rattle.bounds.specs.Energy.{tasks_of, AreTasks, AreEnds};
 ghost use Rattle.std.specs.List.{All};
 ghost use Rattle.std.specs.List.Sorted.{IsNonDecreasing};
 ghost use Rattle.bounds.specs.Loads.{AreLoads, IsGreatestShare, IsGreatestShareOf};
@@ -67,7 +66,7 @@ impl Model for TaskBuffers {
 
     ghost Value = { List Task };
 
-    ghost use Rattle.bounds.specs.Buffers.{AreBuffers};
+    ghost use Rattle.bounds.specs.Loads.{AreBuffers};
 
     ghost view = { λ s. s.tasks.items };
 

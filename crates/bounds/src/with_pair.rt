@@ -1,15 +1,13 @@
 //! The bound of a node with one pair more, without its matrix.
 
 ghost use Rattle.std.specs.Prelude.{◌≡◌, [], ◌<◌, ◌∷◌, length, IfOk};
-ghost use Rattle.network.specs.Problem.{activity_count, NameActivities, pair_arc};
+ghost use Rattle.network.specs.Problem.{activity_count, NameActivities, pair_arc, IsWithin};
 ghost use Rattle.network.specs.declared.limits.TheConstants.{MAX_LAG_WEIGHT};
-ghost use Rattle.network.specs.Limits.{IsWithin};
 ghost use Rattle.network.specs.Walk.{weights_from};
-ghost use Rattle.earliest.specs.Tails.{tail_weights};
+ghost use Rattle.earliest.specs.Ends.{tail_weights};
 ghost use Rattle.longest_path.specs.Insert.{rows_over, ClosesNone};
-ghost use Rattle.bounds.specs.Bound.{IsMatrixFor};
-ghost use Rattle.bounds.specs.Tasks.{all_tasks};
-ghost use Rattle.bounds.specs.With.{IsBoundWith, IsTrueBoundWith, IsBoundUnder};
+ghost use Rattle.bounds.specs.Bound.{IsMatrixFor, IsBoundWith, IsTrueBoundWith, IsBoundUnder};
+ghost use Rattle.bounds.specs.Energy.{all_tasks};
 
 use crate::resource_buffers::ResourceBuffers;
 use crate::workspace::Workspace;

@@ -3,9 +3,7 @@
 ghost use Rattle.std.specs.Prelude.{◌≡◌, [], ◌∷◌, IfOk};
 ghost use Rattle.network.specs.Problem.{NameActivities, pair_arc};
 ghost use Rattle.longest_path.specs.Insert.{ClosesNone};
-ghost use Rattle.bounds.specs.Bound.{IsMatrixFor};
-ghost use Rattle.bounds.specs.With.{IsTrueBoundWith, IsBoundUnder};
-ghost use Rattle.bounds.specs.Workspace.{IsWorkspaceFor};
+ghost use Rattle.bounds.specs.Bound.{IsMatrixFor, IsTrueBoundWith, IsBoundUnder, IsWorkspaceFor};
 
 use crate::resource_buffers::ResourceBuffers;
 use crate::with_pair::bound_over;
@@ -25,7 +23,7 @@ pub struct Workspace {
 
 impl Model for Workspace {
     ghost use Rattle.std.specs.Prelude.{◌≡◌, length};
-    ghost use Rattle.bounds.specs.Workspace.{WorkspaceOf};
+    ghost use Rattle.bounds.specs.Bound.{WorkspaceOf};
 
     ghost Value = { WorkspaceOf };
 

@@ -3,14 +3,13 @@ use Rattle.std.proofs.Common.{◌≡◌, refl, subst, ℕ, ◌+◌, ◌<◌, ◌
 use Rattle.std.proofs.lemmas.Int.{ints}
 use Rattle.std.specs.List.{Contains}
 use Rattle.std.proofs.lemmas.List.Elements.{All-nil, All-cons, All-push, All-contains, All-get_or, Contains-append_left, Contains-append_right, Contains-append_cases, Contains-push_cases}
-use Rattle.network.specs.declared.lag.Lag.{Lag}
-use Rattle.network.specs.declared.lag.Pair.{Pair}
+use Rattle.network.specs.declared.parts.Lag.{Lag}
+use Rattle.network.specs.declared.parts.Pair.{Pair}
 use Rattle.network.specs.Problem.{Problem, activity_count, pair_arc, rules, arcs_of, NameActivities}
-use Rattle.network.specs.Walk.{Rows, IsWalk, weight, entry, IsGreatestWeight, IsMatrixOf}
-use Rattle.network.specs.ProjectMatrix.{IsProjectMatrix}
-use Rattle.network.proofs.ArcLaws.{mapped_list}
+use Rattle.network.specs.Walk.{Rows, IsWalk, weight, entry, IsGreatestWeight, IsMatrixOf, IsProjectMatrix}
+use Rattle.network.proofs.FaultLaws.{mapped_list}
 use Rattle.longest_path.specs.Insert.{ClosesNone}
-use Rattle.branching.proofs.Lists.{contains_map}
+use Rattle.branching.proofs.OrderedPairs.{contains_map}
 
 abbrev IsAmong : List Lag → List Lag → Type 0
 IsAmong arcs others = (e : Lag) → Contains arcs e → Contains others e

@@ -1,23 +1,20 @@
 -- What right fates of the ordered pairs give: kids of the node, which stand for all that keeps one of
 -- the pairs.
-use Rattle.std.proofs.Common.{◌≡◌, sym, zero, suc, ◌≤◌, List, [], ◌∷◌, ◌++◌, length, ◌⊎◌, inl, inr, ⊎_elim, arith, append_assoc, append-nil, subst, Option, Some, None}
-use Rattle.std.specs.Prelude.{ℤ, ◌≤ℤ◌, ◌<ℤ◌}
+use Rattle.std.proofs.Common.{◌≡◌, sym, zero, suc, ◌≤◌, List, [], ◌∷◌, ◌++◌, length, ◌⊎◌, inl, inr, ⊎_elim, arith, append_assoc, append-nil, subst, Option, Some, None, ℤ, ◌≤ℤ◌, ◌<ℤ◌}
 use Rattle.std.specs.List.{All, Any}
 use Rattle.std.proofs.lemmas.Int.{ints}
 use Rattle.std.proofs.lemmas.List.Elements.{All-nil, All-cons, All-push, All-head, All-tail}
-use Rattle.network.specs.declared.lag.Pair.{Pair}
+use Rattle.network.specs.declared.parts.Pair.{Pair}
 use Rattle.network.specs.Problem.{Problem}
-use Rattle.network.specs.Schedule.{Keeps, makespan}
-use Rattle.network.specs.Verdict.{StandsFor, IsTrueBound}
+use Rattle.network.specs.Schedule.{Keeps, makespan, StandsFor, IsTrueBound}
 use Rattle.network.proofs.Schedules.{no_schedule_on_cycle}
 use Rattle.bounds.proofs.TrueBounds.{IsTrueBoundFor-bound}
 use Rattle.branching.specs.Subproblem.{Subproblem, NodeStandsFor, IsBoundOfPairs}
-use Rattle.branching.specs.Right.{IsCut}
-use Rattle.branching.specs.Ceiling.{IsBelow, IsUnder}
+use Rattle.branching.specs.Right.{IsCut, IsBelow, IsUnder}
 use Rattle.branching.specs.Fates.{FateOf, is_kid, is_dead, is_cut, IsKidBy, IsDeadBy, IsCutBy, AreFates}
 use Rattle.branching.specs.Fair.{IsNewTo, IsKidOf}
-use Rattle.branching.proofs.Lists.{here, any_right}
-use Rattle.branching.proofs.Forced.{all_forced_hold}
+use Rattle.branching.proofs.OrderedPairs.{here, any_right}
+use Rattle.branching.proofs.Forcings.{all_forced_hold}
 
 -- ---- fates of more pairs
 

@@ -1,25 +1,67 @@
--- What the tests on an entry, and a look through rows of pairs, say of forced pairs.
-use Rattle.std.proofs.Common.{◌≡◌, refl, sym, ap, ◌∙◌, ℕ, suc, ◌+◌, ◌<◌, Bool, true, false, ℤ, pos, ◌+ℤ◌, ◌<ℤ◌, Option, Some, None, List, [], ◌∷◌, ◌++◌, length, take, drop, get_or, ◌↔◌, arith, append_assoc, append-nil}
-use Rattle.std.specs.Prelude.{neg_ℤ}
+-- A forced pair is kept by every schedule that the node stands for, since activities that can't run at
+-- the same time don't overlap.
+use Rattle.std.proofs.Common.{◌≡◌, List, [], ◌∷◌, ◌++◌, arith, append_assoc, append-nil, refl, sym, ap, ◌∙◌, ℕ, suc, ◌+◌, ◌<◌, Bool, true, false, ℤ, pos, ◌+ℤ◌, ◌<ℤ◌, Option, Some, None, length, take, drop, get_or, ◌↔◌, subst, ◌≤ℤ◌, neg_ℤ}
+use Rattle.std.proofs.lemmas.Int.{ints, by_lt_z}
+use Rattle.std.proofs.lemmas.List.Elements.{All-push, All-nil, All-cons, All-head, All-tail, All-append, All-contains, Contains-get_or, Contains-append_right}
+use Rattle.network.specs.declared.parts.Pair.{Pair}
+use Rattle.network.specs.Problem.{Problem, duration, arcs_of, pair_of, activity_count, pair_arc, NameActivities}
+use Rattle.network.specs.Schedule.{start, Keeps, StandsFor}
+use Rattle.network.specs.Walk.{weight, Rows, entry, IsProjectMatrix, IsGreatestWeight, HasPositiveCycle}
+use Rattle.network.proofs.Schedules.{walk_holds, arcs_met}
+use Rattle.branching.specs.Right.{IsForced, AllForced, IsDead, IsUnder, Reaches}
+use Rattle.rivals.proofs.Apart.{apart}
 use Rattle.std.specs.Bool.{IsTrue}
 use Rattle.std.specs.Int.Signed.{le_z, lt_z}
 use Rattle.std.specs.List.{All, Any, Contains}
 use Rattle.std.proofs.Math.Seq.{drop-cons}
 use Rattle.std.proofs.lemmas.Grind.{flat_map-append}
-use Rattle.std.proofs.lemmas.Int.{ints}
 use Rattle.std.proofs.lemmas.List.{map-append, take_more, take-append-drop}
-use Rattle.std.proofs.lemmas.List.Elements.{All-nil, All-cons, All-head, All-tail, All-append, All-push, All-contains, Contains-get_or, Contains-append_right}
-use Rattle.network.specs.declared.lag.Pair.{Pair}
-use Rattle.network.specs.Problem.{Problem, duration}
-use Rattle.network.specs.Walk.{Rows, entry}
-use Rattle.longest_path.specs.Relax.{greater, joined}
+use Rattle.longest_path.specs.Matrix.{greater, joined}
 use Rattle.longest_path.proofs.Reach.{same_some}
-use Rattle.network.specs.Pairs.{pair_of}
-use Rattle.rivals.specs.Incompatible.{AreIncompatible, AllIncompatible}
-use Rattle.rivals.specs.IncompatibleRows.{pairs_before, pairs_of, IsRowOf, AreRowsOf}
+use Rattle.rivals.specs.Incompatible.{AreIncompatible, AllIncompatible, pairs_before, pairs_of, IsRowOf, AreRowsOf}
 use Rattle.rivals.specs.declared.incompatible.Incompatible.{Incompatible}
-use Rattle.branching.specs.Forcing.{IsForcedAt, IsForcedIn, IsForcedWith, IsFirstForced, way_over}
-use Rattle.branching.proofs.Lists.{here, contains_map, any_left, any_right}
+use Rattle.branching.specs.Forcing.{IsForcedAt, IsForcedIn, IsForcedWith, IsFirstForced, way_over, IsForcedMatrix}
+use Rattle.branching.proofs.OrderedPairs.{here, contains_map, any_left, any_right}
+use Rattle.longest_path.specs.Insert.{AddsArc, ClosesCycle}
+use Rattle.bounds.specs.Bound.{critical_weight, IsBoundOf}
+use Rattle.bounds.proofs.Energies.{IsBoundOf-exists}
+use Rattle.bounds.proofs.TrueBounds.{IsTrueBoundFor-bound}
+use Rattle.branching.specs.Subproblem.{Subproblem, IsNode}
+use Rattle.branching.specs.Fates.{IsKidBy, IsDeadBy, IsCutBy}
+use Rattle.branching.proofs.Paths.{matrix_more, closes_with}
+
+-- a forced pair is kept by every schedule that the node stands for
+pub forced_holds : (p : Problem) (pairs : List Pair) (pair : Pair) (s : List ℤ) → IsForced p pairs pair → StandsFor p pairs s → Keeps p s pair
+forced_holds p pairs pair s forced stands =
+    by_lt_z (start s pair.after) (start s pair.before +ℤ duration p pair.before)
+    (λ early. absurd (apart p s pair stands.feasible forced.incompatible late early))
+    (λ kept. kept)
+  where
+    late : start s pair.before <ℤ (start s pair.after +ℤ duration p pair.after)
+    late =
+        let way = forced.too_late.greatest.0 in
+        let weighs : weight way.0 ≡ forced.too_late.weight = way.2 in
+        let above : neg_ℤ (duration p pair.after) <ℤ forced.too_late.weight = forced.too_late.above in
+        let h : (start s pair.before +ℤ weight way.0) ≤ℤ start s pair.after = walk_holds (arcs_of p pairs) s (arcs_met p pairs s stands.feasible.schedule stands.keeps) pair.before pair.after way.0 way.1 in
+        omega (arith, ints)
+
+-- so what stands for a node stands for it with its forced pairs
+pub all_forced_hold : (p : Problem) (pairs forced : List Pair) (s : List ℤ) → AllForced p pairs forced → StandsFor p pairs s → StandsFor p (pairs ++ forced) s
+all_forced_hold p pairs [] s none stands = rw (append-nil pairs) stands
+all_forced_hold p pairs (pair ∷ forced) s all stands =
+    let more : StandsFor p (pairs ++ pair ∷ []) s = record { feasible = stands.feasible; keeps = All-push (Keeps p s) pairs pair stands.keeps (forced_holds p pairs pair s all.0 stands) } in
+    let same : (pairs ++ pair ∷ []) ++ forced ≡ pairs ++ pair ∷ forced = append_assoc pairs (pair ∷ []) forced in
+    let stands_more : StandsFor p ((pairs ++ pair ∷ []) ++ forced) s = all_forced_hold p (pairs ++ pair ∷ []) forced s all.1 more in
+    rw same at stands_more
+
+-- one forced pair more, at the end
+pub all_forced_more : (p : Problem) (pairs forced : List Pair) (pair : Pair) → AllForced p pairs forced → IsForced p (pairs ++ forced) pair → AllForced p pairs (forced ++ pair ∷ [])
+all_forced_more p pairs [] pair none last = (rw (append-nil pairs) at last, tt)
+all_forced_more p pairs (first ∷ forced) pair all last =
+    let same : (pairs ++ first ∷ []) ++ forced ≡ pairs ++ first ∷ forced = append_assoc pairs (first ∷ []) forced in
+    (all.0, all_forced_more p (pairs ++ first ∷ []) forced pair all.1 (rw same last))
+
+-- ---- What the tests on an entry, and a look through rows of pairs, say of forced pairs.
 
 lt_when : (x y : ℤ) → x <ℤ y → lt_z x y ≡ true
 lt_when x y h = grind (arith, ints)
@@ -183,3 +225,94 @@ first_among p rows pairs pair first = rw first.split (Contains-append_right firs
 
 pub first_incompatible : (p : Problem) (rows : Rows) (pairs : List Pair) (pair : Pair) → AllIncompatible p pairs → IsFirstForced p rows pairs pair → AreIncompatible p pair
 first_incompatible p rows pairs pair all first = All-contains (AreIncompatible p) pairs pair all (first_among p rows pairs pair first)
+
+-- ---- A pair that is forced by its entry is forced, and may be added to the pairs and the matrix.
+
+-- none is forced yet
+pub none_forced : (p : Problem) (pairs : List Pair) (rows : Rows) → IsProjectMatrix p pairs rows → IsForcedMatrix p pairs [] rows
+none_forced p pairs rows m = record { all_forced = tt; matrix = rw (append-nil pairs) m }
+
+-- what is forced by its entry is forced
+is_forced : (p : Problem) (pairs : List Pair) (rows : Rows) (pair : Pair) → IsProjectMatrix p pairs rows → AreIncompatible p pair → IsForcedIn p rows pair → IsForced p pairs pair
+is_forced p pairs rows pair m apart by =
+    let at : IsGreatestWeight (arcs_of p pairs) pair.before pair.after (Some by.weight) = rw by.is at (m.matrix.greatest pair.before pair.after apart.first_named apart.second_named) in
+    record { is_live = m.matrix.no_cycle; incompatible = apart; too_late = record { weight = by.weight; greatest = at; above = by.above } }
+
+-- both activities of an incompatible pair are there
+pub both_named : (p : Problem) (pair : Pair) → AreIncompatible p pair → NameActivities p (pair ∷ [])
+both_named p pair apart = All-cons (λ (q : Pair). (q.before < activity_count p) × (q.after < activity_count p)) pair [] (apart.first_named, apart.second_named) (All-nil (λ (q : Pair). (q.before < activity_count p) × (q.after < activity_count p)))
+
+-- one more, by its arc
+pub one_forced : (p : Problem) (pairs forced : List Pair) (pair : Pair) (old new : Rows) → IsForcedMatrix p pairs forced old → AreIncompatible p pair → IsForcedIn p old pair → AddsArc (pair_arc p pair) old new → IsForcedMatrix p pairs (forced ++ pair ∷ []) new
+one_forced p pairs forced pair old new so_far apart by adds =
+    let same : (pairs ++ forced) ++ pair ∷ [] ≡ pairs ++ (forced ++ pair ∷ []) = append_assoc pairs forced (pair ∷ []) in
+    let more : IsProjectMatrix p ((pairs ++ forced) ++ pair ∷ []) new = matrix_more p (pairs ++ forced) pair old new so_far.matrix (both_named p pair apart) adds in
+    record {
+      all_forced = all_forced_more p pairs forced pair so_far.all_forced (is_forced p (pairs ++ forced) old pair so_far.matrix apart by);
+      matrix = rw same at more;
+    }
+
+-- or it closes a walk of positive weight
+pub dead_forced : (node : Subproblem) (first : Pair) (forced : List Pair) (pair : Pair) (old : Rows) → IsForcedMatrix node.project (node.pairs ++ first ∷ []) forced old → AreIncompatible node.project pair → IsForcedIn node.project old pair → ClosesCycle (pair_arc node.project pair) old → IsDeadBy node first (forced ++ pair ∷ [])
+dead_forced node first forced pair old so_far apart by closes =
+    let pairs : List Pair = node.pairs ++ first ∷ [] in
+    let same : (pairs ++ forced) ++ pair ∷ [] ≡ pairs ++ (forced ++ pair ∷ []) = append_assoc pairs forced (pair ∷ []) in
+    let dead : HasPositiveCycle (arcs_of node.project ((pairs ++ forced) ++ pair ∷ [])) = closes_with node.project (pairs ++ forced) pair old so_far.matrix closes in
+    record {
+      all_forced = all_forced_more node.project pairs forced pair so_far.all_forced (is_forced node.project (pairs ++ forced) old pair so_far.matrix apart by);
+      dead = rw same at dead;
+    }
+
+-- ---- what the matrix with the forced pairs gives
+
+-- the pair alone closes a walk of positive weight
+pub dead_at_once : (node : Subproblem) (first : Pair) → IsDead node.project (node.pairs ++ first ∷ []) → IsDeadBy node first []
+dead_at_once node first dead = record { all_forced = tt; dead = rw (append-nil (node.pairs ++ first ∷ [])) dead }
+
+-- its bound is at least a number that is at least the ceiling
+pub cut_from : (node : Subproblem) (ceiling : Option ℤ) (first : Pair) (forced : List Pair) (rows : Rows) (bound least : ℤ) → IsForcedMatrix node.project (node.pairs ++ first ∷ []) forced rows → IsBoundOf node.project rows bound → least ≤ℤ bound → Reaches ceiling least → IsCutBy node ceiling first forced
+cut_from node None first forced rows bound least forced_by of low reaches = absurd reaches
+cut_from node (Some limit) first forced rows bound least forced_by of low reaches = record {
+  all_forced = forced_by.all_forced;
+  cut = record {
+    is_live = forced_by.matrix.matrix.no_cycle;
+    bound = bound;
+    bound_of = record { rows = rows; matrix = forced_by.matrix; bound_of = of };
+    reaches = let under : limit ≤ℤ least = reaches in omega (arith, ints);
+  };
+}
+
+-- so is a weight at most the critical one
+pub cut_by_least : (node : Subproblem) (ceiling : Option ℤ) (first : Pair) (rows : Rows) (least : ℤ) → IsForcedMatrix node.project (node.pairs ++ first ∷ []) [] rows → least ≤ℤ critical_weight rows → Reaches ceiling least → IsCutBy node ceiling first []
+cut_by_least node ceiling first rows least forced_by low reaches =
+    let has = IsBoundOf-exists node.project rows in
+    let above : critical_weight rows ≤ℤ has.0 = has.1.critical in
+    cut_from node ceiling first [] rows has.0 least forced_by has.1 (omega (arith, ints)) reaches
+
+-- the node with the pair and the forced pairs
+pub node_at : (node : Subproblem) (first : Pair) (forced : List Pair) (rows : Rows) (bound : ℤ) → IsForcedMatrix node.project (node.pairs ++ first ∷ []) forced rows → IsBoundOf node.project rows bound →
+    IsNode (record { project = node.project; pairs = node.pairs ++ first ∷ forced; bound = bound })
+node_at node first forced rows bound forced_by of =
+    let same : (node.pairs ++ first ∷ []) ++ forced ≡ node.pairs ++ first ∷ forced = append_assoc node.pairs (first ∷ []) forced in
+    let m : IsProjectMatrix node.project (node.pairs ++ first ∷ forced) rows = rw same at forced_by.matrix in
+    record {
+      limits = m.limits;
+      named = m.named;
+      is_live = m.matrix.no_cycle;
+      bound_of = record { rows = rows; matrix = m; bound_of = of };
+      true_bound = IsTrueBoundFor-bound node.project rows bound of (node.pairs ++ first ∷ forced) m;
+    }
+
+-- it is the kid
+pub kid_at : (node kid : Subproblem) (ceiling : Option ℤ) (first : Pair) (forced : List Pair) (rows : Rows) (bound : ℤ) → IsForcedMatrix node.project (node.pairs ++ first ∷ []) forced rows → IsBoundOf node.project rows bound → IsUnder ceiling bound →
+    kid ≡ record { project = node.project; pairs = node.pairs ++ first ∷ forced; bound = bound } → IsKidBy node first kid × IsUnder ceiling kid.bound
+kid_at node kid ceiling first forced rows bound forced_by of under is = (
+  record {
+    project = ap (λ (k : Subproblem). k.project) is;
+    forced = forced;
+    pairs = ap (λ (k : Subproblem). k.pairs) is;
+    all_forced = forced_by.all_forced;
+    is_node = subst (λ (k : Subproblem). IsNode k) (sym is) (node_at node first forced rows bound forced_by of);
+  },
+  subst (λ (b : ℤ). IsUnder ceiling b) (sym (ap (λ (k : Subproblem). k.bound) is)) under,
+)

@@ -1,13 +1,9 @@
-pub mod Lists
 pub mod OrderedPairs
-pub mod Cover
+pub mod Covers
 pub mod Nodes
 pub mod Paths
 pub mod Again
-pub mod Forced
-pub mod ForcedMatrices
-pub mod Rounds
 pub mod Forcings
+pub mod Rounds
 pub mod Fates
 pub mod Together
-pub mod Covers

@@ -1,44 +1,30 @@
 -- What a node's matrix says: of the schedules that keep its pairs, and of one pair more.
-use Rattle.std.proofs.Common.{◌≡◌, refl, sym, ap, subst, ℕ, ◌-◌, ◌<◌, ◌≤◌, arith, ℤ, pos, ◌+ℤ◌, ◌≤ℤ◌, ◌<ℤ◌, List, [], ◌∷◌, ◌++◌, length, Option, None, Some, true, false, ◌∙◌}
+use Rattle.std.proofs.Common.{◌≡◌, refl, sym, ap, subst, ◌-◌, ◌<◌, ◌≤◌, arith, ℤ, pos, ◌+ℤ◌, ◌≤ℤ◌, ◌<ℤ◌, List, [], ◌∷◌, ◌++◌, length, Option, None, Some, true, false, ◌∙◌, IfSome, FitsSigned, neg_ℤ, int_lt, if◌then◌else◌}
 use Rattle.std.specs.Option.{unwrap_or}
-use Rattle.std.specs.Prelude.{IfSome, FitsSigned, neg_ℤ, int_lt, if◌then◌else◌}
 use Rattle.std.specs.Int.{w64}
 use Rattle.std.specs.Int.Signed.{lt_z}
 use Rattle.std.proofs.lemmas.Int.{ints}
 use Rattle.std.proofs.lemmas.List.Elements.{All-nil, All-head}
-use Rattle.network.specs.declared.lag.Lag.{Lag}
-use Rattle.network.specs.declared.lag.Pair.{Pair}
-use Rattle.network.specs.Problem.{Problem, activity_count, end_of, duration, pair_arc, arcs_of, NameActivities}
-use Rattle.network.specs.Limits.{IsProject, IsAmount, IsWithin}
-use Rattle.network.specs.ProjectMatrix.{IsProjectMatrix}
-use Rattle.network.specs.declared.limits.TheConstants.{MAX_AMOUNT, MAX_LAG_WEIGHT, MAX_WALK_WEIGHT}
-use Rattle.longest_path.specs.declared.with_arc.TheConstants.{MAX_WAY_WITH}
-use Rattle.network.specs.Schedule.{start, IsSchedule, KeepsAll}
-use Rattle.network.specs.Walk.{Rows, weight, entry, IsMatrixOf, IsGreatestWeight, HasPositiveCycle}
-use Rattle.network.proofs.Schedules.{walk_holds, arcs_met, arcs_of-push}
+use Rattle.network.specs.declared.parts.Lag.{Lag}
+use Rattle.network.specs.declared.parts.Pair.{Pair}
+use Rattle.network.specs.Problem.{Problem, activity_count, end_of, duration, pair_arc, arcs_of, NameActivities, IsProject, IsAmount, IsWithin}
+use Rattle.network.specs.Walk.{IsProjectMatrix, Rows, entry, IsMatrixOf, HasPositiveCycle}
+use Rattle.network.specs.declared.limits.TheConstants.{MAX_AMOUNT, MAX_WALK_WEIGHT}
+use Rattle.longest_path.specs.declared.insert.TheConstants.{MAX_WAY_WITH}
+use Rattle.network.proofs.Schedules.{arcs_of-push}
 use Rattle.longest_path.specs.Insert.{entry_over, rows_over, ClosesNone}
-use Rattle.longest_path.specs.Relax.{greater, joined}
-use Rattle.longest_path.proofs.RowsOver.{length-rows_over, entry-rows_over}
+use Rattle.longest_path.specs.Matrix.{greater, joined}
+use Rattle.longest_path.proofs.Inserted.{length-rows_over, entry-rows_over, closes}
 use Rattle.longest_path.proofs.Reach.{joined-some, same_some}
-use Rattle.longest_path.proofs.Inserted.{closes}
-use Rattle.earliest.proofs.Entries.{from_start, to_end, reached}
+use Rattle.earliest.proofs.Ends.{from_start, to_end, reached}
 use Rattle.bounds.specs.Bound.{critical_weight, IsBoundOf, IsTrueBoundFor}
 use Rattle.bounds.proofs.WithLaws.{matrix_more}
-use Rattle.branching.specs.Covered.{IsRootOf}
+use Rattle.branching.specs.Fair.{IsRootOf}
 use Rattle.branching.specs.Subproblem.{Subproblem, IsNode, IsTiedTo}
 
 -- both activities of the pair are there
 pub ends_of : (p : Problem) (pair : Pair) → NameActivities p (pair ∷ []) → (pair.before < activity_count p) × (pair.after < activity_count p)
 ends_of p pair named = All-head (λ (q : Pair). (q.before < activity_count p) × (q.after < activity_count p)) pair [] named
-
--- an entry holds of each schedule that keeps the pairs
-pub entry_holds : (p : Problem) (pairs : List Pair) (rows : Rows) → IsMatrixOf (activity_count p) (arcs_of p pairs) rows → (a b : ℕ) (w : ℤ) → a < activity_count p → b < activity_count p → entry rows a b ≡ Some w →
-    (s : List ℤ) → IsSchedule p s → KeepsAll p s pairs → (start s a +ℤ w) ≤ℤ start s b
-entry_holds p pairs rows m a b w la lb e s is keeps =
-    let at : IsGreatestWeight (arcs_of p pairs) a b (Some w) = rw e at (m.greatest a b la lb) in
-    let h : (start s a +ℤ weight at.0.0) ≤ℤ start s b = walk_holds (arcs_of p pairs) s (arcs_met p pairs s is keeps) a b at.0.0 at.0.1 in
-    let weighs : weight at.0.0 ≡ w = at.0.2 in
-    omega (arith, ints)
 
 -- a way back that is too long for the pair's first activity closes a positive walk
 pub closes_over : (p : Problem) (pairs : List Pair) (pair : Pair) (rows : Rows) (back : ℤ) → NameActivities p (pair ∷ []) → IsMatrixOf (activity_count p) (arcs_of p pairs) rows → entry rows pair.after pair.before ≡ Some back → pos 0 <ℤ (back +ℤ duration p pair.before) →
@@ -75,12 +61,6 @@ least_with_critical p pairs pair rows m named =
     let whole : critical_weight (rows_over e rows) ≡ unwrap_or (entry_over e rows 0 (end_of p)) (pos 0) =
     ap (λ n. unwrap_or (entry (rows_over e rows) 0 (n - 1)) (pos 0)) (length-rows_over e rows ∙ size) ∙ ap (λ (o : Option ℤ). unwrap_or o (pos 0)) (entry-rows_over e rows 0 (end_of p) (omega arith) (omega arith)) in
     rw whole (way_at_most (entry rows 0 (end_of p)) (entry rows 0 pair.before) (entry rows pair.after (end_of p)) (duration p pair.before) head.value rest.value head.is rest.is)
-
-pub amount_within : (z : ℤ) → IsAmount z → IsWithin MAX_LAG_WEIGHT z
-amount_within z amount =
-    let low : pos 0 ≤ℤ z = amount.at_least in
-    let high : z ≤ℤ MAX_AMOUNT = amount.at_most in
-    record { at_least = omega (arith, ints); at_most = high }
 
 -- both activities of the pair have a row and a column
 pub rows_of : (p : Problem) (pairs : List Pair) (rows : Rows) (pair : Pair) → IsProjectMatrix p pairs rows → NameActivities p (pair ∷ []) → (pair.before < length rows) × (pair.after < length rows)

@@ -1,20 +1,17 @@
 -- What a searcher keeps while pairs are added and taken away.
-use Rattle.std.proofs.Common.{◌≡◌, refl, sym, ◌∙◌, ap, ℕ, ◌+◌, ◌-◌, ◌<◌, ◌≤◌, suc, arith, pos, ◌<ℤ◌, ◌≤ℤ◌, None, Some, inl, inr, List, [], ◌∷◌, ◌++◌, map, length, take, drop, get_or, length-append, add-one, append_assoc}
+use Rattle.std.proofs.Common.{◌≡◌, refl, sym, ◌∙◌, ap, ℕ, ◌+◌, ◌-◌, ◌<◌, ◌≤◌, suc, arith, pos, ◌<ℤ◌, ◌≤ℤ◌, None, Some, inl, inr, List, [], ◌∷◌, ◌++◌, map, length, take, drop, get_or, length-append, add-one, append_assoc, slice_get}
 use Rattle.std.proofs.lemmas.Int.{ints}
-use Rattle.std.specs.Prelude.{slice_get}
 use Rattle.std.proofs.Math.Seq.{take-append_seam, take-suc}
 use Rattle.std.proofs.lemmas.List.{take_all, take-append-drop, map-append}
 use Rattle.std.proofs.lemmas.List.Elements.{All-head, All-push, Contains-append_left}
 use Rattle.std.proofs.lemmas.Option.{slice_get_within, slice_get_cases, get_or_from_slice_get}
-use Rattle.network.specs.declared.lag.Lag.{Lag}
-use Rattle.network.specs.declared.lag.Pair.{Pair}
+use Rattle.network.specs.declared.parts.Lag.{Lag}
+use Rattle.network.specs.declared.parts.Pair.{Pair}
 use Rattle.network.specs.Problem.{Problem, activity_count, pair_arc, rules, arcs_of, NameActivities}
-use Rattle.network.specs.Walk.{Rows, IsWalk, weight, HasPositiveCycle, HasNoPositiveCycle}
-use Rattle.network.specs.ProjectMatrix.{IsProjectMatrix}
+use Rattle.network.specs.Walk.{Rows, IsWalk, weight, HasPositiveCycle, HasNoPositiveCycle, IsProjectMatrix}
 use Rattle.network.proofs.Schedules.{arcs_of-push}
-use Rattle.longest_path.specs.Insert.{AddsArc, ClosesCycle}
-use Rattle.longest_path.specs.Marked.{Marked}
-use Rattle.longest_path.specs.Fault.{IsInsertFault}
+use Rattle.longest_path.specs.Insert.{AddsArc, ClosesCycle, IsInsertFault}
+use Rattle.longest_path.specs.Saved.{Marked}
 use Rattle.longest_path.specs.declared.fault.PathFault.{PathFault}
 use Rattle.longest_path.specs.declared.fault.PathFault.TheVariants.{PositiveCycle, Memory}
 use Rattle.branching.specs.Path.{front, LeadBack, IsPath, IsPairFault}

@@ -1,20 +1,18 @@
 -- A pair that was added is kept from then on, so the pairs that are left to force get fewer.
-use Rattle.std.proofs.Common.{◌≡◌, refl, ℕ, ◌<◌, ◌≤◌, Bool, true, false, cond, List, [], ◌∷◌, ◌++◌, length, ⊎_elim, arith, Option, Some, None}
-use Rattle.std.specs.Prelude.{ℤ, ◌≤ℤ◌, ◌<ℤ◌, int_lt}
+use Rattle.std.proofs.Common.{◌≡◌, refl, ℕ, ◌<◌, ◌≤◌, Bool, true, false, cond, List, [], ◌∷◌, ◌++◌, length, ⊎_elim, arith, Option, Some, None, ℤ, ◌≤ℤ◌, ◌<ℤ◌, int_lt}
 use Rattle.std.specs.List.{All, Contains, filter}
 use Rattle.std.proofs.lemmas.Int.{ints}
 use Rattle.std.proofs.lemmas.List.Elements.{All-head, All-tail, All-weaker, Contains-append_left, Contains-push}
-use Rattle.network.specs.declared.lag.Lag.{Lag}
-use Rattle.network.specs.declared.lag.Pair.{Pair}
+use Rattle.network.specs.declared.parts.Lag.{Lag}
+use Rattle.network.specs.declared.parts.Pair.{Pair}
 use Rattle.network.specs.Problem.{Problem, activity_count, duration, pair_arc, arcs_of}
-use Rattle.network.specs.ProjectMatrix.{IsProjectMatrix}
-use Rattle.network.specs.Walk.{Rows, weight, entry, IsWalk, IsMatrixOf, IsGreatestWeight}
+use Rattle.network.specs.Walk.{IsProjectMatrix, Rows, weight, entry, IsWalk, IsMatrixOf, IsGreatestWeight}
 use Rattle.network.proofs.Schedules.{arcs_of-push}
-use Rattle.longest_path.specs.Relax.{Reaches}
-use Rattle.earliest.proofs.Entries.{reached}
+use Rattle.longest_path.specs.Matrix.{Reaches}
+use Rattle.earliest.proofs.Ends.{reached}
 use Rattle.rivals.specs.Incompatible.{AreIncompatible}
 use Rattle.branching.specs.Forcing.{IsForcedIn}
-use Rattle.branching.proofs.Lists.{contains_cases}
+use Rattle.branching.proofs.OrderedPairs.{contains_cases}
 
 -- ---- filters
 

@@ -1,32 +1,25 @@
 -- What the overload of a least schedule gives: members of a forbidden set that take time, and ordered
 -- pairs that are new to the node.
-use Rattle.std.proofs.Common.{◌≡◌, refl, sym, ap, ℕ, ◌-◌, ◌<◌, ◌≤◌, true, ◌&&◌, List, [], ◌∷◌, length, get_or, arith, Option, Some, None}
-use Rattle.std.specs.Prelude.{ℤ, pos, ◌+ℤ◌, ◌≤ℤ◌, ◌<ℤ◌, int_le, int_lt}
+use Rattle.std.proofs.Common.{◌≡◌, refl, sym, ap, ℕ, ◌-◌, ◌<◌, ◌≤◌, true, ◌&&◌, List, [], ◌∷◌, length, get_or, arith, Option, Some, None, ℤ, pos, ◌+ℤ◌, ◌≤ℤ◌, ◌<ℤ◌, int_le, int_lt}
 use Rattle.std.specs.List.{All, Contains}
 use Rattle.std.specs.List.Sorted.{IsStrictlyIncreasing}
 use Rattle.std.proofs.lemmas.Int.{ints}
 use Rattle.std.proofs.lemmas.List.Elements.{All-nil, All-contains, All-weaker, Contains-get_or, filter_passes}
 use Rattle.std.proofs.Math.Nat.{mul-le-mul_left, mul-le-mul_right}
-use Rattle.network.specs.declared.lag.Pair.{Pair}
-use Rattle.network.specs.Forbidden.{IsForbidden, IsMinimalForbidden}
-use Rattle.network.specs.Limits.{IsProject}
+use Rattle.network.specs.declared.parts.Pair.{Pair}
+use Rattle.network.specs.Schedule.{IsForbidden, IsMinimalForbidden, start, makespan, is_running, running, IsWithinCapacities, IsLeastSchedule, ScheduleOf}
+use Rattle.network.specs.Problem.{IsProject, Problem, activity_count, end_of, resource_count, activities, duration, NameActivities, pair_of}
 use Rattle.network.specs.declared.limits.TheConstants.{MAX_ACTIVITIES}
-use Rattle.network.proofs.Running.{running_below}
-use Rattle.network.specs.Problem.{Problem, activity_count, end_of, resource_count, activities, duration, NameActivities}
-use Rattle.network.specs.Schedule.{start, makespan, is_running, running, IsWithinCapacities, IsLeastSchedule, ScheduleOf}
+use Rattle.network.proofs.Schedules.{running_below}
 use Rattle.forbidden_sets.specs.MinimalSet.{MinimalSet}
-use Rattle.branching.specs.Subproblem.{Subproblem, NodeStandsFor, IsNode}
+use Rattle.branching.specs.Subproblem.{Subproblem, NodeStandsFor, IsNode, ordered_pairs}
 use Rattle.branching.specs.declared.report.TheConstants.{MAX_KIDS}
-use Rattle.network.specs.Pairs.{pair_of}
-use Rattle.branching.specs.Pairs.{ordered_pairs}
-use Rattle.branching.specs.Right.{IsRightSet, IsCutUnder}
-use Rattle.branching.specs.Ceiling.{IsBelow, Reaches}
+use Rattle.branching.specs.Right.{IsRightSet, IsCutUnder, IsBelow, Reaches}
 use Rattle.branching.specs.Fates.{FateOf, AreFates}
 use Rattle.branching.specs.Fair.{IsNewTo, IsKidOf, IsReport}
-use Rattle.branching.proofs.Lists.{here}
-use Rattle.rivals.proofs.Rising.{BeginsFrom, rising_length}
-use Rattle.branching.proofs.OrderedPairs.{all_pairs, count_pairs}
-use Rattle.branching.proofs.Cover.{some_kept}
+use Rattle.branching.proofs.OrderedPairs.{here, all_pairs, count_pairs}
+use Rattle.rivals.proofs.Apart.{BeginsFrom, rising_length}
+use Rattle.branching.proofs.Covers.{some_kept}
 use Rattle.branching.proofs.Fates.{fates_kids, fates_cover, fates_few}
 
 -- ---- the running activities

@@ -1,6 +1,6 @@
 -- The fields of a `Base`, as its callers see them.
 use Rattle.std.specs.Arc.{arc_value}
-use Rattle.branching.specs.Base.{BaseOf}
+use Rattle.branching.specs.Subproblem.{BaseOf}
 use Rattle.branching.specs.declared.base.Base.TheInside.{Inside}
 
 abbrev pub base_of : Inside → BaseOf

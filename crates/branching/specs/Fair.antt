@@ -1,15 +1,17 @@
 -- What the expansion of a node gives, and when a report on it is fair.
-use Rattle.std.specs.Prelude.{◌≡◌, ◌≤◌, ℤ, ◌<ℤ◌, Option, None, IfSome, MatchOption, List, [], length}
+use Rattle.std.specs.Prelude.{◌≡◌, ◌≤◌, ℤ, ◌<ℤ◌, Option, None, IfSome, MatchOption, List, [], length, map, ◌⊎◌, Some}
 use Rattle.std.specs.List.{All, Any}
-use Rattle.network.specs.declared.lag.Pair.{Pair}
-use Rattle.network.specs.Schedule.{ScheduleOf, Keeps, IsLeastSchedule, makespan}
+use Rattle.network.specs.declared.parts.Pair.{Pair}
+use Rattle.network.specs.Schedule.{ScheduleOf, Keeps, IsLeastSchedule, makespan, IsFeasible}
 use Rattle.forbidden_sets.specs.MinimalSet.{MinimalSet}
 use Rattle.branching.specs.declared.report.TheConstants.{MAX_KIDS}
-use Rattle.branching.specs.Subproblem.{Subproblem, NodeStandsFor, IsNode}
-use Rattle.branching.specs.Right.{IsRightSet, IsCutUnder}
-use Rattle.branching.specs.Pairs.{ordered_pairs}
-use Rattle.branching.specs.Ceiling.{IsBelow, IsUnder}
-use Rattle.branching.specs.Fates.{FateOf, IsKidBy, AreFates}
+use Rattle.branching.specs.Subproblem.{Subproblem, NodeStandsFor, IsNode, ordered_pairs}
+use Rattle.branching.specs.Right.{IsRightSet, IsCutUnder, IsBelow, IsUnder}
+use Rattle.branching.specs.Fates.{FateOf, IsKidBy, AreFates, fate_value}
+use Rattle.std.specs.Arc.{arc_value}
+use Rattle.branching.specs.declared.branches.Branches.{Branches}
+use Rattle.branching.specs.declared.report.Report.TheInside.{Inside}
+use Rattle.network.specs.Problem.{Problem}
 
 -- what a `Report` is: a node, the ceiling it was expanded under, a schedule if one was found, the set that
 -- was split if one was, what became of its ordered pairs, and kids
@@ -84,3 +86,48 @@ pub record IsReportOn (node : Subproblem) (ceiling : Option ℤ) (report : Expan
 -- where the node's bound is at least the ceiling, the report finds nothing and has no kids
 abbrev pub FindsNothingOver : Subproblem → Option ℤ → Expansion → Type 0
 FindsNothingOver node ceiling report = ¬ IsUnder ceiling node.bound → (report.found ≡ None) × (report.kids ≡ [])
+
+-- ---- The fields of a `Report`, as a caller sees them, and the lists that it leaves.
+
+abbrev pub expansion_of : Inside → Expansion
+expansion_of r =
+    report_of (arc_value r.node) r.ceiling r.found r.split (map fate_value r.fates.items) (map arc_value r.kids.items)
+
+-- the lists are the report's own
+pub record AreListsOf (report : Expansion) (made : Branches) : Type 0 where
+  pub kids : map arc_value made.kids.items ≡ report.kids
+  pub fates : map fate_value made.fates.items ≡ report.fates
+
+-- ---- The best schedule so far, and nodes that stand for every shorter one.
+
+-- a node of the project
+pub record IsNodeOf (p : Problem) (node : Subproblem) : Type 0 where
+  pub project : node.project ≡ p
+  pub is_node : IsNode node
+
+-- the node without pairs, which stands for every feasible schedule of the project
+pub record IsRootOf (p : Problem) (node : Subproblem) : Type 0 where
+  pub of_project : IsNodeOf p node
+  pub no_pairs : node.pairs ≡ []
+
+-- a feasible schedule of the project
+pub record IsScheduleFor (p : Problem) (best : ScheduleOf) : Type 0 where
+  pub project : best.project ≡ p
+  pub feasible : IsFeasible p best.starts
+
+-- the best is feasible, and each shorter feasible schedule is one that some node stands for
+pub record IsCovered (p : Problem) (best : Option ScheduleOf) (nodes : List Subproblem) : Type 0 where
+  pub of_best : IfSome best (IsScheduleFor p)
+  pub of_nodes : All (IsNodeOf p) nodes
+  pub covers : (s : List ℤ) → IsFeasible p s → IsShorterThan best s → Any (λ node. NodeStandsFor node s) nodes
+
+-- the ceiling that the best gives: its makespan
+abbrev pub ceiling_of : Option ScheduleOf → Option ℤ
+ceiling_of None = None
+ceiling_of (Some best) = Some (makespan best.starts)
+
+-- of the best and what was found, the shorter, or the one that is there
+pub record IsShorterOf (best found shorter : Option ScheduleOf) : Type 0 where
+  pub than_best : (s : List ℤ) → IsShorterThan shorter s → IsShorterThan best s
+  pub than_found : (s : List ℤ) → IsShorterThan shorter s → IsShorterThan found s
+  pub from : IfSome shorter (λ s. (Some s ≡ best) ⊎ (Some s ≡ found))

@@ -1,11 +1,10 @@
 -- Pairs that are forced, one after the other, by the matrix of a node and a pair.
 use Rattle.std.specs.Prelude.{◌≡◌, ℤ, neg_ℤ, ◌<ℤ◌, Option, Some, MatchOption, List, [], ◌∷◌, ◌++◌}
 use Rattle.std.specs.List.{All}
-use Rattle.network.specs.declared.lag.Pair.{Pair}
+use Rattle.network.specs.declared.parts.Pair.{Pair}
 use Rattle.network.specs.Problem.{Problem, duration, pair_arc}
-use Rattle.network.specs.ProjectMatrix.{IsProjectMatrix}
-use Rattle.network.specs.Walk.{Rows, entry}
-use Rattle.longest_path.specs.Relax.{greater, joined}
+use Rattle.network.specs.Walk.{IsProjectMatrix, Rows, entry}
+use Rattle.longest_path.specs.Matrix.{greater, joined}
 use Rattle.longest_path.specs.Insert.{weight_over}
 use Rattle.branching.specs.Subproblem.{Subproblem}
 use Rattle.branching.specs.Right.{AllForced}

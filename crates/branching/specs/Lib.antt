@@ -1,16 +1,8 @@
 pub mod Subproblem
-pub mod Pairs
-pub mod Base
 pub mod BaseView
 pub mod Parent
-pub mod NodeView
 pub mod Path
-pub mod Workspace
 pub mod Right
-pub mod Ceiling
 pub mod Fates
-pub mod Fate
 pub mod Forcing
 pub mod Fair
-pub mod ReportView
-pub mod Covered

@@ -1,9 +1,10 @@
 -- What kids have of a node.
 use Rattle.std.specs.Prelude.{◌≡◌, ℤ, List, ◌++◌}
 use Rattle.std.specs.Arc.{arc_value}
-use Rattle.network.specs.declared.lag.Pair.{Pair}
+use Rattle.network.specs.declared.parts.Pair.{Pair}
 use Rattle.branching.specs.Subproblem.{Subproblem}
 use Rattle.branching.specs.declared.lean.Parent.{Parent}
+use Rattle.branching.specs.declared.lean.Lean.TheInside.{Inside}
 
 -- its project and its pairs
 pub record IsParent (node : Subproblem) (parent : Parent) : Type 0 where
@@ -17,3 +18,8 @@ node_under parent last bound = record {
   pairs = parent.pairs.items ++ last;
   bound = bound;
 }
+
+-- ---- The fields of a `Lean`, as a caller sees them.
+
+abbrev pub lean_of : Inside → Subproblem
+lean_of n = node_under (arc_value n.parent) n.last.items n.bound

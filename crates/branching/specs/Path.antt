@@ -1,13 +1,15 @@
 -- A list of pairs that grows and goes back, with the matrix of the project and the pairs.
 use Rattle.std.specs.Prelude.{◌≡◌, ◌<◌, ◌-◌, ◌≤◌, ℕ, List, [], ◌∷◌, length, take}
-use Rattle.network.specs.declared.lag.Pair.{Pair}
+use Rattle.network.specs.declared.parts.Pair.{Pair}
 use Rattle.network.specs.Problem.{Problem, arcs_of}
-use Rattle.network.specs.Walk.{Rows, HasPositiveCycle}
-use Rattle.network.specs.ProjectMatrix.{IsProjectMatrix}
-use Rattle.longest_path.specs.Marked.{Marked}
+use Rattle.network.specs.Walk.{Rows, HasPositiveCycle, IsProjectMatrix}
+use Rattle.longest_path.specs.Saved.{Marked}
 use Rattle.longest_path.specs.declared.fault.PathFault.{PathFault}
 use Rattle.longest_path.specs.declared.fault.PathFault.TheVariants.{PositiveCycle, Memory}
 use Rattle.branching.specs.Subproblem.{Subproblem}
+use Rattle.profile.specs.Overloads.{IsSweepFor}
+use Rattle.bounds.specs.Bound.{IsWorkspaceFor}
+use Rattle.branching.specs.declared.workspace.Workspace.{Workspace}
 
 -- a project, and the pairs that were added
 pub record Path : Type 0 where
@@ -48,3 +50,15 @@ pub record IsShared (count : ℕ) (left right : List Pair) : Type 0 where
   pub in_left : count ≤ length left
   pub in_right : count ≤ length right
   pub same : take count left ≡ take count right
+
+-- ---- The memory that expansions share, and what a searcher keeps.
+
+-- it has room for the project's nodes
+pub record HasRoomFor (p : Problem) (workspace : Workspace) : Type 0 where
+  pub bounds : IsWorkspaceFor p workspace.bounds
+  pub overloads : IsSweepFor p workspace.overloads
+
+-- the matrix goes back along the pairs, and there is room for the project's nodes
+pub record IsSearcher (p : Problem) (pairs : List Pair) (m : Marked) (workspace : Workspace) : Type 0 where
+  pub path : IsPath p pairs m
+  pub room : HasRoomFor p workspace

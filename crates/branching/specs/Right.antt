@@ -1,11 +1,10 @@
 -- When a step of a search is right, in a node of a project that has these pairs.
-use Rattle.std.specs.Prelude.{ℕ, ◌<◌, ℤ, pos, neg_ℤ, ◌≤ℤ◌, ◌<ℤ◌, Option, None, Some, List, [], ◌∷◌, ◌++◌}
+use Rattle.std.specs.Prelude.{ℕ, ◌<◌, ℤ, pos, neg_ℤ, ◌≤ℤ◌, ◌<ℤ◌, Option, None, Some, List, [], ◌∷◌, ◌++◌, int_lt, Bool, true, MatchOption, IfSome}
 use Rattle.std.specs.List.{All}
 use Rattle.std.specs.List.Sorted.{IsStrictlyIncreasing}
-use Rattle.network.specs.declared.lag.Pair.{Pair}
-use Rattle.network.specs.Forbidden.{IsForbidden}
+use Rattle.network.specs.declared.parts.Pair.{Pair}
+use Rattle.network.specs.Schedule.{IsForbidden, IsLeastSchedule, IsFeasible, makespan}
 use Rattle.network.specs.Problem.{Problem, activity_count, resource_count, duration, arcs_of}
-use Rattle.network.specs.Schedule.{IsLeastSchedule, IsFeasible, makespan}
 use Rattle.network.specs.Walk.{IsGreatestWeight, HasPositiveCycle}
 use Rattle.rivals.specs.Incompatible.{AreIncompatible}
 use Rattle.branching.specs.Subproblem.{IsLive, IsBoundOfPairs}
@@ -64,3 +63,28 @@ IsCutUnder p pairs (Some limit) = IsCut p pairs limit
 abbrev pub IsSolvedUnder : Problem → List Pair → Option ℤ → Type 0
 IsSolvedUnder p pairs None = ⊥
 IsSolvedUnder p pairs (Some limit) = IsSolved p pairs limit
+
+-- ---- A makespan that is known, if one is: only what is below it is looked for.
+
+-- the makespan is below the ceiling, if there is one
+abbrev pub IsBelow : Option ℤ → List ℤ → Type 0
+IsBelow ceiling s = IfSome ceiling (λ c. makespan s <ℤ c)
+
+-- the bound is below the ceiling, if there is one
+abbrev pub IsUnder : Option ℤ → ℤ → Type 0
+IsUnder ceiling bound = IfSome ceiling (λ c. bound <ℤ c)
+
+-- there is a ceiling, and the bound is at least that
+abbrev pub Reaches : Option ℤ → ℤ → Type 0
+Reaches None bound = ⊥
+Reaches (Some c) bound = c ≤ℤ bound
+
+-- whether the number is below the ceiling, if there is one
+abbrev pub is_below : Option ℤ → ℤ → Bool
+is_below None number = true
+is_below (Some c) number = int_lt number c
+
+-- a report without a ceiling left nothing out; one with a ceiling left out nothing that is shorter than the best
+abbrev pub IsInTime : Option ℤ → Option ℤ → Type 0
+IsInTime None best = Unit {0}
+IsInTime (Some ceiling) best = MatchOption best ⊥ (λ length. length ≤ℤ ceiling)

@@ -1,12 +1,13 @@
 -- What a node of the search is: a project, the pairs that were added, and a lower bound.
-use Rattle.std.specs.Prelude.{ℤ, List, [], ◌∷◌, ◌++◌}
-use Rattle.network.specs.declared.lag.Pair.{Pair}
-use Rattle.network.specs.Problem.{Problem, arcs_of, NameActivities}
-use Rattle.network.specs.ProjectMatrix.{IsProjectMatrix}
-use Rattle.network.specs.Limits.{IsProject}
-use Rattle.network.specs.Walk.{Rows, HasNoPositiveCycle}
-use Rattle.network.specs.Verdict.{StandsFor, IsTrueBound}
+use Rattle.std.specs.Prelude.{ℤ, List, [], ◌∷◌, ◌++◌, ℕ, map}
+use Rattle.network.specs.declared.parts.Pair.{Pair}
+use Rattle.network.specs.Problem.{Problem, arcs_of, NameActivities, IsProject, pair_of}
+use Rattle.network.specs.Walk.{IsProjectMatrix, Rows, HasNoPositiveCycle}
+use Rattle.network.specs.Schedule.{StandsFor, IsTrueBound}
 use Rattle.bounds.specs.Bound.{IsBoundOf}
+use Rattle.rivals.specs.Incompatible.{AreRowsOf}
+use Rattle.rivals.specs.declared.incompatible.Incompatible.{Incompatible}
+use Rattle.std.specs.List.{flat_map}
 
 pub record Subproblem : Type 0 where
   pub project : Problem
@@ -51,3 +52,39 @@ pub record IsNode (node : Subproblem) : Type 0 where
 pub record IsTiedTo (node : Subproblem) (rows : Rows) : Type 0 where
   pub is_node : IsNode node
   pub matrix : IsProjectMatrix node.project node.pairs rows
+
+-- ---- What all nodes of a search share.
+
+-- a project, its matrix without pairs, and which of its activities can't run at the same time
+pub record BaseOf : Type 0 where
+  pub project : Problem
+  pub rows : Rows
+  pub incompatible : List Incompatible
+
+pub record IsBase (base : BaseOf) : Type 0 where
+  pub matrix : IsProjectMatrix base.project [] base.rows
+  pub incompatible : AreRowsOf base.project base.incompatible
+
+-- ---- The ordered pairs of a set's members.
+
+-- a member, and the others in order
+pub record Pick : Type 0 where
+  pub member : ℕ
+  pub others : List ℕ
+
+-- the pick with one more of the others, before them
+abbrev pub with_other : ℕ → Pick → Pick
+with_other i pick = record { member = pick.member; others = i ∷ pick.others }
+
+-- each member with the others
+abbrev pub picks : List ℕ → List Pick
+picks [] = []
+picks (i ∷ members) = record { member = i; others = members } ∷ map (with_other i) (picks members)
+
+-- the member first, with each of the others
+abbrev pub pairs_with : Pick → List Pair
+pairs_with pick = map (pair_of pick.member) pick.others
+
+-- each ordered pair of two members, by rising (i, j) where the members rise
+abbrev pub ordered_pairs : List ℕ → List Pair
+ordered_pairs members = flat_map pairs_with (picks members)

@@ -2,9 +2,9 @@
 
 ghost use Rattle.std.specs.Prelude.{◌≡◌, [], IfOk};
 ghost use Rattle.std.specs.Arc.{arc_value};
-ghost use Rattle.network.specs.Limits.{IsProject};
-ghost use Rattle.network.specs.ProjectMatrix.{IsProjectMatrix};
-ghost use Rattle.rivals.specs.IncompatibleRows.{AreRowsOf};
+ghost use Rattle.network.specs.Problem.{IsProject};
+ghost use Rattle.network.specs.Walk.{IsProjectMatrix};
+ghost use Rattle.rivals.specs.Incompatible.{AreRowsOf};
 
 use longest_path::Matrix;
 use network::Project;
@@ -23,7 +23,7 @@ pub(crate) struct Base {
 }
 
 impl Model for Base {
-    ghost use Rattle.branching.specs.Base.{BaseOf, IsBase};
+    ghost use Rattle.branching.specs.Subproblem.{BaseOf, IsBase};
 
     ghost Value = { BaseOf };
 

@@ -3,14 +3,13 @@
 ghost use Rattle.std.specs.Prelude.{◌≡◌, [], ◌∷◌, ◌++◌, ◌≤ℤ◌, IfOk};
 ghost use Rattle.std.specs.Bool.{OnTrue, OnFalse};
 ghost use Rattle.network.specs.Problem.{NameActivities, pair_arc};
-ghost use Rattle.network.specs.ProjectMatrix.{IsProjectMatrix};
+ghost use Rattle.network.specs.Walk.{IsProjectMatrix};
 ghost use Rattle.longest_path.specs.Insert.{ClosesNone, rows_over};
-ghost use Rattle.bounds.specs.Bound.{critical_weight};
-ghost use Rattle.bounds.specs.Workspace.{IsWorkspaceFor};
+ghost use Rattle.bounds.specs.Bound.{critical_weight, IsWorkspaceFor};
 ghost use Rattle.branching.specs.Subproblem.{IsTiedTo};
 ghost use Rattle.branching.specs.Right.{IsDead};
 ghost use Rattle.branching.specs.Forcing.{IsForcedMatrix};
-ghost use Rattle.branching.specs.Fate.{IsBranchOf};
+ghost use Rattle.branching.specs.Fates.{IsBranchOf};
 
 use crate::ceiling::is_below;
 use crate::forcing::{Forcing, force, forces_some};

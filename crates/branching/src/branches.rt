@@ -2,13 +2,13 @@
 
 ghost use Rattle.std.specs.Prelude.{◌≡◌, [], IfOk};
 ghost use Rattle.network.specs.Problem.{NameActivities};
-ghost use Rattle.bounds.specs.Workspace.{IsWorkspaceFor};
+ghost use Rattle.bounds.specs.Bound.{IsWorkspaceFor};
 ghost use Rattle.branching.specs.Subproblem.{IsTiedTo};
-ghost use Rattle.branching.specs.Fate.{AreBranches};
+ghost use Rattle.branching.specs.Fates.{AreBranches};
 
 use crate::branch::{Branch, branch_of};
-use crate::fate::Fate;
 use crate::lean::{Lean, parent_of};
+use crate::report::Fate;
 use bounds::Workspace;
 use longest_path::MarkedMatrix;
 use network::Pair;

@@ -2,8 +2,8 @@
 
 ghost use Rattle.std.specs.Prelude.{◌≡◌};
 ghost use Rattle.std.specs.Bool.{OnTrue, OnFalse};
-ghost use Rattle.branching.specs.Ceiling.{is_below, IsUnder, Reaches, IsInTime};
-ghost use Rattle.branching.specs.Covered.{ceiling_of};
+ghost use Rattle.branching.specs.Right.{is_below, IsUnder, Reaches, IsInTime};
+ghost use Rattle.branching.specs.Fair.{ceiling_of};
 
 use network::Schedule;
 

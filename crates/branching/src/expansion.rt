@@ -3,14 +3,14 @@
 ghost use Rattle.std.specs.Prelude.{◌≡◌, IfOk};
 ghost use Rattle.std.specs.Arc.{arc_value};
 ghost use Rattle.network.specs.Schedule.{IsWithinCapacities, running};
-ghost use Rattle.earliest.specs.Starts.{AreEarliest};
+ghost use Rattle.earliest.specs.Ends.{AreEarliest};
 ghost use Rattle.profile.specs.Overloads.{IsFirstOverload};
 ghost use Rattle.branching.specs.Subproblem.{IsNode, IsTiedTo};
-ghost use Rattle.branching.specs.Workspace.{HasRoomFor};
+ghost use Rattle.branching.specs.Path.{HasRoomFor};
 ghost use Rattle.branching.specs.Fair.{IsReportOn, FindsNothingOver};
 
-use crate::ceiling::is_below;
 use crate::branches::{Branches, branches_of};
+use crate::ceiling::is_below;
 use crate::lean::Lean;
 use crate::node::Node;
 use crate::pairs::put_ordered_pairs;

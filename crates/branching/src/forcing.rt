@@ -2,11 +2,10 @@
 
 ghost use Rattle.std.specs.Prelude.{◌≡◌, ◌↔◌, ◌<◌, [], ◌∷◌, ◌++◌, length, IsTrue, IfOk, IfSome};
 ghost use Rattle.std.specs.List.{Any};
-ghost use Rattle.network.specs.Limits.{IsWithin};
-ghost use Rattle.network.specs.Problem.{activity_count, pair_arc, NameActivities};
-ghost use Rattle.network.specs.ProjectMatrix.{IsProjectMatrix};
-ghost use Rattle.longest_path.specs.declared.with_arc.TheConstants.{MAX_WAY_WITH};
-ghost use Rattle.rivals.specs.IncompatibleRows.{pairs_of_row, pairs_of, IsRowOf, AreRowsOf};
+ghost use Rattle.network.specs.Problem.{IsWithin, activity_count, pair_arc, NameActivities};
+ghost use Rattle.network.specs.Walk.{IsProjectMatrix};
+ghost use Rattle.longest_path.specs.declared.insert.TheConstants.{MAX_WAY_WITH};
+ghost use Rattle.rivals.specs.Incompatible.{pairs_of_row, pairs_of, IsRowOf, AreRowsOf};
 ghost use Rattle.branching.specs.Forcing.{IsForcedAt, IsForcedWith, IsNextForced, IsForcingOf};
 
 use crate::lean::Lean;

@@ -2,7 +2,7 @@
 
 ghost use Rattle.std.specs.Prelude.{◌≡◌, ◌↔◌, ◌∷◌, IsTrue, IfOk, IfSome};
 ghost use Rattle.std.specs.Arc.{arc_value};
-ghost use Rattle.network.specs.Limits.{IsProject};
+ghost use Rattle.network.specs.Problem.{IsProject};
 ghost use Rattle.branching.specs.Subproblem.{IsNode, kid_of, root_node};
 ghost use Rattle.branching.specs.Parent.{IsParent, node_under};
 
@@ -68,7 +68,7 @@ impl Model for Lean {
 
     ghost Value = { Subproblem };
 
-    ghost use Rattle.branching.specs.NodeView.{lean_of};
+    ghost use Rattle.branching.specs.Parent.{lean_of};
 
     ghost view = { lean_of };
 

@@ -3,10 +3,10 @@
 ghost use Rattle.std.specs.Prelude.{◌≡◌, [], IfOk, IfErr};
 ghost use Rattle.std.specs.Arc.{arc_value};
 ghost use Rattle.network.specs.Problem.{arcs_of};
-ghost use Rattle.network.specs.ProjectMatrix.{IsProjectMatrix};
-ghost use Rattle.longest_path.specs.Fault.{Explains};
+ghost use Rattle.network.specs.Walk.{IsProjectMatrix};
+ghost use Rattle.longest_path.specs.Insert.{Explains};
 ghost use Rattle.branching.specs.Subproblem.{Subproblem, IsNode, IsTiedTo};
-ghost use Rattle.branching.specs.Covered.{IsRootOf};
+ghost use Rattle.branching.specs.Fair.{IsRootOf};
 
 use crate::base::Base;
 use crate::lean::Lean;

@@ -15,7 +15,7 @@ pub struct PairList<'a> {
 
 impl<'a> Model for PairList<'a> {
     ghost use Rattle.std.specs.Prelude.{List, ◌++◌};
-    ghost use Rattle.network.specs.declared.lag.Pair.{Pair};
+    ghost use Rattle.network.specs.declared.parts.Pair.{Pair};
 
     ghost Value = { List Pair };
 

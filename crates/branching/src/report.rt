@@ -2,15 +2,26 @@
 
 ghost use Rattle.std.specs.Prelude.{◌≡◌, ◌≤◌, List, map, length, option_map};
 ghost use Rattle.std.specs.Arc.{arc_value};
-ghost use Rattle.branching.specs.Fate.{fate_value};
+ghost use Rattle.branching.specs.Fates.{fate_value};
 
 use crate::branches::Branches;
-use crate::fate::Fate;
 use crate::lean::Lean;
 use forbidden_sets::ForbiddenSet;
-use network::Schedule;
+use network::{Pair, Schedule};
 use std::marker::Model;
 use std::sync::Arc;
+
+/// What became of an ordered pair of a forbidden set.
+#[derive(Drop, Debug)]
+pub enum Fate {
+    /// It gave a kid.
+    Kid,
+    /// With the pair and these forced pairs some closed walk has positive weight, so that no schedule
+    /// keeps the pair.
+    Dead { forced: Vec<Pair> },
+    /// With the pair and these forced pairs the bound is at least the ceiling.
+    Cut { forced: Vec<Pair> },
+}
 
 /// How many kids a node has at most: an ordered pair of two of 1,000 activities each.
 pub const MAX_KIDS: usize = 999_000;
@@ -36,7 +47,7 @@ impl Model for Report {
 
     ghost Value = { Expansion };
 
-    ghost use Rattle.branching.specs.ReportView.{expansion_of};
+    ghost use Rattle.branching.specs.Fair.{expansion_of};
 
     ghost view = { expansion_of };
 

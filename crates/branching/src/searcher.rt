@@ -4,8 +4,7 @@ ghost use Rattle.std.specs.Prelude.{◌≡◌, ◌↔◌, IsTrue, ◌<◌, ◌�
 ghost use Rattle.std.specs.Arc.{arc_value};
 ghost use Rattle.std.specs.Bool.{OnTrue};
 ghost use Rattle.network.specs.Problem.{arcs_of, NameActivities};
-ghost use Rattle.network.specs.Walk.{HasNoPositiveCycle};
-ghost use Rattle.network.specs.ProjectMatrix.{IsProjectMatrix};
+ghost use Rattle.network.specs.Walk.{HasNoPositiveCycle, IsProjectMatrix};
 ghost use Rattle.branching.specs.Fair.{IsReportOn, FindsNothingOver};
 ghost use Rattle.branching.specs.Path.{front, IsAt, IsFrontOf, IsPairFault, IsShared};
 
@@ -56,8 +55,7 @@ pub struct Searcher {
 }
 
 impl Model for Searcher {
-    ghost use Rattle.branching.specs.Path.{Path};
-    ghost use Rattle.branching.specs.Workspace.{IsSearcher};
+    ghost use Rattle.branching.specs.Path.{Path, IsSearcher};
 
     ghost Value = { Path };
 

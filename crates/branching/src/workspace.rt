@@ -1,7 +1,7 @@
 //! The buffers of an expansion.
 
 ghost use Rattle.std.specs.Prelude.{IfOk};
-ghost use Rattle.branching.specs.Workspace.{HasRoomFor};
+ghost use Rattle.branching.specs.Path.{HasRoomFor};
 
 use crate::branches::Branches;
 use network::{Pair, Project};

@@ -1,7 +1,7 @@
 -- Which calls there are.
 use Rattle.std.specs.Prelude.{◌≡◌, is_some}
 use Rattle.calls.specs.declared.call.Call.{Call}
-use Rattle.runs.specs.Jobs.{IsJob, reads_second, writes_record}
+use Rattle.runs.specs.Outcome.{IsJob, reads_second, writes_record}
 
 -- the job is within the limits, and just the files that it uses have names
 pub record IsCall (c : Call) : Type 0 where

@@ -2,7 +2,7 @@
 
 ghost use Rattle.std.specs.Prelude.{◌≡◌, true, false, IfOk, IfSome};
 ghost use Rattle.calls.specs.Calls.{IsCall};
-ghost use Rattle.runs.specs.Jobs.{IsJob, reads_second, writes_record};
+ghost use Rattle.runs.specs.Outcome.{IsJob, reads_second, writes_record};
 
 use crate::call::Call;
 use crate::help;

@@ -1,3 +1,1 @@
-pub mod Entries
-pub mod StartLaws
-pub mod TailLaws
+pub mod Ends

@@ -4,8 +4,7 @@
 ghost use Rattle.std.specs.Prelude.{◌≡◌, length, IfOk};
 ghost use Rattle.network.specs.Problem.{activity_count};
 ghost use Rattle.network.specs.Walk.{weights_from};
-ghost use Rattle.earliest.specs.Starts.{AreEarliestFor};
-ghost use Rattle.earliest.specs.Tails.{AreTailsFor, tail_weights};
+ghost use Rattle.earliest.specs.Ends.{AreEarliestFor, AreTailsFor, tail_weights};
 
 use longest_path::Matrix;
 use network::Project;

@@ -1,20 +1,93 @@
 -- Dropping from a forbidden set until no member can be spared leaves a minimal one.
-use Rattle.std.proofs.Common.{◌≡◌, ℕ, zero, suc, ◌+◌, ◌<◌, ◌≤◌, Bool, true, false, cond, List, [], ◌∷◌, ◌++◌, length, get_or, take, drop, map, refl, sym, ap, ◌∙◌, ⊎_elim, arith}
-use Rattle.std.specs.List.{All, AllPairs, Contains, filter, sum_by, sum}
-use Rattle.std.specs.List.Sorted.{IsStrictlyIncreasing, IsNonDecreasing, IsPermutation}
-use Rattle.std.proofs.Common.{◌-◌}
-use Rattle.std.proofs.lemmas.List.Sums.{sum_by-cons, sum_by_push, sum_by_more, sum_by-drop_more, sum_by-take-drop, sum-map}
+use Rattle.std.proofs.Common.{◌≡◌, ℕ, zero, suc, ◌+◌, ◌<◌, ◌≤◌, cond, eqb, List, [], ◌∷◌, length, get_or, refl, ⊎_elim, arith, add-one, Bool, true, false, ◌++◌, take, drop, map, sym, ap, ◌∙◌, ◌-◌, inl, inr, Ordering}
+use Rattle.std.specs.List.{All, sum_by, AllPairs, Contains, filter, sum}
+use Rattle.std.specs.List.Sorted.{IsStrictlyIncreasing, IsNonDecreasing, IsPermutation, IsSorted}
+use Rattle.std.proofs.lemmas.Bool.{cases_lt}
+use Rattle.std.proofs.lemmas.Bool.Decides.{nat_tests}
+use Rattle.std.proofs.lemmas.List.Sums.{sum_by-cons, sum_by_more, sum_by-take-le, sum_by_push, sum_by-take-drop, sum-map}
 use Rattle.std.proofs.lemmas.List.Elements.{All-contains, All-head, All-tail, All-push, All-map, Contains-get_or, Contains-append_left, Contains-append_right}
-use Rattle.std.proofs.lemmas.List.Sorted.{All-permutation, sum_by-IsPermutation}
-use Rattle.forbidden_sets.specs.declared.shrinking.Load.{Load}
-use Rattle.network.specs.Forbidden.{IsMinimalForbidden}
-use Rattle.forbidden_sets.specs.Shrunk.{AreLoads, AreShrunk, ComesBefore}
-use Rattle.forbidden_sets.specs.MinimalSet.{IsMinimalSet}
+use Rattle.std.proofs.lemmas.List.Sorted.{All-permutation, sum_by-IsPermutation, sorted_far, ranks_by}
+use Rattle.network.specs.Schedule.{IsMinimalForbidden}
+use Rattle.forbidden_sets.specs.MinimalSet.{AreLoads, AreShrunk, ComesBefore, IsMinimalSet, Load}
 use Rattle.network.specs.Problem.{Problem, demand, capacity}
 use Rattle.std.proofs.lemmas.List.{length-map, take_more, length-drop, get_or-drop, get_or_default}
-use Rattle.std.proofs.lemmas.Bool.{cases_lt}
 use Rattle.std.proofs.Math.Seq.{take-append_seam}
-use Rattle.forbidden_sets.proofs.Rising.{hit, times_once, rising_from_once}
+use Rattle.std.specs.Ordering.{ordering_then, nat_cmp, is_lt}
+use Rattle.std.proofs.lemmas.Cmp.{nat_cmp_total, on_total, then_total}
+
+-- ---- Rising lists of numbers: each number stands there once, and there are no more than the bound of the numbers.
+
+-- whether x is v, as a number
+abbrev pub hit : ℕ → ℕ → ℕ
+hit v x = cond (eqb x v) 1 0
+
+-- how often v stands in the list
+abbrev pub times : ℕ → List ℕ → ℕ
+times v xs = sum_by (hit v) xs
+
+hit_same : (v x : ℕ) → x ≡ v → hit v x ≡ 1
+hit_same v x e = grind (arith, nat_tests)
+
+hit_below : (v x : ℕ) → v < x → hit v x ≡ 0
+hit_below v x h = grind (arith, nat_tests)
+
+hit_above : (v x : ℕ) → x < v → hit v x ≡ 0
+hit_above v x h = grind (arith, nat_tests)
+
+hit_le : (v x : ℕ) → hit v x ≤ 1
+hit_le v x = grind (arith, nat_tests)
+
+rising_tail : (x : ℕ) (xs : List ℕ) → IsStrictlyIncreasing (x ∷ xs) → IsStrictlyIncreasing xs
+rising_tail x xs h k l =
+    let step = h (suc k) (omega arith) in
+    rw (add-one k) (rw (add-one (suc k)) at step)
+
+rising_head : (x y : ℕ) (xs : List ℕ) → IsStrictlyIncreasing (x ∷ y ∷ xs) → x < y
+rising_head x y xs h = h 0 (omega arith)
+
+times_above : (v x : ℕ) (xs : List ℕ) → IsStrictlyIncreasing (x ∷ xs) → v ≤ x → times v xs ≡ 0
+times_above v x [] h below = refl
+times_above v x (y ∷ ys) h below =
+    let less : x < y = rising_head x y ys h in
+    let none : times v ys ≡ 0 = times_above v y ys (rising_tail x (y ∷ ys) h) (omega arith) in
+    omega (arith, sum_by-cons (hit v) y ys, hit_below v y (omega arith))
+
+pub times_once : (v : ℕ) (xs : List ℕ) → IsStrictlyIncreasing xs → times v xs ≤ 1
+times_once v [] h = omega arith
+times_once v (x ∷ xs) h =
+    ⊎_elim
+    (λ (below : x < v). let rest : times v xs ≤ 1 = times_once v xs (rising_tail x xs h) in omega (arith, sum_by-cons (hit v) x xs, hit_above v x below))
+    (λ (above : v ≤ x). let rest : times v xs ≡ 0 = times_above v x xs h above in omega (arith, sum_by-cons (hit v) x xs, hit_le v x))
+    (cases_lt x v)
+
+-- numbers that do not fall and stand there once rise
+pub rising_from_once : (xs : List ℕ) → IsNonDecreasing xs → ((v : ℕ) → times v xs ≤ 1) → IsStrictlyIncreasing xs
+rising_from_once xs up once k l =
+    ⊎_elim (λ (less : get_or xs k 0 < get_or xs (k + 1) 0). less)
+    (λ (not_less : get_or xs (k + 1) 0 ≤ get_or xs k 0).
+    let v : ℕ = get_or xs k 0 in
+    let step : get_or xs k 0 ≤ get_or xs (k + 1) 0 = up k (k + 1) 0 (omega arith) l in
+    let first = sum_by_more (hit v) xs k 0 (omega arith) in
+    let second = sum_by_more (hit v) xs (k + 1) 0 l in
+    let all = sum_by-take-le (hit v) xs (k + 1 + 1) in
+    let here = hit_same v (get_or xs k 0) refl in
+    let there = hit_same v (get_or xs (k + 1) 0) (omega arith) in
+    absurd (omega (arith, once v)))
+    (cases_lt (get_or xs k 0) (get_or xs (k + 1) 0))
+
+place_le : (xs : List ℕ) (k : ℕ) → IsStrictlyIncreasing xs → k < length xs → k ≤ get_or xs k 0
+place_le xs zero h l = omega arith
+place_le xs (suc k) h l =
+    let before : k ≤ get_or xs k 0 = place_le xs k h (omega arith) in
+    let step : get_or xs k 0 < get_or xs (suc k) 0 = rw (add-one k) at (h k (omega arith)) in
+    omega arith
+
+-- rising numbers below n are at most n
+pub length_rising : (xs : List ℕ) (n : ℕ) → IsStrictlyIncreasing xs → All (λ i. i < n) xs → length xs ≤ n
+length_rising xs n h below =
+    ⊎_elim (λ (less : n < length xs). let last = place_le xs n h less in let small = below n 0 less in absurd (omega (arith, last, small)))
+    (λ (fine : length xs ≤ n). fine)
+    (cases_lt n (length xs))
 
 -- a proper part of a list misses the number of a member that it leaves out
 filter_less : (r : ℕ → ℕ) (keep : ℕ → Bool) (x : ℕ) (xs : List ℕ) → sum_by r (cond (keep x) (x ∷ filter keep xs) (filter keep xs)) ≤ r x + sum_by r (filter keep xs)
@@ -46,15 +119,6 @@ pub record AreSpared (capacity : ℕ) (loads : List Load) (i rest : ℕ) : Type 
   pub inside : i ≤ length loads
   pub balance : rest ≡ sum_by (λ load. load.demand) (drop i loads)
   pub over : capacity < rest
-
-pub spare_one : (capacity : ℕ) (loads : List Load) (i rest : ℕ) (d : Load) → i < length loads → capacity < rest - (get_or loads i d).demand → AreSpared capacity loads i rest → AreSpared capacity loads (i + 1) (rest - (get_or loads i d).demand)
-spare_one capacity loads i rest d lt more so_far =
-    let step = sum_by-drop_more (λ (load : Load). load.demand) loads i d lt in
-    record {
-      inside = omega arith;
-      balance = omega (arith, step, so_far.balance);
-      over = more;
-    }
 
 -- and no other can be spared
 pub needed_after : (capacity : ℕ) (loads : List Load) (i rest : ℕ) → AllPairs ComesBefore loads → AreSpared capacity loads i rest → (e : Load) → (i < length loads → rest - (get_or loads i e).demand ≤ capacity) →
@@ -184,3 +248,22 @@ is_minimal_forbidden P k running members shrunk = record {
   forbidden = shrunk.forbidden;
   minimal = minimal_from_needed (demand P k) (capacity P k) members shrunk.needed;
 }
+
+-- ---- Loads that are sorted come by rising demand, ties by rising number.
+
+-- the order of loads: by demand, and then by activity
+abbrev pub load_cmp : Load → Load → Ordering
+load_cmp x y = ordering_then (nat_cmp x.demand y.demand) (nat_cmp x.activity y.activity)
+
+not_less : (a b c d : ℕ) → is_lt (ordering_then (nat_cmp b a) (nat_cmp d c)) ≡ false → b ≤ a → (a ≡ b) × (c ≤ d)
+not_less a b c d h le = (grind (arith, nat_tests), grind (arith, nat_tests))
+
+pub sorted_by_demand : (loads : List Load) → IsSorted load_cmp loads → AllPairs ComesBefore loads
+sorted_by_demand loads sorted i j d early late =
+    let x : Load = get_or loads i d in
+    let y : Load = get_or loads j d in
+    let far = sorted_far (λ x y. is_lt (load_cmp x y)) (ranks_by (then_total (on_total (λ (l : Load). l.demand) nat_cmp_total) (on_total (λ (l : Load). l.activity) nat_cmp_total)) (λ l. l)) loads sorted i j d (omega arith) late in
+    ⊎_elim
+    (λ (less : x.demand < y.demand). inl less)
+    (λ (more : y.demand ≤ x.demand). inr (not_less x.demand y.demand x.activity y.activity far more))
+    (cases_lt x.demand y.demand)

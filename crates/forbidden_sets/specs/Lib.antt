@@ -1,3 +1,1 @@
-pub mod Shrunk
 pub mod MinimalSet
-pub mod SetView

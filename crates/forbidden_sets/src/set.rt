@@ -22,7 +22,7 @@ impl Model for ForbiddenSet {
 
     ghost Value = { MinimalSet };
 
-    ghost use Rattle.forbidden_sets.specs.SetView.{minimal_set_of};
+    ghost use Rattle.forbidden_sets.specs.MinimalSet.{minimal_set_of};
 
     ghost view = { minimal_set_of };
 

@@ -3,9 +3,9 @@
 ghost use Rattle.std.specs.Prelude.{◌≡◌, ◌<◌, ◌≤◌, ◌+◌, ◌*◌, ℕ, pos, ◌≤ℤ◌, length, map, drop, IfOk};
 ghost use Rattle.std.specs.List.{All, AllPairs, Contains};
 ghost use Rattle.std.specs.List.Sorted.{IsStrictlyIncreasing, IsNonDecreasing, IsPermutation};
-ghost use Rattle.network.specs.Forbidden.{IsForbidden, IsMinimalForbidden};
+ghost use Rattle.network.specs.Schedule.{IsForbidden, IsMinimalForbidden};
 ghost use Rattle.network.specs.Problem.{activity_count, resource_count, demand, capacity};
-ghost use Rattle.forbidden_sets.specs.Shrunk.{AreLoads, AreShrunk, ComesBefore, total_of};
+ghost use Rattle.forbidden_sets.specs.MinimalSet.{AreLoads, AreShrunk, ComesBefore, total_of};
 ghost use Rattle.forbidden_sets.specs.declared.shrinking.Load.{Load};
 
 use crate::set::ForbiddenSet;

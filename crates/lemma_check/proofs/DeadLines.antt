@@ -1,6 +1,6 @@
 -- Lines of the record's own block, where its arcs close a walk of positive weight.
 use Rattle.std.proofs.Common.{◌≡◌, ◌≢◌, refl, sym, ap, ◌∙◌, subst, ℕ, ◌+◌, ◌<◌, List, length, get_or, Option}
-use Rattle.network.specs.declared.lag.Lag.{Lag}
+use Rattle.network.specs.declared.parts.Lag.{Lag}
 use Rattle.network.specs.Problem.{Problem}
 use Rattle.network.specs.Walk.{HasPositiveCycle}
 use Rattle.lemma_text.specs.declared.line.Line.{Line}
@@ -10,8 +10,7 @@ use Rattle.lemma_text.specs.declared.reason.Reason.TheVariants as reasons
 use Rattle.lemma_check.specs.Places.{Opened, Place, arcs_in, arcs_at, ended, after}
 use Rattle.lemma_check.specs.Right.{IsRightAt}
 use Rattle.lemma_check.specs.Standing.{IsDeadAt}
-use Rattle.lemma_check.proofs.Standings.{not_both}
-use Rattle.lemma_check.proofs.Reached.{place_at, AreRightBefore, place_more, right_more}
+use Rattle.lemma_check.proofs.Standings.{not_both, place_at, AreRightBefore, place_more, right_more}
 
 dead_arcs : (at : Place) → IsDeadAt at → HasPositiveCycle (arcs_at at)
 dead_arcs at dead = subst (λ (o : Option Opened). HasPositiveCycle (arcs_in at.own o)) (sym dead.none) dead.cycle

@@ -1,14 +1,7 @@
-pub mod Implied
-pub mod Overlaps
-pub mod Windows
-pub mod OneAtATime
-pub mod Refuted
-pub mod Passed
-pub mod Truth
-pub mod Wrong
 pub mod Weighing
+pub mod Windows
+pub mod Truth
+pub mod Passed
 pub mod Loops
-pub mod PartLaws
 pub mod Standings
-pub mod Reached
 pub mod DeadLines

@@ -1,6 +1,5 @@
 -- What a loop over a list that stops at the first element without a property knows.
-use Rattle.std.proofs.Common.{◌≡◌, refl, ◌+◌, ◌<◌, ◌≤◌, ◌⊎◌, inr, ⊎_elim, arith, Bool, ℕ, List, length, get_or, take, true, false}
-use Rattle.std.specs.Prelude.{◌↔◌, IsTrue, slice_index}
+use Rattle.std.proofs.Common.{◌≡◌, refl, ◌+◌, ◌<◌, ◌≤◌, ◌⊎◌, inr, ⊎_elim, arith, Bool, ℕ, List, length, get_or, take, true, false, ◌↔◌, IsTrue, slice_index}
 use Rattle.std.specs.List.{All, AllPairs}
 use Rattle.std.proofs.lemmas.List.{take_all, get_or-take, get_or_default, length-take-le}
 use Rattle.std.proofs.lemmas.List.Elements.{All-from_get_or}

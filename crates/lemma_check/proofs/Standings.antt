@@ -1,21 +1,23 @@
 -- What is kept of a place, from line to line.
-use Rattle.std.proofs.Common.{◌≡◌, refl, sym, ap, ◌∙◌, subst, ℕ, ◌<◌, true, false, Bool, Option, None, Some, List, [], ◌∷◌, ◌++◌, length, append_assoc, append-nil, arith, pos, ◌≤ℤ◌}
-use Rattle.std.specs.Prelude.{is_some}
+use Rattle.std.proofs.Common.{◌≡◌, refl, sym, ap, ◌∙◌, subst, ℕ, ◌<◌, true, false, Bool, Option, None, Some, List, [], ◌∷◌, ◌++◌, length, append_assoc, append-nil, arith, pos, ◌≤ℤ◌, ◌≢◌, ◌+◌, ◌≤◌, get_or, take, drop, is_some, Result, Ok, Err, IsErrAnd, IfErr}
 use Rattle.std.specs.List.{All}
 use Rattle.std.proofs.lemmas.Int.{ints}
-use Rattle.std.proofs.lemmas.List.{map-append}
+use Rattle.std.proofs.lemmas.List.{map-append, take_more, take_all, drop_more, take-append-drop, length-take-le}
 use Rattle.std.proofs.lemmas.List.Elements.{All-push, All-nil, Contains-append_left}
-use Rattle.network.specs.declared.lag.Lag.{Lag}
+use Rattle.network.specs.declared.parts.Lag.{Lag}
 use Rattle.network.specs.Problem.{Problem, activity_count, rules, arcs_of}
 use Rattle.network.specs.Walk.{Rows, IsWalk, weight, HasPositiveCycle, HasNoPositiveCycle, IsMatrixOf, IsLeastCycleTop}
 use Rattle.longest_path.specs.Insert.{AddsArc, ClosesCycle}
-use Rattle.longest_path.specs.Marked.{Marked}
-use Rattle.lemma_text.specs.declared.claim.Claim.{Claim}
+use Rattle.longest_path.specs.Saved.{Marked}
+use Rattle.lemma_text.specs.declared.record.Claim.{Claim}
 use Rattle.lemma_text.specs.declared.line.Line.{Line}
-use Rattle.lemma_check.specs.Lemmas.{lemma_at, lemmas_of}
-use Rattle.lemma_check.specs.Places.{place, open_lemma, Opened, arcs_in, with_arc, ended, bound_of, deadlines, first_place}
-use Rattle.lemma_check.specs.Right.{JoinsActivities}
+use Rattle.lemma_check.specs.Places.{lemma_at, lemmas_of, place, open_lemma, Opened, arcs_in, with_arc, ended, bound_of, deadlines, first_place, Place, after, Placed, placed}
+use Rattle.lemma_check.specs.Right.{JoinsActivities, IsRightAt, IsRightLine, why_wrong, IsFirstWrong}
 use Rattle.lemma_check.specs.Standing.{kept, IsKnown, Stands, IsDeadAt}
+use Rattle.record_text.specs.declared.fault.RecordFault.{RecordFault}
+use Rattle.record_text.specs.declared.fault.Why.TheVariants.{Memory}
+use Rattle.record_text.proofs.FirstWrong.{fault_at}
+use Rattle.lemma_check.proofs.Passed.{passed, passed-append}
 
 walk_more : (arcs more : List Lag) (a b : ℕ) (es : List Lag) → IsWalk arcs a es b → IsWalk (arcs ++ more) a es b
 walk_more arcs more a b [] w = w
@@ -50,10 +52,6 @@ stands_dead p lines lemmas own lemma_open m is_dead begins opened e dead s =
 pub live_matrix : (p : Problem) (lines : List Line) (lemmas : List (List Lag)) (own : List Lag) (lemma_open : Option Opened) (m : Marked) (is_dead : Bool) (begins : List ℕ) (opened : Option ℕ) →
     is_dead ≡ false → Stands p lines (place lemmas own lemma_open) (kept m is_dead begins opened) → IsMatrixOf (activity_count p) (arcs_in own lemma_open) m.rows
 live_matrix p lines lemmas own lemma_open m is_dead begins opened live s = subst (λ (b : Bool). IsKnown (activity_count p) (arcs_in own lemma_open) b m.rows) live s.known
-
-dead_cycle : (p : Problem) (lines : List Line) (lemmas : List (List Lag)) (own : List Lag) (lemma_open : Option Opened) (m : Marked) (is_dead : Bool) (begins : List ℕ) (opened : Option ℕ) →
-    is_dead ≡ true → Stands p lines (place lemmas own lemma_open) (kept m is_dead begins opened) → HasPositiveCycle (arcs_in own lemma_open)
-dead_cycle p lines lemmas own lemma_open m is_dead begins opened dead s = subst (λ (b : Bool). IsKnown (activity_count p) (arcs_in own lemma_open) b m.rows) dead s.known
 
 pub stands_added : (p : Problem) (lines : List Line) (lemmas : List (List Lag)) (own : List Lag) (lemma_open : Option Opened) (m : Marked) (is_dead : Bool) (begins : List ℕ) (opened : Option ℕ) (e : Lag) (new : Marked) →
     is_dead ≡ false → Stands p lines (place lemmas own lemma_open) (kept m is_dead begins opened) → AddsArc e m.rows new.rows → new.marks ≡ m.marks → length new.rows ≡ length m.rows →
@@ -115,12 +113,6 @@ stands_opened p lines lemmas own None m false begins opened index arcs new s non
       named = s.named;
     }
 
--- some mark is there where a lemma is open
-pub some_mark : (p : Problem) (lines : List Line) (lemmas : List (List Lag)) (own : List Lag) (lemma_open : Option Opened) (m : Marked) (is_dead : Bool) (begins : List ℕ) (opened : Option ℕ) (index : ℕ) →
-    Stands p lines (place lemmas own lemma_open) (kept m is_dead begins opened) → opened ≡ Some index → 0 < length m.marks
-some_mark p lines lemmas own None m is_dead begins opened index s is = absurd (let bad : None ≡ Some index = sym s.begins_at ∙ is in cc)
-some_mark p lines lemmas own (Some lemma) m is_dead begins opened index s is = let one : length m.marks ≡ length (s.back.0 ∷ []) = ap length s.back.1 in omega arith
-
 pub stands_ended : (p : Problem) (lines : List Line) (lemmas : List (List Lag)) (own : List Lag) (lemma_open : Option Opened) (m : Marked) (is_dead : Bool) (begins : List ℕ) (opened : Option ℕ) (index : ℕ) (new : Marked) (now : List ℕ) →
     Stands p lines (place lemmas own lemma_open) (kept m is_dead begins opened) → opened ≡ Some index → m.marks ≡ new.rows ∷ new.marks → now ≡ begins ++ index ∷ [] →
     Stands p lines (ended lemmas own lemma_open) (kept new false now None)
@@ -142,14 +134,62 @@ stands_ended p lines lemmas own (Some lemma) m is_dead begins opened index new n
       named = All-push (All (JoinsActivities p)) lemmas lemma.first s.named s.begins_at.joined;
     }
 
--- no lemma is open
-pub stands_own : (p : Problem) (lines : List Line) (lemmas : List (List Lag)) (own : List Lag) (lemma_open : Option Opened) (m : Marked) (is_dead : Bool) (begins : List ℕ) (opened : Option ℕ) →
-    Stands p lines (place lemmas own lemma_open) (kept m is_dead begins opened) → opened ≡ None → Stands p lines (ended lemmas own lemma_open) (kept m is_dead begins opened)
-stands_own p lines lemmas own None m is_dead begins opened s none = s
-stands_own p lines lemmas own (Some lemma) m is_dead begins opened s none = absurd (let bad : Some s.begins_at.index ≡ None = sym s.begins_at.is ∙ none in cc)
-
 -- whether a lemma is open
 pub is_open : (p : Problem) (lines : List Line) (lemmas : List (List Lag)) (own : List Lag) (lemma_open : Option Opened) (m : Marked) (is_dead : Bool) (begins : List ℕ) (opened : Option ℕ) →
     Stands p lines (place lemmas own lemma_open) (kept m is_dead begins opened) → is_some opened ≡ is_some lemma_open
 is_open p lines lemmas own None m is_dead begins opened s = ap (λ (o : Option ℕ). is_some o) s.begins_at
 is_open p lines lemmas own (Some lemma) m is_dead begins opened s = ap (λ (o : Option ℕ). is_some o) s.begins_at.is
+
+-- ---- How far a check of a record's lines has come.
+
+-- want of memory says nothing of a record
+pub memory_says : {X : Type 0} (P : RecordFault → Type 0) (r : Result X RecordFault) → IsErrAnd r (λ fault. fault ≡ fault_at 0 Memory) → IfErr r (λ fault. fault.why ≢ Memory → P fault)
+memory_says P (Ok x) never = absurd never
+memory_says P (Err fault) is = λ known. absurd (known (ap (λ (f : RecordFault). f.why) is))
+
+placed-append : (p : Problem) (at : Place) (xs ys : List Line) → placed p at (xs ++ ys) ≡ placed p at xs ++ placed p (passed p at xs) ys
+placed-append p at [] ys = refl
+placed-append p at (x ∷ xs) ys = ap (λ (rest : List Placed). record { place = at; line = x } ∷ rest) (placed-append p (after p at x) xs ys)
+
+length-placed : (p : Problem) (at : Place) (lines : List Line) → length (placed p at lines) ≡ length lines
+length-placed p at [] = refl
+length-placed p at (x ∷ xs) = omega (arith, length-placed p (after p at x) xs)
+
+-- the place of the line of this index
+abbrev pub place_at : Problem → Place → List Line → ℕ → Place
+place_at p at lines i = passed p at (take i lines)
+
+-- the lines before the index are right
+abbrev pub AreRightBefore : Problem → Place → List Line → ℕ → Type 0
+AreRightBefore p at lines i = All (IsRightLine p) (placed p at (take i lines))
+
+one_more : (lines : List Line) (i : ℕ) (line : Line) → i < length lines → line ≡ get_or lines i line → take (i + 1) lines ≡ take i lines ++ line ∷ []
+one_more lines i line lt is = take_more lines i line lt ∙ ap (λ (l : Line). take i lines ++ l ∷ []) (sym is)
+
+pub place_more : (p : Problem) (at : Place) (lines : List Line) (i : ℕ) (line : Line) → i < length lines → line ≡ get_or lines i line → place_at p at lines (i + 1) ≡ after p (place_at p at lines i) line
+place_more p at lines i line lt is = ap (passed p at) (one_more lines i line lt is) ∙ passed-append p at (take i lines) (line ∷ [])
+
+pub right_more : (p : Problem) (at : Place) (lines : List Line) (i : ℕ) (line : Line) → i < length lines → line ≡ get_or lines i line → AreRightBefore p at lines i → IsRightAt p (place_at p at lines i) line → AreRightBefore p at lines (i + 1)
+right_more p at lines i line lt is before here =
+    let more : placed p at (take (i + 1) lines) ≡ placed p at (take i lines) ++ record { place = place_at p at lines i; line = line } ∷ [] =
+    ap (placed p at) (one_more lines i line lt is) ∙ placed-append p at (take i lines) (line ∷ []) in
+    rw more (All-push (IsRightLine p) (placed p at (take i lines)) (record { place = place_at p at lines i; line = line }) before here)
+
+pub right_all : (p : Problem) (at : Place) (lines : List Line) (i : ℕ) → length lines ≤ i → AreRightBefore p at lines i → All (IsRightLine p) (placed p at lines)
+right_all p at lines i past before = rw (take_all i lines past) at before
+
+pub first_wrong : (p : Problem) (at : Place) (first : ℕ) (lines : List Line) (i : ℕ) (line : Line) (fault : RecordFault) → i < length lines → line ≡ get_or lines i line → AreRightBefore p at lines i → ¬ IsRightAt p (place_at p at lines i) line →
+    fault ≡ fault_at (first + i) (why_wrong line) → IsFirstWrong p at first lines fault
+first_wrong p at first lines i line fault lt is before never told =
+    let whole : lines ≡ take i lines ++ line ∷ drop (i + 1) lines = sym (take-append-drop i lines) ∙ ap (λ (rest : List Line). take i lines ++ rest) (drop_more lines i line lt ∙ ap (λ (l : Line). l ∷ drop (i + 1) lines) (sym is)) in
+    let long : length (placed p at (take i lines)) ≡ i = length-placed p at (take i lines) ∙ length-take-le i lines (omega arith) in
+    record {
+      before = placed p at (take i lines);
+      here = record { place = place_at p at lines i; line = line };
+      behind = placed p (after p (place_at p at lines i) line) (drop (i + 1) lines);
+      placed = ap (placed p at) whole ∙ placed-append p at (take i lines) (line ∷ drop (i + 1) lines);
+      right = before;
+      wrong = never;
+      line = ap (λ (f : RecordFault). f.line) told ∙ ap (λ (n : ℕ). first + n) (sym long);
+      why = ap (λ (f : RecordFault). f.why) told;
+    }

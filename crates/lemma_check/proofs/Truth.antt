@@ -1,27 +1,53 @@
 -- What a right record claims is true.
-use Rattle.std.proofs.Common.{◌≡◌, refl, sym, ap, subst, ⊎_elim, List, [], ◌∷◌, ◌++◌, length, ◌-◌, append_assoc, Option, None, Some, arith, ℤ, pos, ◌+ℤ◌, ◌-ℤ◌, ◌≤ℤ◌, ◌<ℤ◌}
+use Rattle.std.proofs.Common.{ℕ, List, [], get_or, arith, ℤ, ◌+ℤ◌, ◌≤ℤ◌, ◌≡◌, refl, sym, ap, subst, ⊎_elim, ◌∷◌, ◌++◌, length, ◌-◌, append_assoc, Option, None, Some, pos, ◌-ℤ◌, ◌<ℤ◌, inl, inr}
 use Rattle.std.specs.List.{All, Contains, flat_map}
 use Rattle.std.proofs.lemmas.Int.{ints, by_lt_z}
-use Rattle.std.proofs.lemmas.List.Elements.{All-nil, All-head, All-tail, All-push, All-contains, Contains-append_cases, Contains-push_cases}
-use Rattle.network.specs.declared.lag.Lag.{Lag}
-use Rattle.network.specs.declared.lag.Pair.{Pair}
+use Rattle.std.proofs.lemmas.List.Elements.{All-weaker, All-nil, All-head, All-tail, All-push, All-contains, Contains-append_cases, Contains-push_cases}
+use Rattle.network.specs.declared.parts.Lag.{Lag}
 use Rattle.network.specs.Problem.{Problem, end_of, duration, rules, pair_arc}
-use Rattle.network.specs.Schedule.{start, makespan, Meets, IsFeasible}
+use Rattle.network.specs.Schedule.{start, Meets, IsFeasible, makespan}
+use Rattle.network.specs.Walk.{weight, HasPositiveCycle}
+use Rattle.network.proofs.Schedules.{walk_holds}
+use Rattle.lemma_text.specs.declared.reason.Reason.{Reason}
+use Rattle.lemma_text.specs.declared.reason.Reason.TheVariants as reasons
+use Rattle.lemma_check.specs.Reasons.{Implies, IsUse, Ends}
+use Rattle.lemma_check.proofs.Weighing.{MeetsAll, implied_met}
+use Rattle.lemma_check.proofs.Windows.{set_refuted, load_refuted, clique_refuted}
+use Rattle.network.specs.declared.parts.Pair.{Pair}
 use Rattle.longest_path.specs.Insert.{arc_of}
 use Rattle.rivals.proofs.Apart.{apart}
-use Rattle.lemma_text.specs.declared.claim.Claim.{Claim}
-use Rattle.lemma_text.specs.declared.claim.Claim.TheVariants as claims
+use Rattle.lemma_text.specs.declared.record.Claim.{Claim}
+use Rattle.lemma_text.specs.declared.record.Claim.TheVariants as claims
 use Rattle.lemma_text.specs.declared.line.Line.{Line}
 use Rattle.lemma_text.specs.declared.line.Line.TheVariants as kind
-use Rattle.lemma_text.specs.declared.reason.Reason.{Reason}
 use Rattle.lemma_text.specs.Blocks.{Block, item_lines, lines_of}
-use Rattle.lemma_check.specs.Reasons.{Implies, Ends}
 use Rattle.lemma_check.specs.Places.{Opened, Place, arcs_in, arcs_at, with_arc, ended, after, deadline, bound_of, deadlines, first_place, placed}
-use Rattle.lemma_check.specs.Right.{IsForced, IsShown, IsRightAt, IsRightLine, AreRightStarts, reverse_of}
-use Rattle.lemma_check.specs.Proves.{proved_of, IsTrueOf, RightIsTrue}
-use Rattle.lemma_check.proofs.Implied.{MeetsAll, implied_met}
-use Rattle.lemma_check.proofs.Refuted.{MeetsNone, refuted}
+use Rattle.lemma_check.specs.Right.{IsForced, IsShown, IsRightAt, IsRightLine, AreRightStarts, reverse_of, proved_of, IsTrueOf, RightIsTrue, first_line, why_wrong_at, IsFirstWrong, FaultIsWrong, FirstFaultIsOne}
 use Rattle.lemma_check.proofs.Passed.{passed, items_closed}
+use Rattle.record_text.specs.declared.fault.RecordFault.{RecordFault}
+use Rattle.record_text.proofs.FirstWrong.{wrong_place, one_wrong, one_first}
+
+-- ---- A reason that ends a block is true: no feasible schedule meets the arcs of the block.
+
+-- the schedule meets all arcs of no lemma
+abbrev pub MeetsNone : List ℤ → List (List Lag) → Type 0
+MeetsNone s lemmas = All (λ lemma. ¬ All (Meets s) lemma) lemmas
+
+cycle_refuted : (arcs : List Lag) (s : List ℤ) → HasPositiveCycle arcs → MeetsAll s arcs → ⊥
+cycle_refuted arcs s cycle met =
+    let h : (start s cycle.0 +ℤ weight cycle.1) ≤ℤ start s cycle.0 = walk_holds arcs s met cycle.0 cycle.0 cycle.1 cycle.2.closed in
+    omega (arith, ints)
+
+use_refuted : (lemmas : List (List Lag)) (arcs : List Lag) (k : ℕ) (s : List ℤ) → IsUse lemmas arcs k → MeetsNone s lemmas → MeetsAll s arcs → ⊥
+use_refuted lemmas arcs k s used none met =
+    none k [] used.before (All-weaker (Implies arcs) (Meets s) (implied_met arcs s met) (get_or lemmas k []) used.implied)
+
+pub refuted : (p : Problem) (lemmas : List (List Lag)) (arcs : List Lag) (reason : Reason) (s : List ℤ) → Ends p lemmas arcs reason → IsFeasible p s → MeetsNone s lemmas → MeetsAll s arcs → ⊥
+refuted p lemmas arcs reasons.Dead s ends feasible none met = cycle_refuted arcs s ends met
+refuted p lemmas arcs (reasons.Set k members) s ends feasible none met = set_refuted p arcs k members s ends.1 feasible met
+refuted p lemmas arcs (reasons.Load k from to) s ends feasible none met = load_refuted p arcs k from to s ends.1 feasible met
+refuted p lemmas arcs (reasons.Clique from to members) s ends feasible none met = clique_refuted p arcs from to members s ends.1 feasible met
+refuted p lemmas arcs (reasons.Use k) s ends feasible none met = use_refuted lemmas arcs k s ends.1 none met
 
 -- the schedule meets the arcs of the first line of the open lemma, if there is one
 abbrev MeetsFirst : List ℤ → Option Opened → Type 0
@@ -145,3 +171,15 @@ right_is_true p r record_is right =
     by_claim (claims.Optimal length starts) found none = record { witness = (starts, found.0, found.1); bound = λ s feasible. bounded p s length feasible (none s feasible) }
     by_claim (claims.Bound bound) found none = λ s feasible. bounded p s bound feasible (none s feasible)
     by_claim claims.NoSchedule found none = λ s feasible. none s feasible (meets_both s (rules p) [] (rules_met p s feasible) (λ e c. absurd (omega (arith, c.1))))
+
+-- ---- A record with a first fault is not right, and has no other.
+
+pub wrong_line : (p : Problem) (at : Place) (first : ℕ) (lines : List Line) (fault : RecordFault) → IsFirstWrong p at first lines fault → ¬ All (IsRightLine p) (placed p at lines)
+wrong_line p at first lines fault found = wrong_place (IsRightLine p) why_wrong_at first (placed p at lines) fault found
+
+pub fault_is_wrong : FaultIsWrong
+fault_is_wrong p r fault (inl starts) right = starts.wrong right.starts
+fault_is_wrong p r fault (inr found) right = wrong_line p (first_place p r.claim) (first_line r.claim) r.lines fault found.first right.lines
+
+pub one_fault : FirstFaultIsOne
+one_fault p r a b = one_first (AreRightStarts p r.claim) (IsFirstWrong p (first_place p r.claim) (first_line r.claim) r.lines) (λ a b f g. one_wrong (IsRightLine p) why_wrong_at (first_line r.claim) _ _ a b refl f g) a b

@@ -1,18 +1,19 @@
 -- Sums of weights of walks and of a reverse are small, and what an entry says of an arc.
-use Rattle.std.proofs.Common.{◌≡◌, refl, subst, ℕ, ◌<◌, arith, ℤ, ◌+ℤ◌, ◌≤ℤ◌, ◌<ℤ◌, List, [], ◌∷◌, ◌++◌, length, Option, None, Some, w64, FitsSigned}
-use Rattle.std.specs.Prelude.{◌↔◌, IsTrue}
+use Rattle.std.proofs.Common.{◌≡◌, refl, subst, ℕ, ◌<◌, arith, ℤ, ◌+ℤ◌, ◌≤ℤ◌, ◌<ℤ◌, List, [], ◌∷◌, ◌++◌, length, Option, None, Some, w64, FitsSigned, ◌↔◌, IsTrue}
 use Rattle.std.specs.Int.Signed.{le_z, lt_z}
 use Rattle.std.proofs.lemmas.Int.{ints, by_lt_z}
-use Rattle.network.specs.declared.lag.Lag.{Lag}
+use Rattle.network.specs.declared.parts.Lag.{Lag}
 use Rattle.network.specs.declared.limits.TheConstants.{MAX_WALK_WEIGHT}
-use Rattle.network.specs.Limits.{IsWithin}
+use Rattle.network.specs.Problem.{IsWithin}
 use Rattle.network.specs.Walk.{Rows, entry, weight, IsGreatestWeight, IsMatrixOf}
 use Rattle.longest_path.specs.Insert.{rows_over, ClosesNone}
-use Rattle.longest_path.proofs.RowsOver.{length-rows_over, AddsArc-rows_over}
+use Rattle.longest_path.proofs.Inserted.{length-rows_over, AddsArc-rows_over}
 use Rattle.lemma_check.specs.declared.weights.TheConstants.{MAX_REVERSE_WEIGHT, MAX_WAY_WEIGHT}
-use Rattle.lemma_check.specs.Reasons.{Implies}
+use Rattle.lemma_check.specs.Reasons.{Implies, rows_with}
 use Rattle.lemma_check.specs.Right.{reverse_of}
-use Rattle.lemma_check.specs.Weights.{rows_with}
+use Rattle.std.specs.List.{Contains}
+use Rattle.network.specs.Schedule.{start, Meets}
+use Rattle.network.proofs.Schedules.{walk_holds}
 
 -- a walk, a reverse and a walk
 pub way_small : (x w y : ℤ) → IsWithin MAX_WALK_WEIGHT x → IsWithin MAX_REVERSE_WEIGHT w → IsWithin MAX_WALK_WEIGHT y → IsWithin MAX_WAY_WEIGHT ((x +ℤ w) +ℤ y)
@@ -79,3 +80,14 @@ reversed n arcs rows e long m from to never =
     let here : IsMatrixOf (length rows) arcs rows = rw long m in
     let over = AddsArc-rows_over (reverse_of e) rows (rw long to) (rw long from) (closes_none n arcs rows e m from to never) arcs here in
     subst (λ (k : ℕ). IsMatrixOf k (arcs ++ reverse_of e ∷ []) (rows_over (reverse_of e) rows)) long over
+
+-- ---- A list of starts that meets the arcs of a block meets each arc that they imply.
+
+-- the list of starts meets all these arcs
+abbrev pub MeetsAll : List ℤ → List Lag → Type 0
+MeetsAll s arcs = (e : Lag) → Contains arcs e → Meets s e
+
+pub implied_met : (arcs : List Lag) (s : List ℤ) → MeetsAll s arcs → (e : Lag) → Implies arcs e → Meets s e
+implied_met arcs s met e implied =
+    let h : (start s e.from +ℤ weight implied.walk) ≤ℤ start s e.to = walk_holds arcs s met e.from e.to implied.walk implied.goes in
+    omega (arith, ints)

@@ -1,11 +1,4 @@
 pub mod Reasons
 pub mod Places
 pub mod Right
-pub mod Proves
-pub mod Faults
-pub mod Weights
-pub mod Parts
-pub mod Lemmas
-pub mod Live
 pub mod Standing
-pub mod State

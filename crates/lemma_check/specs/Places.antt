@@ -1,10 +1,10 @@
 -- Where each line of a record stands.
-use Rattle.std.specs.Prelude.{ℤ, pos, ◌-ℤ◌, Option, None, Some, List, [], ◌∷◌, ◌++◌}
-use Rattle.network.specs.declared.lag.Lag.{Lag}
+use Rattle.std.specs.Prelude.{ℤ, pos, ◌-ℤ◌, Option, None, Some, List, [], ◌∷◌, ◌++◌, ℕ, map, slice_get}
+use Rattle.network.specs.declared.parts.Lag.{Lag}
 use Rattle.network.specs.Problem.{Problem, end_of, rules, pair_arc}
 use Rattle.longest_path.specs.Insert.{arc_of}
-use Rattle.lemma_text.specs.declared.claim.Claim.{Claim}
-use Rattle.lemma_text.specs.declared.claim.Claim.TheVariants as claims
+use Rattle.lemma_text.specs.declared.record.Claim.{Claim}
+use Rattle.lemma_text.specs.declared.record.Claim.TheVariants as claims
 use Rattle.lemma_text.specs.declared.line.Line.{Line}
 use Rattle.lemma_text.specs.declared.line.Line.TheVariants as kind
 
@@ -78,3 +78,17 @@ pub record Placed : Type 0 where
 abbrev pub placed : Problem → Place → List Line → List Placed
 placed p at [] = []
 placed p at (line ∷ lines) = record { place = at; line = line } ∷ placed p (after p at line) lines
+
+-- ---- Lemmas by the lines that they begin with.
+
+-- the arcs of a line that begins a lemma
+abbrev pub first_arcs : Option Line → List Lag
+first_arcs (Some (kind.Lemma arcs)) = arcs
+first_arcs line = []
+
+-- the lemma that begins with a line
+abbrev pub lemma_at : List Line → ℕ → List Lag
+lemma_at lines index = first_arcs (slice_get lines index)
+
+abbrev pub lemmas_of : List Line → List ℕ → List (List Lag)
+lemmas_of lines begins = map (lemma_at lines) begins

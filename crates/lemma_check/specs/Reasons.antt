@@ -1,16 +1,18 @@
 -- Why no feasible schedule meets all arcs of a block: what walks over them show of each schedule that does.
-use Rattle.std.specs.Prelude.{◌≡◌, ℕ, ◌*◌, ◌<◌, ◌≤◌, ◌⊎◌, ℤ, pos, ◌+ℤ◌, ◌-ℤ◌, ◌≤ℤ◌, ◌<ℤ◌, unsigned_abs, List, [], length, slice_index_or}
+use Rattle.std.specs.Prelude.{◌≡◌, ℕ, ◌*◌, ◌<◌, ◌≤◌, ◌⊎◌, ℤ, pos, ◌+ℤ◌, ◌-ℤ◌, ◌≤ℤ◌, ◌<ℤ◌, unsigned_abs, List, [], length, slice_index_or, Option, None, Some, ◌↔◌, Bool, IsTrue}
 use Rattle.std.specs.List.{All, AllPairs, sum_by}
-use Rattle.network.specs.declared.lag.Lag.{Lag}
-use Rattle.network.specs.declared.lag.Pair.{Pair}
-use Rattle.network.specs.Forbidden.{IsForbidden}
-use Rattle.network.specs.Problem.{Problem, activities, activity_count, resource_count, duration, demand, capacity}
-use Rattle.network.specs.Walk.{IsWalk, weight, HasPositiveCycle, HasNoPositiveCycle}
-use Rattle.longest_path.specs.Insert.{arc_of}
+use Rattle.network.specs.declared.parts.Lag.{Lag}
+use Rattle.network.specs.declared.parts.Pair.{Pair}
+use Rattle.network.specs.Schedule.{IsForbidden}
+use Rattle.network.specs.Problem.{Problem, activities, activity_count, resource_count, duration, demand, capacity, IsWithin}
+use Rattle.network.specs.Walk.{IsWalk, weight, HasPositiveCycle, HasNoPositiveCycle, Rows, entry, IsMatrixOf}
+use Rattle.longest_path.specs.Insert.{arc_of, rows_over}
 use Rattle.rivals.specs.Incompatible.{AreIncompatible}
 use Rattle.schedule_check.specs.Members.{AreMembers}
 use Rattle.lemma_text.specs.declared.reason.Reason.{Reason}
 use Rattle.lemma_text.specs.declared.reason.Reason.TheVariants as reasons
+use Rattle.std.specs.Int.{int_max, int_min}
+use Rattle.lemma_check.specs.declared.weights.TheConstants.{MAX_REVERSE_WEIGHT}
 
 -- the arcs imply this one: some walk between its ends weighs at least as much
 pub record Implies (arcs : List Lag) (e : Lag) : Type 0 where
@@ -83,3 +85,42 @@ Ends p lemmas arcs (reasons.Set resource members) = HasNoPositiveCycle arcs × I
 Ends p lemmas arcs (reasons.Load resource from to) = HasNoPositiveCycle arcs × IsLoad p arcs resource from to
 Ends p lemmas arcs (reasons.Clique from to members) = HasNoPositiveCycle arcs × IsClique p arcs from to members
 Ends p lemmas arcs (reasons.Use lemma) = HasNoPositiveCycle arcs × IsUse lemmas arcs lemma
+
+-- ---- How long an activity runs in a window at least, by the greatest weights from the start and back to it.
+
+-- the least of its duration, the window's length, what is left of it after the window begins where it starts as early
+-- as it can, and what is left of the window where it starts as late as it can; none without these weights
+abbrev pub least_part : ℤ → ℤ → ℤ → Option ℤ → Option ℤ → ℕ
+least_part duration from to (Some head) (Some back) =
+    let early = int_min (int_min duration (to -ℤ from)) ((head +ℤ duration) -ℤ from) in
+    unsigned_abs (int_max (int_min early (to +ℤ back)) (pos 0))
+least_part duration from to (Some head) None = 0
+least_part duration from to None back = 0
+
+abbrev pub part_of : Problem → Rows → ℤ → ℤ → ℕ → ℕ
+part_of p rows from to i = least_part (duration p i) from to (entry rows 0 i) (entry rows i 0)
+
+-- what these activities ask of a resource in the window at least
+abbrev pub load_of : Problem → Rows → ℕ → ℤ → ℤ → List ℕ → ℕ
+load_of p rows resource from to those = sum_by (λ i. part_of p rows from to i * demand p resource i) those
+
+-- ---- The matrix of a block, and of a block with one arc more.
+
+-- the rows with the arc, if there is one
+abbrev pub rows_with : Option Lag → Rows → Rows
+rows_with None rows = rows
+rows_with (Some e) rows = rows_over e rows
+
+-- the arc may be added
+pub record MayBeAdded (rows : Rows) (e : Lag) : Type 0 where
+  pub from_vertex : e.from < length rows
+  pub to_vertex : e.to < length rows
+  pub light : IsWithin MAX_REVERSE_WEIGHT e.weight
+
+abbrev pub MayBeWith : Option Lag → Rows → Type 0
+MayBeWith None rows = Unit {0}
+MayBeWith (Some e) rows = MayBeAdded rows e
+
+-- the answer says of the arcs that these rows are the matrix of whether they have the property
+abbrev pub TellsWhether : ℕ → Rows → Bool → (List Lag → Type 0) → Type 0
+TellsWhether n rows answer P = (arcs : List Lag) → IsMatrixOf n arcs rows → IsTrue answer ↔ P arcs

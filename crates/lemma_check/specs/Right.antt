@@ -1,21 +1,29 @@
 -- When a record is right for a project.
-use Rattle.std.specs.Prelude.{◌≡◌, ◌⊎◌, ◌<◌, pos, ◌-ℤ◌, None, List, [], ◌∷◌, ◌++◌}
+use Rattle.std.specs.Prelude.{◌≡◌, ◌⊎◌, ◌<◌, pos, ◌-ℤ◌, None, List, [], ◌∷◌, ◌++◌, ℕ, ◌+◌, length}
 use Rattle.std.specs.List.{All}
-use Rattle.network.specs.declared.lag.Lag.{Lag}
-use Rattle.network.specs.declared.lag.Pair.{Pair}
+use Rattle.network.specs.declared.parts.Lag.{Lag}
+use Rattle.network.specs.declared.parts.Pair.{Pair}
 use Rattle.network.specs.Problem.{Problem, activity_count}
-use Rattle.network.specs.Schedule.{IsFeasible, makespan}
+use Rattle.network.specs.Schedule.{IsFeasible, makespan, IsShortest, IsLowerBound, HasNoSchedule}
 use Rattle.network.specs.Walk.{HasNoPositiveCycle}
 use Rattle.longest_path.specs.Insert.{arc_of}
 use Rattle.rivals.specs.Incompatible.{AreIncompatible}
-use Rattle.lemma_text.specs.declared.claim.Claim.{Claim}
-use Rattle.lemma_text.specs.declared.claim.Claim.TheVariants as claims
+use Rattle.lemma_text.specs.declared.record.Claim.{Claim}
+use Rattle.lemma_text.specs.declared.record.Claim.TheVariants as claims
 use Rattle.lemma_text.specs.declared.line.Line.{Line}
 use Rattle.lemma_text.specs.declared.line.Line.TheVariants as kind
 use Rattle.lemma_text.specs.declared.reason.Reason.{Reason}
-use Rattle.lemma_text.specs.LemmaRecord.{LemmaRecordOf}
+use Rattle.lemma_text.specs.Blocks.{LemmaRecordOf}
 use Rattle.lemma_check.specs.Reasons.{Implies, EndsAfterStart, Ends}
 use Rattle.lemma_check.specs.Places.{Place, arcs_at, first_place, Placed, placed}
+use Rattle.record_text.specs.declared.fault.RecordFault.{RecordFault}
+use Rattle.record_text.specs.declared.fault.Why.{Why}
+use Rattle.record_text.specs.declared.fault.Why.TheVariants as why
+use Rattle.lemma_text.specs.Text.{lemma_kind}
+use Rattle.record_text.specs.FirstWrong.{IsFirstWrongOf, IsFirstFaultOf}
+use Rattle.record_text.specs.Kinds.{head_rows, IsRecord}
+use Rattle.lemma_check.specs.declared.verification.Proved.{Proved}
+use Rattle.lemma_check.specs.declared.verification.Proved.TheVariants.{Optimal, Bound, NoSchedule}
 
 -- both ends are activities
 abbrev pub JoinsActivities : Problem → Lag → Type 0
@@ -66,3 +74,54 @@ AreRightFrom p at lines = All (IsRightLine p) (placed p at lines)
 pub record IsRight (p : Problem) (r : LemmaRecordOf) : Type 0 where
   pub starts : AreRightStarts p r.claim
   pub lines : AreRightFrom p (first_place p r.claim) r.lines
+
+-- ---- The first fault of a record that is not right.
+
+-- the number of the first line of the blocks
+abbrev pub first_line : Claim → ℕ
+first_line claim = length (head_rows lemma_kind claim) + 1
+
+-- what is wrong where a line is
+abbrev pub why_wrong : Line → Why
+why_wrong (kind.Lemma arcs) = why.Lemma
+why_wrong (kind.Force pair) = why.Force
+why_wrong (kind.Add arc reason) = why.Add
+why_wrong (kind.End reason) = why.End
+
+abbrev pub why_wrong_at : Placed → Why
+why_wrong_at here = why_wrong here.line
+
+-- of the lines from a place on, which are numbered from this one, the first that is not right
+abbrev pub IsFirstWrong : Problem → Place → ℕ → List Line → RecordFault → Type 0
+IsFirstWrong p at first lines fault = IsFirstWrongOf (IsRightLine p) why_wrong_at first (placed p at lines) fault
+
+-- the starts come first, then the lines in their order
+abbrev pub IsFirstFault : Problem → LemmaRecordOf → RecordFault → Type 0
+IsFirstFault p r fault =
+    IsFirstFaultOf (AreRightStarts p r.claim) (IsFirstWrong p (first_place p r.claim) (first_line r.claim) r.lines) fault
+
+-- a record with a first fault is not right
+abbrev pub FaultIsWrong : Type 0
+FaultIsWrong = (p : Problem) (r : LemmaRecordOf) (fault : RecordFault) → IsFirstFault p r fault → ¬ IsRight p r
+
+-- and has no other
+abbrev pub FirstFaultIsOne : Type 0
+FirstFaultIsOne = (p : Problem) (r : LemmaRecordOf) (a b : RecordFault) → IsFirstFault p r a → IsFirstFault p r b → a ≡ b
+
+-- ---- What a right record proves.
+
+-- what a claim says, apart from the starts
+abbrev pub proved_of : Claim → Proved
+proved_of (claims.Optimal makespan starts) = Optimal makespan
+proved_of (claims.Bound bound) = Bound bound
+proved_of claims.NoSchedule = NoSchedule
+
+-- it is true of the project
+abbrev pub IsTrueOf : Problem → Proved → Type 0
+IsTrueOf p (Optimal makespan) = IsShortest p makespan
+IsTrueOf p (Bound bound) = IsLowerBound p bound
+IsTrueOf p NoSchedule = HasNoSchedule p
+
+-- what a right record claims is true
+abbrev pub RightIsTrue : Type 0
+RightIsTrue = (p : Problem) (r : LemmaRecordOf) → IsRecord lemma_kind r → IsRight p r → IsTrueOf p (proved_of r.claim)

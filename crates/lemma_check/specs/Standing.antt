@@ -1,14 +1,14 @@
 -- What is kept of a line's place: a matrix, and the lines that lemmas begin with.
-use Rattle.std.specs.Prelude.{◌≡◌, ℕ, Bool, true, false, Option, None, Some, List, [], ◌∷◌, length}
+use Rattle.std.specs.Prelude.{◌≡◌, ℕ, Bool, true, false, Option, None, Some, List, [], ◌∷◌, length, is_some, slice_get}
 use Rattle.std.specs.List.{All}
-use Rattle.network.specs.declared.lag.Lag.{Lag}
+use Rattle.network.specs.declared.parts.Lag.{Lag}
 use Rattle.network.specs.Problem.{Problem, activity_count}
 use Rattle.network.specs.Walk.{Rows, HasPositiveCycle, IsMatrixOf}
-use Rattle.longest_path.specs.Marked.{Marked}
+use Rattle.longest_path.specs.Saved.{Marked}
 use Rattle.lemma_text.specs.declared.line.Line.{Line}
-use Rattle.lemma_check.specs.Lemmas.{lemma_at, lemmas_of}
-use Rattle.lemma_check.specs.Places.{Opened, Place, arcs_at}
-use Rattle.lemma_check.specs.Right.{JoinsActivities}
+use Rattle.lemma_check.specs.Places.{lemma_at, lemmas_of, Opened, Place, arcs_at, after}
+use Rattle.lemma_check.specs.Right.{JoinsActivities, IsRightAt}
+use Rattle.lemma_check.specs.declared.state.State.{State}
 
 -- the arcs close a walk of positive weight, or these rows are their matrix
 abbrev pub IsKnown : ℕ → List Lag → Bool → Rows → Type 0
@@ -54,3 +54,38 @@ pub record Stands (p : Problem) (lines : List Line) (at : Place) (of : Kept) : T
   pub before : at.lemmas ≡ lemmas_of lines of.begins
   pub begins_at : BeginsAt p lines at.opened of.opened
   pub named : All (All (JoinsActivities p)) at.lemmas
+
+-- ---- A place of which the block's arcs have a matrix.
+
+-- these are the matrix of the block, the lemmas before it, and whether it is a lemma's
+pub record IsLiveAt (p : Problem) (at : Place) (rows : Rows) (lemmas : List (List Lag)) (is_open : Bool) : Type 0 where
+  pub matrix : IsMatrixOf (activity_count p) (arcs_at at) rows
+  pub before : at.lemmas ≡ lemmas
+  pub opened : is_open ≡ is_some at.opened
+
+-- ---- A state of the check of a record's lines, at a place.
+
+abbrev pub IsAt : Problem → List Line → Place → State → Type 0
+IsAt p lines at s = Stands p lines at (kept s.matrix s.is_dead s.begins.items s.opened)
+
+-- the state is at some place
+pub record IsSomewhere (p : Problem) (lines : List Line) (s : State) : Type 0 where
+  pub place : Place
+  pub stands : IsAt p lines place s
+
+-- from each place one leads to another
+abbrev pub Leads : (Problem → Place → Place) → State → State → Type 0
+Leads next old new = (p : Problem) (lines : List Line) (at : Place) → IsAt p lines at old → IsAt p lines (next p at) new
+
+-- a line that is right at the state's place
+pub record IsRightSomewhere (p : Problem) (line : Line) (s : State) : Type 0 where
+  pub lines : List Line
+  pub place : Place
+  pub stands : IsAt p lines place s
+  pub right : IsRightAt p place line
+
+-- the line of this index, where it is right, leads from its place to the next
+abbrev pub GoesOn : Problem → ℕ → Line → State → State → Type 0
+GoesOn p index line old new =
+    (lines : List Line) (at : Place) → IsAt p lines at old → IsRightAt p at line → slice_get lines index ≡ Some line →
+    IsAt p lines (after p at line) new

@@ -2,12 +2,10 @@
 
 ghost use Rattle.std.specs.Prelude.{◌≡◌, ◌↔◌, ◌<◌, List, length, unsigned_abs, IsTrue};
 ghost use Rattle.std.specs.List.{All, AllPairs, sum_by};
-ghost use Rattle.network.specs.declared.lag.Lag.{Lag};
-ghost use Rattle.network.specs.Limits.{IsTime};
-ghost use Rattle.network.specs.Problem.{activity_count, duration};
+ghost use Rattle.network.specs.declared.parts.Lag.{Lag};
+ghost use Rattle.network.specs.Problem.{IsTime, activity_count, duration};
 ghost use Rattle.schedule_check.specs.Members.{AreMembers};
-ghost use Rattle.lemma_check.specs.Reasons.{RunsWithin, StartsAfterEnd, RunApart, IsClique};
-ghost use Rattle.lemma_check.specs.Weights.{TellsWhether};
+ghost use Rattle.lemma_check.specs.Reasons.{RunsWithin, StartsAfterEnd, RunApart, IsClique, TellsWhether};
 
 use crate::weights::Weights;
 use network::{Lag, Pair, Project};

@@ -2,12 +2,11 @@
 
 ghost use Rattle.std.specs.Prelude.{◌≡◌, ◌↔◌, List, length, IsTrue};
 ghost use Rattle.std.specs.List.{All};
-ghost use Rattle.network.specs.declared.lag.Lag.{Lag};
+ghost use Rattle.network.specs.declared.parts.Lag.{Lag};
 ghost use Rattle.network.specs.Problem.{activity_count};
 ghost use Rattle.lemma_text.specs.Text.{IsWritableReason};
-ghost use Rattle.lemma_check.specs.Reasons.{Ends};
+ghost use Rattle.lemma_check.specs.Reasons.{Ends, TellsWhether};
 ghost use Rattle.lemma_check.specs.Right.{JoinsActivities};
-ghost use Rattle.lemma_check.specs.Weights.{TellsWhether};
 
 use crate::clique::is_clique;
 use crate::lemmas::{Lemmas, is_use};

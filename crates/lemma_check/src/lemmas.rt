@@ -2,12 +2,11 @@
 
 ghost use Rattle.std.specs.Prelude.{◌≡◌, ◌↔◌, ◌<◌, ◌≤◌, List, [], length, slice_index_or, IsTrue, MatchOption};
 ghost use Rattle.std.specs.List.{All};
-ghost use Rattle.network.specs.declared.lag.Lag.{Lag};
+ghost use Rattle.network.specs.declared.parts.Lag.{Lag};
 ghost use Rattle.network.specs.Problem.{Problem, activity_count};
-ghost use Rattle.lemma_check.specs.Reasons.{Implies, IsUse};
-ghost use Rattle.lemma_check.specs.Lemmas.{lemma_at, lemmas_of};
+ghost use Rattle.lemma_check.specs.Reasons.{Implies, IsUse, TellsWhether};
+ghost use Rattle.lemma_check.specs.Places.{lemma_at, lemmas_of};
 ghost use Rattle.lemma_check.specs.Right.{JoinsActivities};
-ghost use Rattle.lemma_check.specs.Weights.{TellsWhether};
 
 use crate::weights::Weights;
 use lemma_text::Line;
@@ -33,8 +32,8 @@ pub(crate) struct Lemmas<'a> {
 
 impl<'a> Model for Lemmas<'a> {
     ghost use Rattle.std.specs.Prelude.{List};
-    ghost use Rattle.network.specs.declared.lag.Lag.{Lag};
-    ghost use Rattle.lemma_check.specs.Lemmas.{lemmas_of};
+    ghost use Rattle.network.specs.declared.parts.Lag.{Lag};
+    ghost use Rattle.lemma_check.specs.Places.{lemmas_of};
 
     ghost Value = { List (List Lag) };
 

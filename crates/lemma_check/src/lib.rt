@@ -3,18 +3,14 @@
 
 mod clique;
 mod ending;
-mod laws;
 mod lemmas;
 mod lines;
 mod load;
-mod proved;
 mod right;
 mod set;
 mod state;
 mod verification;
 mod weights;
 
-pub use laws::right_law;
 pub use lemma_text::{LemmaRecord, RecordFault, Why};
-pub use proved::Proved;
-pub use verification::verify;
+pub use verification::{Proved, right_law, verify};

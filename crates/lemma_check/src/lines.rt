@@ -5,9 +5,8 @@ ghost use Rattle.std.specs.List.{All, AllByRecursion};
 ghost use Rattle.network.specs.Problem.{Problem};
 ghost use Rattle.record_text.specs.declared.fault.Why.TheVariants.{Memory};
 ghost use Rattle.lemma_text.specs.Text.{IsWritableClaim, IsWritableLine};
-ghost use Rattle.lemma_check.specs.Faults.{first_line, why_wrong, IsFirstWrong};
+ghost use Rattle.lemma_check.specs.Right.{first_line, why_wrong, IsFirstWrong, AreRightFrom};
 ghost use Rattle.lemma_check.specs.Places.{Place, first_place};
-ghost use Rattle.lemma_check.specs.Right.{AreRightFrom};
 ghost use Rattle.lemma_check.specs.Standing.{IsDeadAt};
 
 use crate::state::{State, ends_dead};

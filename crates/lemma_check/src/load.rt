@@ -1,12 +1,9 @@
 //! When the reason `load` ends a block.
 
 ghost use Rattle.std.specs.Prelude.{◌≡◌, ◌↔◌, ◌<◌, ◌≤◌, List, length, IsTrue};
-ghost use Rattle.network.specs.declared.lag.Lag.{Lag};
-ghost use Rattle.network.specs.Limits.{IsTime};
-ghost use Rattle.network.specs.Problem.{activities, activity_count, resource_count};
-ghost use Rattle.lemma_check.specs.Reasons.{IsLoad};
-ghost use Rattle.lemma_check.specs.Parts.{part_of, load_of};
-ghost use Rattle.lemma_check.specs.Weights.{TellsWhether};
+ghost use Rattle.network.specs.declared.parts.Lag.{Lag};
+ghost use Rattle.network.specs.Problem.{IsTime, activities, activity_count, resource_count};
+ghost use Rattle.lemma_check.specs.Reasons.{IsLoad, part_of, load_of, TellsWhether};
 
 use crate::weights::Weights;
 use network::Project;

@@ -2,15 +2,14 @@
 
 ghost use Rattle.std.specs.Prelude.{◌≡◌, ◌↔◌, List, length, IsTrue};
 ghost use Rattle.std.specs.List.{All};
-ghost use Rattle.network.specs.declared.lag.Lag.{Lag};
+ghost use Rattle.network.specs.declared.parts.Lag.{Lag};
 ghost use Rattle.network.specs.declared.limits.TheConstants.{MAX_LAG_WEIGHT};
-ghost use Rattle.network.specs.Limits.{IsWithin};
-ghost use Rattle.network.specs.Problem.{activity_count};
+ghost use Rattle.network.specs.Problem.{IsWithin, activity_count};
 ghost use Rattle.lemma_text.specs.Text.{IsWritableLine, IsWritableReason};
-ghost use Rattle.lemma_check.specs.Live.{IsLiveAt};
+ghost use Rattle.lemma_check.specs.Standing.{IsLiveAt};
 ghost use Rattle.lemma_check.specs.Places.{Place};
 ghost use Rattle.lemma_check.specs.Right.{IsForced, IsRightAt, IsShown, JoinsActivities};
-ghost use Rattle.lemma_check.specs.Weights.{TellsWhether};
+ghost use Rattle.lemma_check.specs.Reasons.{TellsWhether};
 
 use crate::ending::ends;
 use crate::lemmas::Lemmas;

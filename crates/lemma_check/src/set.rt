@@ -2,11 +2,10 @@
 
 ghost use Rattle.std.specs.Prelude.{◌≡◌, ◌↔◌, ◌<◌, List, length, IsTrue};
 ghost use Rattle.std.specs.List.{All};
-ghost use Rattle.network.specs.declared.lag.Lag.{Lag};
+ghost use Rattle.network.specs.declared.parts.Lag.{Lag};
 ghost use Rattle.network.specs.Problem.{activity_count};
 ghost use Rattle.schedule_check.specs.Members.{AreMembers};
-ghost use Rattle.lemma_check.specs.Reasons.{EndsAfterStart, IsSet};
-ghost use Rattle.lemma_check.specs.Weights.{TellsWhether};
+ghost use Rattle.lemma_check.specs.Reasons.{EndsAfterStart, IsSet, TellsWhether};
 
 use crate::weights::Weights;
 use network::{Lag, Project};

@@ -2,8 +2,7 @@
 
 ghost use Rattle.std.specs.Prelude.{◌≡◌, ◌↔◌, List, length, IsTrue, IfOk, OnOk, MatchOption};
 ghost use Rattle.std.specs.List.{All};
-ghost use Rattle.network.specs.Limits.{IsAmount, IsLag};
-ghost use Rattle.network.specs.Problem.{Problem, activity_count};
+ghost use Rattle.network.specs.Problem.{IsAmount, IsLag, Problem, activity_count};
 ghost use Rattle.lemma_text.specs.declared.line.Line.{Line};
 ghost use Rattle.lemma_text.specs.declared.line.Line.TheVariants as kind;
 ghost use Rattle.lemma_text.specs.declared.reason.Reason.TheVariants as reasons;
@@ -70,7 +69,7 @@ pub(crate) fn ends_dead(line: &Line) -> bool
 }
 
 impl State {
-    ghost use Rattle.lemma_check.specs.State.{GoesOn, IsAt, IsRightSomewhere, IsSomewhere, Leads};
+    ghost use Rattle.lemma_check.specs.Standing.{GoesOn, IsAt, IsRightSomewhere, IsSomewhere, Leads};
 
     /// The state at the first line of a record with this claim. None if the project's own rules close a walk of
     /// positive weight.

@@ -1,18 +1,34 @@
 //! The checker of records of lemmas.
 
+ghost use Rattle.lemma_check.specs.Right.{RightIsTrue, FaultIsWrong, FirstFaultIsOne, AreRightStarts, IsRight, proved_of, IsTrueOf, IsFirstFault};
 ghost use Rattle.std.specs.Prelude.{◌≡◌, ◌≢◌, ◌↔◌, IsTrue, IfOk, IfErr, OnOk};
 ghost use Rattle.lemma_text.specs.Text.{IsWritableClaim};
 ghost use Rattle.record_text.specs.declared.fault.Why.TheVariants.{Memory};
-ghost use Rattle.lemma_check.specs.Right.{AreRightStarts, IsRight};
-ghost use Rattle.lemma_check.specs.Proves.{proved_of, IsTrueOf};
-ghost use Rattle.lemma_check.specs.Faults.{IsFirstFault};
 
 use crate::lines::check_lines;
-use crate::proved::Proved;
 use lemma_text::{Claim, LemmaRecord, RecordFault, Why};
 use network::Project;
 use schedule_check::violations;
 use std::alloc::{AllocError, Global};
+
+/// What a right record proves of its project.
+#[derive(Clone, Copy, PartialEq, Eq, Debug)]
+pub enum Proved {
+    /// The shortest feasible schedule takes this many periods.
+    Optimal { makespan: i64 },
+    /// No feasible schedule takes fewer periods.
+    Bound { bound: i64 },
+    /// There is no feasible schedule.
+    NoSchedule,
+}
+
+/// Laws over the definitions. What a right record claims is true. A record with a first fault is not right, and has no
+/// other first fault.
+pub fn right_law()
+    ensures holds { RightIsTrue }
+    ensures wrong { FaultIsWrong }
+    ensures one { FirstFaultIsOne }
+{}
 
 /// What a claim says, apart from the starts.
 fn proved_of(claim: &Claim) -> Proved

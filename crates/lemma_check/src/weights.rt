@@ -1,14 +1,13 @@
 //! The matrix of a block with one arc more, entry by entry.
 
 ghost use Rattle.std.specs.Prelude.{◌≡◌, ◌↔◌, ◌<◌, List, length, None, Some, IsTrue, IfSome};
-ghost use Rattle.network.specs.declared.lag.Lag.{Lag};
+ghost use Rattle.network.specs.declared.parts.Lag.{Lag};
 ghost use Rattle.network.specs.declared.limits.TheConstants.{MAX_WALK_WEIGHT};
-ghost use Rattle.network.specs.Limits.{IsWithin};
+ghost use Rattle.network.specs.Problem.{IsWithin};
 ghost use Rattle.network.specs.Walk.{entry};
 ghost use Rattle.longest_path.specs.Insert.{rows_over};
-ghost use Rattle.longest_path.specs.Relax.{greater, joined};
-ghost use Rattle.lemma_check.specs.Reasons.{Implies};
-ghost use Rattle.lemma_check.specs.Weights.{MayBeAdded, TellsWhether};
+ghost use Rattle.longest_path.specs.Matrix.{greater, joined};
+ghost use Rattle.lemma_check.specs.Reasons.{Implies, MayBeAdded, TellsWhether};
 
 use longest_path::Matrix;
 use network::{Lag, MAX_LAG_WEIGHT, MAX_WALK_WEIGHT};
@@ -55,7 +54,7 @@ pub(crate) struct Weights<'a> {
 
 impl<'a> Model for Weights<'a> {
     ghost use Rattle.network.specs.Walk.{Rows};
-    ghost use Rattle.lemma_check.specs.Weights.{rows_with, MayBeWith};
+    ghost use Rattle.lemma_check.specs.Reasons.{rows_with, MayBeWith};
 
     ghost Value = { Rows };
 

@@ -5,12 +5,10 @@ mod blocks;
 mod lines;
 mod proofs;
 mod reasons;
-mod shown;
 mod telling;
 
 pub use blocks::{Blocks, blocks_of};
 pub use lines::lines_of;
-pub use proofs::{Forced, Proofs};
+pub use proofs::{Forced, Proofs, Shown};
 pub use reasons::{Link, NO_LINK, Why};
-pub use shown::Shown;
 pub use telling::{Event, outline};

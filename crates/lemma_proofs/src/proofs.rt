@@ -1,9 +1,31 @@
 //! The proofs of all lemmas of a search.
 
 use crate::reasons::{Link, NO_LINK, Why};
+use lemma_text::{Claim, Line, Reason};
 use lemma_trail::{Cause, Literal, Trail};
 use std::alloc::{AllocError, Global};
 use tables::{NO_SPAN, Span, Table};
+
+/// A claim, and the lines of a record that show it.
+#[derive(Drop, Debug)]
+pub struct Shown {
+    pub claim: Claim,
+    pub lines: Vec<Line>,
+}
+
+impl Shown {
+    /// There is no schedule, since the arcs of the project close a walk of positive weight.
+    pub fn dead(alloc: Global) -> Result<Shown, AllocError> {
+        let mut lines = Vec::new(alloc);
+        lines.push(Line::End {
+            reason: Reason::Dead,
+        })?;
+        Ok(Shown {
+            claim: Claim::NoSchedule,
+            lines,
+        })
+    }
+}
 
 /// A literal that a conflict's analysis replaced by what forced it.
 #[derive(Clone, Copy, PartialEq, Eq, Debug)]

@@ -2,15 +2,13 @@
 use Rattle.std.specs.Prelude.{◌≡◌, ◌⊎◌, ◌++◌, List, ℕ, Option, codes}
 use Rattle.std.specs.Fmt.{signed_decimal}
 use Rattle.network.specs.Problem.{Problem}
-use Rattle.lemma_text.specs.LemmaRecord.{LemmaRecordOf}
+use Rattle.lemma_text.specs.Blocks.{LemmaRecordOf}
 use Rattle.lemma_text.specs.Text.{lemma_kind}
-use Rattle.lemma_check.specs.Right.{IsRight}
-use Rattle.lemma_check.specs.Proves.{proved_of, IsTrueOf}
-use Rattle.lemma_check.specs.Faults.{IsFirstFault}
-use Rattle.lemma_check.specs.declared.proved.Proved.{Proved}
-use Rattle.lemma_check.specs.declared.proved.Proved.TheVariants as proved
+use Rattle.lemma_check.specs.Right.{IsRight, proved_of, IsTrueOf, IsFirstFault}
+use Rattle.lemma_check.specs.declared.verification.Proved.{Proved}
+use Rattle.lemma_check.specs.declared.verification.Proved.TheVariants as proved
 use Rattle.answers.specs.declared.fault.Fault.{Fault}
-use Rattle.runs.specs.Devices.{IfTold}
+use Rattle.runs.specs.Runs.{IfTold}
 use Rattle.runs.specs.Outcome.{GivesRecord, HasFault, IsNoProof, SpellsOne}
 
 -- ---- what is written

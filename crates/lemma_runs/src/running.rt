@@ -2,8 +2,7 @@
 
 ghost use Rattle.std.specs.Prelude.{◌≡◌, ◌≢◌, ◌<◌, Some, Err, IfOk, IfErr, IfSome, IfNone};
 ghost use Rattle.record_text.specs.declared.TheConstants.{MAX_RECORD_BYTES};
-ghost use Rattle.runs.specs.Devices.{span, FailedWhere, IsUntouched, TookAll, TookFront};
-ghost use Rattle.runs.specs.Runs.{GaveNoProject, HasReadUpTo};
+ghost use Rattle.runs.specs.Runs.{span, FailedWhere, IsUntouched, TookAll, TookFront, GaveNoProject, HasReadUpTo};
 ghost use Rattle.answers.specs.declared.fault.Fault.TheVariants as faults;
 ghost use Rattle.answers.specs.Faults.{exit_of};
 ghost use Rattle.lemma_runs.specs.Outcome.{IfBothTold, IsProof};

@@ -3,7 +3,7 @@
 ghost use Rattle.std.specs.Prelude.{◌≡◌, ◌≢◌, ◌++◌, IfOk, IfErr, string_bytes, codes};
 ghost use Rattle.std.specs.Fmt.{signed_decimal};
 ghost use Rattle.lemma_text.specs.Text.{lemma_kind};
-ghost use Rattle.lemma_check.specs.Faults.{IsFirstFault};
+ghost use Rattle.lemma_check.specs.Right.{IsFirstFault};
 ghost use Rattle.answers.specs.Faults.{exit_of, IsTextFault};
 ghost use Rattle.runs.specs.Outcome.{GivesRecord, IsNoProof, Tells};
 ghost use Rattle.lemma_runs.specs.Outcome.{IsProvedText, proved_line};

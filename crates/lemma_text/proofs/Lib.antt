@@ -1,10 +1,4 @@
-pub mod WeightReads
-pub mod RowWords
-pub mod LagReads
+pub mod HeadReads
 pub mod ReasonReads
 pub mod LineReads
-pub mod HeadReads
-pub mod Shapes
-pub mod BlockLines
 pub mod TextLaws
-pub mod HeadFaults

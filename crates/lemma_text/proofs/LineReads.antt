@@ -1,27 +1,22 @@
 -- Reading the line that a row is.
-use Rattle.std.proofs.Common.{◌≡◌, ℕ, suc, List, [], ◌∷◌, ◌++◌, map, Option, Some, None, Bool, true, false, cond, refl, sym, ap, ◌∙◌, arith, ℤ, pos, negsuc}
-use Rattle.std.specs.Prelude.{codes}
+use Rattle.std.proofs.Common.{◌≡◌, ℕ, suc, List, [], ◌∷◌, ◌++◌, map, Option, Some, None, Bool, true, false, cond, refl, sym, ap, ◌∙◌, arith, ℤ, pos, negsuc, codes}
 use Rattle.std.specs.List.{AllByRecursion, flat_map, join_with_byte}
 use Rattle.std.specs.Fmt.{decimal, signed_decimal}
 use Rattle.std.proofs.lemmas.List.Elements.{All-cons}
 use Rattle.std.proofs.lemmas.List.Splits.{join_with_byte-slice_split}
 use Rattle.std.proofs.lemmas.Int.{ints}
-use Rattle.network.specs.declared.lag.Lag.{Lag}
+use Rattle.network.specs.declared.parts.Lag.{Lag}
 use Rattle.network.specs.declared.limits.TheConstants.{MAX_LAG_WEIGHT}
-use Rattle.network.specs.Limits.{IsWithin}
+use Rattle.network.specs.Problem.{IsWithin}
 use Rattle.record_text.specs.Text.{IsNumber, IsWritableTime}
 use Rattle.record_text.specs.Reading.{fields, numbers}
-use Rattle.record_text.proofs.RowReads.{is_space, numbers_again, numbers_take, no_space}
-use Rattle.record_text.proofs.LineReads.{plain_word, said_or}
-use Rattle.lemma_text.specs.declared.reason.Reason.{Reason}
+use Rattle.record_text.proofs.RowReads.{is_space, numbers_again, numbers_take, no_space, plain_word, said_or}
 use Rattle.lemma_text.specs.declared.reason.Reason.TheVariants as reasons
-use Rattle.lemma_text.specs.declared.line.Line.{Line}
 use Rattle.lemma_text.specs.declared.line.Line.TheVariants as kind
-use Rattle.lemma_text.specs.Shape.{may_stand}
+use Rattle.lemma_text.specs.Blocks.{may_stand, Reason, Line}
 use Rattle.lemma_text.specs.Text.{row_of, IsWritableLag, IsWritableReason, IsWritableLine}
 use Rattle.lemma_text.specs.Reading.{lags, LagFirst, lag_first, reason_of, lemma_of, force_of, with_reason, add_of, end_of, line_from, line_in, line_of, standing, line_at}
-use Rattle.lemma_text.proofs.RowWords.{IsPlain, fields_joined, lag_words, reason_words, more_words, first_word, row_joined}
-use Rattle.lemma_text.proofs.LagReads.{lags_again, lags_take, first_again, first_takes}
+use Rattle.lemma_text.proofs.HeadReads.{IsPlain, fields_joined, lag_words, reason_words, more_words, first_word, row_joined, lags_again, lags_take, first_again, first_takes}
 use Rattle.lemma_text.proofs.ReasonReads.{reason_again, reason_takes}
 
 -- ---- words have no space

@@ -1,17 +1,15 @@
 -- Reading a reason.
-use Rattle.std.proofs.Common.{◌≡◌, ℕ, List, [], ◌∷◌, map, Option, Some, None, refl, sym, ap, ◌∙◌, arith, pos, negsuc}
-use Rattle.std.specs.Prelude.{codes}
+use Rattle.std.proofs.Common.{◌≡◌, ℕ, List, [], ◌∷◌, map, Option, Some, None, refl, sym, ap, ◌∙◌, arith, pos, negsuc, codes}
 use Rattle.std.specs.List.{AllByRecursion}
 use Rattle.std.specs.Fmt.{decimal}
 use Rattle.record_text.specs.Text.{IsNumber}
 use Rattle.record_text.specs.Reading.{Parts, parts_of}
-use Rattle.record_text.proofs.LineReads.{said_or}
-use Rattle.record_text.proofs.RowReads.{numbers_again, parts_from}
+use Rattle.record_text.proofs.RowReads.{said_or, numbers_again, parts_from}
 use Rattle.lemma_text.specs.declared.reason.Reason.{Reason}
 use Rattle.lemma_text.specs.declared.reason.Reason.TheVariants as reasons
 use Rattle.lemma_text.specs.Text.{IsWritableReason}
 use Rattle.lemma_text.specs.Reading.{dead_of, set_of, load_of, clique_of, use_of, reason_from, reason_in, reason_of}
-use Rattle.lemma_text.proofs.RowWords.{reason_words}
+use Rattle.lemma_text.proofs.HeadReads.{reason_words}
 
 -- ---- what is spelled is read
 

@@ -1,5 +1,3 @@
-pub mod LemmaRecord
 pub mod Blocks
-pub mod Shape
 pub mod Text
 pub mod Reading

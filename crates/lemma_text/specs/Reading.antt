@@ -1,16 +1,13 @@
 -- What a row says, field by field.
-use Rattle.std.specs.Prelude.{ℕ, ℤ, pos, neg_ℤ, int_le, int_lt, if◌then◌else◌, Option, Some, None}
-use Rattle.std.specs.Prelude.{List, [], ◌∷◌, codes, drop}
+use Rattle.std.specs.Prelude.{ℕ, ℤ, pos, neg_ℤ, int_le, int_lt, if◌then◌else◌, Option, Some, None, List, [], ◌∷◌, codes, drop}
 use Rattle.std.specs.Str.{bytes_eq}
 use Rattle.std.specs.Str.Parse.{starts_with_minus}
-use Rattle.network.specs.declared.lag.Lag.{Lag}
+use Rattle.network.specs.declared.parts.Lag.{Lag}
 use Rattle.network.specs.declared.limits.TheConstants.{MAX_AMOUNT, MAX_LAG_WEIGHT}
 use Rattle.record_text.specs.Reading.{number, numbers, numbers_after, fields, Parts, parts_of}
-use Rattle.lemma_text.specs.declared.reason.Reason.{Reason}
 use Rattle.lemma_text.specs.declared.reason.Reason.TheVariants as reasons
-use Rattle.lemma_text.specs.declared.line.Line.{Line}
 use Rattle.lemma_text.specs.declared.line.Line.TheVariants as kind
-use Rattle.lemma_text.specs.Shape.{may_stand}
+use Rattle.lemma_text.specs.Blocks.{may_stand, Reason, Line}
 
 -- ---- whole numbers
 

@@ -2,18 +2,15 @@
 use Rattle.std.specs.Prelude.{◌≡◌, ℕ, ◌<◌, List, [], ◌∷◌, ◌++◌, codes, length}
 use Rattle.std.specs.List.{flat_map, AllByRecursion}
 use Rattle.std.specs.Fmt.{signed_decimal}
-use Rattle.network.specs.declared.lag.Lag.{Lag}
+use Rattle.network.specs.declared.parts.Lag.{Lag}
 use Rattle.network.specs.declared.limits.TheConstants.{MAX_LAG_WEIGHT}
-use Rattle.network.specs.Limits.{IsWithin, IsAmount}
+use Rattle.network.specs.Problem.{IsWithin, IsAmount}
 use Rattle.record_text.specs.Kinds.{Kind, ended}
 use Rattle.record_text.specs.Text.{spaced, spaced_times, IsNumber, IsWritableTime}
-use Rattle.lemma_text.specs.declared.claim.Claim.{Claim}
-use Rattle.lemma_text.specs.declared.claim.Claim.TheVariants as claims
-use Rattle.lemma_text.specs.declared.reason.Reason.{Reason}
+use Rattle.lemma_text.specs.declared.record.Claim.TheVariants as claims
 use Rattle.lemma_text.specs.declared.reason.Reason.TheVariants as reasons
-use Rattle.lemma_text.specs.declared.line.Line.{Line}
 use Rattle.lemma_text.specs.declared.line.Line.TheVariants as kind
-use Rattle.lemma_text.specs.Blocks.{Block, lines_of}
+use Rattle.lemma_text.specs.Blocks.{Block, lines_of, Claim, Reason, Line}
 
 -- ---- bytes
 

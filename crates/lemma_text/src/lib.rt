@@ -5,8 +5,6 @@
 //! project.
 #![tactic(auto)]
 
-mod claim;
-mod laws;
 mod line;
 mod read;
 mod read_lags;
@@ -17,10 +15,8 @@ mod row;
 mod weight;
 mod write;
 
-pub use claim::Claim;
-pub use laws::{shape_law, text_law};
 pub use line::{Lags, Line};
 pub use read::first_line;
 pub use reason::Reason;
-pub use record::{LemmaRecord, text_of};
+pub use record::{Claim, LemmaRecord, text_law, text_of};
 pub use record_text::{MAX_RECORD_BYTES, RecordFault, Why};

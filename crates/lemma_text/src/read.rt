@@ -1,17 +1,16 @@
 //! Reads the claim and the lines of a record from a text.
 
-ghost use Rattle.std.specs.Prelude.{◌≡◌, ◌≢◌, ◌<◌, ◌≤◌, ◌+◌, ◌∷◌, [], ◌++◌};
-ghost use Rattle.std.specs.Prelude.{length, map, codes, Some, IfOk, IfErr};
+ghost use Rattle.std.specs.Prelude.{◌≡◌, ◌≢◌, ◌<◌, ◌≤◌, ◌+◌, ◌∷◌, [], ◌++◌, length, map, codes, Some, IfOk, IfErr};
 ghost use Rattle.record_text.specs.Kinds.{head_rows, IsRecord};
 ghost use Rattle.record_text.specs.Rows.{line_pieces};
 ghost use Rattle.record_text.specs.TextFaults.{IsFormFault, HasFault};
 ghost use Rattle.record_text.specs.declared.fault.Why.TheVariants.{Memory};
 ghost use Rattle.lemma_text.specs.Text.{IsWritableClaim, claim_rows, row_of, lemma_kind};
 ghost use Rattle.lemma_text.specs.Reading.{amount_after, line_at};
-ghost use Rattle.lemma_text.specs.Shape.{may_stand, still_due};
+ghost use Rattle.lemma_text.specs.Blocks.{may_stand, still_due};
 
-use crate::claim::Claim;
 use crate::line::Line;
+use crate::record::Claim;
 use crate::row::line_of;
 use crate::weight::at_most;
 use network::MAX_AMOUNT;

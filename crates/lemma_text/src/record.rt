@@ -1,19 +1,36 @@
 //! A record of lemmas, and its text.
 
+ghost use Rattle.lemma_text.specs.Text.{lemma_kind};
+ghost use Rattle.record_text.specs.TextFaults.{RecordIsOne, FirstFaultIsOne, FaultIsNoRecord, IsFirstTextFault, IsReadAs};
 ghost use Rattle.std.specs.Prelude.{◌≡◌, ◌≢◌, ◌≤◌, length, IfOk, OnOk, IfErr};
 ghost use Rattle.record_text.specs.Kinds.{IsRecord, Spells, record_text};
-ghost use Rattle.record_text.specs.TextFaults.{IsFirstTextFault, IsReadAs};
 ghost use Rattle.record_text.specs.declared.fault.Why.TheVariants.{Memory};
-ghost use Rattle.lemma_text.specs.LemmaRecord.{LemmaRecordOf};
-ghost use Rattle.lemma_text.specs.Text.{lemma_kind};
+ghost use Rattle.lemma_text.specs.Blocks.{LemmaRecordOf};
 
-use crate::claim::Claim;
 use crate::line::Line;
 use crate::read::{read_claim, read_lines};
 use crate::write::{put_claim, put_lines};
-use record_text::{MAX_RECORD_BYTES, RecordFault, after_title};
+use record_text::{MAX_RECORD_BYTES, RecordFault, Starts, after_title};
 use std::alloc::{AllocError, Global};
 use std::marker::Model;
+
+/// What a record says of a project. Makespans and bounds are in periods.
+#[derive(Drop, Debug)]
+pub enum Claim {
+    /// The project has a feasible schedule of these starts, its makespan is this, and none is shorter.
+    Optimal { makespan: i64, starts: Starts },
+    /// No feasible schedule of the project is shorter than this.
+    Bound { bound: i64 },
+    /// The project has no feasible schedule.
+    NoSchedule,
+}
+
+/// Laws over the definitions. A text is that of one record at most, or has one first fault at most, but not both.
+pub fn text_law()
+    ensures record { RecordIsOne lemma_kind }
+    ensures fault { FirstFaultIsOne lemma_kind }
+    ensures apart { FaultIsNoRecord lemma_kind }
+{}
 
 /// The text of a claim and of lines, whatever they are. It is read as a record exactly where they are one's.
 pub fn text_of(alloc: Global, claim: &Claim, lines: &[Line]) -> Result<Vec<u8>, AllocError>
@@ -34,7 +51,7 @@ pub struct LemmaRecord {
 }
 
 impl Model for LemmaRecord {
-    ghost use Rattle.lemma_text.specs.LemmaRecord.{LemmaRecordOf};
+    ghost use Rattle.lemma_text.specs.Blocks.{LemmaRecordOf};
     ghost use Rattle.record_text.specs.Kinds.{IsRecord};
     ghost use Rattle.lemma_text.specs.Text.{lemma_kind};
 

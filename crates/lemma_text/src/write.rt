@@ -5,9 +5,9 @@ ghost use Rattle.std.specs.List.{flat_map};
 ghost use Rattle.record_text.specs.Kinds.{ended, head_rows};
 ghost use Rattle.lemma_text.specs.Text.{spaced_lag, reason_text, line_text, lemma_kind};
 
-use crate::claim::Claim;
 use crate::line::Line;
 use crate::reason::Reason;
+use crate::record::Claim;
 use network::Lag;
 use record_text::{put_numbers, put_times};
 use std::alloc::AllocError;

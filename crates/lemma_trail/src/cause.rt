@@ -1,6 +1,19 @@
 //! Why a literal holds.
 
+use lag_history::Literal;
 use tables::Span;
+
+/// Why the literals can't all hold.
+#[derive(Clone, Copy, PartialEq, Eq, Debug)]
+pub enum Conflict {
+    /// A literal is forced whose reverse holds.
+    Forced { arc: Literal, cause: Cause },
+    /// By the cause itself.
+    Plain(Cause),
+}
+
+/// Why a step of the search on pairs did not end well.
+pub type Stop = search_parts::Stop<Conflict>;
 
 /// An activity of a cause, and of a load how long it runs in the window at least.
 #[derive(Clone, Copy, PartialEq, Eq, Debug)]

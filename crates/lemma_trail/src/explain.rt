@@ -1,9 +1,8 @@
 //! Which steps a literal or a conflict follows from.
 
-use crate::cause::{Cause, Part};
+use crate::cause::{Cause, Conflict, Part};
 use crate::lemmas::Lemmas;
 use crate::rules::Rules;
-use crate::stop::Conflict;
 use crate::trail::Trail;
 use lag_history::Literal;
 use std::alloc::AllocError;

@@ -5,13 +5,11 @@ mod cause;
 mod explain;
 mod lemmas;
 mod rules;
-mod stop;
 mod trail;
 mod watching;
 
-pub use cause::{Cause, Part};
+pub use cause::{Cause, Conflict, Part, Stop};
 pub use lag_history::{History, Literal, NO_LITERAL, is_there};
 pub use lemmas::Lemmas;
 pub use rules::Rules;
-pub use stop::{Conflict, Stop};
 pub use trail::Trail;

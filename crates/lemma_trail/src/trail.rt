@@ -1,8 +1,7 @@
 //! The literals in the order in which they came, with causes and levels.
 
-use crate::cause::{Cause, Part};
+use crate::cause::{Cause, Conflict, Part, Stop};
 use crate::rules::Rules;
-use crate::stop::{Conflict, Stop};
 use lag_history::{History, Literal};
 use std::alloc::{AllocError, Global};
 use tables::{Span, Table};

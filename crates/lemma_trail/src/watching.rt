@@ -1,8 +1,7 @@
 //! Which lemmas to look at when an entry of the matrix grows.
 
-use crate::cause::Cause;
+use crate::cause::{Cause, Stop};
 use crate::lemmas::Lemmas;
-use crate::stop::Stop;
 use crate::trail::Trail;
 use lag_history::Literal;
 use tables::Span;

@@ -1,28 +1,25 @@
 -- A row that takes the way over one arc, entry by entry.
-use Rattle.std.proofs.Common.{◌≡◌, ◌≢◌, refl, sym, ◌∙◌, ap, subst, ℕ, ◌+◌, ◌<◌, ◌≤◌, Option, None, Some, ◌⊎◌, inl, inr, arith, ℤ, ◌+ℤ◌, List, ◌++◌, length, neg_ℤ}
+use Rattle.std.proofs.Common.{◌≡◌, ◌≢◌, refl, sym, ◌∙◌, ap, subst, ℕ, ◌+◌, ◌<◌, ◌≤◌, Option, None, Some, ◌⊎◌, inl, inr, arith, ℤ, ◌+ℤ◌, List, ◌++◌, length, neg_ℤ, ◌-◌, Bool, true, false, ◌≤ℤ◌, ◌<ℤ◌, take, drop, length-drop, FitsSigned, IfSome, Vec, int_lt, if◌then◌else◌}
 use Rattle.std.proofs.lemmas.Bool.{cases_eq}
-use Rattle.network.specs.declared.lag.Lag.{Lag}
+use Rattle.network.specs.declared.parts.Lag.{Lag}
 use Rattle.network.specs.Walk.{entry, IsMatrixOf, weight, Rows}
-use Rattle.longest_path.specs.Relax.{greater, joined, Reaches}
-use Rattle.longest_path.specs.Rows.{IsSquare}
-use Rattle.longest_path.specs.Grid.{IsRow, IsRelaxed, HasSmallSums, weight_at, placed_at}
-use Rattle.longest_path.specs.Passes.{IsRowOver}
+use Rattle.longest_path.specs.Matrix.{greater, joined, Reaches, IsSquare, IsRow, IsRelaxed, HasSmallSums, weight_at, placed_at, IsRowOver, HasEntriesWithin, GainsNothingAt, nothing, weight_of}
 use Rattle.longest_path.specs.Insert.{entry_over, IsOver, IsTransitive, IsReadyRow, IsReady, StartGainsNothing}
-use Rattle.longest_path.specs.Matrix.{HasEntriesWithin}
 use Rattle.network.proofs.Walks.{IsWalk-append, weight-append}
 use Rattle.longest_path.proofs.OneArc.{IsGreatest-matrix}
 use Rattle.std.proofs.lemmas.Int.{ints}
-use Rattle.std.specs.Prelude.{◌≤ℤ◌, FitsSigned, IfSome, Vec}
 use Rattle.std.specs.Int.{w64}
 use Rattle.std.specs.declared.alloc.Global.{Global}
 use Rattle.std.specs.Vec.{with_items}
-use Rattle.std.proofs.lemmas.List.{with_items_is}
-use Rattle.longest_path.proofs.Reach.{at_Reaches, Reaches-weaker, greater_none, joined_none, greater_same, same_some, joined-some, joined-parts}
-use Rattle.longest_path.proofs.Span.{IsSquare-inside}
-use Rattle.longest_path.proofs.Cells.{placed_inside}
+use Rattle.std.proofs.lemmas.List.{with_items_is, get_or-take, get_or-drop, length-take-le}
+use Rattle.longest_path.proofs.Reach.{at_Reaches, Reaches-weaker, greater_none, joined_none, greater_same, same_some, joined-some, joined-parts, int_lt-true, int_lt-false}
+use Rattle.longest_path.proofs.Weights.{IsSquare-inside}
+use Rattle.longest_path.proofs.Cells.{placed_inside, column_cases, placed_outside}
 use Rattle.network.specs.declared.limits.TheConstants.{MAX_LAG_WEIGHT, MAX_WALK_WEIGHT}
-use Rattle.network.specs.Limits.{IsWithin}
+use Rattle.network.specs.Problem.{IsWithin}
 use Rattle.longest_path.specs.declared.grid.TheConstants.{MAX_FIRST_WEIGHT}
+use Rattle.std.specs.Bool.{MatchBool}
+use Rattle.longest_path.specs.declared.insert.TheConstants.{MAX_FIRST_WITH, MAX_WAY_WITH}
 
 pub kept_by : (w : ℤ) (o p : Option ℤ) → ((y : ℤ) → p ≡ Some y → Reaches (w +ℤ y) o) → o ≡ greater o (joined (Some w) p)
 kept_by w o None h = sym (greater_none o)
@@ -108,13 +105,6 @@ through_more n m a via old rows new h is square r = record {
   ];
   rest = λ x b more. let ne : x ≢ a = omega arith in let le : a ≤ x = omega arith in r.others x b ne ∙ h.rest x b le;
 }
-
-entry_below : (n a b : ℕ) (rows : Rows) → IsSquare n rows → n ≤ a → entry rows a b ≡ None
-entry_below n a b rows s ge = none_by (entry rows a b) refl
-  where
-    none_by : (o : Option ℤ) → entry rows a b ≡ o → entry rows a b ≡ None
-    none_by None e = e
-    none_by (Some w) e = let lt : a < n = (IsSquare-inside n a b w rows s e).0 in absurd (omega arith)
 
 -- sums of entries are small
 pub small_over : (first : ℤ) (via : List ℤ) (old : Rows) → ((k : ℕ) (y : ℤ) → weight_at via k ≡ Some y → (a : ℕ) × (b : ℕ) × (entry old a b ≡ Some y)) → IsWithin MAX_FIRST_WEIGHT first → HasEntriesWithin MAX_WALK_WEIGHT old → HasSmallSums first via
@@ -216,3 +206,92 @@ first_small o w first via e fits = let is = first_is o w first e in let P : ℤ 
 
 pub first_within : (o : Option ℤ) (w first : ℤ) → joined o (Some w) ≡ Some first → ((x : ℤ) → o ≡ Some x → IsWithin MAX_WALK_WEIGHT x) → IsWithin MAX_LAG_WEIGHT w → IsWithin MAX_FIRST_WEIGHT first
 first_within o w first e fits light = let is = first_is o w first e in let P : ℤ → Type 0 = λ z. IsWithin MAX_FIRST_WEIGHT z in subst P (sym is.2) (sum_within is.0 w (fits is.0 is.1) light)
+
+-- ---- The columns in which the row of an arc's start gains.
+
+-- what a cell says, by the test
+said_by : (z w : ℤ) (t : Bool) → int_lt nothing z ≡ t → (if t then Some z else None) ≡ Some w → (z ≡ w) × (nothing <ℤ z)
+said_by z w true e h = (same_some z w (Some z) refl h, int_lt-true nothing z e)
+said_by z w false e h = cc
+
+said : (z w : ℤ) → weight_of z ≡ Some w → (z ≡ w) × (nothing <ℤ z)
+said z w h = said_by z w (int_lt nothing z) refl h
+
+says : (z : ℤ) → nothing <ℤ z → weight_of z ≡ Some z
+says z above = ap (λ t. if t then Some z else None) (yes nothing z above)
+  where
+    yes : (x y : ℤ) → x <ℤ y → int_lt x y ≡ true
+    yes x y lt = grind (arith, ints)
+
+match_by : (P Q : Type 0) (t : Bool) → (t ≡ true → P) → (t ≡ false → Q) → MatchBool t P Q
+match_by P Q true p q = p refl
+match_by P Q false p q = q refl
+
+-- a cell is below the way's where the column gains
+pub gain_test : (first : ℤ) (via row : List ℤ) (b : ℕ) (x way : ℤ) → nothing ≤ℤ x → weight_of x ≡ weight_at row b → weight_of way ≡ joined (Some first) (weight_at via b) →
+    MatchBool (int_lt x way) (GainsNothingAt first via row b → ⊥) (GainsNothingAt first via row b)
+gain_test first via row b x way low here is = match_by (GainsNothingAt first via row b → ⊥) (GainsNothingAt first via row b) (int_lt x way)
+    (λ t none.
+    let lt : x <ℤ way = int_lt-true x way t in
+    let parts = joined-parts way (Some first) (weight_at via b) (sym is ∙ says way (omega (arith, ints))) in
+    let at : first ≡ parts.0 = same_some first parts.0 (Some first) refl parts.2 in
+    let r = none parts.1 parts.3 in
+    let cell : x ≡ r.0 = (said x r.0 (here ∙ r.1)).0 in
+    let le : (first +ℤ parts.1) ≤ℤ r.0 = r.2 in
+    let sum : way ≡ parts.0 +ℤ parts.1 = parts.4 in
+    absurd (omega (arith, ints)))
+    (λ t y e.
+    let ge : way ≤ℤ x = int_lt-false x way t in
+    let there = said way (first +ℤ y) (is ∙ ap (joined (Some first)) e) in
+    let at : way ≡ first +ℤ y = there.0 in
+    let above : nothing <ℤ way = there.1 in
+    (x, sym here ∙ says x (omega (arith, ints)), omega (arith, ints)))
+
+pub one_more : (b : ℕ) (first : ℤ) (via row : List ℤ) → ((k : ℕ) → k < b → GainsNothingAt first via row k) → GainsNothingAt first via row b → (k : ℕ) → k < b + 1 → GainsNothingAt first via row k
+one_more b first via row before here k lt = elim (cases_eq k b) [ inl e ↦ rw e here | inr ne ↦ before k (omega arith) ]
+
+pub one_less : (end : ℕ) (first : ℤ) (via row : List ℤ) → 0 < end → ((k : ℕ) → end ≤ k → GainsNothingAt first via row k) → GainsNothingAt first via row (end - 1) → (k : ℕ) → end - 1 ≤ k → GainsNothingAt first via row k
+one_less end first via row some after here k le = elim (cases_eq k (end - 1)) [ inl e ↦ rw e here | inr ne ↦ after k (omega arith) ]
+
+pub small_arc : (e : Lag) (via : List ℤ) (rows : Rows) → IsReady e rows → IsRow e.to rows via → HasSmallSums e.weight via
+small_arc e via rows ready is =
+    let up : e.weight ≤ℤ MAX_LAG_WEIGHT = ready.light.at_most in
+    let down : neg_ℤ MAX_LAG_WEIGHT ≤ℤ e.weight = ready.light.at_least in
+    small_over e.weight via rows (λ k y h. (e.to, k, sym (is.says k) ∙ h)) (record { at_most = omega (arith, ints); at_least = omega (arith, ints) }) ready.fits
+
+pub start_gains_nothing : (e : Lag) (row via : List ℤ) (rows : Rows) (b : ℕ) → IsRow e.from rows row → IsRow e.to rows via → GainsNothingAt e.weight via row b → StartGainsNothing e rows b
+start_gains_nothing e row via rows b start end none = λ y h. rw (start.says b) at (none y (end.says b ∙ h))
+
+pub part_long : (from end : ℕ) (via : List ℤ) → from ≤ end → end ≤ length via → length (take (end - from) (drop from via)) ≡ end - from
+part_long from end via low inside = let rest = length-drop from via in length-take-le (end - from) (drop from via) (omega arith)
+
+-- the part of the row of the arc's end that is left
+pub holds_gains : (e : Lag) (from end : ℕ) (via : List ℤ) (rows : Rows) → IsRow e.to rows via → from ≤ end → end ≤ length rows → ((b : ℕ) → b < from → StartGainsNothing e rows b) → ((b : ℕ) → end ≤ b → StartGainsNothing e rows b) →
+    HoldsGains e (placed_at from (take (end - from) (drop from via))) rows
+holds_gains e from end via rows is low inside before after b =
+    let long : length via ≡ length rows = is.long in
+    let count = part_long from end via low (omega arith) in
+    elim (column_cases from (length (take (end - from) (drop from via))) b) [
+      | inl out ↦ inr (placed_outside from b (take (end - from) (drop from via)) out, elim out [ inl lt ↦ before b lt | inr ge ↦ after b (omega arith) ])
+      | inr p ↦
+          let lt : p.0 < end - from = rw count at p.1 in
+          inl (rw p.2 (placed_inside from p.0 (take (end - from) (drop from via)) ∙ ap weight_of (get_or-take (end - from) (drop from via) p.0 nothing lt ∙ get_or-drop from via p.0 nothing) ∙ is.says (from + p.0)))
+    ]
+
+-- ---- A way over one arc more fits.
+
+pub way_small : (x y : ℤ) → IsWithin MAX_FIRST_WITH x → IsWithin MAX_FIRST_WITH y → IsWithin MAX_WAY_WITH (x +ℤ y)
+way_small x y p q =
+    let a : x ≤ℤ MAX_FIRST_WITH = p.at_most in
+    let b : neg_ℤ MAX_FIRST_WITH ≤ℤ x = p.at_least in
+    let c : y ≤ℤ MAX_FIRST_WITH = q.at_most in
+    let d : neg_ℤ MAX_FIRST_WITH ≤ℤ y = q.at_least in
+    record { at_most = omega (arith, ints); at_least = omega (arith, ints) }
+
+pub way_fits : (x y : ℤ) → IsWithin MAX_FIRST_WITH x → IsWithin MAX_FIRST_WITH y → FitsSigned w64 (x +ℤ y)
+way_fits x y p q =
+    let a : x ≤ℤ MAX_FIRST_WITH = p.at_most in
+    let b : neg_ℤ MAX_FIRST_WITH ≤ℤ x = p.at_least in
+    let c : y ≤ℤ MAX_FIRST_WITH = q.at_most in
+    let d : neg_ℤ MAX_FIRST_WITH ≤ℤ y = q.at_least in
+    omega (arith, ints)

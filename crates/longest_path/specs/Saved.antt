@@ -1,11 +1,11 @@
 -- Parts of rows that were saved before they gained, and the way back.
-use Rattle.std.specs.Prelude.{◌≡◌, ◌<◌, ◌≤◌, ◌+◌, ℕ, ℤ, Bool, List, [], ◌∷◌, ◌++◌, length, take, drop, slice_index_or, slice_set}
+use Rattle.std.specs.Prelude.{◌≡◌, ◌<◌, ◌≤◌, ◌+◌, ℕ, ℤ, Bool, List, [], ◌∷◌, ◌++◌, length, take, drop, slice_index_or, slice_set, map}
 use Rattle.std.specs.List.{All}
 use Rattle.std.specs.Bool.{MatchBool}
-use Rattle.network.specs.declared.lag.Lag.{Lag}
-use Rattle.longest_path.specs.Grid.{written_at}
+use Rattle.network.specs.declared.parts.Lag.{Lag}
+use Rattle.longest_path.specs.Matrix.{written_at, IsMatrix}
 use Rattle.longest_path.specs.Insert.{IsReady}
-use Rattle.longest_path.specs.declared.saves.Part.{Part}
+pub use Rattle.longest_path.specs.declared.saves.Part.{Part}
 use Rattle.network.specs.Walk.{Rows}
 
 -- cells that a row had from some column on
@@ -69,3 +69,26 @@ pub record LeadsBack (old_saves saves : List SavedPart) (old rows : Rows) : Type
 -- what was saved in between leads back to the old rows where it is kept, and else nothing was saved
 abbrev pub IsKept : Bool → SavedParts → SavedParts → Rows → Rows → Type 0
 IsKept keeps old_saved saved old rows = MatchBool keeps (LeadsBack old_saved.saves saved.saves old rows) (saved ≡ old_saved)
+
+-- ---- A matrix that goes back to its marks.
+
+-- the rows now, and those that each mark goes back to, the last mark first
+pub record Marked : Type 0 where
+  pub rows : Rows
+  pub marks : List Rows
+
+-- the rows that each mark goes back to, by how many parts of rows were saved when it was made
+abbrev pub marked_rows : List SavedPart → Rows → List ℕ → List Rows
+marked_rows saves rows counts = map (λ count. undone (drop count saves) rows) counts
+
+-- no mark was made with more saved parts than a later one, nor with more than there are
+abbrev pub AreNested : ℕ → List ℕ → Type 0
+AreNested most [] = Unit {0}
+AreNested most (count ∷ counts) = (count ≤ most) × AreNested count counts
+
+-- the rows now and those of each mark are matrices
+pub record IsMarked (rows : Rows) (saved : SavedParts) (counts : List ℕ) : Type 0 where
+  pub matrix : IsMatrix rows
+  pub width : saved.width ≡ length rows
+  pub nested : AreNested (length saved.saves) counts
+  pub matrices : All IsMatrix (marked_rows saved.saves rows counts)

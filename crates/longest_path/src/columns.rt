@@ -3,7 +3,7 @@
 
 ghost use Rattle.std.specs.Prelude.{◌≡◌, ◌<◌, ◌≤◌, ℕ, length};
 ghost use Rattle.std.specs.Bool.{MatchBool};
-ghost use Rattle.longest_path.specs.Grid.{IsRow, GainsNothingAt, HasSmallSums};
+ghost use Rattle.longest_path.specs.Matrix.{IsRow, GainsNothingAt, HasSmallSums};
 ghost use Rattle.longest_path.specs.Insert.{IsReady, StartGainsNothing};
 
 use crate::grid::{Grid, sum};

@@ -2,11 +2,9 @@
 
 ghost use Rattle.std.specs.Prelude.{◌≡◌, [], slice_set, ◌+◌, ◌*◌, ◌+ℤ◌, ◌≤ℤ◌, ◌<◌, ◌≤◌, ℕ, length, slice_index_or, take, drop, None, Some, IfOk, IfSome};
 ghost use Rattle.network.specs.Walk.{entry, Rows};
-ghost use Rattle.longest_path.specs.Relax.{greater, joined};
-ghost use Rattle.longest_path.specs.Rows.{IsSquare, IsWithoutArcs, IsRaised};
-ghost use Rattle.longest_path.specs.Grid.{weight_of, weight_at, placed_at, written_at, replaced_at, relaxed_by, IsRelaxed, IsRow, IsRowRelaxed, HasSmallSums};
+ghost use Rattle.longest_path.specs.Matrix.{greater, joined, IsSquare, IsWithoutArcs, IsRaised, weight_of, weight_at, placed_at, written_at, replaced_at, relaxed_by, IsRelaxed, IsRow, IsRowRelaxed, HasSmallSums};
 ghost use Rattle.network.specs.declared.limits.TheConstants.{MAX_ACTIVITIES, MAX_LAG_WEIGHT, MAX_WALK_WEIGHT};
-ghost use Rattle.network.specs.Limits.{IsWithin};
+ghost use Rattle.network.specs.Problem.{IsWithin};
 ghost use Rattle.longest_path.specs.declared.grid.TheConstants.{MAX_FIRST_WEIGHT, MAX_WAY_WEIGHT};
 
 use network::{Lag, MAX_LAG_WEIGHT, MAX_WALK_WEIGHT};
@@ -140,7 +138,7 @@ pub(crate) struct Grid {
 
 impl Model for Grid {
     ghost use Rattle.network.specs.Walk.{Rows};
-    ghost use Rattle.longest_path.specs.Grid.{rows_of, IsGrid};
+    ghost use Rattle.longest_path.specs.Matrix.{rows_of, IsGrid};
 
     ghost Value = { Rows };
 

@@ -1,23 +1,57 @@
 //! Takes the walks over a new arc into a matrix.
 
-ghost use Rattle.std.specs.Prelude.{◌≡◌, ◌<◌, ℕ, ℤ, pos, ◌+ℤ◌, ◌≤ℤ◌, length, Some, FitsSigned, IfSome, IsTrue, OnOk, OnErr};
+ghost use Rattle.std.specs.Prelude.{◌≡◌, Some, IfSome, ◌<◌, ℕ, ℤ, pos, ◌+ℤ◌, ◌≤ℤ◌, length, FitsSigned, IsTrue, OnOk, OnErr};
+ghost use Rattle.network.specs.declared.limits.TheConstants.{MAX_LAG_WEIGHT, MAX_WALK_WEIGHT};
+ghost use Rattle.network.specs.Problem.{IsWithin};
+ghost use Rattle.longest_path.specs.Matrix.{greater, joined, Reaches, IfSomeAbove, IsSquare, placed_at, IsRowOver};
 ghost use Rattle.std.specs.Int.{w64};
 ghost use Rattle.std.specs.Bool.{MatchBool};
 ghost use Rattle.network.specs.Walk.{entry};
-ghost use Rattle.longest_path.specs.Relax.{joined, Reaches, IfSomeAbove};
-ghost use Rattle.longest_path.specs.Rows.{IsSquare};
-ghost use Rattle.longest_path.specs.Grid.{placed_at};
-ghost use Rattle.longest_path.specs.Passes.{IsRowOver};
 ghost use Rattle.longest_path.specs.Insert.{weight_over, IsFirstOver, IsOver, IsReadyRow};
 ghost use Rattle.longest_path.specs.Saved.{IsKept, MayGoOver};
-ghost use Rattle.network.specs.declared.limits.TheConstants.{MAX_LAG_WEIGHT, MAX_WALK_WEIGHT};
-ghost use Rattle.network.specs.Limits.{IsWithin};
 
 use crate::columns::gaining_columns;
 use crate::grid::Grid;
 use crate::saves::Saves;
-use network::Lag;
+use network::{Lag, MAX_LAG_WEIGHT, MAX_WALK_WEIGHT};
 use std::alloc::AllocError;
+
+/// What a walk and an arc weigh at most.
+pub const MAX_FIRST_WITH: i64 = MAX_WALK_WEIGHT + MAX_LAG_WEIGHT;
+
+/// What a way over an arc weighs at most: two walks, and an arc counted twice.
+pub const MAX_WAY_WITH: i64 = MAX_FIRST_WITH + MAX_FIRST_WITH;
+
+/// The weight of a walk and then an arc.
+pub fn then_arc(weight: Option<i64>, arc: i64) -> Option<i64>
+    requires weight { IfSome weight (λ x. IsWithin MAX_WALK_WEIGHT x) }
+    requires arc { IsWithin MAX_LAG_WEIGHT arc }
+    ensures sum { result ≡ joined weight (Some arc) }
+    ensures small { IfSome result (λ x. IsWithin MAX_FIRST_WITH x) }
+{
+    match weight {
+        Some(weight) => Some(weight + arc),
+        None => None,
+    }
+}
+
+/// The weight of a walk, or of the way that has these two parts where that is greater.
+pub fn or_way(weight: Option<i64>, first: Option<i64>, last: Option<i64>) -> Option<i64>
+    requires weight { IfSome weight (λ x. IsWithin MAX_WALK_WEIGHT x) }
+    requires first { IfSome first (λ x. IsWithin MAX_FIRST_WITH x) }
+    requires last { IfSome last (λ x. IsWithin MAX_FIRST_WITH x) }
+    ensures value { result ≡ greater weight (joined first last) }
+    ensures small { IfSome result (λ x. IsWithin MAX_WAY_WITH x) }
+{
+    let (Some(first), Some(last)) = (first, last) else {
+        return weight;
+    };
+    let way = first + last;
+    match weight {
+        Some(weight) if weight >= way => Some(weight),
+        _ => Some(way),
+    }
+}
 
 /// The weight of one walk after another.
 pub(crate) fn sum(x: Option<i64>, y: Option<i64>) -> Option<i64>

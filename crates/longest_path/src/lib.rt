@@ -12,10 +12,9 @@ mod marked;
 mod matrix;
 mod recurrence;
 mod saves;
-mod with_arc;
 
 pub use fault::PathFault;
+pub use insert::{MAX_FIRST_WITH, MAX_WAY_WITH, or_way, then_arc};
 pub use marked::MarkedMatrix;
 pub use matrix::Matrix;
 pub use recurrence::longest;
-pub use with_arc::{MAX_FIRST_WITH, MAX_WAY_WITH, or_way, then_arc};

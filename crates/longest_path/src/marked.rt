@@ -1,11 +1,10 @@
 //! A matrix with marks to go back to.
 
 ghost use Rattle.std.specs.Prelude.{◌≡◌, ◌<◌, [], ◌∷◌, length, Err, IfErr, OnOk, OnErr};
-ghost use Rattle.longest_path.specs.Insert.{arc_of, AddsArc};
-ghost use Rattle.longest_path.specs.Fault.{IsInsertFault};
-ghost use Rattle.longest_path.specs.Marked.{Marked};
+ghost use Rattle.longest_path.specs.Insert.{arc_of, AddsArc, IsInsertFault};
+ghost use Rattle.longest_path.specs.Saved.{Marked};
 ghost use Rattle.network.specs.declared.limits.TheConstants.{MAX_LAG_WEIGHT};
-ghost use Rattle.network.specs.Limits.{IsWithin};
+ghost use Rattle.network.specs.Problem.{IsWithin};
 
 use crate::fault::PathFault;
 use crate::matrix::Matrix;
@@ -28,7 +27,7 @@ pub struct MarkedMatrix {
 
 impl Model for MarkedMatrix {
     ghost use Rattle.std.specs.Prelude.{reverse};
-    ghost use Rattle.longest_path.specs.Marked.{Marked, marked_rows, IsMarked};
+    ghost use Rattle.longest_path.specs.Saved.{Marked, marked_rows, IsMarked};
 
     ghost Value = { Marked };
 

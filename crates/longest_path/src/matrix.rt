@@ -3,12 +3,10 @@
 ghost use Rattle.std.specs.Prelude.{◌≡◌, ◌<◌, ◌≤◌, pos, length, take, drop, Some, Err, IsTrue, IfSome, IfOk, IfErr, OnOk, OnErr};
 ghost use Rattle.network.specs.Walk.{entry, Rows};
 ghost use Rattle.std.specs.Bool.{MatchBool};
-ghost use Rattle.longest_path.specs.Insert.{arc_of, AddsArc, ClosesCycle};
-ghost use Rattle.longest_path.specs.Effect.{TakesArc};
-ghost use Rattle.longest_path.specs.Fault.{IsInsertFault};
+ghost use Rattle.longest_path.specs.Insert.{arc_of, AddsArc, ClosesCycle, TakesArc, IsInsertFault};
 ghost use Rattle.longest_path.specs.Saved.{IsKept, undone};
 ghost use Rattle.network.specs.declared.limits.TheConstants.{MAX_ACTIVITIES, MAX_LAG_WEIGHT, MAX_WALK_WEIGHT};
-ghost use Rattle.network.specs.Limits.{IsWithin};
+ghost use Rattle.network.specs.Problem.{IsWithin};
 ghost use Rattle.longest_path.specs.Matrix.{IsMatrix};
 
 use crate::fault::PathFault;

@@ -1,15 +1,11 @@
 //! Computes the matrix of a project and pairs, as Floyd and Warshall do.
 
 ghost use Rattle.std.specs.Prelude.{◌≡◌, ◌<◌, ◌≤◌, length, Some, IfSome, IfOk, IfErr};
-ghost use Rattle.network.specs.Problem.{activity_count, arcs_of, NameActivities};
+ghost use Rattle.network.specs.Problem.{activity_count, arcs_of, NameActivities, IsWithin};
 ghost use Rattle.network.specs.Walk.{IsMatrixOf, HaveOneMatrix, AreInside, AreLight};
-ghost use Rattle.longest_path.specs.Rows.{IsSquare};
-ghost use Rattle.longest_path.specs.Grid.{IsRow, HasSmallSums};
-ghost use Rattle.longest_path.specs.Passes.{IsSpanned, IsRowOver, IsThrough};
-ghost use Rattle.longest_path.specs.Matrix.{HasEntriesWithin};
-ghost use Rattle.longest_path.specs.Fault.{Explains};
+ghost use Rattle.longest_path.specs.Matrix.{IsSquare, IsRow, HasSmallSums, IsSpanned, IsRowOver, IsThrough, HasEntriesWithin};
+ghost use Rattle.longest_path.specs.Insert.{Explains};
 ghost use Rattle.network.specs.declared.limits.TheConstants.{MAX_ACTIVITIES, MAX_WALK_WEIGHT};
-ghost use Rattle.network.specs.Limits.{IsWithin};
 ghost use Rattle.longest_path.specs.declared.grid.TheConstants.{MAX_FIRST_WEIGHT};
 
 use crate::fault::PathFault;

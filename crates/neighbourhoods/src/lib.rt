@@ -6,11 +6,9 @@
 #![tactic(auto)]
 
 mod choosing;
-mod counts;
 mod handing;
 mod neighbourhoods;
 mod sizes;
 
-pub use counts::Counts;
-pub use neighbourhoods::Neighbourhoods;
+pub use neighbourhoods::{Counts, Neighbourhoods};
 pub use start_search::State;

@@ -1,7 +1,6 @@
 //! Neighbourhoods of the best schedule, searched one after the other.
 
 use crate::choosing::Choosing;
-use crate::counts::Counts;
 use crate::handing::Handing;
 use crate::sizes::{Kind, Sizes};
 use network::Project;
@@ -9,6 +8,24 @@ use search_parts::Random;
 use start_search::{Arcs, Engine, Incumbent, Limits, Pair, Rules, State};
 use std::alloc::{AllocError, Global};
 use tables::Table;
+
+/// How much was done.
+#[derive(Clone, Copy, PartialEq, Eq, Debug)]
+pub struct Counts {
+    pub rounds: u64,
+    /// Shorter schedules.
+    pub better: u64,
+    pub conflicts: u64,
+}
+
+impl Counts {
+    /// Nothing was done.
+    pub const NOTHING: Counts = Counts {
+        rounds: 0,
+        better: 0,
+        conflicts: 0,
+    };
+}
 
 /// How many conflicts the search of a neighbourhood may meet.
 const CONFLICTS_A_ROUND: u64 = 300;

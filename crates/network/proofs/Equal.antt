@@ -1,12 +1,10 @@
 -- Equality holds of equal projects alone.
-use Rattle.std.proofs.Common.{◌≡◌, refl, ap, ◌∙◌, ℕ, Bool, true, ◌&&◌, ℤ, List, [], ◌∷◌, map, arith}
+use Rattle.std.proofs.Common.{◌≡◌, refl, ap, ◌∙◌, ℕ, Bool, true, ◌&&◌, ℤ, List, [], ◌∷◌, map, arith, ◌==◌}
 use Rattle.std.specs.Ordering.{int_eq}
-use Rattle.std.specs.Prelude.{◌==◌}
 use Rattle.std.specs.Cmp.Lexicographic.{pointwise}
 use Rattle.std.proofs.lemmas.Bool.{and_parts, eqb-true}
 use Rattle.std.proofs.lemmas.Int.{ints}
-use Rattle.network.specs.declared.lag.Lag.{Lag}
-use Rattle.network.specs.Problem.{Problem}
+use Rattle.network.specs.Problem.{Problem, Lag}
 use Rattle.network.specs.Equality.{lag_eq, problem_eq}
 
 pub pointwise_map : {X Y : Type 0} (E : X → X → Bool) (f : Y → X) (xs ys : List Y) → pointwise E (map f xs) (map f ys) ≡ pointwise (λ x y. E (f x) (f y)) xs ys

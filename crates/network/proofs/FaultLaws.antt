@@ -1,20 +1,21 @@
 -- Parts without a fault are those of a project, and a project has no fault.
-use Rattle.std.proofs.Common.{◌≡◌, refl, sym, ℕ, zero, suc, ◌+◌, ◌<◌, ◌≤◌, Bool, true, false, ◌&&◌, ℤ, pos, neg_ℤ, ◌≤ℤ◌, List, [], ◌∷◌, length, Option, None, Some, arith, get_or}
-use Rattle.std.specs.Prelude.{int_le, nat_le, nat_lt, nat_eq, Result, Ok, Err, OnErr}
-use Rattle.std.specs.List.{All, AllPairs, list_all}
+use Rattle.std.proofs.Common.{◌≡◌, refl, sym, ℕ, zero, suc, ◌+◌, ◌<◌, ◌≤◌, Bool, true, false, ◌&&◌, ℤ, pos, neg_ℤ, ◌≤ℤ◌, List, [], ◌∷◌, length, Option, None, Some, arith, get_or, ◌∙◌, inl, inr, map, Vec, Global, ap, ◌++◌, append_assoc, subst, int_le, nat_le, nat_lt, nat_eq, Result, Ok, Err, OnErr}
+use Rattle.std.specs.List.{All, AllPairs, list_all, Contains, range_with_len}
 use Rattle.std.proofs.lemmas.Int.{ints}
 use Rattle.std.proofs.lemmas.Bool.{and_parts, ltb-true, leb-true, eqb-true, le-leb, lt-ltb, eq-eqb}
-use Rattle.std.proofs.lemmas.List.Elements.{All-weaker, All-nil, All-cons, All-head, All-tail}
+use Rattle.std.proofs.lemmas.List.Elements.{All-weaker, All-nil, All-cons, All-head, All-tail, Contains-append_cases, All-contains, All-get_or, Contains-get_or}
 use Rattle.std.proofs.lemmas.List.Kept.{AllPairs-cons}
 use Rattle.std.proofs.lemmas.List.Sums.{AllPass-from_list_all, list_all-from_AllPass}
-use Rattle.network.specs.declared.lag.Lag.{Lag}
 use Rattle.network.specs.declared.parts.ProjectFault.{ProjectFault}
 use Rattle.network.specs.declared.parts.ProjectFault.TheVariants.{Limit, Activity, Dummy, Shape}
 use Rattle.network.specs.declared.parts.Quantity.TheVariants as quantity
-use Rattle.network.specs.declared.limits.TheConstants.{MAX_ACTIVITIES, MAX_AMOUNT, MAX_LAG_WEIGHT, MAX_LAGS, MAX_RESOURCES}
-use Rattle.network.specs.Problem.{Problem, activity_count, end_of, resource_count, duration}
-use Rattle.network.specs.Limits.{IsProject, IsLag, IsAmount, IsDummy}
+use Rattle.network.specs.Problem.{Problem, activity_count, end_of, resource_count, duration, IsProject, IsLag, IsAmount, IsDummy, IsWithin, start_arc, end_arc, pair_arc, implied_arcs, rules, arcs_of, NameActivities, problem_of, Lag, MAX_ACTIVITIES, MAX_AMOUNT, MAX_LAG_WEIGHT, MAX_LAGS, MAX_RESOURCES, Pair}
 use Rattle.network.specs.Faults.{or_else, unless, is_amount, is_weight, is_zero, shape_fault, count_fault, dummy_fault, amount_fault, arc_fault, lag_fault, first_fault}
+use Rattle.std.proofs.lemmas.List.{get_or-map, length-map}
+use Rattle.std.proofs.lemmas.List.FromFn.{get_or-map-range_with_len, length-map-range_with_len, map-range_with_len_more}
+use Rattle.network.specs.Walk.{AreLight, AreInside}
+use Rattle.std.proofs.lemmas.List.Folds.{list_all-map}
+use Rattle.network.specs.declared.parts.Parts.{Parts}
 
 or_else-none : (x y : Option ProjectFault) → or_else x y ≡ None → (x ≡ None) × (y ≡ None)
 or_else-none None y e = (refl, e)
@@ -199,3 +200,99 @@ not_project p f e is = let none = no_fault-from_IsProject p is in cc
 pub on_err : {T E P : Type 0} (r : Result T E) → P → OnErr r P
 on_err (Ok x) h = tt
 on_err (Err e) h = h
+
+-- ---- The arcs of a project and pairs join activity_count, and are within the limits.
+
+-- what an arc needs
+pub record IsArc (n : ℕ) (e : Lag) : Type 0 where
+  pub from_activity : e.from < n
+  pub to_activity : e.to < n
+  pub light : IsWithin MAX_LAG_WEIGHT e.weight
+
+mapped : (f : ℕ → Lag) (a n : ℕ) (e : Lag) → Contains (map f (range_with_len a n)) e → (i : ℕ) × (i < n) × (e ≡ f (a + i))
+mapped f a n e c =
+    let len = length-map-range_with_len f a n in
+    let lt : c.0 < n = rw (← len) c.1 in
+    (c.0, lt, sym c.2 ∙ get_or-map-range_with_len f a n c.0 (a + c.0) e lt (omega arith))
+
+pub mapped_list : (f : Pair → Lag) (e : Lag) (qs : List Pair) (k : ℕ) → k < length (map f qs) → get_or (map f qs) k e ≡ e → (q : Pair) × Contains qs q × (e ≡ f q)
+mapped_list f e qs k lt is =
+    let none : Pair = record { before = 0; after = 0 } in
+    let len : length (map f qs) ≡ length qs = length-map qs f in
+    let lt' : k < length qs = omega (arith, len) in
+    (get_or qs k none, Contains-get_or qs k none lt', sym is ∙ get_or-map f qs k none e lt')
+
+lag_is_arc : (n : ℕ) (e : Lag) → IsLag n e → IsArc n e
+lag_is_arc n e l = record { from_activity = l.from_activity; to_activity = l.to_activity; light = l.light }
+
+duration_within : (p : Problem) → IsProject p → (i : ℕ) → i < activity_count p → IsWithin MAX_LAG_WEIGHT (duration p i)
+duration_within p is i lt =
+    let amount : IsAmount (duration p i) = All-get_or IsAmount p.durations i (pos 0) lt is.durations_fit in
+    let low : pos 0 ≤ℤ duration p i = amount.at_least in
+    record { at_least = omega (arith, ints); at_most = amount.at_most }
+
+pub arc-of : (p : Problem) (pairs : List Pair) → IsProject p → NameActivities p pairs → (e : Lag) → Contains (arcs_of p pairs) e → IsArc (activity_count p) e
+arc-of p pairs is named e c =
+    let two : 2 ≤ activity_count p = is.two_dummies in
+    elim (Contains-append_cases (rules p) (map (pair_arc p) pairs) e c) [
+      | inl r ↦ elim (Contains-append_cases p.lags (implied_arcs p) e r) [
+        | inl g ↦ lag_is_arc (activity_count p) e (All-contains (IsLag (activity_count p)) p.lags e is.lags_fit g)
+        | inr i ↦ elim (Contains-append_cases (map start_arc (range_with_len 1 (end_of p))) (map (end_arc p) (range_with_len 0 (end_of p))) e i) [
+          | inl s ↦
+              let m = mapped start_arc 1 (end_of p) e s in
+              let lt : m.0 < end_of p = m.1 in
+              rw m.2 (record { from_activity = omega arith; to_activity = omega arith; light = record { at_least = omega (arith, ints); at_most = omega (arith, ints) } })
+          | inr s ↦
+              let m = mapped (end_arc p) 0 (end_of p) e s in
+              let lt : m.0 < end_of p = m.1 in
+              rw m.2 (record { from_activity = omega arith; to_activity = omega arith; light = duration_within p is (0 + m.0) (omega arith) })
+        ]
+      ]
+      | inr q ↦
+          let m = mapped_list (pair_arc p) e pairs q.0 q.1 q.2 in
+          let both = All-contains (λ (z : Pair). (z.before < activity_count p) × (z.after < activity_count p)) pairs m.0 named m.1 in
+          rw m.2 (record { from_activity = both.0; to_activity = both.1; light = duration_within p is m.0.before both.0 })
+    ]
+
+pub AreInside-arcs_of : (p : Problem) (pairs : List Pair) → IsProject p → NameActivities p pairs → AreInside (activity_count p) (arcs_of p pairs)
+AreInside-arcs_of p pairs is named = λ e c. let a = arc-of p pairs is named e c in (a.from_activity, a.to_activity)
+
+pub AreLight-arcs_of : (p : Problem) (pairs : List Pair) → IsProject p → NameActivities p pairs → AreLight (arcs_of p pairs)
+AreLight-arcs_of p pairs is named = λ e c. (arc-of p pairs is named e c).light
+
+-- ---- One more element at the end of a list that a loop builds.
+
+pub appended_more : {X : Type 0} (f : ℕ → X) (a n j : ℕ) (x : X) (xs ys zs : List X) → ys ≡ xs ++ map f (range_with_len a n) → zs ≡ ys ++ x ∷ [] → a + n ≡ j → x ≡ f j →
+    zs ≡ xs ++ map f (range_with_len a (n + 1))
+appended_more f a n j x xs ys zs e h k is =
+    rw (map-range_with_len_more f a n j k, h, e, is) (append_assoc xs (map f (range_with_len a n)) (f j ∷ []))
+
+-- a test of each row, by what the code holds
+pub rows_all : {Y : Type 0} (p : List ℤ → Bool) (h : Y → List ℤ) (ys : List Y) → list_all p (map h ys) ≡ list_all (λ y. p (h y)) ys
+rows_all p h ys = list_all-map p h ys
+
+-- the row of an activity, as the struct keeps it and as a caller sees it
+pub row_at : (rows : List (Vec ℤ Global)) (i : ℕ) (row : Vec ℤ Global) → i < length rows → row ≡ get_or rows i row → get_or (map (λ r. r.items) rows) i [] ≡ row.items
+row_at rows i row h e = get_or-map (λ r. r.items) rows i row [] h ∙ ap (λ r. r.items) (sym e)
+
+-- ---- How long the rows of demands are, as the struct keeps them and as a caller sees them.
+
+row_long : (p : Problem) → IsProject p → (i : ℕ) → i < activity_count p → length (get_or p.demands i []) ≡ resource_count p
+row_long p is i lt =
+    let rows : length p.demands ≡ activity_count p = is.demand_rows in
+    let inside : i < length p.demands = omega arith in
+    All-get_or (λ (row : List ℤ). length row ≡ resource_count p) p.demands i [] inside is.demand_columns
+
+-- the row that the struct keeps of an activity has a demand for each resource
+pub row_count : (parts : Parts) (q : Problem) (i : ℕ) (row : Vec ℤ Global) → problem_of parts ≡ q → IsProject (problem_of parts) → i < activity_count q → row ≡ get_or parts.demands.items i row →
+    length row.items ≡ resource_count q
+row_count parts q i row view is lt at =
+    let P : Problem → Type 0 = λ v. i < activity_count v → length row.items ≡ resource_count v in
+    subst P view here lt
+  where
+    here : i < activity_count (problem_of parts) → length row.items ≡ resource_count (problem_of parts)
+    here lt' =
+        let rows : length (problem_of parts).demands ≡ activity_count (problem_of parts) = is.demand_rows in
+        let same : length (problem_of parts).demands ≡ length parts.demands.items = length-map parts.demands.items (λ (r : Vec ℤ Global). r.items) in
+        let inside : i < length parts.demands.items = omega arith in
+        ap (λ (r : List ℤ). length r) (sym (row_at parts.demands.items i row inside at)) ∙ row_long (problem_of parts) is i lt'

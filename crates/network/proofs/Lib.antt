@@ -1,9 +1,5 @@
 pub mod Walks
-pub mod Lists
-pub mod ArcLaws
-pub mod Schedules
 pub mod FaultLaws
-pub mod Rows
+pub mod Schedules
 pub mod Equal
-pub mod Running
 pub mod Worked

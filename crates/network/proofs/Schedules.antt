@@ -1,21 +1,19 @@
 -- Schedules and walks: each walk is a rule, so no schedule stands where a closed walk is positive,
 -- and the greatest weights of walks from the start are the least schedule.
-use Rattle.std.proofs.Common.{◌≡◌, refl, sym, ◌∙◌, ap, ℕ, ◌-◌, ◌<◌, ◌≤◌, zero, suc, inl, inr, arith, ℤ, pos, ◌≤ℤ◌, ◌<ℤ◌, ◌+ℤ◌, List, [], ◌∷◌, ◌++◌, length, map, append_assoc, Option, None, Some}
+use Rattle.std.proofs.Common.{◌≡◌, refl, sym, ◌∙◌, ap, ℕ, ◌-◌, ◌<◌, ◌≤◌, zero, suc, inl, inr, arith, ℤ, pos, ◌≤ℤ◌, ◌<ℤ◌, ◌+ℤ◌, List, [], ◌∷◌, ◌++◌, length, map, append_assoc, Option, None, Some, ◌+◌}
 use Rattle.std.proofs.lemmas.Int.{ints}
 use Rattle.std.specs.List.{All, Contains, range_with_len}
 use Rattle.std.specs.Option.{unwrap_or}
 use Rattle.std.proofs.lemmas.List.{length-map, get_or-map, map-append}
-use Rattle.std.proofs.lemmas.List.Elements.{Contains-append_cases, Contains-append_left, Contains-append_right, All-contains, All-weaker, All-contains_itself}
-use Rattle.std.proofs.lemmas.List.FromFn.{get_or-map-range_with_len, length-map-range_with_len}
-use Rattle.network.specs.declared.lag.Lag.{Lag}
-use Rattle.network.specs.declared.lag.Pair.{Pair}
-use Rattle.network.specs.Problem.{Problem, activity_count, end_of, start_arc, end_arc, pair_arc, implied_arcs, rules, arcs_of}
-use Rattle.network.specs.Schedule.{start, Meets, IsSchedule, Keeps, KeepsAll, IsLeastSchedule, makespan}
-use Rattle.network.specs.Verdict.{IsTrueBound}
-use Rattle.network.specs.ProjectMatrix.{IsProjectMatrix}
-use Rattle.network.specs.Walk.{Rows, IsWalk, weight, entry, IsMatrixOf, IsGreatestWeight, HasPositiveCycle, weights_from}
+use Rattle.std.proofs.lemmas.List.Elements.{Contains-append_cases, Contains-append_left, Contains-append_right, All-contains, All-weaker, All-contains_itself, All-filter}
+use Rattle.std.proofs.lemmas.List.FromFn.{get_or-map-range_with_len, length-map-range_with_len, length-range_with_len, get_or-range_with_len}
+use Rattle.network.specs.Problem.{Problem, activity_count, end_of, start_arc, end_arc, pair_arc, implied_arcs, rules, arcs_of, activities, Lag, Pair}
+use Rattle.network.specs.Schedule.{start, Meets, IsSchedule, Keeps, KeepsAll, IsLeastSchedule, makespan, IsTrueBound, is_running, running}
+use Rattle.network.specs.Walk.{IsProjectMatrix, Rows, IsWalk, weight, entry, IsMatrixOf, IsGreatestWeight, HasPositiveCycle, weights_from}
 use Rattle.network.proofs.Walks.{IsWalk-append, weight-append}
-use Rattle.network.proofs.ArcLaws.{mapped_list, AreInside-arcs_of}
+use Rattle.network.proofs.FaultLaws.{mapped_list, AreInside-arcs_of}
+use Rattle.std.specs.List.Sorted.{IsStrictlyIncreasing}
+use Rattle.std.proofs.lemmas.List.Kept.{IsStrictlyIncreasing-filter}
 
 -- a list of starts that meets the arcs is as long as each walk says
 pub walk_holds : (arcs : List Lag) (s : List ℤ) → ((e : Lag) → Contains arcs e → Meets s e) → (a b : ℕ) (es : List Lag) → IsWalk arcs a es b → (start s a +ℤ weight es) ≤ℤ start s b
@@ -147,3 +145,22 @@ IsTrueBound-critical p pairs rows m c e = λ s stands.
 -- one pair more is one arc more
 pub arcs_of-push : (p : Problem) (pairs : List Pair) (q : Pair) → arcs_of p (pairs ++ q ∷ []) ≡ arcs_of p pairs ++ pair_arc p q ∷ []
 arcs_of-push p pairs q = ap (λ (t : List Lag). rules p ++ t) (map-append (pair_arc p) pairs (q ∷ [])) ∙ sym (append_assoc (rules p) (map (pair_arc p) pairs) (pair_arc p q ∷ []))
+
+-- ---- The activities that run at a unit of time are activities, and rise.
+
+-- the numbers of a range are below its end
+pub range_below : (n : ℕ) → All (λ i. i < n) (range_with_len 0 n)
+range_below n k d l =
+    let short : k < n = omega (arith, length-range_with_len 0 n) in
+    omega (arith, get_or-range_with_len 0 n k d short)
+
+range_rising : (n : ℕ) → IsStrictlyIncreasing (range_with_len 0 n)
+range_rising n k l =
+    let short : k + 1 < n = omega (arith, length-range_with_len 0 n) in
+    omega (arith, get_or-range_with_len 0 n k 0 (omega arith), get_or-range_with_len 0 n (k + 1) 0 short)
+
+pub running_below : (p : Problem) (s : List ℤ) (t : ℤ) (is : List ℕ) → is ≡ running p s t → All (λ i. i < activity_count p) is
+running_below p s t is e = rw e (All-filter (is_running p s t) (λ i. i < activity_count p) (activities p) (range_below (activity_count p)))
+
+pub running_rising : (p : Problem) (s : List ℤ) (t : ℤ) (is : List ℕ) → is ≡ running p s t → IsStrictlyIncreasing is
+running_rising p s t is e = rw e (IsStrictlyIncreasing-filter (is_running p s t) (activities p) (range_rising (activity_count p)))

@@ -5,9 +5,7 @@ use Rattle.std.proofs.lemmas.Int.{ints}
 use Rattle.std.specs.List.{Contains, IsDistinct, list_any, AllByRecursion}
 use Rattle.std.proofs.lemmas.Bool.{ne_eqb, eqb-true, or_cases}
 use Rattle.std.proofs.lemmas.Map.Steps.{length-le_from_distinct_below}
-use Rattle.network.specs.declared.lag.Lag.{Lag}
-use Rattle.network.specs.declared.limits.TheConstants.{MAX_LAG_WEIGHT}
-use Rattle.network.specs.Limits.{IsWithin}
+use Rattle.network.specs.Problem.{IsWithin, Lag, MAX_LAG_WEIGHT}
 use Rattle.network.specs.Walk.{IsWalk, weight, AreLight}
 
 pub IsWalk-append : (arcs : List Lag) (a b c : ℕ) (es fs : List Lag) → IsWalk arcs a es b → IsWalk arcs b fs c → IsWalk arcs a (es ++ fs) c

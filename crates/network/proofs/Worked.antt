@@ -2,21 +2,16 @@
 -- B has two activities of 3 and 4 periods that need the same machine. G has three activities of 2, 3
 -- and 2 periods with demands 2, 2 and 1 on three units; activity 3 starts at least 1 and at most 3
 -- periods after activity 1.
-use Rattle.std.proofs.Common.{◌≡◌, refl, ℕ, ℤ, pos, negsuc, ◌≤ℤ◌, ◌+ℤ◌, List, [], ◌∷◌, ◌++◌, true, false, lit<, arith}
+use Rattle.std.proofs.Common.{◌≡◌, refl, ℕ, ℤ, pos, negsuc, ◌≤ℤ◌, ◌+ℤ◌, List, [], ◌∷◌, ◌++◌, true, false, lit<, arith, int_le, Bool, Some, None}
 use Rattle.std.proofs.lemmas.Int.{ints}
 use Rattle.std.proofs.lemmas.List.Elements.{All-weaker}
 use Rattle.std.proofs.lemmas.List.Sums.{AllPass-from_list_all}
 use Rattle.std.specs.List.{All, list_all}
-use Rattle.std.specs.Prelude.{int_le, Bool, Some, None}
-use Rattle.network.specs.declared.lag.Lag.{Lag}
-use Rattle.network.specs.declared.lag.Pair.{Pair}
 use Rattle.network.specs.declared.parts.ProjectFault.TheVariants.{Limit, Activity, Dummy, Shape}
 use Rattle.network.specs.declared.parts.Quantity.TheVariants as quantity
 use Rattle.network.specs.Faults.{first_fault}
-use Rattle.network.specs.Forbidden.{IsForbidden}
-use Rattle.network.specs.Limits.{IsProject}
-use Rattle.network.specs.Problem.{Problem, end_of, duration, demand, capacity, rules, arcs_of}
-use Rattle.network.specs.Schedule.{start, makespan, Meets, IsSchedule, Keeps, is_running, running, use_at, IsFeasible}
+use Rattle.network.specs.Schedule.{IsForbidden, start, makespan, Meets, IsSchedule, Keeps, is_running, running, use_at, IsFeasible}
+use Rattle.network.specs.Problem.{IsProject, Problem, end_of, duration, demand, capacity, rules, arcs_of, Lag, Pair}
 use Rattle.network.specs.Walk.{IsPositiveCycle}
 use Rattle.network.proofs.FaultLaws.{IsProject-from_no_fault}
 

@@ -4,8 +4,7 @@ use Rattle.std.specs.Ordering.{int_eq}
 use Rattle.std.specs.Cmp.{IsEquivalence}
 use Rattle.std.specs.Cmp.Lexicographic.{pointwise}
 use Rattle.std.proofs.lemmas.Cmp.{nat_eq_equiv, int_eq_equiv, lists_equiv, on_equiv, and_equiv}
-use Rattle.network.specs.declared.lag.Lag.{Lag}
-use Rattle.network.specs.Problem.{Problem}
+use Rattle.network.specs.Problem.{Problem, Lag}
 
 -- whether two arcs are the same
 abbrev pub lag_eq : Lag → Lag → Bool

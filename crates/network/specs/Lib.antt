@@ -1,11 +1,5 @@
 pub mod Problem
-pub mod Limits
 pub mod Schedule
-pub mod Verdict
 pub mod Walk
-pub mod ProjectMatrix
-pub mod Forbidden
-pub mod Parts
 pub mod Faults
 pub mod Equality
-pub mod Pairs

@@ -1,10 +1,9 @@
 -- Schedules: which lists of starts meet the rules, what they use, and which are feasible
 -- (Bartusch, Möhring and Radermacher 1988).
-use Rattle.std.specs.Prelude.{◌≡◌, ℕ, ◌-◌, ◌<◌, ◌≤◌, ℤ, pos, ◌+ℤ◌, ◌≤ℤ◌, int_le, int_lt, ◌&&◌, Bool, List, length, slice_index_or}
-use Rattle.std.specs.List.{All, filter, sum_by}
-use Rattle.network.specs.declared.lag.Lag.{Lag}
-use Rattle.network.specs.declared.lag.Pair.{Pair}
-use Rattle.network.specs.Problem.{Problem, activity_count, activities, resource_count, duration, demand, capacity, rules, pair_arc}
+use Rattle.std.specs.Prelude.{◌≡◌, ℕ, ◌-◌, ◌<◌, ◌≤◌, ℤ, pos, ◌+ℤ◌, ◌≤ℤ◌, int_le, int_lt, ◌&&◌, Bool, List, length, slice_index_or, false}
+use Rattle.std.specs.List.{All, filter, sum_by, Contains}
+use Rattle.network.specs.Problem.{Problem, activity_count, activities, resource_count, duration, demand, capacity, rules, pair_arc, Lag, Pair}
+use Rattle.std.specs.List.Sorted.{IsStrictlyIncreasing}
 
 -- when an activity starts
 abbrev pub start : List ℤ → ℕ → ℤ
@@ -67,3 +66,46 @@ pub record IsLeastSchedule (p : Problem) (pairs : List Pair) (s : List ℤ) : Ty
 pub record ScheduleOf : Type 0 where
   pub project : Problem
   pub starts : List ℤ
+
+-- ---- Forbidden sets of activities, each for one resource. Bartusch, Möhring and Radermacher (1988) call a set
+-- forbidden where some resource is asked for too much, and minimal where this holds of no proper subset for
+-- any resource; here both are said of the same resource.
+
+-- the joint demand of the activities for resource k
+abbrev pub joint_demand : Problem → ℕ → List ℕ → ℕ
+joint_demand p k members = sum_by (demand p k) members
+
+-- together they ask for more than there is
+abbrev pub IsForbidden : Problem → ℕ → List ℕ → Type 0
+IsForbidden p k members = capacity p k < joint_demand p k members
+
+-- a set, listed rising, that is forbidden while no proper subset is: a subset keeps the members that pass
+-- a test, and a proper one leaves a member out
+pub record IsMinimalForbidden (p : Problem) (k : ℕ) (members : List ℕ) : Type 0 where
+  pub rising : IsStrictlyIncreasing members
+  pub forbidden : IsForbidden p k members
+  pub minimal : (kept : ℕ → Bool) (i : ℕ) → Contains members i → kept i ≡ false →
+      ¬ IsForbidden p k (filter kept members)
+
+-- ---- What a node of the search stands for, which numbers bound it, and the verdict on a project.
+
+-- a node of these pairs stands for the feasible schedules that keep them
+pub record StandsFor (p : Problem) (pairs : List Pair) (s : List ℤ) : Type 0 where
+  pub feasible : IsFeasible p s
+  pub keeps : KeepsAll p s pairs
+
+-- every schedule that the node stands for takes at least c
+abbrev pub IsTrueBound : Problem → List Pair → ℤ → Type 0
+IsTrueBound p pairs c = (s : List ℤ) → StandsFor p pairs s → c ≤ℤ makespan s
+
+-- every feasible schedule takes at least c
+abbrev pub IsLowerBound : Problem → ℤ → Type 0
+IsLowerBound p c = (s : List ℤ) → IsFeasible p s → c ≤ℤ makespan s
+
+-- c is the least makespan of a feasible schedule
+pub record IsShortest (p : Problem) (c : ℤ) : Type 0 where
+  pub witness : (s : List ℤ) × IsFeasible p s × (makespan s ≡ c)
+  pub bound : IsLowerBound p c
+
+abbrev pub HasNoSchedule : Problem → Type 0
+HasNoSchedule p = (s : List ℤ) → ¬ IsFeasible p s

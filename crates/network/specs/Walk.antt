@@ -3,9 +3,7 @@
 use Rattle.std.specs.Prelude.{◌≡◌, ℕ, ◌<◌, ◌≤◌, ℤ, pos, ◌+ℤ◌, ◌≤ℤ◌, ◌<ℤ◌, List, [], ◌∷◌, length, Option, None, MatchOption, slice_index_or, map}
 use Rattle.std.specs.List.{All, Contains, range_with_len}
 use Rattle.std.specs.Option.{unwrap_or}
-use Rattle.network.specs.declared.lag.Lag.{Lag}
-use Rattle.network.specs.declared.limits.TheConstants.{MAX_LAG_WEIGHT}
-use Rattle.network.specs.Limits.{IsWithin}
+use Rattle.network.specs.Problem.{IsWithin, Problem, activity_count, arcs_of, NameActivities, IsProject, Lag, MAX_LAG_WEIGHT, Pair}
 
 -- a list of arcs, end to end, that leads from a to b
 abbrev pub IsWalk : List Lag → ℕ → List Lag → ℕ → Type 0
@@ -75,3 +73,11 @@ AreLight arcs = (e : Lag) → Contains arcs e → IsWithin MAX_LAG_WEIGHT e.weig
 -- the greatest weights from a vertex, and 0 where there is no walk
 abbrev pub weights_from : ℕ → Rows → List ℤ
 weights_from a rows = map (λ b. unwrap_or (entry rows a b) (pos 0)) (range_with_len 0 (length rows))
+
+-- ---- The matrix of a project and pairs.
+
+-- the rows are the matrix of the project's rules and an arc for each pair
+pub record IsProjectMatrix (p : Problem) (pairs : List Pair) (rows : Rows) : Type 0 where
+  pub limits : IsProject p
+  pub named : NameActivities p pairs
+  pub matrix : IsMatrixOf (activity_count p) (arcs_of p pairs) rows

@@ -4,7 +4,7 @@ ghost use Rattle.std.specs.Prelude.{◌≡◌, ◌<◌, ◌≤◌, ◌++◌, len
 ghost use Rattle.std.specs.List.{All, range_with_len};
 ghost use Rattle.network.specs.Problem.{start_arc, lasting};
 
-use crate::lag::{Lag, Pair};
+use crate::parts::{Lag, Pair};
 use std::alloc::AllocError;
 
 /// Adds the arc from the start to each activity after it, up to the end.

@@ -3,12 +3,11 @@
 ghost use Rattle.std.specs.Prelude.{◌≡◌, ◌<◌, length, vec_len, nat_eq};
 ghost use Rattle.std.specs.Result.{result_err};
 ghost use Rattle.std.specs.List.{list_all};
-ghost use Rattle.network.specs.Parts.{problem_of};
+ghost use Rattle.network.specs.Problem.{problem_of};
 ghost use Rattle.network.specs.Faults.{is_amount, is_zero, shape_fault, count_fault, dummy_fault, amount_fault, lag_fault, arc_fault, first_fault};
 
-use crate::lag::Lag;
 use crate::limits::{MAX_ACTIVITIES, MAX_AMOUNT, MAX_LAG_WEIGHT, MAX_LAGS, MAX_RESOURCES};
-use crate::parts::{Parts, ProjectFault, Quantity};
+use crate::parts::{Lag, Parts, ProjectFault, Quantity};
 
 /// Whether the parts are those of a project, by one test after another.
 pub(crate) fn check(parts: &Parts) -> Result<(), ProjectFault>
@@ -22,7 +21,7 @@ pub(crate) fn check(parts: &Parts) -> Result<(), ProjectFault>
     check_lags(parts.lags.as_slice(), parts.durations.len())
 }
 
-#[tactic(auto, using(crate::proofs::Lists::rows_all))]
+#[tactic(auto, using(crate::proofs::FaultLaws::rows_all))]
 fn check_shape(parts: &Parts) -> Result<(), ProjectFault>
     ensures { result_err result ≡ shape_fault (problem_of parts.now) }
 {
@@ -102,7 +101,7 @@ fn is_amount(value: i64) -> bool
     0 <= value && value <= MAX_AMOUNT
 }
 
-#[tactic(auto, using(crate::proofs::Lists::rows_all))]
+#[tactic(auto, using(crate::proofs::FaultLaws::rows_all))]
 fn check_amounts(parts: &Parts) -> Result<(), ProjectFault>
     ensures { result_err result ≡ amount_fault (problem_of parts.now) }
 {

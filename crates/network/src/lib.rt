@@ -5,18 +5,15 @@
 #![tactic(auto)]
 
 mod arcs;
-mod equality;
 mod faults;
-mod lag;
 mod limits;
 mod parts;
 mod project;
 mod schedule;
 
-pub use lag::{Lag, Pair};
 pub use limits::{
     MAX_ACTIVITIES, MAX_AMOUNT, MAX_LAG_WEIGHT, MAX_LAGS, MAX_RESOURCES, MAX_START, MAX_WALK_WEIGHT,
 };
-pub use parts::{Parts, ProjectFault, Quantity};
+pub use parts::{Lag, Pair, Parts, ProjectFault, Quantity};
 pub use project::Project;
 pub use schedule::Schedule;

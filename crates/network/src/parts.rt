@@ -1,6 +1,20 @@
 //! What a project is made of, and why parts are no project.
 
-use crate::lag::Lag;
+/// An arc: activity `to` starts at least `weight` periods after activity `from` starts. A negative
+/// weight is a greatest lag from `to` to `from`.
+#[derive(Clone, Copy, PartialEq, Eq, Debug)]
+pub struct Lag {
+    pub from: usize,
+    pub to: usize,
+    pub weight: i64,
+}
+
+/// The activity `before` ends before the activity `after` starts.
+#[derive(Clone, Copy, PartialEq, Eq, Debug)]
+pub struct Pair {
+    pub before: usize,
+    pub after: usize,
+}
 
 /// What a limit is on.
 #[derive(Clone, Copy, PartialEq, Eq, Debug)]

@@ -1,17 +1,43 @@
 //! A project within the limits.
 
-ghost use Rattle.std.specs.Prelude.{◌≡◌, ◌↔◌, ◌<◌, ◌≤ℤ◌, pos, length, slice_index_or, [], ◌∷◌, IsTrue, IfOk, IfErr, OnErr, Some};
-ghost use Rattle.network.specs.Problem.{activity_count, resource_count, duration, demand, capacity, pair_arc, arcs_of, NameActivities};
+ghost use Rattle.std.specs.Prelude.{◌≡◌, map, ◌↔◌, ◌<◌, ◌≤ℤ◌, pos, length, slice_index_or, [], ◌∷◌, IsTrue, IfOk, IfErr, OnErr, Some};
+ghost use Rattle.std.specs.Ordering.{int_eq};
+ghost use Rattle.std.specs.Cmp.Lexicographic.{pointwise};
+ghost use Rattle.network.specs.Problem.{problem_of, activity_count, resource_count, duration, demand, capacity, pair_arc, arcs_of, NameActivities, IsAmount, IsLag, IsProject};
+ghost use Rattle.network.specs.Equality.{lag_eq, problem_eq};
 ghost use Rattle.network.specs.declared.limits.TheConstants.{MAX_AMOUNT};
-ghost use Rattle.network.specs.Limits.{IsAmount, IsLag, IsProject};
 
 use crate::arcs::{push_end_arcs, push_pair_arcs, push_start_arcs};
-use crate::equality::parts_equal;
 use crate::faults::check;
-use crate::lag::{Lag, Pair};
-use crate::parts::{Parts, ProjectFault};
+use crate::parts::{Lag, Pair, Parts, ProjectFault};
 use std::alloc::{AllocError, Global};
 use std::marker::Model;
+
+/// Whether the rows are the same.
+#[tactic(auto, using(crate::proofs::Equal::pointwise_map))]
+fn rows_equal(left: &[Vec<i64>], right: &[Vec<i64>]) -> bool
+    ensures { result
+        ≡ pointwise (pointwise int_eq) (map (λ row. row.items) left.now) (map (λ row. row.items) right.now) }
+{
+    left == right
+}
+
+/// Whether the arcs are the same.
+fn lags_equal(left: &[Lag], right: &[Lag]) -> bool
+    ensures { result ≡ pointwise lag_eq left.now right.now }
+{
+    left == right
+}
+
+/// Whether the four lists are the same.
+pub(crate) fn parts_equal(left: &Parts, right: &Parts) -> bool
+    ensures { result ≡ problem_eq (problem_of left.now) (problem_of right.now) }
+{
+    left.durations == right.durations
+        && rows_equal(&left.demands, &right.demands)
+        && left.capacities == right.capacities
+        && lags_equal(&left.lags, &right.lags)
+}
 
 /// A project within the limits. It has at most 1,000 activities besides the start and the end, 32 resources and 100,000
 /// given arcs. Durations, demands and capacities are 0 to 1,000,000, lags -1,000,000 to 1,000,000.
@@ -25,8 +51,7 @@ impl Model for Project {
 
     ghost Value = { Problem };
 
-    ghost use Rattle.network.specs.Parts.{problem_of};
-    ghost use Rattle.network.specs.Limits.{IsProject};
+    ghost use Rattle.network.specs.Problem.{problem_of, IsProject};
 
     ghost view = { λ s. problem_of s.parts };
 
@@ -34,7 +59,7 @@ impl Model for Project {
 }
 
 impl Project {
-    ghost use Rattle.network.specs.Parts.{problem_of};
+    ghost use Rattle.network.specs.Problem.{problem_of};
     ghost use Rattle.network.specs.Faults.{first_fault};
 
     /// The project of the parts, or their first fault. The tests are in this order: the shape of the lists, their

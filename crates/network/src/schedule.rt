@@ -18,7 +18,7 @@ pub struct Schedule {
 impl Model for Schedule {
     ghost use Rattle.std.specs.Arc.{arc_value};
     ghost use Rattle.network.specs.Schedule.{ScheduleOf, IsFeasible};
-    ghost use Rattle.network.specs.Limits.{AreStarts};
+    ghost use Rattle.network.specs.Problem.{AreStarts};
 
     ghost Value = { ScheduleOf };
 
@@ -30,7 +30,7 @@ impl Model for Schedule {
 
 impl Schedule {
     ghost use Rattle.network.specs.Schedule.{IsFeasible, makespan};
-    ghost use Rattle.network.specs.Limits.{IsProject, AreStarts};
+    ghost use Rattle.network.specs.Problem.{IsProject, AreStarts};
 
     /// The schedule of these starts.
     pub fn of(project: Arc<Project>, starts: Vec<i64>) -> Schedule

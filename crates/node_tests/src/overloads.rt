@@ -1,6 +1,6 @@
 //! Resource use and overloads, against plain loops.
 
-ghost use Rattle.profile.specs.SweepOf.{IsSweepFor};
+ghost use Rattle.profile.specs.Overloads.{IsSweepFor};
 
 use network::Project;
 use profile::{Excess, Overload, OverloadSweep, first_overload, overloads, use_at};

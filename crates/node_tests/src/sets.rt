@@ -1,6 +1,6 @@
 //! Forbidden sets that shrink.
 
-ghost use Rattle.network.specs.Limits.{AreStarts};
+ghost use Rattle.network.specs.Problem.{AreStarts};
 
 use forbidden_sets::{ForbiddenSet, shrink, shrink_activities};
 use network::Project;

@@ -3,8 +3,7 @@
 ghost use Rattle.std.specs.Prelude.{◌≡◌, ◌<◌, [], ◌∷◌, IsTrue, IfOk};
 ghost use Rattle.longest_path.specs.Insert.{ClosesNone};
 ghost use Rattle.network.specs.Problem.{resource_count, NameActivities, pair_arc};
-ghost use Rattle.bounds.specs.Bound.{IsMatrixFor};
-ghost use Rattle.bounds.specs.Workspace.{IsWorkspaceFor};
+ghost use Rattle.bounds.specs.Bound.{IsMatrixFor, IsWorkspaceFor};
 
 use bounds::{Workspace, bound, bound_with, critical, energy};
 use earliest::{heads, tails};

@@ -1,19 +1,16 @@
 -- What workers reply, and when a record is part of it.
-use Rattle.std.proofs.Common.{◌≡◌, ℕ, Bool, true, false, List, Option, None, Some, refl, sym, ap, ◌∙◌}
-use Rattle.std.specs.Prelude.{IfSome, IsSome, ◌↔◌, Result, Ok, Err, IfOk, IfErr}
-use Rattle.network.specs.Problem.{Problem}
-use Rattle.network.specs.Limits.{IsProject}
+use Rattle.std.proofs.Common.{◌≡◌, ℕ, Bool, true, false, List, Option, None, Some, refl, sym, ap, ◌∙◌, IfSome, IsSome, ◌↔◌, Result, Ok, Err, IfOk, IfErr}
+use Rattle.network.specs.Problem.{Problem, IsProject}
 use Rattle.network.specs.Schedule.{ScheduleOf, makespan}
 use Rattle.plain_search.specs.Verdicts.{IsNoLongerThan, IsTrueOf}
-use Rattle.plain_search.specs.declared.outcome.Outcome.{Outcome}
-use Rattle.plain_search.specs.declared.outcome.Outcome.TheVariants.{Optimal, NoSchedule, Stopped}
+use Rattle.plain_search.specs.declared.search.Outcome.{Outcome}
+use Rattle.plain_search.specs.declared.search.Outcome.TheVariants.{Optimal, NoSchedule, Stopped}
 use Rattle.sch_reader.specs.Text.{Spells}
 use Rattle.answers.proofs.OutcomeLaws.{found_is_true}
 use Rattle.answers.specs.Answers.{IsFoundText}
 use Rattle.answers.specs.Outcomes.{SaysOutcome, IsRightRecord, claim_text}
 use Rattle.runs.specs.declared.job.Job.{Job}
-use Rattle.runs.specs.Jobs.{answers_json, writes_record}
-use Rattle.runs.specs.Outcome.{SpellsOne}
+use Rattle.runs.specs.Outcome.{answers_json, writes_record, SpellsOne}
 use Rattle.runs.specs.Runs.{ReplyOf}
 use Rattle.parallel_runs.specs.Searches.{IsOutcomeRecord, IsSearchReply, starts_from}
 

@@ -2,21 +2,20 @@
 use Rattle.std.specs.Prelude.{◌≡◌, ℕ, ℤ, List, Option, Some, None, IfSome, IsSomeAnd, option_map, vec_len}
 use Rattle.network.specs.Problem.{Problem}
 use Rattle.network.specs.Schedule.{ScheduleOf}
-use Rattle.plain_search.specs.declared.outcome.Outcome.{Outcome}
-use Rattle.plain_search.specs.declared.outcome.Outcome.TheVariants.{Optimal, NoSchedule, Stopped}
+use Rattle.plain_search.specs.declared.search.Outcome.{Outcome}
+use Rattle.plain_search.specs.declared.search.Outcome.TheVariants.{Optimal, NoSchedule, Stopped}
 use Rattle.record_text.specs.declared.line.Claim.{Claim}
-use Rattle.record_text.specs.SearchRecord.{SearchRecord}
+use Rattle.record_text.specs.Tree.{SearchRecord}
 use Rattle.record_text.specs.Kinds.{record_text}
 use Rattle.record_text.specs.Text.{search_kind}
-use Rattle.search_record.specs.Claims.{claim_of}
-use Rattle.search_record.specs.Right.{IsRight}
+use Rattle.search_record.specs.Right.{claim_of, IsRight}
 use Rattle.answers.specs.declared.fault.Fault.{Fault}
 use Rattle.answers.specs.declared.fault.Fault.TheVariants as faults
 use Rattle.answers.specs.Answers.{IsFoundText}
 use Rattle.answers.specs.Outcomes.{IsRightRecord}
 use Rattle.runs.specs.declared.job.Job.{Job}
 use Rattle.runs.specs.declared.job.Job.TheVariants as jobs
-use Rattle.runs.specs.Jobs.{answers_json, worker_count}
+use Rattle.runs.specs.Outcome.{answers_json, worker_count}
 use Rattle.runs.specs.Runs.{ReplyOf, RecordsWhereAsked}
 use Rattle.worker.specs.Solving.{IsStopped}
 use Rattle.worker.specs.declared.fault.SolveFault.{SolveFault}

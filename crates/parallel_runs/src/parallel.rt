@@ -3,10 +3,8 @@
 ghost use Rattle.std.specs.Prelude.{◌≡◌, ◌≢◌, ◌<◌, true, Some, Err, IfOk, IfErr, IfSome, IfNone};
 ghost use Rattle.answers.specs.declared.fault.Fault.TheVariants as faults;
 ghost use Rattle.answers.specs.Faults.{exit_of};
-ghost use Rattle.runs.specs.Devices.{span, IsUntouched, OneFailedWhere};
-ghost use Rattle.runs.specs.Jobs.{IsJob, has_workers};
-ghost use Rattle.runs.specs.Outcome.{IfTextsTold};
-ghost use Rattle.runs.specs.Runs.{HasRead, IsCutShort, IsNoReply, IsReply, IsWritten, RecordsWhereAsked, Replies};
+ghost use Rattle.runs.specs.Runs.{span, IsUntouched, OneFailedWhere, HasRead, IsCutShort, IsNoReply, IsReply, IsWritten, RecordsWhereAsked, Replies};
+ghost use Rattle.runs.specs.Outcome.{IsJob, has_workers, IfTextsTold};
 
 use crate::workers::{searched, searched_from};
 use answers::Fault;

@@ -2,8 +2,8 @@
 
 ghost use Rattle.std.specs.Prelude.{◌≡◌, IfOk, IfSome, option_map};
 ghost use Rattle.trail.specs.RightTrail.{IsWholeTree};
-ghost use Rattle.branching.specs.Covered.{ceiling_of, IsScheduleFor};
-ghost use Rattle.search_record.specs.Claims.{claim_of};
+ghost use Rattle.branching.specs.Fair.{ceiling_of, IsScheduleFor};
+ghost use Rattle.search_record.specs.Right.{claim_of};
 ghost use Rattle.worker.specs.Solving.{IsTrailOf, best_of};
 ghost use Rattle.parallel_runs.specs.Searches.{IsOutcomeRecord, IsTextOf};
 

@@ -3,13 +3,12 @@
 ghost use Rattle.std.specs.Prelude.{◌≡◌, ◌≢◌, true, IfOk, IfErr, IfSome};
 ghost use Rattle.std.specs.Arc.{arc_value};
 ghost use Rattle.network.specs.Schedule.{IsFeasible};
-ghost use Rattle.worker.specs.Faults.{IsWithinLimits};
+ghost use Rattle.worker.specs.Solving.{IsWithinLimits};
 ghost use Rattle.answers.specs.declared.fault.Fault.TheVariants as faults;
 ghost use Rattle.answers.specs.Answers.{IsStartedText};
 ghost use Rattle.answers.specs.Faults.{exit_of, IsNoDeviceFault, IsSearchFault};
 ghost use Rattle.answers.specs.Outcomes.{IsRightRecord, SaysOutcome};
-ghost use Rattle.runs.specs.Jobs.{answers_json, IsJob, has_workers};
-ghost use Rattle.runs.specs.Outcome.{GivesStarts, IsFirstStartsFault};
+ghost use Rattle.runs.specs.Outcome.{answers_json, IsJob, has_workers, GivesStarts, IsFirstStartsFault};
 ghost use Rattle.runs.specs.Runs.{RecordsWhereAsked};
 ghost use Rattle.parallel_runs.specs.Searches.{IsAskedFor, IsSearchFaultOf, IsSearchReply};
 

@@ -1,20 +1,17 @@
 -- What the last state of a search proves: its outcome is true of the project.
-use Rattle.std.proofs.Common.{◌≡◌, refl, ap, ◌∙◌, inl, inr, ⊎_elim, ◌⊎◌, ◌+◌, add-one, arith, List, [], Option, Some, None}
-use Rattle.std.specs.Prelude.{ℕ, ℤ, ◌≤ℤ◌, ◌<ℤ◌, IfSome}
+use Rattle.std.proofs.Common.{◌≡◌, refl, ap, ◌∙◌, inl, inr, ⊎_elim, ◌⊎◌, ◌+◌, add-one, arith, List, [], Option, Some, None, ℕ, ℤ, ◌≤ℤ◌, ◌<ℤ◌, IfSome}
 use Rattle.std.specs.List.{All, Any}
 use Rattle.std.proofs.lemmas.Int.{ints, by_lt_z}
 use Rattle.std.proofs.lemmas.List.Elements.{All-nil, All-contains, All-weaker}
 use Rattle.network.specs.Problem.{Problem}
 use Rattle.network.specs.Schedule.{ScheduleOf, IsFeasible, makespan}
 use Rattle.branching.specs.Subproblem.{Subproblem, NodeStandsFor}
-use Rattle.branching.specs.Ceiling.{IsUnder}
-use Rattle.branching.specs.Fair.{IsShorterThan}
-use Rattle.branching.specs.Covered.{IsNodeOf, IsRootOf, IsScheduleFor, ceiling_of}
-use Rattle.plain_search.specs.States.{IsLeastBound, SearchState, IsSoundState}
-use Rattle.plain_search.specs.Takes.{IsTake, Takes, no_take, one_more, IsLeft, IsOutcomeOf, StopsOnlyAfter, first_state}
+use Rattle.branching.specs.Right.{IsUnder}
+use Rattle.branching.specs.Fair.{IsShorterThan, IsNodeOf, IsRootOf, IsScheduleFor, ceiling_of}
+use Rattle.plain_search.specs.Takes.{IsLeastBound, SearchState, IsSoundState, IsTake, Takes, no_take, one_more, IsLeft, IsOutcomeOf, StopsOnlyAfter, first_state}
 use Rattle.plain_search.specs.Verdicts.{IsStoppedAt, IsTrueOf, StopsBelowBest}
-use Rattle.plain_search.specs.declared.outcome.Outcome.{Outcome}
-use Rattle.plain_search.specs.declared.outcome.Outcome.TheVariants.{Optimal, NoSchedule, Stopped}
+use Rattle.plain_search.specs.declared.search.Outcome.{Outcome}
+use Rattle.plain_search.specs.declared.search.Outcome.TheVariants.{Optimal, NoSchedule, Stopped}
 use Rattle.branching.proofs.Covers.{none_stands}
 
 none_shorter : (state : SearchState) → IsSoundState state → All (λ node. ¬ IsUnder (ceiling_of state.best) node.bound) state.nodes → (s : List ℤ) → IsFeasible state.project s → IsShorterThan state.best s → ⊥

@@ -1,20 +1,17 @@
 -- The takes of a search keep that its nodes cover what is shorter than its best.
-use Rattle.std.proofs.Common.{◌≡◌, sym, ap, ◌∙◌, subst, inl, inr, append_assoc, append-nil, List, [], ◌∷◌, ◌++◌, ◌⊎◌, ⊎_elim, arith, Option, Some, None}
-use Rattle.std.specs.Prelude.{ℤ, ◌≤ℤ◌, IfSome}
-use Rattle.std.specs.List.{All, Any, Contains}
+use Rattle.std.proofs.Common.{◌≡◌, sym, ap, ◌∙◌, subst, inl, inr, append_assoc, List, [], ◌∷◌, ◌++◌, ◌⊎◌, ⊎_elim, arith, Option, Some, None, ℤ, ◌≤ℤ◌, IfSome}
+use Rattle.std.specs.List.{All, Contains}
 use Rattle.std.proofs.lemmas.Int.{ints}
 use Rattle.std.proofs.lemmas.List.Quantifiers.{Any-push}
 use Rattle.std.proofs.lemmas.List.Elements.{All-nil, All-cons, All-push, All-contains, All-weaker, Contains-append_cases, Contains-push}
 use Rattle.network.specs.Problem.{Problem}
 use Rattle.network.specs.Schedule.{ScheduleOf}
 use Rattle.branching.specs.Subproblem.{Subproblem}
-use Rattle.branching.specs.Fair.{IsShorterThan}
-use Rattle.branching.specs.Ceiling.{IsBelow, IsUnder}
-use Rattle.branching.specs.Covered.{IsNodeOf, IsCovered, ceiling_of}
-use Rattle.branching.proofs.Lists.{here, any_left}
+use Rattle.branching.specs.Fair.{IsShorterThan, IsNodeOf, IsCovered, ceiling_of}
+use Rattle.branching.specs.Right.{IsBelow, IsUnder}
+use Rattle.branching.proofs.OrderedPairs.{here, any_left}
 use Rattle.branching.proofs.Covers.{all_left, covered_still, expansion_keeps}
-use Rattle.plain_search.specs.States.{SearchState, IsSoundState, IsLeastBound}
-use Rattle.plain_search.specs.Takes.{DropsOver, IsTake}
+use Rattle.plain_search.specs.Takes.{SearchState, IsSoundState, IsLeastBound, DropsOver, IsTake}
 
 -- nodes that are not below the best may be left out
 pub drops_keep : (p : Problem) (best : Option ScheduleOf) (old new : List Subproblem) → DropsOver (ceiling_of best) old new → IsCovered p best old → IsCovered p best new
@@ -41,9 +38,6 @@ drop_one ceiling old new node over drops = record {
   from_end = drops.from_end ∙ append_assoc new (node ∷ []) drops.dropped;
   over = All-cons (λ (n : Subproblem). ¬ IsUnder ceiling n.bound) node drops.dropped over drops.over;
 }
-
-pub drop_none : (ceiling : Option ℤ) (nodes : List Subproblem) → DropsOver ceiling nodes nodes
-drop_none ceiling nodes = record { dropped = []; from_end = simp append-nil; over = All-nil (λ (n : Subproblem). ¬ IsUnder ceiling n.bound) }
 
 below_from_shorter : (best : Option ScheduleOf) (ceiling : Option ℤ) (s : List ℤ) → ceiling ≡ ceiling_of best → IsShorterThan best s → IsBelow ceiling s
 below_from_shorter None ceiling s e shorter = rw e tt

@@ -1,4 +1,2 @@
-pub mod States
 pub mod Takes
 pub mod Verdicts
-pub mod SearchView

@@ -1,14 +1,32 @@
 -- How a search in one thread goes: take by take, depth first.
-use Rattle.std.specs.Prelude.{◌≡◌, ℕ, suc, ℤ, Option, None, Some, List, [], ◌∷◌, ◌++◌}
-use Rattle.std.specs.List.{All}
+use Rattle.std.specs.Prelude.{◌≡◌, ℤ, ◌≤ℤ◌, Option, List, ℕ, suc, None, Some, [], ◌∷◌, ◌++◌, map}
+use Rattle.std.specs.List.{All, Any}
 use Rattle.network.specs.Problem.{Problem}
+use Rattle.network.specs.Schedule.{ScheduleOf}
 use Rattle.branching.specs.Subproblem.{Subproblem}
-use Rattle.branching.specs.Ceiling.{IsUnder}
-use Rattle.branching.specs.Fair.{Expansion, IsReport, IsReportOn}
-use Rattle.branching.specs.Covered.{IsRootOf, IsShorterOf, ceiling_of}
-use Rattle.plain_search.specs.States.{SearchState, IsLeastBound}
-use Rattle.plain_search.specs.declared.outcome.Outcome.{Outcome}
-use Rattle.plain_search.specs.declared.outcome.Outcome.TheVariants.{Optimal, NoSchedule, Stopped}
+use Rattle.branching.specs.Fair.{IsCovered, Expansion, IsReport, IsReportOn, IsRootOf, IsShorterOf, ceiling_of}
+use Rattle.branching.specs.Right.{IsUnder}
+use Rattle.plain_search.specs.declared.search.Outcome.{Outcome}
+use Rattle.plain_search.specs.declared.search.Outcome.TheVariants.{Optimal, NoSchedule, Stopped}
+use Rattle.std.specs.Arc.{arc_value}
+use Rattle.plain_search.specs.declared.search.Search.TheInside.{Inside}
+
+-- ---- What a search in one thread is between its takes.
+
+-- its project, the best schedule so far, and the nodes on the stack
+pub record SearchState : Type 0 where
+  pub project : Problem
+  pub best : Option ScheduleOf
+  pub nodes : List Subproblem
+
+-- the search is sound: its nodes cover what is shorter than its best
+abbrev pub IsSoundState : SearchState → Type 0
+IsSoundState state = IsCovered state.project state.best state.nodes
+
+-- the bound is that of some of the nodes, and the least
+pub record IsLeastBound (nodes : List Subproblem) (bound : ℤ) : Type 0 where
+  pub of_some : Any (λ node. node.bound ≡ bound) nodes
+  pub least : All (λ node. bound ≤ℤ node.bound) nodes
 
 -- nodes were dropped from the end alone, and none of them is below the ceiling
 pub record DropsOver (ceiling : Option ℤ) (old new : List Subproblem) : Type 0 where
@@ -68,3 +86,8 @@ abbrev pub StopsOnlyAfter : Problem → ℕ → Outcome → Type 0
 StopsOnlyAfter p takes (Optimal best) = Unit {0}
 StopsOnlyAfter p takes NoSchedule = Unit {0}
 StopsOnlyAfter p takes (Stopped best bound) = IsStoppedAfter p takes (Stopped best bound)
+
+-- ---- The fields of a `Search`, as its functions see them.
+
+abbrev pub state_of : Inside → SearchState
+state_of s = record { project = arc_value s.project; best = s.best; nodes = map arc_value s.stack.items }

@@ -1,11 +1,10 @@
 -- When the outcome of a search is true of its project.
 use Rattle.std.specs.Prelude.{ℤ, ◌≤ℤ◌, ◌<ℤ◌, Option, IfSome, IsSomeAnd, List}
 use Rattle.network.specs.Problem.{Problem}
-use Rattle.network.specs.Schedule.{ScheduleOf, IsFeasible, makespan}
-use Rattle.network.specs.Verdict.{IsShortest, HasNoSchedule}
-use Rattle.branching.specs.Covered.{IsScheduleFor}
-use Rattle.plain_search.specs.declared.outcome.Outcome.{Outcome}
-use Rattle.plain_search.specs.declared.outcome.Outcome.TheVariants.{Optimal, NoSchedule, Stopped}
+use Rattle.network.specs.Schedule.{ScheduleOf, IsFeasible, makespan, IsShortest, HasNoSchedule}
+use Rattle.branching.specs.Fair.{IsScheduleFor}
+use Rattle.plain_search.specs.declared.search.Outcome.{Outcome}
+use Rattle.plain_search.specs.declared.search.Outcome.TheVariants.{Optimal, NoSchedule, Stopped}
 
 -- a feasible schedule, and no feasible one is shorter
 pub record IsOptimal (p : Problem) (best : ScheduleOf) : Type 0 where

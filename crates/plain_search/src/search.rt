@@ -2,18 +2,28 @@
 
 ghost use Rattle.std.specs.Prelude.{◌≡◌, ◌<◌, ◌≤◌, ◌≤ℤ◌, ◌⊎◌, [], Some, map, option_map, IfOk, IfSome, IfNone, IsTrue, ◌↔◌};
 ghost use Rattle.std.specs.Arc.{arc_value};
-ghost use Rattle.branching.specs.Covered.{IsRootOf, IsShorterOf, ceiling_of};
-ghost use Rattle.plain_search.specs.States.{IsLeastBound};
-ghost use Rattle.plain_search.specs.Takes.{PopsUnder, IsTake, IsOutcomeOf, StopsOnlyAfter, first_state};
+ghost use Rattle.branching.specs.Fair.{IsRootOf, IsShorterOf, ceiling_of};
+ghost use Rattle.plain_search.specs.Takes.{IsLeastBound, PopsUnder, IsTake, IsOutcomeOf, StopsOnlyAfter, first_state};
 ghost use Rattle.plain_search.specs.Verdicts.{IsTrueOf, StopsBelowBest};
 
-use crate::outcome::Outcome;
 use branching::{Lean, Searcher, is_below, makespan_of, root_and_matrix};
 use longest_path::PathFault;
 use network::{Project, Schedule};
 use std::alloc::{AllocError, Global};
 use std::marker::Model;
 use std::sync::Arc;
+
+/// How a search ended.
+#[derive(Drop, Debug)]
+pub enum Outcome {
+    /// A feasible schedule, and none is shorter.
+    Optimal(Schedule),
+    /// The project has no feasible schedule.
+    NoSchedule,
+    /// A limit stopped the search. The bound, in periods, is at most every feasible makespan. With one thread it is
+    /// below the makespan of the best schedule, if there is one.
+    Stopped { best: Option<Schedule>, bound: i64 },
+}
 
 /// The most nodes that a search may be asked to take.
 pub const MAX_TAKES: u64 = 1_000_000_000;
@@ -27,11 +37,11 @@ struct Search {
 }
 
 impl Model for Search {
-    ghost use Rattle.plain_search.specs.States.{SearchState, IsSoundState};
+    ghost use Rattle.plain_search.specs.Takes.{SearchState, IsSoundState};
 
     ghost Value = { SearchState };
 
-    ghost use Rattle.plain_search.specs.SearchView.{state_of};
+    ghost use Rattle.plain_search.specs.Takes.{state_of};
 
     ghost view = { state_of };
 
@@ -93,7 +103,7 @@ fn least_bound(nodes: &[Arc<Lean>]) -> Option<i64>
 }
 
 impl Search {
-    ghost use Rattle.plain_search.specs.States.{SearchState};
+    ghost use Rattle.plain_search.specs.Takes.{SearchState};
 
     /// A search at its start: no schedule was found, and the root stands for all.
     fn new(alloc: Global, project: Arc<Project>, root: Arc<Lean>) -> Result<Search, AllocError>

@@ -1,25 +1,44 @@
 -- What has started less what has ended, counted along two orders, is what is in use.
-use Rattle.std.proofs.Common.{◌≡◌, ℕ, ◌+◌, ◌<◌, ◌≤◌, Bool, true, false, cond, ◌&&◌, List, [], ◌∷◌, length, get_or, take, drop, replicate, refl, sym, ap, ◌∙◌, arith, ⊎_elim}
-use Rattle.std.specs.Prelude.{ℤ, pos, negsuc, ◌+ℤ◌, ◌≤ℤ◌, ◌<ℤ◌, int_le, int_lt, unsigned_abs}
+use Rattle.std.proofs.Common.{ℕ, zero, suc, ◌≤◌, List, [], ◌∷◌, get_or, arith, ◌≡◌, ◌+◌, ◌<◌, Bool, true, false, cond, ◌&&◌, length, take, drop, replicate, refl, sym, ap, ◌∙◌, ℤ, pos, ◌≤ℤ◌, unsigned_abs, negsuc, ◌+ℤ◌, ◌<ℤ◌, int_le, int_lt}
 use Rattle.std.specs.List.{All, AllByRecursion, sum_by, filter}
 use Rattle.std.proofs.lemmas.Int.{ints, by_lt_z}
-use Rattle.std.proofs.lemmas.Bool.{cases_lt}
-use Rattle.std.proofs.lemmas.List.{get_or-take, get_or-drop, get_or-replicate, length-take, length-drop, length-replicate, get_or_default, with_items_is}
 use Rattle.std.proofs.lemmas.List.Elements.{recursion_from_All, All-from_get_or}
+use Rattle.network.specs.Problem.{Problem, duration, demand, IsProject, IsAmount, activity_count, activities, resource_count, AreStarts}
+use Rattle.network.specs.declared.limits.TheConstants.{MAX_AMOUNT, MAX_ACTIVITIES}
+use Rattle.std.proofs.lemmas.List.{get_or-take, get_or-drop, get_or-replicate, length-take, length-drop, length-replicate, get_or_default, with_items_is}
 use Rattle.std.proofs.lemmas.List.Sums.{sum_by-cons, sum_by-take-drop, sum_by-take-le, sum_by-le, sum_by_more}
 use Rattle.std.specs.Global.{Vec}
 use Rattle.std.specs.Vec.{with_items}
 use Rattle.std.specs.List.Sorted.{IsPermutation}
 use Rattle.std.proofs.lemmas.List.Sorted.{sum_by-IsPermutation, IsPermutation-trans}
-use Rattle.network.specs.Problem.{Problem, activity_count, activities, resource_count, duration, demand}
-use Rattle.network.specs.Limits.{IsProject, AreStarts}
-use Rattle.network.specs.declared.limits.TheConstants.{MAX_ACTIVITIES, MAX_AMOUNT}
 use Rattle.network.specs.Schedule.{start, is_running, use_at}
 use Rattle.orders.specs.Orders.{HaveKeys, Rises}
 use Rattle.orders.proofs.OrderLaws.{order_long, order_inside, have_keys}
-use Rattle.profile.specs.declared.counting.Count.{Count}
-use Rattle.profile.specs.Counts.{end_time, AreEnds, HasRoomFor, time_at, IsCount, HasPassed, HasCome, IsSameOrder, AreReady, AddsDemands, EndsLess, counted_use}
-use Rattle.profile.proofs.Amounts.{demand_small, duration_nonnegative}
+use Rattle.profile.specs.Counts.{end_time, AreEnds, HasRoomFor, time_at, IsCount, HasCome, IsSameOrder, AreReady, AddsDemands, EndsLess, counted_use, Count}
+
+-- ---- Durations and demands are within the limits.
+
+-- what holds of each element and of the default holds at each index
+get_or-all : {X : Type 0} (P : X → Type 0) (xs : List X) (d : X) → AllByRecursion P xs → P d → (i : ℕ) → P (get_or xs i d)
+get_or-all P [] d all h i = h
+get_or-all P (x ∷ xs) d all h zero = all.0
+get_or-all P (x ∷ xs) d all h (suc i) = get_or-all P xs d all.1 h i
+
+abs_small : (z : ℤ) → IsAmount z → unsigned_abs z ≤ unsigned_abs MAX_AMOUNT
+abs_small z h = let low = h.at_least in let high = h.at_most in omega (arith, ints)
+
+zero_amount : IsAmount (pos 0)
+zero_amount = record { at_least = omega (arith, ints); at_most = omega (arith, ints) }
+
+-- a demand is within the limits
+pub demand_small : (p : Problem) → IsProject p → (k i : ℕ) → demand p k i ≤ unsigned_abs MAX_AMOUNT
+demand_small p is k i =
+    let row = get_or-all (All IsAmount) p.demands [] (recursion_from_All (All IsAmount) p.demands is.demands_fit) (λ j d lt. absurd (omega arith)) i in
+    abs_small (get_or (get_or p.demands i []) k (pos 0))
+    (get_or-all IsAmount (get_or p.demands i []) (pos 0) (recursion_from_All IsAmount (get_or p.demands i []) row) zero_amount k)
+
+pub duration_nonnegative : (p : Problem) → IsProject p → (i : ℕ) → pos 0 ≤ℤ duration p i
+duration_nonnegative p is i = (get_or-all IsAmount p.durations (pos 0) (recursion_from_All IsAmount p.durations is.durations_fit) zero_amount i).at_least
 
 -- ---- sums over the elements that pass a test
 
@@ -106,13 +125,6 @@ counts_small p c is =
     let each : All (λ i. demand p k i ≤ unsigned_abs MAX_AMOUNT) order = λ j d l. demand_small p is.limits k (get_or order j d) in
     let few : activity_count p ≤ MAX_ACTIVITIES = is.limits.activity_limit in
     omega (arith, is.sums k (rw is.sized.columns at lt), sum_by-take-le (demand p k) order c.passed, sum_by-le (demand p k) (unsigned_abs MAX_AMOUNT) order each, order_long (activity_count p) order is.sized.is_order))
-
-pub past_further : (c : Count) (t : ℤ) → HasPassed c t → time_at c c.passed ≤ℤ t → (i : ℕ) → i < c.passed + 1 → time_at c i ≤ℤ t
-past_further c t past here i below =
-    ⊎_elim
-    (λ (before : i < c.passed). past i before)
-    (λ (last : c.passed ≤ i). let same : i ≡ c.passed = omega arith in rw same here)
-    (cases_lt i c.passed)
 
 -- ---- the totals by activity
 

@@ -1,11 +1,10 @@
 -- What has been counted along an order of the activities, up to a time.
 use Rattle.std.specs.Prelude.{◌≡◌, ℕ, ◌+◌, ◌-◌, ◌<◌, ◌≤◌, ℤ, pos, ◌+ℤ◌, ◌≤ℤ◌, ◌<ℤ◌, List, length, take, slice_index, slice_index_or}
 use Rattle.std.specs.List.{sum_by}
-use Rattle.network.specs.Problem.{Problem, activity_count, resource_count, duration, demand, capacity}
-use Rattle.network.specs.Limits.{IsProject, AreStarts}
+use Rattle.network.specs.Problem.{Problem, activity_count, resource_count, duration, demand, capacity, IsProject, AreStarts}
 use Rattle.network.specs.Schedule.{start}
 use Rattle.orders.specs.Orders.{IsOrder, Rises, key_at}
-use Rattle.profile.specs.declared.counting.Count.{Count}
+pub use Rattle.profile.specs.declared.counting.Count.{Count}
 
 -- when an activity ends
 abbrev pub end_time : Problem → List ℤ → ℕ → ℤ

@@ -2,8 +2,7 @@
 
 ghost use Rattle.std.specs.Prelude.{◌≡◌, replicate, ◌+◌, ◌<◌, ◌≤◌, length, IfOk, MatchOption};
 ghost use Rattle.std.specs.List.{All};
-ghost use Rattle.network.specs.Problem.{activity_count, resource_count};
-ghost use Rattle.network.specs.Limits.{AreStarts};
+ghost use Rattle.network.specs.Problem.{activity_count, resource_count, AreStarts};
 ghost use Rattle.std.specs.List.Sorted.{IsPermutation};
 ghost use Rattle.orders.specs.Orders.{HaveKeys, Rises};
 ghost use Rattle.profile.specs.Counts.{AddsDemands, AreEnds, HasRoomFor, IsCount, IsWhole, IsNextTime, HasPassed, HasCome, IsSameOrder};

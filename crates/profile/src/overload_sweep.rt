@@ -1,10 +1,9 @@
 //! The buffers in which overloads are found.
 
 ghost use Rattle.std.specs.Prelude.{◌≡◌, IfOk, IfSome, IfNone};
-ghost use Rattle.network.specs.Limits.{AreStarts};
+ghost use Rattle.network.specs.Problem.{AreStarts};
 ghost use Rattle.network.specs.Schedule.{running, IsWithinCapacities};
-ghost use Rattle.profile.specs.Overloads.{IsFirstOverload, TellsUse, start_times, excesses};
-ghost use Rattle.profile.specs.SweepOf.{IsSweepFor};
+ghost use Rattle.profile.specs.Overloads.{IsFirstOverload, TellsUse, start_times, excesses, IsSweepFor};
 
 use crate::counting::Count;
 use crate::overload::Excess;
@@ -26,7 +25,7 @@ pub struct OverloadSweep {
 
 impl Model for OverloadSweep {
     ghost use Rattle.std.specs.Prelude.{length, vec_capacity};
-    ghost use Rattle.profile.specs.SweepOf.{SweepOf, HasRoom};
+    ghost use Rattle.profile.specs.Overloads.{SweepOf, HasRoom};
 
     ghost Value = { SweepOf };
 

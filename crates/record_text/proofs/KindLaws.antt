@@ -1,19 +1,16 @@
 -- The text of a record, whatever its kind, has no fault, and is that of no other record; a text has one first fault.
-use Rattle.std.proofs.Common.{◌≡◌, ◌≢◌, ℕ, ◌<◌, ◌≤◌, List, [], ◌∷◌, ◌++◌, map, length, refl, sym, ap, ◌∙◌, subst, arith, append_assoc, append-nil, length-append, ◌⊎◌, inl, inr, ◌+◌}
-use Rattle.std.specs.Prelude.{Result, Ok, Err, IfOk, IfErr, MatchResult}
+use Rattle.std.proofs.Common.{◌≡◌, ◌≢◌, ℕ, ◌<◌, ◌≤◌, List, [], ◌∷◌, ◌++◌, map, length, refl, sym, ap, ◌∙◌, subst, arith, append_assoc, append-nil, length-append, ◌⊎◌, inl, inr, ◌+◌, Result, Ok, Err, IfOk, IfErr, MatchResult}
 use Rattle.std.specs.List.{AllByRecursion}
-use Rattle.record_text.specs.declared.TheConstants.{MAX_RECORD_BYTES}
 use Rattle.record_text.specs.declared.fault.RecordFault.{RecordFault}
 use Rattle.record_text.specs.declared.fault.Why.{Why}
 use Rattle.record_text.specs.declared.fault.Why.TheVariants as why
-use Rattle.record_text.specs.Kinds.{RecordOf, Kind, head_rows, rows_of, record_text, IsRecord, Spells, AreRows}
+use Rattle.record_text.specs.Kinds.{RecordOf, Kind, head_rows, rows_of, record_text, IsRecord, Spells, AreRows, MAX_RECORD_BYTES}
 use Rattle.record_text.specs.Rows as rows
 use Rattle.record_text.specs.Rows.{line_pieces, RowFault, Begin, HasRowFault, IsNeverLonger, missing}
 use Rattle.record_text.specs.TextFaults.{HasFault, IsFirstTextFault, IsMissing, IsOther, IsTitleFault, RecordIsOne, FirstFaultIsOne, FaultIsNoRecord, why_of, form}
 use Rattle.record_text.proofs.FirstWrong.{fault_at}
 use Rattle.record_text.proofs.Leads.{Rules, Leads, Grammar, none_more}
-use Rattle.record_text.proofs.Pieces.{HasNone, text_from, pieces_of}
-use Rattle.record_text.proofs.Rows.{Stands, missing_at, form_at, same_rows, whole_no_fault, one_fault}
+use Rattle.record_text.proofs.Rows.{HasNone, text_from, pieces_of, Stands, missing_at, form_at, same_rows, whole_no_fault, one_fault}
 
 -- what is proved of a kind of record by itself: whole lines are read one after another, a claim's rows say one claim, a
 -- claim that a text can hold, and no row has an LF

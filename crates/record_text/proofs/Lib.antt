@@ -1,12 +1,6 @@
-pub mod Shapes
+pub mod TextLaws
 pub mod RowReads
-pub mod LineReads
-pub mod HeadReads
-pub mod Pieces
 pub mod Rows
 pub mod Leads
 pub mod KindLaws
-pub mod TreeLines
-pub mod TextLaws
-pub mod RowFaults
 pub mod FirstWrong

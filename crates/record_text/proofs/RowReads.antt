@@ -1,19 +1,25 @@
 -- Reading rows: what is read is spelled so, and what is spelled is read.
-use Rattle.std.proofs.Common.{◌≡◌, ℕ, zero, suc, ◌<◌, ◌≤◌, ◌^◌, List, [], ◌∷◌, ◌++◌, map, length, get_or, Option, Some, None, Bool, true, false, cond, ◌&&◌, eqb, refl, sym, ap, ◌∙◌, subst, arith, rules, length-append}
+use Rattle.std.proofs.Common.{◌≡◌, ℕ, zero, suc, ◌<◌, ◌≤◌, ◌^◌, List, [], ◌∷◌, ◌++◌, map, length, get_or, Option, Some, None, Bool, true, false, cond, ◌&&◌, eqb, refl, sym, ap, ◌∙◌, subst, arith, rules, length-append, not, append-nil, ◌≢◌, ℤ, pos, negsuc, codes}
 use Rattle.std.specs.List.{slice_index, list_all, join_with_byte, All, AllByRecursion}
 use Rattle.std.specs.Char.{is_ascii_digit}
 use Rattle.std.specs.Fmt.{decimal}
 use Rattle.std.specs.Str.Parse.{digits_value}
 use Rattle.std.proofs.lemmas.Fmt.{digits_decimal, digits_value-decimal, length-decimal-le, decimal_digit, decimal_nonempty, first_decimal, decimal-digits_value}
 use Rattle.std.proofs.Math.Bool.{and-false}
-use Rattle.std.proofs.lemmas.Bool.{and_parts, ne_eqb}
+use Rattle.std.proofs.lemmas.Bool.{and_parts, ne_eqb, not-true}
 use Rattle.std.proofs.lemmas.List.Splits.{slice_split_at, slice_split_none, join_with_byte-slice_split}
-use Rattle.record_text.specs.Text.{IsNumber, spaced}
-use Rattle.record_text.specs.Reading.{has_leading_zero, number, with_number, numbers, Parts, with_word, parts_of, fields}
-use Rattle.words.specs.Numbers.{is_numeral, natural}
-use Rattle.words.proofs.NumberLaws.{AreDigits, numerals, digits_value-below, natural-Some}
+use Rattle.record_text.specs.Text.{IsNumber, spaced, IsWritableLine, row_of, IsWritableTime, IsWritableClaim, spaced_times, claim_rows}
+use Rattle.record_text.specs.Reading.{has_leading_zero, number, with_number, numbers, Parts, with_word, parts_of, fields, leaf, force_of, split_of, line_from, line_in, line_of, numbers_in, numbers_after, only_time, makespan_in, some_times, starts_in}
+use Rattle.words.specs.Words.{is_numeral, natural}
+use Rattle.words.proofs.WordLaws.{AreDigits, numerals, digits_value-below, natural-Some}
 use Rattle.std.proofs.lemmas.Bool.Decides.{nat_tests}
-use Rattle.record_text.specs.declared.numeral.TheConstants.{MAX_NUMBER_DIGITS}
+use Rattle.record_text.specs.declared.fields.TheConstants.{MAX_NUMBER_DIGITS}
+use Rattle.std.specs.Str.{bytes_eq}
+use Rattle.std.proofs.lemmas.List.Elements.{All-nil, All-cons}
+use Rattle.record_text.specs.declared.line.Line.TheVariants as kind
+use Rattle.record_text.specs.Tree.{HasMembers, count_members, Line, Claim}
+use Rattle.std.specs.Cmp.Lexicographic.{same_text}
+use Rattle.record_text.specs.declared.line.Claim.TheVariants as claims
 
 abbrev pub left_size : Option (List ℕ) → ℕ
 left_size (Some rest) = suc (length rest)
@@ -146,3 +152,168 @@ all_numbers (n ∷ ns) all (suc k) d lt = all_numbers ns all.1 k d (omega arith)
 pub spaced_long : (ns : List ℕ) → length ns ≤ length (spaced ns)
 spaced_long [] = omega arith
 spaced_long (n ∷ ns) = omega (arith, spaced_long ns, length-append (32 ∷ decimal n) (spaced ns))
+
+-- ---- Reading the line that a row is.
+
+-- what a word that is tested to be none has
+abbrev plain : List ℕ → Type 0
+plain word = All (λ b. is_space b ≡ false) word
+
+pub plain_word : (word : List ℕ) → list_all (λ b. not (is_space b)) word ≡ true → plain word
+plain_word [] h = All-nil (λ b. is_space b ≡ false)
+plain_word (b ∷ bs) h = let p = and_parts (not (is_space b)) _ h in All-cons (λ b. is_space b ≡ false) b bs (not-true (is_space b) p.0) (plain_word bs p.1)
+
+-- ---- what is spelled is read
+
+pub line_again : (line : Line) → IsWritableLine line → HasMembers line → line_of (row_of line) ≡ Some line
+line_again (kind.Force pair) small some = ap line_in (parts_again (codes "force") (pair.before ∷ pair.after ∷ []) (plain_word (codes "force") refl) (small.0, (small.1, tt)))
+line_again kind.Solved small some = ap line_in (parts_again (codes "solved") [] (plain_word (codes "solved") refl) tt)
+line_again kind.Cut small some = ap line_in (parts_again (codes "cut") [] (plain_word (codes "cut") refl) tt)
+line_again kind.Dead small some = ap line_in (parts_again (codes "dead") [] (plain_word (codes "dead") refl) tt)
+line_again (kind.Split resource []) small some = absurd (omega arith)
+line_again (kind.Split resource (i ∷ members)) small some = ap line_in (parts_again (codes "split") (resource ∷ i ∷ members) (plain_word (codes "split") refl) (small.0, small.1))
+
+-- ---- what is read is spelled so
+
+-- the line's row is this word and these numbers
+record Said (word : List ℕ) (ns : List ℕ) (line : Line) : Type 0 where
+  row : row_of line ≡ word ++ spaced ns
+  small : IsWritableLine line
+  some : HasMembers line
+
+force_said : (ns : List ℕ) (line : Line) → AllByRecursion IsNumber ns → force_of ns ≡ Some line → Said (codes "force") ns line
+force_said (i ∷ j ∷ []) line all h = let is : line ≡ kind.Force (record { before = i; after = j }) = cc in rw is (record { row = refl; small = (all.0, all.1.0); some = tt })
+force_said ns line all h = absurd cc
+
+split_said : (ns : List ℕ) (line : Line) → AllByRecursion IsNumber ns → split_of ns ≡ Some line → Said (codes "split") ns line
+split_said (i ∷ j ∷ ns) line all h = let is : line ≡ kind.Split i (j ∷ ns) = cc in rw is (record { row = refl; small = (all.0, all.1); some = omega arith })
+split_said ns line all h = absurd cc
+
+leaf_said : (own line : Line) (ns : List ℕ) → IsWritableLine own → HasMembers own → leaf own ns ≡ Some line → Said (row_of own) ns line
+leaf_said own line [] small some h = let is : line ≡ own = cc in rw is (record { row = sym (append-nil (row_of own)); small = small; some = some })
+leaf_said own line (n ∷ ns) small some h = absurd cc
+
+-- a word that is the text, or another
+pub said_or : {A : Type 0} (P : List ℕ → Type 0) (word text : List ℕ) (a b : Option A) (x : A) → (a ≡ Some x → P text) → (b ≡ Some x → P word) → cond (bytes_eq word text) a b ≡ Some x → P word
+said_or {A} P word text a b x one other h = by_test (bytes_eq word text) refl h
+  where
+    by_test : (t : Bool) → bytes_eq word text ≡ t → cond t a b ≡ Some x → P word
+    by_test true e h = subst P (sym (same_text word text (sym e))) (one h)
+    by_test false e h = other h
+
+line_said : (word ns : List ℕ) (line : Line) → AllByRecursion IsNumber ns → line_from word ns ≡ Some line → Said word ns line
+line_said word ns line all h =
+    let P : List ℕ → Type 0 = λ w. Said w ns line in
+    said_or P word (codes "force") (force_of ns) _ line (force_said ns line all) (λ h.
+    said_or P word (codes "split") (split_of ns) _ line (split_said ns line all) (λ h.
+    said_or P word (codes "solved") (leaf kind.Solved ns) _ line (leaf_said kind.Solved line ns tt tt) (λ h.
+    said_or P word (codes "cut") (leaf kind.Cut ns) _ line (leaf_said kind.Cut line ns tt tt) (λ h.
+    said_or P word (codes "dead") (leaf kind.Dead ns) None line (leaf_said kind.Dead line ns tt tt) (λ h. absurd cc) h) h) h) h) h
+
+pub line_takes : (row : List ℕ) (line : Line) → line_of row ≡ Some line → (row_of line ≡ row) × IsWritableLine line × HasMembers line
+line_takes row line h = by_parts (parts_of (fields row)) refl h
+  where
+    by_parts : (o : Option Parts) → parts_of (fields row) ≡ o → line_in o ≡ Some line → (row_of line ≡ row) × IsWritableLine line × HasMembers line
+    by_parts None e h = absurd cc
+    by_parts (Some p) e h = let t = parts_take row p e in let s = line_said p.word p.numbers line t.1 h in (s.row ∙ sym t.0, s.small, s.some)
+
+few_members : (line : Line) → count_members line ≤ length (row_of line)
+few_members (kind.Split resource members) = omega (arith, spaced_long (resource ∷ members), length-append (codes "split") (spaced (resource ∷ members)))
+few_members line = omega arith
+
+pub members_fit : (row : List ℕ) (line : Line) → line_of row ≡ Some line → count_members line ≤ length row
+members_fit row line h = omega (arith, few_members line, ap length (line_takes row line h).0)
+
+-- ---- Reading the rows of a claim.
+
+-- ---- times as numbers
+
+-- times that a text can hold are numbers
+pub record Numbers (times : List ℤ) : Type 0 where
+  pub numbers : List ℕ
+  pub is : times ≡ map pos numbers
+  pub small : AllByRecursion IsNumber numbers
+
+pub numbers_of : (times : List ℤ) → AllByRecursion IsWritableTime times → Numbers times
+numbers_of [] all = record { numbers = []; is = refl; small = tt }
+numbers_of (pos n ∷ times) all = let more = numbers_of times all.1 in record { numbers = n ∷ more.numbers; is = ap (λ (ts : List ℤ). pos n ∷ ts) more.is; small = (all.0, more.small) }
+numbers_of (negsuc n ∷ times) all = absurd all.0
+
+pub spaced_as_times : (ns : List ℕ) → spaced_times (map pos ns) ≡ spaced ns
+spaced_as_times [] = refl
+spaced_as_times (n ∷ ns) = ap (λ (rest : List ℕ). (32 ∷ decimal n) ++ rest) (spaced_as_times ns)
+
+pub writable_times : (ns : List ℕ) → AllByRecursion IsNumber ns → AllByRecursion IsWritableTime (map pos ns)
+writable_times [] all = tt
+writable_times (n ∷ ns) all = (all.0, writable_times ns all.1)
+
+-- ---- numbers after a word
+
+pub after_again : (word : List ℕ) (ns : List ℕ) → list_all (λ b. not (is_space b)) word ≡ true → bytes_eq word word ≡ true → AllByRecursion IsNumber ns → numbers_after word (word ++ spaced ns) ≡ Some ns
+after_again word ns plain same all = rw (parts_again word ns (plain_word word plain) all, same) refl
+
+pub after_takes : (word row ns : List ℕ) → numbers_after word row ≡ Some ns → (row ≡ word ++ spaced ns) × AllByRecursion IsNumber ns
+after_takes word row ns h = by_parts (parts_of (fields row)) refl h
+  where
+    by_test : (p : Parts) → parts_of (fields row) ≡ Some p → (b : Bool) → bytes_eq p.word word ≡ b → cond b (Some p.numbers) None ≡ Some ns → (row ≡ word ++ spaced ns) × AllByRecursion IsNumber ns
+    by_test p e false f h = absurd cc
+    by_test p e true f h =
+        let t = parts_take row p e in
+        let is : p.numbers ≡ ns = cc in
+        (t.0 ∙ ap (λ (w : List ℕ). w ++ spaced p.numbers) (same_text p.word word (sym f)) ∙ ap (λ (v : List ℕ). word ++ spaced v) is, subst (AllByRecursion IsNumber) is t.1)
+
+    by_parts : (o : Option Parts) → parts_of (fields row) ≡ o → numbers_in word o ≡ Some ns → (row ≡ word ++ spaced ns) × AllByRecursion IsNumber ns
+    by_parts None e h = absurd cc
+    by_parts (Some p) e h = by_test p e (bytes_eq p.word word) refl h
+
+-- ---- the makespan
+
+pub makespan_again : (z : ℤ) → IsWritableTime z → makespan_in (codes "optimal" ++ spaced_times (z ∷ [])) ≡ Some z
+makespan_again (pos n) small = ap only_time (after_again (codes "optimal") (n ∷ []) refl refl (small, tt))
+makespan_again (negsuc n) small = absurd small
+
+pub makespan_takes : (row : List ℕ) (z : ℤ) → makespan_in row ≡ Some z → (row ≡ codes "optimal" ++ spaced_times (z ∷ [])) × IsWritableTime z
+makespan_takes row z h = by_numbers (numbers_after (codes "optimal") row) refl h
+  where
+    by_numbers : (o : Option (List ℕ)) → numbers_after (codes "optimal") row ≡ o → only_time o ≡ Some z → (row ≡ codes "optimal" ++ spaced_times (z ∷ [])) × IsWritableTime z
+    by_numbers (Some (n ∷ [])) e h =
+        let t = after_takes (codes "optimal") row (n ∷ []) e in
+        let is : z ≡ pos n = cc in
+        rw is (t.0, t.1.0)
+    by_numbers o e h = absurd cc
+
+-- ---- the starts
+
+pub starts_again : (times : List ℤ) → 0 < length times → AllByRecursion IsWritableTime times → starts_in (codes "starts" ++ spaced_times times) ≡ Some times
+starts_again times some all = let n = numbers_of times all in rw n.is (as_numbers n.numbers n.small (subst (λ (ts : List ℤ). 0 < length ts) n.is some))
+  where
+    as_numbers : (ns : List ℕ) → AllByRecursion IsNumber ns → 0 < length (map pos ns) → starts_in (codes "starts" ++ spaced_times (map pos ns)) ≡ Some (map pos ns)
+    as_numbers [] all some = absurd (omega arith)
+    as_numbers (n ∷ ns) all some = ap (λ (text : List ℕ). starts_in (codes "starts" ++ text)) (spaced_as_times (n ∷ ns)) ∙ ap some_times (after_again (codes "starts") (n ∷ ns) refl refl all)
+
+pub starts_take : (row : List ℕ) (times : List ℤ) → starts_in row ≡ Some times → (row ≡ codes "starts" ++ spaced_times times) × (0 < length times) × AllByRecursion IsWritableTime times
+starts_take row times h = by_numbers (numbers_after (codes "starts") row) refl h
+  where
+    by_numbers : (o : Option (List ℕ)) → numbers_after (codes "starts") row ≡ o → some_times o ≡ Some times → (row ≡ codes "starts" ++ spaced_times times) × (0 < length times) × AllByRecursion IsWritableTime times
+    by_numbers (Some (n ∷ ns)) e h =
+        let t = after_takes (codes "starts") row (n ∷ ns) e in
+        let is : times ≡ map pos (n ∷ ns) = cc in
+        rw is (t.0 ∙ ap (λ (text : List ℕ). codes "starts" ++ text) (sym (spaced_as_times (n ∷ ns))), omega arith, writable_times (n ∷ ns) t.1)
+    by_numbers o e h = absurd cc
+
+-- ---- a claim's rows say one claim
+
+pub other_word : (z : ℤ) → codes "no schedule" ≢ (codes "optimal" ++ spaced_times (z ∷ []))
+other_word z h = let e : 110 ≡ 111 = ap (λ (text : List ℕ). get_or text 0 0) h in omega (arith, e)
+
+pub claim_injective : (a b : Claim) (x y : List (List ℕ)) → IsWritableClaim a → IsWritableClaim b → claim_rows a ++ x ≡ claim_rows b ++ y → (a ≡ b) × (x ≡ y)
+claim_injective claims.NoSchedule claims.NoSchedule x y wa wb h = (refl, cc)
+claim_injective claims.NoSchedule (claims.Optimal m S) x y wa wb h = let e : codes "no schedule" ≡ codes "optimal" ++ spaced_times (m ∷ []) = cc in absurd (other_word m e)
+claim_injective (claims.Optimal m S) claims.NoSchedule x y wa wb h = let e : codes "no schedule" ≡ codes "optimal" ++ spaced_times (m ∷ []) = cc in absurd (other_word m e)
+claim_injective (claims.Optimal m S) (claims.Optimal n T) x y wa wb h =
+    let e : codes "optimal" ++ spaced_times (m ∷ []) ≡ codes "optimal" ++ spaced_times (n ∷ []) = cc in
+    let f : codes "starts" ++ spaced_times S ≡ codes "starts" ++ spaced_times T = cc in
+    let rest : x ≡ y = cc in
+    let p : Some m ≡ Some n = sym (makespan_again m wa.0) ∙ ap makespan_in e ∙ makespan_again n wb.0 in
+    let q : Some S ≡ Some T = sym (starts_again S wa.1 wa.2) ∙ ap starts_in f ∙ starts_again T wb.1 wb.2 in
+    (cc, rest)

@@ -1,7 +1,7 @@
 -- What the text of a record is, whatever its kind.
 use Rattle.std.specs.Prelude.{◌≡◌, ℕ, ◌≤◌, List, [], ◌∷◌, ◌++◌, map, length}
 use Rattle.std.specs.List.{flat_map, AllByRecursion}
-use Rattle.record_text.specs.declared.TheConstants.{MAX_RECORD_BYTES}
+pub use Rattle.record_text.specs.declared.TheConstants.{MAX_RECORD_BYTES}
 
 -- what a record says: a claim, and the lines that show it
 pub record RecordOf (Claim Line : Type 0) : Type 0 where

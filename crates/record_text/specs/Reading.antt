@@ -2,9 +2,8 @@
 use Rattle.std.specs.Prelude.{ℕ, ℤ, pos, map, ◌==◌, ◌&&◌, if◌then◌else◌, Bool, Option, Some, None, List, [], ◌∷◌, codes, nat_lt, length}
 use Rattle.std.specs.List.{slice_index}
 use Rattle.std.specs.Str.{bytes_eq}
-use Rattle.words.specs.Words.{pieces}
-use Rattle.words.specs.Numbers.{natural}
-use Rattle.record_text.specs.declared.numeral.TheConstants.{MAX_NUMBER_DIGITS}
+use Rattle.words.specs.Words.{pieces, natural}
+use Rattle.record_text.specs.declared.fields.TheConstants.{MAX_NUMBER_DIGITS}
 use Rattle.record_text.specs.declared.line.Line.{Line}
 use Rattle.record_text.specs.declared.line.Line.TheVariants as kind
 

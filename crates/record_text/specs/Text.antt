@@ -2,14 +2,11 @@
 use Rattle.std.specs.Prelude.{ℕ, ◌<◌, ◌^◌, ℤ, pos, negsuc, List, [], ◌∷◌, ◌++◌, codes, length}
 use Rattle.std.specs.List.{flat_map, AllByRecursion}
 use Rattle.std.specs.Fmt.{decimal, signed_decimal}
-use Rattle.record_text.specs.declared.numeral.TheConstants.{MAX_NUMBER_DIGITS}
-use Rattle.record_text.specs.declared.line.Claim.{Claim}
+use Rattle.record_text.specs.declared.fields.TheConstants.{MAX_NUMBER_DIGITS}
 use Rattle.record_text.specs.declared.line.Claim.TheVariants as claims
-use Rattle.record_text.specs.declared.line.Line.{Line}
 use Rattle.record_text.specs.declared.line.Line.TheVariants as kind
-use Rattle.record_text.specs.Tree.{Tree}
+use Rattle.record_text.specs.Tree.{Tree, IsTreeOf, Claim, Line}
 use Rattle.record_text.specs.Kinds.{Kind, ended}
-use Rattle.record_text.specs.SearchRecord.{IsTreeOf}
 
 -- each number with a space before it
 abbrev pub spaced : List ℕ → List ℕ

@@ -1,10 +1,9 @@
 -- The first fault of a text that is no record's.
 use Rattle.std.specs.Prelude.{◌≡◌, ◌≢◌, ℕ, ◌<◌, ◌≤◌, ◌⊎◌, Option, None, Result, MatchResult, List, [], ◌∷◌, length}
-use Rattle.record_text.specs.declared.TheConstants.{MAX_RECORD_BYTES}
 use Rattle.record_text.specs.declared.fault.RecordFault.{RecordFault}
 use Rattle.record_text.specs.declared.fault.Why.{Why}
 use Rattle.record_text.specs.declared.fault.Why.TheVariants as why
-use Rattle.record_text.specs.Kinds.{RecordOf, Kind, AreRows, Spells}
+use Rattle.record_text.specs.Kinds.{RecordOf, Kind, AreRows, Spells, MAX_RECORD_BYTES}
 use Rattle.record_text.specs.Rows as rows
 use Rattle.record_text.specs.Rows.{RowFault, HasRowFault, line_pieces, missing}
 

@@ -1,8 +1,10 @@
 -- The tree of a record, and its lines.
-use Rattle.std.specs.Prelude.{◌≡◌, ℕ, suc, ◌-◌, ◌*◌, ◌<◌, List, [], ◌∷◌, ◌++◌, length}
-use Rattle.network.specs.declared.lag.Pair.{Pair}
-use Rattle.record_text.specs.declared.line.Line.{Line}
+use Rattle.std.specs.Prelude.{◌≡◌, ℕ, suc, ◌-◌, ◌*◌, ◌<◌, List, [], ◌∷◌, ◌++◌, length, ◌+◌}
+use Rattle.network.specs.declared.parts.Pair.{Pair}
+pub use Rattle.record_text.specs.declared.line.Line.{Line}
 use Rattle.record_text.specs.declared.line.Line.TheVariants as kind
+pub use Rattle.record_text.specs.declared.line.Claim.{Claim}
+use Rattle.record_text.specs.Kinds.{RecordOf}
 
 -- a node: forced pairs, then a leaf, or a split of a resource's members with a node for each ordered
 -- pair of them
@@ -49,3 +51,35 @@ abbrev mutual
   pub lines_of_all : Trees → List Line
   lines_of_all no_trees = []
   lines_of_all (tree t ts) = lines_of t ++ lines_of_all ts
+
+-- ---- Which lists of lines are those of a tree, by a count of the nodes that must still come.
+
+-- how many nodes must still come after a line, where so many had to before it
+abbrev pub still_due : ℕ → Line → ℕ
+still_due due (kind.Force pair) = due
+still_due due (kind.Split resource members) = due - 1 + pair_count members
+still_due due leaf = due - 1
+
+abbrev pub HasMembers : Line → Type 0
+HasMembers (kind.Split resource members) = 0 < length members
+HasMembers line = Unit {0}
+
+-- these lines are just so many nodes
+abbrev pub Completes : ℕ → List Line → Type 0
+Completes due [] = due ≡ 0
+Completes due (line ∷ lines) = (0 < due) × HasMembers line × Completes (still_due due line) lines
+
+abbrev pub count_members : Line → ℕ
+count_members (kind.Split resource members) = length members
+count_members line = 0
+
+-- ---- What a record of a search says.
+
+-- a claim, and the lines of the tree that shows it
+abbrev pub SearchRecord : Type 0
+SearchRecord = RecordOf Claim Line
+
+-- the tree whose lines these are
+pub record IsTreeOf (lines : List Line) (t : Tree) : Type 0 where
+  pub shape : IsTree t
+  pub spelled : lines_of t ≡ lines

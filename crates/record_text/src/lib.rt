@@ -6,10 +6,8 @@
 
 mod fault;
 mod fields;
-mod laws;
 mod line;
 mod listed;
-mod numeral;
 mod read;
 mod record;
 mod row;
@@ -18,13 +16,11 @@ mod text_rows;
 mod write;
 
 pub use fault::{RecordFault, Why};
-pub use fields::{numbers, numbers_after, split_field};
-pub use laws::{shape_law, text_law};
+pub use fields::{MAX_NUMBER_DIGITS, number, numbers, numbers_after, split_field};
 pub use line::{Claim, Line};
 pub use listed::{Listed, Members, Starts};
-pub use numeral::{MAX_NUMBER_DIGITS, number};
 pub use read::tree_line;
-pub use record::Record;
+pub use record::{Record, text_law};
 pub use starts::read_starts;
 pub use text_rows::{after_title, next_row};
 pub use write::{put_numbers, put_times};

@@ -6,7 +6,7 @@ ghost use Rattle.record_text.specs.Text.{IsWritableClaim, claim_rows, row_of, se
 ghost use Rattle.record_text.specs.Rows.{line_pieces};
 ghost use Rattle.record_text.specs.TextFaults.{IsFormFault, HasFault};
 ghost use Rattle.record_text.specs.Reading.{makespan_in, starts_in};
-ghost use Rattle.record_text.specs.Shape.{still_due, count_members};
+ghost use Rattle.record_text.specs.Tree.{still_due, count_members};
 ghost use Rattle.record_text.specs.declared.fault.Why.TheVariants.{Memory};
 
 use crate::MAX_RECORD_BYTES;

@@ -1,10 +1,10 @@
 //! A record of a search, and its text.
 
-ghost use Rattle.std.specs.Prelude.{◌≡◌, ◌≢◌, ◌≤◌, length, IfOk, OnOk, IfErr};
-ghost use Rattle.record_text.specs.SearchRecord.{SearchRecord};
-ghost use Rattle.record_text.specs.Kinds.{IsRecord, Spells, record_text};
 ghost use Rattle.record_text.specs.Text.{search_kind};
-ghost use Rattle.record_text.specs.TextFaults.{IsFirstTextFault, IsReadAs};
+ghost use Rattle.record_text.specs.TextFaults.{RecordIsOne, FirstFaultIsOne, FaultIsNoRecord, IsFirstTextFault, IsReadAs};
+ghost use Rattle.std.specs.Prelude.{◌≡◌, ◌≢◌, ◌≤◌, length, IfOk, OnOk, IfErr};
+ghost use Rattle.record_text.specs.Tree.{SearchRecord};
+ghost use Rattle.record_text.specs.Kinds.{IsRecord, Spells, record_text};
 ghost use Rattle.record_text.specs.declared.fault.Why.TheVariants.{Memory};
 
 use crate::MAX_RECORD_BYTES;
@@ -16,6 +16,13 @@ use crate::write::{put_claim, put_lines};
 use std::alloc::{AllocError, Global};
 use std::marker::Model;
 
+/// Laws over the definitions. A text is that of one record at most, or has one first fault at most, but not both.
+pub fn text_law()
+    ensures record { RecordIsOne search_kind }
+    ensures fault { FirstFaultIsOne search_kind }
+    ensures apart { FaultIsNoRecord search_kind }
+{}
+
 /// A claim, and the lines of the tree that shows it, in order. Each number is below 10,000,000,000, and
 /// starts are at least 0.
 #[derive(Drop, Debug)]
@@ -25,7 +32,7 @@ pub struct Record {
 }
 
 impl Model for Record {
-    ghost use Rattle.record_text.specs.SearchRecord.{SearchRecord};
+    ghost use Rattle.record_text.specs.Tree.{SearchRecord};
     ghost use Rattle.record_text.specs.Kinds.{IsRecord};
     ghost use Rattle.record_text.specs.Text.{search_kind};
 

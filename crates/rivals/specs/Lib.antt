@@ -1,2 +1,1 @@
 pub mod Incompatible
-pub mod IncompatibleRows

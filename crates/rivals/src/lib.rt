@@ -2,7 +2,5 @@
 #![tactic(auto)]
 
 mod incompatible;
-mod pair;
 
-pub use incompatible::{Incompatible, incompatible_activities};
-pub use pair::are_incompatible;
+pub use incompatible::{Incompatible, are_incompatible, incompatible_activities};

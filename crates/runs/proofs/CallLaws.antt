@@ -1,18 +1,21 @@
 -- What jobs answer, and what is read where they don't.
-use Rattle.std.proofs.Common.{◌≡◌, ℕ, Bool, true, false, List, Option, None, Some, Err, refl, ap, ◌∙◌, inl, inr}
-use Rattle.std.specs.Prelude.{Result}
+use Rattle.std.proofs.Common.{◌≡◌, ℕ, Bool, true, false, List, Option, None, Some, Err, refl, ap, ◌∙◌, inl, inr, ◌-◌, ◌<◌, [], ℤ, pos, length, sym, get_or, arith, Result, codes}
 use Rattle.std.specs.Option.{MatchOption}
-use Rattle.runs.specs.declared.job.Job.{Job}
 use Rattle.runs.specs.declared.job.Job.TheVariants as jobs
 use Rattle.answers.specs.declared.fault.Fault.{Fault}
 use Rattle.answers.specs.declared.fault.Fault.TheVariants as faults
-use Rattle.runs.specs.Devices.{Span}
-use Rattle.runs.specs.Runs.{HasRead, HasReadUpTo, IsNoReply, RecordsWhereAsked}
+use Rattle.runs.specs.Runs.{Span, HasRead, HasReadUpTo, IsNoReply, RecordsWhereAsked}
 use Rattle.answers.specs.Faults.{exit_of, IsSearchFault}
-use Rattle.answers.specs.Answers.{IsFoundText, IsStartedText}
+use Rattle.answers.specs.Answers.{IsFoundText, IsStartedText, starts_text, IsEarliestText}
 use Rattle.answers.specs.Outcomes.{IsAloneText}
-use Rattle.runs.specs.Jobs.{has_workers, input_limit, writes_record}
-use Rattle.runs.specs.Outcome.{SpellsOne, GivesStarts, IsFirstStartsFault, IsAnswer, IsRefusal}
+use Rattle.runs.specs.Outcome.{has_workers, input_limit, writes_record, SpellsOne, GivesStarts, IsFirstStartsFault, IsAnswer, IsRefusal, Job}
+use Rattle.std.proofs.lemmas.List.{get_or_default}
+use Rattle.std.proofs.lemmas.List.Elements.{All-nil}
+use Rattle.network.specs.declared.parts.Pair.{Pair}
+use Rattle.network.specs.Problem.{IsProject, Problem, activity_count, arcs_of}
+use Rattle.network.specs.Schedule.{makespan}
+use Rattle.network.specs.Walk.{Rows, IsMatrixOf}
+use Rattle.earliest.specs.Ends.{AreEarliestFor}
 
 -- a job without workers writes no record
 pub records_none : (job : Job) → has_workers job ≡ false → writes_record job ≡ false
@@ -104,3 +107,17 @@ write_has_reply job first second fault is = record {
   of_workers = λ bad. absurd (write_is_no_search fault is bad);
   of_search = λ bad. absurd (write_is_no_search fault is bad);
 }
+
+-- ---- What `earliest` is to write.
+
+-- the least schedule that a matrix without pairs gives, with its last start
+pub least_said : (p : Problem) (rows : Rows) (starts : List ℤ) (n : ℕ) (last d : ℤ) (text : List ℕ) → IsProject p → IsMatrixOf (activity_count p) (arcs_of p []) rows → AreEarliestFor rows starts →
+    n ≡ activity_count p → last ≡ get_or starts (n - 1) d → text ≡ starts_text (codes "earliest") last starts → IsEarliestText p 0 text
+least_said p rows starts n last d text is m earliest count at said =
+    let none = All-nil (λ (q : Pair). (q.before < activity_count p) × (q.after < activity_count p)) in
+    let are = earliest p [] (record { limits = is; named = none; matrix = m }) in
+    let long : length starts ≡ activity_count p = are.limits.count in
+    let same : n ≡ length starts = count ∙ sym long in
+    let inside : length starts - 1 < length starts = omega arith in
+    let last_is : last ≡ makespan starts = at ∙ ap (λ k. get_or starts (k - 1) d) same ∙ get_or_default starts (length starts - 1) d (pos 0) inside in
+    inl (record { starts = starts; least = are.least; text = said ∙ ap (λ z. starts_text (codes "earliest") z starts) last_is; status = refl })

@@ -1,12 +1,10 @@
 -- What was read of an input stands for all that it tells: a text within the limit is all of it, and a
 -- longer one is too long either way.
-use Rattle.std.proofs.Common.{◌≡◌, ◌≢◌, ℕ, ℤ, ◌+◌, ◌<◌, List, length, take, refl, sym, ap, subst, ◌∙◌, arith, inl, inr, ◌⊎◌, Some}
-use Rattle.std.proofs.lemmas.List.{length-take, take_all}
+use Rattle.std.proofs.Common.{◌≡◌, ◌≢◌, ℕ, ℤ, ◌+◌, ◌<◌, List, length, take, refl, sym, ap, subst, ◌∙◌, arith, inl, inr, ◌⊎◌, Some, ◌≤◌, [], ◌++◌, drop, Option, None, append-nil, length-take, take_all}
 use Rattle.std.proofs.lemmas.Bool.{cases_order, lt-ltb}
-use Rattle.network.specs.Problem.{Problem, activity_count}
+use Rattle.network.specs.Problem.{Problem, activity_count, IsProject}
 use Rattle.schedule_check.specs.declared.fault.StartsFault.TheVariants as starts
 use Rattle.schedule_check.specs.Starts.{starts_fault}
-use Rattle.network.specs.Limits.{IsProject}
 use Rattle.sch_reader.specs.declared.fault.SchFault.{SchFault}
 use Rattle.sch_reader.specs.declared.fault.SchFault.TheVariants as texts
 use Rattle.sch_reader.specs.Text.{Spells, IsFirstFault}
@@ -16,11 +14,14 @@ use Rattle.record_text.specs.declared.fault.RecordFault.{RecordFault}
 use Rattle.record_text.specs.declared.fault.Why.TheVariants as why
 use Rattle.record_text.specs.Kinds.{Kind, RecordOf}
 use Rattle.record_text.specs.TextFaults.{IsFirstTextFault}
-use Rattle.search_record.specs.Faults as wrongs
+use Rattle.search_record.specs.Right as wrongs
 use Rattle.answers.specs.declared.fault.Fault.{Fault}
 use Rattle.answers.specs.declared.fault.Fault.TheVariants as faults
 use Rattle.answers.specs.Faults.{fault_of}
 use Rattle.runs.specs.Outcome.{SpellsOne, HasFault, GivesStarts, IsFirstStartsFault, GivesRecord, Tells, IsNoProof}
+use Rattle.std.proofs.Math.Seq.{take-add, take-append_seam}
+use Rattle.std.proofs.KnownBytes.{Appends-trans}
+use Rattle.std.specs.Io.KnownBytes.{Appends, Consumes, IsAtEnd}
 
 same_or_long : (most : ℕ) (text bytes : List ℕ) → text ≡ take (most + 1) bytes → (text ≡ bytes) ⊎ ((most < length text) × (most < length bytes))
 same_or_long most text bytes e = by_length (length bytes) refl
@@ -117,3 +118,31 @@ module _ {Claim Line : Type 0} (k : Kind Claim Line) where
   pub no_proof_whole : (Has : RecordOf Claim Line → RecordFault → Type 0) (text bytes : List ℕ) (fault : Fault) → text ≡ take (MAX_RECORD_BYTES + 1) bytes → IsNoProof k Has text fault → IsNoProof k Has bytes fault
   no_proof_whole Has text bytes fault e (inl h) = inl (record { cause = h.cause; first = text_fault_whole text bytes h.cause e h.first; told = h.told })
   no_proof_whole Has text bytes fault e (inr h) = inr (record_whole text bytes (λ shown. Tells (Has shown) fault) e h)
+
+-- ---- Pieces that a device gave or took, one after another.
+
+-- a front of the bytes was taken, and then a front of the rest
+pub taken_more : (old mid new : Option (List ℕ)) (bytes : List ℕ) (i n : ℕ) → Appends old mid (take i bytes) → Appends mid new (take n (drop i bytes)) → Appends old new (take (i + n) bytes)
+taken_more old mid new bytes i n p q = rw (take-add i n bytes) (Appends-trans old mid new (take i bytes) (take n (drop i bytes)) p q)
+
+-- what was read is a beginning of what the input told
+begins : (xs text ys : List ℕ) → xs ≡ text ++ ys → take (length text) xs ≡ text
+begins xs text ys p = rw p (take-append_seam text ys)
+
+-- all was read: the limit and one byte, or all there is
+pub whole_to_limit : (old new : Option (List ℕ)) (text bytes : List ℕ) (most : ℕ) → Consumes old new text → old ≡ Some bytes → length text ≡ most → text ≡ take most bytes
+whole_to_limit None new text bytes most p e same = cc
+whole_to_limit (Some xs) None text bytes most p e same = absurd p
+whole_to_limit (Some xs) (Some ys) text bytes most p e same =
+    let front = begins xs text ys p in
+    let is : xs ≡ bytes = cc in
+    rw (same, is) at (sym front)
+
+pub whole_to_end : (old mid new : Option (List ℕ)) (text bytes : List ℕ) (most : ℕ) → Consumes old mid text → Consumes mid new [] → IsAtEnd new → old ≡ Some bytes → length text ≤ most → text ≡ take most bytes
+whole_to_end None mid new text bytes most p q end e within = cc
+whole_to_end (Some xs) None new text bytes most p q end e within = absurd p
+whole_to_end (Some xs) (Some ys) None text bytes most p q end e within = absurd q
+whole_to_end (Some xs) (Some ys) (Some zs) text bytes most p q end e within =
+    let is : bytes ≡ xs = cc in
+    let all : bytes ≡ text = is ∙ p ∙ ap (λ (r : List ℕ). text ++ r) (q ∙ end) ∙ append-nil text in
+    rw all (sym (take_all most text within))

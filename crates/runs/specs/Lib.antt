@@ -1,4 +1,2 @@
-pub mod Devices
-pub mod Jobs
-pub mod Outcome
 pub mod Runs
+pub mod Outcome

@@ -3,7 +3,7 @@
 ghost use Rattle.std.specs.Prelude.{◌≡◌, ◌<◌, ◌+◌, ℕ, List, Option, IsErr, length, OnOk, OnErr, IfOk};
 ghost use Rattle.std.specs.Io.{ReadsAtMost, WritesAtMost};
 ghost use Rattle.std.specs.Io.KnownBytes.{ReadConsumes, WriteAppends};
-ghost use Rattle.runs.specs.Devices.{span, FailedWhere, TookAll, TookFront};
+ghost use Rattle.runs.specs.Runs.{span, FailedWhere, TookAll, TookFront};
 
 /// A device failed, and counted it.
 #[derive(Clone, Copy, Debug, PartialEq, Eq)]

@@ -30,7 +30,7 @@ pub enum Job {
 
 impl Job {
     ghost use Rattle.std.specs.Prelude.{◌≡◌};
-    ghost use Rattle.runs.specs.Jobs.{has_workers};
+    ghost use Rattle.runs.specs.Outcome.{has_workers};
 
     /// Whether workers search, and not one thread by itself.
     pub fn has_workers(self) -> bool

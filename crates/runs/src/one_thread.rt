@@ -4,10 +4,8 @@ ghost use Rattle.std.specs.Prelude.{◌≡◌, ◌≢◌, ◌<◌, false, Some, 
 ghost use Rattle.answers.specs.declared.fault.Fault.{Fault};
 ghost use Rattle.answers.specs.declared.fault.Fault.TheVariants as faults;
 ghost use Rattle.answers.specs.Faults.{exit_of, IsInputFault};
-ghost use Rattle.runs.specs.Devices.{span, FailedWhere, TookAll, TookFront};
-ghost use Rattle.runs.specs.Jobs.{IsJob, has_workers};
-ghost use Rattle.runs.specs.Outcome.{IfTextsTold, IsAnswer, IsRefusal};
-ghost use Rattle.runs.specs.Runs.{HasRead, IsNoReply, Replies};
+ghost use Rattle.runs.specs.Runs.{span, FailedWhere, TookAll, TookFront, HasRead, IsNoReply, Replies};
+ghost use Rattle.runs.specs.Outcome.{IsJob, has_workers, IfTextsTold, IsAnswer, IsRefusal};
 
 use crate::device::{Failed, Input, Output, write_all};
 use crate::job::Job;

@@ -1,15 +1,14 @@
 //! What is read of inputs: a whole text, and the project that it spells.
 
 ghost use Rattle.std.specs.Prelude.{◌≡◌, ◌≢◌, ◌<◌, ◌≤◌, ◌+◌, Err, take, IfOk, IfErr, ◌⊎◌};
-ghost use Rattle.network.specs.Limits.{IsProject};
+ghost use Rattle.network.specs.Problem.{IsProject};
 ghost use Rattle.record_text.specs.declared.TheConstants.{MAX_RECORD_BYTES};
 ghost use Rattle.sch_reader.specs.Text.{Spells};
 ghost use Rattle.answers.specs.declared.fault.Fault.{Fault};
 ghost use Rattle.answers.specs.declared.fault.Fault.TheVariants as faults;
 ghost use Rattle.answers.specs.Faults.{exit_of, IsInputFault, IsTextFault};
-ghost use Rattle.runs.specs.Devices.{span, FailedWhere, GaveUpTo, IfTold, IsUntouched};
+ghost use Rattle.runs.specs.Runs.{span, FailedWhere, GaveUpTo, IfTold, IsUntouched, GaveNoProject, HasReadUpTo};
 ghost use Rattle.runs.specs.Outcome.{HasFault};
-ghost use Rattle.runs.specs.Runs.{GaveNoProject, HasReadUpTo};
 
 use crate::device::Input;
 use answers::Fault;

@@ -3,8 +3,7 @@
 ghost use Rattle.std.specs.Prelude.{◌≡◌, ◌<◌, Some, IfNone, IfSome};
 ghost use Rattle.answers.specs.declared.fault.Fault.TheVariants as faults;
 ghost use Rattle.answers.specs.Faults.{exit_of};
-ghost use Rattle.runs.specs.Devices.{span, OneFailedWhere};
-ghost use Rattle.runs.specs.Runs.{IsCutShort, IsWritten};
+ghost use Rattle.runs.specs.Runs.{span, OneFailedWhere, IsCutShort, IsWritten};
 
 use crate::device::{Failed, Output, write_all};
 use crate::one_thread::{Ended, write_answer};

@@ -88,7 +88,7 @@ impl<W: Write> Output for Writer<W> {
 
 /// No input has nothing in it, and never fails.
 impl<I: Input> Input for Option<I> {
-    ghost use Rattle.runs.specs.Devices.{left_of, failed_of};
+    ghost use Rattle.runs.specs.Runs.{left_of, failed_of};
 
     ghost left = { left_of I.left };
 
@@ -111,7 +111,7 @@ impl<I: Input> Input for Option<I> {
 
 /// No output takes all bytes and tells none, and never fails.
 impl<O: Output> Output for Option<O> {
-    ghost use Rattle.runs.specs.Devices.{held_of, failed_of};
+    ghost use Rattle.runs.specs.Runs.{held_of, failed_of};
 
     ghost held = { held_of O.held };
 

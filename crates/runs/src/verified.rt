@@ -2,7 +2,7 @@
 
 ghost use Rattle.std.specs.Prelude.{◌≡◌, ◌≢◌, IfOk, IfErr};
 ghost use Rattle.record_text.specs.Text.{search_kind};
-ghost use Rattle.search_record.specs.Faults as wrongs;
+ghost use Rattle.search_record.specs.Right as wrongs;
 ghost use Rattle.answers.specs.declared.fault.Fault.{Fault};
 ghost use Rattle.answers.specs.Answers.{IsProvedText};
 ghost use Rattle.answers.specs.Faults.{exit_of, IsTextFault};

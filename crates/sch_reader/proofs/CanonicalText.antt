@@ -1,6 +1,5 @@
 -- The canonical text of a project spells it, and is within the limit.
-use Rattle.std.proofs.Common.{◌≡◌, ℕ, zero, suc, ◌+◌, ◌-◌, ◌*◌, ◌≤◌, ◌<◌, Bool, true, false, cond, inl, inr, eqb, leb, List, [], ◌∷◌, ◌++◌, length, map, get_or, ℤ, pos, Some, refl, sym, ap, subst, ◌∙◌, append_assoc, length-append, mul-le-mul, arith}
-use Rattle.std.specs.Prelude.{codes}
+use Rattle.std.proofs.Common.{◌≡◌, ℕ, zero, suc, ◌+◌, ◌-◌, ◌*◌, ◌≤◌, ◌<◌, Bool, true, false, cond, inl, inr, eqb, leb, List, [], ◌∷◌, ◌++◌, length, map, get_or, ℤ, pos, Some, refl, sym, ap, subst, ◌∙◌, append_assoc, length-append, mul-le-mul, arith, codes}
 use Rattle.std.specs.List.{All, filter, flat_map, range_with_len}
 use Rattle.std.specs.Fmt.{decimal, signed_decimal}
 use Rattle.std.proofs.lemmas.Bool.{cases_order, eq-eqb, ne_eqb, le-leb, lt-leb}
@@ -8,17 +7,13 @@ use Rattle.std.proofs.lemmas.Int.{ints}
 use Rattle.std.proofs.lemmas.List.{append-nil, length-map}
 use Rattle.std.proofs.lemmas.List.Concat.{flat_map-append}
 use Rattle.std.proofs.lemmas.List.Elements.{All-filter, All-head, All-tail}
-use Rattle.network.specs.declared.lag.Lag.{Lag}
+use Rattle.network.specs.declared.parts.Lag.{Lag}
 use Rattle.network.specs.declared.limits.TheConstants.{MAX_ACTIVITIES, MAX_LAG_WEIGHT, MAX_RESOURCES}
-use Rattle.network.specs.Problem.{Problem, activities, activity_count, resource_count}
-use Rattle.network.specs.Limits.{IsAmount, IsWithin, IsLag, IsProject}
+use Rattle.network.specs.Problem.{Problem, activities, activity_count, resource_count, IsAmount, IsWithin, IsLag, IsProject}
 use Rattle.words.specs.Words.{words}
-use Rattle.sch_reader.specs.Words.{text_words, token}
-use Rattle.sch_reader.specs.Text.{lags_from, network_numbers, request_numbers, flat, Spells}
-use Rattle.sch_reader.specs.Canonical.{line, bracketed, header_row, network_row, amounts_row, request_row, capacity_rows, canonical_text}
+use Rattle.sch_reader.specs.Text.{text_words, token, lags_from, network_numbers, request_numbers, flat, Spells, line, bracketed, header_row, network_row, amounts_row, request_row, capacity_rows, canonical_text}
 use Rattle.sch_reader.proofs.NetworkRows.{row_numbers}
-use Rattle.sch_reader.proofs.Printed.{decimal_prints, signed_prints, bracketed_prints, zero_prints, one_prints}
-use Rattle.sch_reader.proofs.Written.{AllPrint, AllPrint-append, AllPrint-map, Writes, Writes-nil, Writes-append, line_writes}
+use Rattle.sch_reader.proofs.Printed.{decimal_prints, signed_prints, bracketed_prints, zero_prints, one_prints, AllPrint, AllPrint-append, AllPrint-map, Writes, Writes-nil, Writes-append, line_writes}
 
 -- ---- network rows
 

@@ -1,15 +1,10 @@
 -- The exact faults of the reader, from the law that the layout leads to flat lists of projects alone.
-use Rattle.std.proofs.Common.{◌≡◌, ℕ, ◌+◌, ◌≤◌, true, List, [], ◌∷◌, ◌++◌, length, ℤ, Result, Ok, Err, refl, sym, ap, subst, ◌∙◌, append_assoc, inl, inr, arith}
-use Rattle.std.proofs.lemmas.List.{append-nil}
-use Rattle.sch_reader.specs.declared.fault.SchFault.{SchFault}
+use Rattle.std.proofs.Common.{◌≡◌, ℕ, ◌+◌, ◌≤◌, true, List, [], ◌∷◌, ◌++◌, length, ℤ, Result, Ok, Err, refl, sym, ap, subst, ◌∙◌, append_assoc, inl, inr, arith, append-nil}
 use Rattle.sch_reader.specs.declared.fault.SchFault.TheVariants as faults
-use Rattle.sch_reader.specs.declared.place.Place.{Place}
-use Rattle.sch_reader.specs.Words.{text_words}
+use Rattle.sch_reader.specs.Text.{text_words, flat, Spell, Spells, BeginsProject, IsWholeProject, IsFirstWordFault, IsFirstFault}
 use Rattle.words.specs.declared.TheConstants.{MAX_TEXT_BYTES}
-use Rattle.network.specs.Problem.{Problem}
-use Rattle.network.specs.Limits.{IsProject}
-use Rattle.sch_reader.specs.Layout.{Layout, done, place, fits, project_text}
-use Rattle.sch_reader.specs.Text.{flat, Spell, Spells, BeginsProject, IsWholeProject, IsFirstWordFault, IsFirstFault}
+use Rattle.network.specs.Problem.{Problem, IsProject}
+use Rattle.sch_reader.specs.Layout.{Layout, done, place, fits, project_text, SchFault, Place}
 use Rattle.sch_reader.specs.Reading.{Cursor, ◌>>=◌, reading, ended, whole_reading}
 use Rattle.sch_reader.proofs.Layouts.{Reaches, Reaches-trans, Reaches-rest, completed, place_after_is}
 use Rattle.sch_reader.proofs.Readings.{WasRead, reading_was, Stopped, StopsAt, ends, stops, reading_stops, reading_again}

@@ -1,8 +1,7 @@
 -- What numbers lead a layout to, and what reading a layout gives.
 use Rattle.std.proofs.Common.{◌≡◌, true, List, [], ◌∷◌, ◌++◌, ℤ, pos, Some, refl, sym, ap, subst, arith}
-use Rattle.sch_reader.specs.declared.place.Place.{Place}
 use Rattle.sch_reader.specs.declared.place.Place.TheVariants as places
-use Rattle.sch_reader.specs.Layout.{Layout, done, place, fits, ◌>>=◌}
+use Rattle.sch_reader.specs.Layout.{Layout, done, place, fits, ◌>>=◌, Place}
 use Rattle.sch_reader.specs.Text.{place_after}
 
 -- the numbers lead from the first layout to the second

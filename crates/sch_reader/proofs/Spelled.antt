@@ -1,21 +1,15 @@
 -- What the answer of the whole reading says of a text: the project that it spells, or its first fault.
-use Rattle.std.proofs.Common.{◌≡◌, ◌≢◌, ℕ, ◌≤◌, ◌<◌, List, [], ◌∷◌, ◌++◌, length, ℤ, Option, Some, None, Result, Ok, Err, refl, sym, ap, subst, ◌∙◌, inl, inr, arith}
-use Rattle.std.specs.Prelude.{IsOk, OnErr}
-use Rattle.std.proofs.lemmas.List.{append-nil}
-use Rattle.network.specs.Problem.{Problem}
-use Rattle.network.specs.Limits.{IsProject}
-use Rattle.sch_reader.specs.declared.fault.SchFault.{SchFault}
+use Rattle.std.proofs.Common.{◌≡◌, ◌≢◌, ℕ, ◌≤◌, ◌<◌, List, [], ◌∷◌, ◌++◌, length, ℤ, Option, Some, None, Result, Ok, Err, refl, sym, ap, subst, ◌∙◌, inl, inr, arith, IsOk, OnErr, append-nil}
+use Rattle.network.specs.Problem.{Problem, IsProject}
 use Rattle.sch_reader.specs.declared.fault.SchFault.TheVariants as faults
-use Rattle.sch_reader.specs.declared.place.Place.{Place}
 use Rattle.sch_reader.specs.declared.place.Place.TheVariants as places
 use Rattle.words.specs.declared.TheConstants.{MAX_TEXT_BYTES}
-use Rattle.sch_reader.specs.Words.{text_words, token}
-use Rattle.sch_reader.specs.Layout.{project_text, misfit}
-use Rattle.sch_reader.specs.Text.{flat, Spell, Spells, IsFirstWordFault, IsFirstFault, misfit_of}
+use Rattle.sch_reader.specs.Text.{text_words, token, flat, Spell, Spells, IsFirstWordFault, IsFirstFault, misfit_of}
+use Rattle.sch_reader.specs.Layout.{project_text, misfit, SchFault, Place}
 use Rattle.sch_reader.specs.Reading.{Cursor, ◌>>=◌, reading, ended, whole_reading}
 use Rattle.sch_reader.proofs.Readings.{WasRead, reading_was}
 use Rattle.sch_reader.proofs.Exact.{start, fault_is_first, spelled_is_read}
-use Rattle.sch_reader.proofs.Projects.{exact}
+use Rattle.sch_reader.proofs.Whole.{exact}
 
 answer : Problem → Result Problem SchFault
 answer p = Ok p

@@ -1,11 +1,11 @@
 -- The places of a project text, what fits each, and the fault of each.
 use Rattle.std.specs.Prelude.{ℕ, zero, suc, ◌+◌, ◌-◌, ◌==◌, Bool, ◌&&◌, ◌||◌, List, [], ◌∷◌, ◌++◌, length, map, Vec, ℤ, pos, neg_ℤ, nat_abs, int_le, if◌then◌else◌}
 use Rattle.std.specs.declared.alloc.Global.{Global}
-use Rattle.sch_reader.specs.declared.fault.SchFault.{SchFault}
+pub use Rattle.sch_reader.specs.declared.fault.SchFault.{SchFault}
 use Rattle.sch_reader.specs.declared.fault.SchFault.TheVariants as faults
-use Rattle.sch_reader.specs.declared.place.Place.{Place}
+pub use Rattle.sch_reader.specs.declared.place.Place.{Place}
 use Rattle.sch_reader.specs.declared.place.Place.TheVariants as places
-use Rattle.network.specs.declared.lag.Lag.{Lag}
+use Rattle.network.specs.declared.parts.Lag.{Lag}
 use Rattle.network.specs.declared.limits.TheConstants.{MAX_ACTIVITIES, MAX_AMOUNT, MAX_LAG_WEIGHT, MAX_LAGS, MAX_RESOURCES}
 use Rattle.network.specs.Problem.{Problem}
 

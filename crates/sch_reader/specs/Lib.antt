@@ -1,5 +1,3 @@
-pub mod Words
-pub mod Layout
 pub mod Text
+pub mod Layout
 pub mod Reading
-pub mod Canonical

@@ -1,11 +1,9 @@
 -- Reading the places of a layout one after the other, with the first fault that is met.
 use Rattle.std.specs.Prelude.{◌≡◌, ◌≢◌, Bool, true, false, ℕ, ◌+◌, List, [], ◌∷◌, ℤ, Option, Some, None, Result, Ok, Err}
-use Rattle.sch_reader.specs.declared.fault.SchFault.{SchFault}
 use Rattle.sch_reader.specs.declared.fault.SchFault.TheVariants as faults
-use Rattle.sch_reader.specs.declared.place.Place.{Place}
-use Rattle.sch_reader.specs.Words.{token}
+use Rattle.sch_reader.specs.Text.{token}
 use Rattle.network.specs.Problem.{Problem}
-use Rattle.sch_reader.specs.Layout.{Layout, done, place, fits, misfit, project_text}
+use Rattle.sch_reader.specs.Layout.{Layout, done, place, fits, misfit, project_text, SchFault, Place}
 
 -- the words that are left, and how many came before
 pub record Cursor : Type 0 where

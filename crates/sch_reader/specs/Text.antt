@@ -1,15 +1,29 @@
 -- Which texts spell a project, and the first fault of those that don't.
-use Rattle.std.specs.Prelude.{◌≡◌, ℕ, zero, suc, ◌+◌, ◌-◌, ◌<◌, ◌≤◌, ◌==◌, List, [], ◌∷◌, ◌++◌, length, map, ℤ, pos, Option, Some, None, ◌⊎◌}
-use Rattle.std.specs.List.{filter}
-use Rattle.sch_reader.specs.declared.fault.SchFault.{SchFault}
+use Rattle.std.specs.Prelude.{ℕ, List, [], ◌∷◌, ℤ, Option, ◌≡◌, zero, suc, ◌+◌, ◌-◌, ◌<◌, ◌≤◌, ◌==◌, ◌++◌, length, map, pos, Some, None, ◌⊎◌, slice_index_or, codes}
+use Rattle.words.specs.Words.{integer}
+use Rattle.words.specs.Words as words
+use Rattle.sch_reader.specs.declared.reader.TheConstants.{TOKEN_DIGITS}
+use Rattle.std.specs.List.{filter, flat_map, join_with_byte}
 use Rattle.sch_reader.specs.declared.fault.SchFault.TheVariants as faults
-use Rattle.sch_reader.specs.declared.place.Place.{Place}
-use Rattle.network.specs.declared.lag.Lag.{Lag}
+use Rattle.network.specs.declared.parts.Lag.{Lag}
 use Rattle.words.specs.declared.TheConstants.{MAX_TEXT_BYTES}
-use Rattle.sch_reader.specs.Words.{text_words, token}
-use Rattle.network.specs.Problem.{Problem}
-use Rattle.network.specs.Limits.{IsProject}
-use Rattle.sch_reader.specs.Layout.{Layout, done, place, misfit, project_text}
+use Rattle.network.specs.Problem.{Problem, IsProject, activities, activity_count, resource_count, duration}
+use Rattle.sch_reader.specs.Layout.{Layout, done, place, misfit, project_text, SchFault, Place}
+use Rattle.std.specs.Fmt.{decimal, signed_decimal}
+
+-- ---- The words of a project text, and the numbers that its tokens spell.
+
+-- space, tab, CR, LF and the square brackets
+abbrev pub blanks : List ℕ
+blanks = 32 ∷ 9 ∷ 13 ∷ 10 ∷ 91 ∷ 93 ∷ []
+
+-- the words of a text: its longest runs of bytes that are no blanks, in their order
+abbrev pub text_words : List ℕ → List (List ℕ)
+text_words text = words.words blanks text
+
+-- the number that a token spells: a minus or nothing, and then 1 to 9 digits
+unfoldable pub token : List ℕ → Option ℤ
+token word = integer TOKEN_DIGITS word
 
 -- the given arcs from an activity
 abbrev pub lags_from : ℕ → List Lag → List Lag
@@ -113,3 +127,54 @@ IsFirstWordFault text fault = EndsShort text fault ⊎ (GoesOn text fault ⊎ Ha
 abbrev pub IsFirstFault : List ℕ → SchFault → Type 0
 IsFirstFault text fault =
     IsTooLong text fault ⊎ ((length text ≤ MAX_TEXT_BYTES) × IsFirstWordFault (text_words text) fault)
+
+-- ---- The canonical text of a project.
+
+-- a row is one line: its words separated by one tab, and LF
+abbrev pub line : List (List ℕ) → List ℕ
+line row = join_with_byte 9 row ++ codes "\n"
+
+-- a word after another
+abbrev pub tabbed : List ℕ → List ℕ
+tabbed word = codes "\t" ++ word
+
+-- a lag stands in brackets
+abbrev pub bracketed : ℤ → List ℕ
+bracketed weight = codes "[" ++ (signed_decimal weight ++ codes "]")
+
+-- the header: the number of activities, of resources, and no resources of other kinds
+abbrev pub header_row : Problem → List (List ℕ)
+header_row p = decimal (activity_count p - 2) ∷ decimal (resource_count p) ∷ codes "0" ∷ codes "0" ∷ []
+
+-- a network row: the activity, one mode, how many given arcs lead from it, their ends, their lags
+abbrev pub arcs_row : ℕ → List Lag → List (List ℕ)
+arcs_row i lags =
+    decimal i ∷ codes "1" ∷ decimal (length lags)
+    ∷ (map (λ a. decimal a.to) lags ++ map (λ a. bracketed a.weight) lags)
+
+abbrev pub network_row : Problem → ℕ → List (List ℕ)
+network_row p i = arcs_row i (lags_from i p.lags)
+
+-- a request row: the activity, its mode, its duration, its demands
+abbrev pub amounts_row : ℕ → ℤ → List ℤ → List (List ℕ)
+amounts_row i time demands = decimal i ∷ codes "1" ∷ signed_decimal time ∷ map signed_decimal demands
+
+abbrev pub request_row : Problem → ℕ → List (List ℕ)
+request_row p i = amounts_row i (duration p i) (slice_index_or p.demands i [])
+
+-- the capacities are one row, where there are any
+abbrev pub capacity_rows : List ℤ → List (List (List ℕ))
+capacity_rows [] = []
+capacity_rows (capacity ∷ others) = map signed_decimal (capacity ∷ others) ∷ []
+
+-- the rows of a project
+abbrev pub rows : Problem → List (List (List ℕ))
+rows p =
+    header_row p
+    ∷ (map (network_row p) (activities p)
+    ++ (map (request_row p) (activities p)
+    ++ capacity_rows p.capacities))
+
+-- the canonical text of a project
+unfoldable pub canonical_text : Problem → List ℕ
+canonical_text p = flat_map line (rows p)

@@ -3,11 +3,9 @@
 ghost use Rattle.std.specs.Prelude.{◌≡◌, ◌++◌, ◌==◌, map, string_bytes, OnOk, IfOk, IfErr, MatchResult};
 ghost use Rattle.std.specs.List.{flat_map, prefix_len};
 ghost use Rattle.std.specs.Fmt.{decimal, signed_decimal};
-ghost use Rattle.network.specs.Problem.{Problem, activities};
-ghost use Rattle.network.specs.Limits.{IsProject};
+ghost use Rattle.network.specs.Problem.{Problem, activities, IsProject};
 ghost use Rattle.sch_reader.specs.declared.fault.SchFault.{SchFault};
-ghost use Rattle.sch_reader.specs.Text.{Spells};
-ghost use Rattle.sch_reader.specs.Canonical.{line, tabbed, bracketed, header_row, arcs_row, network_row, amounts_row, request_row, capacity_rows, canonical_text};
+ghost use Rattle.sch_reader.specs.Text.{Spells, line, tabbed, bracketed, header_row, arcs_row, network_row, amounts_row, request_row, capacity_rows, canonical_text};
 
 use crate::fault::SchFault;
 use crate::text::read_sch;

@@ -2,7 +2,7 @@
 
 ghost use Rattle.std.specs.Prelude.{◌≡◌, ◌≤◌, ◌+◌, ◌∷◌, [], length, MatchOption, ℕ, List, IfOk, true};
 ghost use Rattle.words.specs.declared.TheConstants.{MAX_TEXT_BYTES};
-ghost use Rattle.sch_reader.specs.Words.{text_words, token};
+ghost use Rattle.sch_reader.specs.Text.{text_words, token};
 ghost use Rattle.sch_reader.specs.Layout.{fits};
 ghost use Rattle.sch_reader.specs.Reading.{Cursor, Reads, number_at, fitted};
 
@@ -85,7 +85,7 @@ impl<'a> Reader<'a> {
 }
 
 /// The number that a token spells.
-#[tactic(auto, unfolding(crate::specs::Words::token))]
+#[tactic(auto, unfolding(crate::specs::Text::token))]
 fn token(word: &[u8]) -> Option<i64>
     ensures { result ≡ token word.now }
 {

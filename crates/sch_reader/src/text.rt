@@ -1,15 +1,12 @@
 //! Reads a project from a text.
 
 ghost use Rattle.std.specs.Prelude.{◌≡◌, ◌≢◌, ◌≤◌, ◌<◌, ◌+◌, ◌↔◌, nat_abs, pos, IfOk, IfErr, MatchResult, length, ℕ};
-ghost use Rattle.network.specs.Problem.{Problem};
+ghost use Rattle.network.specs.Problem.{Problem, IsProject, problem_of};
 ghost use Rattle.network.specs.declared.limits.TheConstants.{MAX_ACTIVITIES, MAX_RESOURCES};
-ghost use Rattle.network.specs.Limits.{IsProject};
 ghost use Rattle.sch_reader.specs.declared.fault.SchFault.{SchFault};
-ghost use Rattle.sch_reader.specs.Text.{Spells, IsFirstFault};
+ghost use Rattle.sch_reader.specs.Text.{Spells, IsFirstFault, text_words};
 ghost use Rattle.sch_reader.specs.Layout.{row_of, lags_to, network_row, network_rows, request_row, request_rows, requests_of, amount_place, header, project_text};
 ghost use Rattle.sch_reader.specs.Reading.{Reads, Gives, reading, whole_reading};
-ghost use Rattle.network.specs.Parts.{problem_of};
-ghost use Rattle.sch_reader.specs.Words.{text_words};
 
 use crate::fault::SchFault;
 use crate::place::Place;

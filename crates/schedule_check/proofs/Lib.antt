@@ -1,5 +1,3 @@
 pub mod Listed
-pub mod LineLaws
-pub mod Tables
-pub mod Texts
 pub mod StartsTexts
+pub mod Tables

@@ -1,17 +1,14 @@
 -- When the list of violations is empty.
-use Rattle.std.proofs.Common.{◌≡◌, Bool, true, false, cond, List, [], ◌∷◌, ◌++◌, refl, append_assoc, arith}
-use Rattle.std.specs.Prelude.{ℤ, pos, ◌+ℤ◌, ◌≤ℤ◌, int_lt, ◌↔◌}
+use Rattle.std.proofs.Common.{◌≡◌, Bool, true, false, cond, List, [], ◌∷◌, ◌++◌, refl, append_assoc, arith, ℤ, pos, ◌+ℤ◌, ◌≤ℤ◌, int_lt, ◌↔◌}
 use Rattle.std.specs.List.{AllByRecursion, filter}
 use Rattle.std.specs.Ordering.{int_eq}
 use Rattle.std.proofs.lemmas.Int.{ints}
 use Rattle.std.proofs.lemmas.List.Elements.{recursion_from_All, All-from_recursion, All-weaker}
-use Rattle.network.specs.declared.lag.Lag.{Lag}
-use Rattle.network.specs.Problem.{Problem, rules}
-use Rattle.network.specs.Limits.{AreStarts}
+use Rattle.network.specs.declared.parts.Lag.{Lag}
+use Rattle.network.specs.Problem.{Problem, rules, AreStarts}
 use Rattle.network.specs.Schedule.{start, Meets, IsFeasible}
 use Rattle.profile.specs.Overloads.{excesses}
-use Rattle.profile.proofs.Empty.{filter_nil, map_nil, append_nil_left, append_nil_right}
-use Rattle.profile.proofs.Firsts.{excesses_none}
+use Rattle.profile.proofs.Swept.{filter_nil, map_nil, append_nil_left, append_nil_right, excesses_none}
 use Rattle.schedule_check.specs.declared.violation.Violation.{Violation}
 use Rattle.schedule_check.specs.declared.violation.Violation.TheVariants as violation
 use Rattle.schedule_check.specs.Violations.{start_violations, breaks, lag_violation, lag_violations, overload_violation, overload_violations, violations}

@@ -1,19 +1,14 @@
 -- What the table of starts holds, and what it lacks.
-use Rattle.std.proofs.Common.{◌≡◌, ℕ, zero, suc, ◌+◌, ◌<◌, ◌≤◌, Bool, true, false, cond, List, [], ◌∷◌, ◌++◌, length, get_or, map, take, refl, sym, ap, ◌∙◌, arith, Option, Some, None, eqb, ltb, ⊎_elim, ◌⊎◌, inl, inr, ◌≢◌, append_assoc, replicate, eq-eqb, if◌then◌else◌}
-use Rattle.std.specs.Prelude.{ℤ, pos, is_none, is_some, unwrap_or}
+use Rattle.std.proofs.Common.{◌≡◌, ℕ, zero, suc, ◌+◌, ◌<◌, ◌≤◌, Bool, true, false, cond, List, [], ◌∷◌, ◌++◌, length, get_or, map, take, refl, sym, ap, ◌∙◌, arith, Option, Some, None, eqb, ltb, ⊎_elim, ◌⊎◌, inl, inr, ◌≢◌, append_assoc, replicate, eq-eqb, if◌then◌else◌, ℤ, pos, is_none, is_some, unwrap_or}
 use Rattle.std.proofs.Math.ListN.{length-set}
-use Rattle.std.proofs.lemmas.List.{get_or-set_same, get_or-set_other}
+use Rattle.std.proofs.lemmas.List.{get_or-set_same, get_or-set_other, take_more, map-append, append-nil}
 use Rattle.std.specs.List.{position_or_len, range_with_len}
 use Rattle.std.proofs.lemmas.Bool.{lt-ltb, le-ltb, ltb-true, cases_lt, ne_eqb}
-use Rattle.std.proofs.lemmas.List.{take_more, map-append, append-nil}
 use Rattle.std.proofs.lemmas.List.FromFn.{get_or-map-range_with_len, length-map-range_with_len, fill_by_all}
 use Rattle.std.proofs.lemmas.List.Sums.{position_or_len_is}
-use Rattle.schedule_check.specs.declared.entry.Entry.{Entry}
 use Rattle.schedule_check.specs.declared.entry.Entry.TheVariants.{Nothing, Gives, Wrong}
-use Rattle.schedule_check.specs.declared.fault.StartsFault.{StartsFault}
 use Rattle.schedule_check.specs.declared.fault.StartsFault.TheVariants as faults
-use Rattle.schedule_check.specs.Starts.{start_in, start_given, starts_given, entry_fault, line_fault, missing_fault, or_else}
-use Rattle.schedule_check.specs.Table.{table_fault, with_entry, first_fault, with_entries}
+use Rattle.schedule_check.specs.Starts.{start_in, start_given, starts_given, entry_fault, line_fault, missing_fault, or_else, table_fault, with_entry, first_fault, with_entries, Entry, StartsFault}
 
 pub positive : (n : ℕ) (b : Bool) → b ≡ eqb n 0 → b ≡ false → 0 < n
 positive zero b e f = absurd (cc)

@@ -1,4 +1,3 @@
 pub mod Violations
 pub mod Starts
-pub mod Table
 pub mod Members

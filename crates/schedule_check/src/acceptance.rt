@@ -2,7 +2,7 @@
 
 ghost use Rattle.std.specs.Prelude.{◌≡◌, IfOk, IfErr, OnOk};
 ghost use Rattle.std.specs.Arc.{arc_value};
-ghost use Rattle.network.specs.Limits.{AreStarts};
+ghost use Rattle.network.specs.Problem.{AreStarts};
 ghost use Rattle.network.specs.Schedule.{IsFeasible};
 ghost use Rattle.schedule_check.specs.declared.acceptance.AcceptFault.TheVariants.{Memory};
 ghost use Rattle.schedule_check.specs.Violations.{IsRefusal};

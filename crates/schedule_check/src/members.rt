@@ -3,7 +3,7 @@
 ghost use Rattle.std.specs.Prelude.{◌<◌, ◌↔◌, IsTrue};
 ghost use Rattle.std.specs.List.{All};
 ghost use Rattle.std.specs.List.Sorted.{IsStrictlyIncreasing};
-ghost use Rattle.network.specs.Forbidden.{IsForbidden};
+ghost use Rattle.network.specs.Schedule.{IsForbidden};
 ghost use Rattle.network.specs.Problem.{resource_count};
 ghost use Rattle.schedule_check.specs.Members.{TakesTime, AreMembers};
 

@@ -4,9 +4,8 @@ ghost use Rattle.std.specs.Prelude.{◌≡◌, ◌≢◌, ◌+◌, ◌<◌, ◌�
 ghost use Rattle.std.specs.List.{All};
 ghost use Rattle.std.specs.Result.{result_err};
 ghost use Rattle.std.specs.Str.Lines.{lines};
-ghost use Rattle.network.specs.Limits.{IsTime};
-ghost use Rattle.schedule_check.specs.Starts.{entries, line_entries, line_fault, starts_fault, starts_given, starts_of, IsStartsText};
-ghost use Rattle.schedule_check.specs.Table.{first_fault, with_entries, SaysTheSame};
+ghost use Rattle.network.specs.Problem.{IsTime};
+ghost use Rattle.schedule_check.specs.Starts.{entries, line_entries, line_fault, starts_fault, starts_given, starts_of, IsStartsText, first_fault, with_entries, SaysTheSame};
 ghost use Rattle.schedule_check.specs.declared.fault.StartsFault.TheVariants.{Memory};
 
 use crate::entry::{entry_of, is_answer};

@@ -2,8 +2,7 @@
 
 ghost use Rattle.std.specs.Prelude.{◌≡◌, ◌≢◌, length, map, None, Some, OnOk, IfOk, IfErr, unwrap_or, pos};
 ghost use Rattle.std.specs.Result.{result_err};
-ghost use Rattle.schedule_check.specs.Starts.{missing_fault};
-ghost use Rattle.schedule_check.specs.Table.{table_fault, with_entry};
+ghost use Rattle.schedule_check.specs.Starts.{missing_fault, table_fault, with_entry};
 ghost use Rattle.schedule_check.specs.declared.fault.StartsFault.TheVariants.{Memory};
 
 use crate::entry::Entry;

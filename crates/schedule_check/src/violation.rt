@@ -2,7 +2,7 @@
 
 ghost use Rattle.std.specs.Prelude.{◌≡◌, ◌<◌, ◌↔◌, ◌++◌, [], length, IfOk, OnOk};
 ghost use Rattle.std.specs.List.{All};
-ghost use Rattle.network.specs.Limits.{AreStarts, IsLag, IsTime};
+ghost use Rattle.network.specs.Problem.{AreStarts, IsLag, IsTime};
 ghost use Rattle.network.specs.Schedule.{IsFeasible};
 ghost use Rattle.network.specs.Walk.{AreInside, AreLight};
 ghost use Rattle.profile.specs.Overloads.{excesses};

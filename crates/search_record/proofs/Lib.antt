@@ -1,11 +1,5 @@
 pub mod Decides
-pub mod Along
 pub mod Steps
-pub mod Flat
 pub mod Truth
-pub mod Reached
-pub mod Wrong
 pub mod TrailLines
 pub mod TrailTrees
-pub mod Spelled
-pub mod WholeTrails

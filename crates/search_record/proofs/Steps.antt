@@ -1,21 +1,23 @@
 -- The nodes that are due, step by step.
-use Rattle.std.proofs.Common.{◌≡◌, ℕ, ◌≤◌, Bool, true, false, List, [], ◌∷◌, ◌++◌, length, map, take, drop, reverse, refl, sym, ap, ◌∙◌, arith, length-append, append_assoc, ◌+◌, ◌<◌, Result, Ok, Err, ℤ, Option}
-use Rattle.std.specs.Prelude.{OnOk, OnErr}
+use Rattle.std.proofs.Common.{◌≡◌, ℕ, ◌≤◌, Bool, true, false, List, [], ◌∷◌, ◌++◌, length, map, take, drop, reverse, refl, sym, ap, ◌∙◌, arith, length-append, append_assoc, ◌+◌, ◌<◌, Result, Ok, Err, ℤ, Option, suc, append-nil, ◌≢◌, get_or, None, Some, pos, ◌≤ℤ◌, OnOk, OnErr}
 use Rattle.std.specs.List.{All}
-use Rattle.std.proofs.lemmas.List.{reverse-append, take-append-le, take-take, take_all, length-take-le, map-append}
-use Rattle.std.proofs.lemmas.List.Elements.{All-nil, All-cons, All-contains}
-use Rattle.network.specs.declared.lag.Pair.{Pair}
+use Rattle.std.proofs.lemmas.List.{reverse-append, take-append-le, take-take, take_all, length-take-le, map-append, drop_more}
+use Rattle.std.proofs.lemmas.List.Elements.{All-nil, All-cons, All-contains, All-push}
+use Rattle.network.specs.declared.parts.Pair.{Pair}
 use Rattle.network.specs.Problem.{Problem, activity_count, NameActivities}
-use Rattle.branching.specs.Pairs.{ordered_pairs}
+use Rattle.branching.specs.Subproblem.{ordered_pairs, IsLive}
 use Rattle.branching.specs.Path.{Path}
-use Rattle.branching.proofs.OrderedPairs.{all_pairs}
+use Rattle.branching.proofs.OrderedPairs.{all_pairs, count_pairs}
 use Rattle.record_text.specs.declared.line.Line.{Line}
 use Rattle.record_text.specs.declared.line.Line.TheVariants as kind
-use Rattle.search_record.specs.Members.{NamesActivities}
-use Rattle.search_record.specs.Right.{IsRightLine}
-use Rattle.search_record.specs.declared.later.Later.{Later}
-use Rattle.search_record.specs.Later.{pairs_at, nodes_due, AreNested, IsOver, later_at}
-use Rattle.search_record.specs.Due.{IsDueAlong, due_forced, due_split}
+use Rattle.search_record.specs.Right.{NamesActivities, IsRightLine, IsRightPlace, AreRightLines, why_wrong, IsFirstWrong}
+use Rattle.search_record.specs.Due.{pairs_at, nodes_due, AreNested, IsOver, later_at, IsDueAlong, due_forced, due_split, Place, place, places, kid_places, due_after, Later}
+use Rattle.record_text.specs.Tree.{Tree, force, split, Trees, no_trees, tree, count_trees, pair_count, IsTree, AreTrees, lines_of, lines_of_all, IsTreeOf, solved, cut, dead}
+use Rattle.std.proofs.lemmas.Int.{ints}
+use Rattle.network.specs.declared.parts.Lag.{Lag}
+use Rattle.network.specs.Walk.{weight, HasPositiveCycle, HasNoPositiveCycle}
+use Rattle.branching.specs.Right.{IsDead, IsCutUnder, IsSolvedUnder}
+use Rattle.record_text.specs.declared.fault.RecordFault.{RecordFault}
 
 pub nested_deeper : (p : Problem) (d e : ℕ) (later : List Later) → d ≤ e → AreNested p d later → AreNested p e later
 nested_deeper p d e [] deep h = tt
@@ -47,14 +49,6 @@ pub left_due : (p : Problem) (there : Bool) (path : List Pair) (k : Later) (ks :
 left_due p false path k ks nested over = cc
 left_due p true path k ks nested over =
     ap (λ (nodes : List (List Pair)). pairs_at path k ∷ nodes) (same_nodes p k.depth path (pairs_at path k) (λ n few. take_moved path k.pair k.depth n nested.0 few) ks nested.2)
-
--- where no later node is left, none is due
-pub last_due : (there : Bool) (path : List Pair) (later : List Later) → later ≡ [] → nodes_due false path later ≡ drop 1 (nodes_due there path later)
-last_due true path later over = none_due path later over ∙ sym (none_due path later over)
-last_due false path later over = none_due path later over ∙ sym (ap (λ (nodes : List (List Pair)). drop 1 nodes) (none_due path later over))
-
-pub left_nested : (p : Problem) (path : List Pair) (k : Later) (ks : List Later) → AreNested p (length path) (k ∷ ks) → AreNested p (length (take k.depth path ++ k.pair ∷ [])) ks
-left_nested p path k ks nested = nested_deeper p k.depth (length (take k.depth path ++ k.pair ∷ [])) ks (omega (arith, length-append (take k.depth path) (k.pair ∷ []), length-take-le k.depth path nested.0)) nested.2
 
 pub last_later : (ks : List Later) (k : Later) → reverse (ks ++ k ∷ []) ≡ k ∷ reverse ks
 last_later ks k = reverse-append ks (k ∷ [])
@@ -134,3 +128,190 @@ pub named_line : (p : Problem) (limit : Option ℤ) (pairs : List Pair) (line : 
 named_line p limit pairs (kind.Force pair) right = All-cons (λ (q : Pair). (q.before < activity_count p) × (q.after < activity_count p)) pair [] (right.incompatible.first_named, right.incompatible.second_named) (All-nil (λ (q : Pair). (q.before < activity_count p) × (q.after < activity_count p)))
 named_line p limit pairs (kind.Split resource members) right = right.1.named
 named_line p limit pairs line right = tt
+
+-- ---- A list of lines read with the nodes that are due, and that this meets the tree's places.
+
+-- a split has a node for each ordered pair of its members
+pub kid_for_each : (members : List ℕ) (kids : Trees) → count_trees kids ≡ pair_count members → count_trees kids ≡ length (ordered_pairs members)
+kid_for_each members kids count = count ∙ sym (count_pairs members)
+
+-- each line with the pairs of its node, where these nodes are due
+abbrev pub flat : List (List Pair) → List Line → List Place
+flat due [] = []
+flat [] (line ∷ lines) = []
+flat (pairs ∷ due) (line ∷ lines) = place pairs line ∷ flat (due_after line (pairs ∷ due)) lines
+
+abbrev pub with_pair : List Pair → Pair → List Pair
+with_pair pairs pair = pairs ++ pair ∷ []
+
+mutual
+  pub flat_tree : (t : Tree) (pairs : List Pair) (due : List (List Pair)) (rest : List Line) → IsTree t → flat (pairs ∷ due) (lines_of t ++ rest) ≡ places pairs t ++ flat due rest
+  flat_tree (force pair t) pairs due rest shape = ap (λ (xs : List Place). place pairs (kind.Force pair) ∷ xs) (flat_tree t (pairs ++ pair ∷ []) due rest shape)
+  flat_tree (split resource members kids) pairs due rest shape =
+      ap (λ (xs : List Place). place pairs (kind.Split resource members) ∷ xs) (flat_kids (ordered_pairs members) kids pairs due rest (kid_for_each members kids shape.1) shape.2)
+  flat_tree t pairs due rest shape = refl
+
+  pub flat_kids : (added : List Pair) (kids : Trees) (pairs : List Pair) (due : List (List Pair)) (rest : List Line) → count_trees kids ≡ length added → AreTrees kids
+      → flat (map (with_pair pairs) added ++ due) (lines_of_all kids ++ rest) ≡ kid_places pairs added kids ++ flat due rest
+  flat_kids [] no_trees pairs due rest count shapes = refl
+  flat_kids (first ∷ added) (tree t ts) pairs due rest count shapes =
+      ap (flat ((pairs ++ first ∷ []) ∷ (map (with_pair pairs) added ++ due))) (append_assoc (lines_of t) (lines_of_all ts) rest)
+      ∙ flat_tree t (pairs ++ first ∷ []) (map (with_pair pairs) added ++ due) (lines_of_all ts ++ rest) shapes.0
+      ∙ ap (λ (xs : List Place). places (pairs ++ first ∷ []) t ++ xs) (flat_kids added ts pairs due rest (omega arith) shapes.1)
+      ∙ sym (append_assoc (places (pairs ++ first ∷ []) t) (kid_places pairs added ts) (flat due rest))
+  flat_kids added kids pairs due rest count shapes = absurd (omega arith)
+
+mutual
+  pub length_places : (t : Tree) (pairs : List Pair) → IsTree t → length (places pairs t) ≡ length (lines_of t)
+  length_places (force pair t) pairs shape = ap suc (length_places t (pairs ++ pair ∷ []) shape)
+  length_places (split resource members kids) pairs shape = ap suc (length_kids (ordered_pairs members) kids pairs (kid_for_each members kids shape.1) shape.2)
+  length_places t pairs shape = refl
+
+  pub length_kids : (added : List Pair) (kids : Trees) (pairs : List Pair) → count_trees kids ≡ length added → AreTrees kids → length (kid_places pairs added kids) ≡ length (lines_of_all kids)
+  length_kids [] no_trees pairs count shapes = refl
+  length_kids (first ∷ added) (tree t ts) pairs count shapes =
+      omega (arith, length-append (places (pairs ++ first ∷ []) t) (kid_places pairs added ts), length-append (lines_of t) (lines_of_all ts), length_places t (pairs ++ first ∷ []) shapes.0, length_kids added ts pairs (omega arith) shapes.1)
+  length_kids added kids pairs count shapes = absurd (omega arith)
+
+-- the places of the tree, from its lines
+pub flat_whole : (t : Tree) (lines : List Line) → IsTree t → lines_of t ≡ lines → flat ([] ∷ []) lines ≡ places [] t
+flat_whole t lines shape same =
+    ap (flat ([] ∷ [])) (sym same ∙ sym (append-nil (lines_of t))) ∙ flat_tree t [] [] [] shape ∙ append-nil (places [] t)
+
+-- ---- How far a check of a record's lines has come.
+
+-- so many lines are right, and the others come with these nodes due
+pub record Reached (p : Problem) (limit : Option ℤ) (lines : List Line) (due : List (List Pair)) (rest : List Line) (count : ℕ) : Type 0 where
+  pub before : List Place
+  pub placed : flat ([] ∷ []) lines ≡ before ++ flat due rest
+  pub counted : length before ≡ count
+  pub right : All (IsRightPlace p limit) before
+  pub enough : length (flat due rest) ≡ length rest
+
+pub reached_start : (p : Problem) (limit : Option ℤ) (lines : List Line) (t : Tree) → IsTreeOf lines t → Reached p limit lines ([] ∷ []) lines 0
+reached_start p limit lines t of = record {
+  before = [];
+  placed = refl;
+  counted = refl;
+  right = All-nil (IsRightPlace p limit);
+  enough = ap length (flat_whole t lines of.shape of.spelled) ∙ length_places t [] of.shape ∙ ap length of.spelled;
+}
+
+-- where a line is left, a node is due
+pub some_due : (p : Problem) (limit : Option ℤ) (lines : List Line) (due : List (List Pair)) (line : Line) (rest : List Line) (count : ℕ) → Reached p limit lines due (line ∷ rest) count → 0 < length due
+some_due p limit lines [] line rest count so_far = absurd (let same = so_far.enough in omega (arith, same))
+some_due p limit lines (pairs ∷ due) line rest count so_far = omega arith
+
+pub reached_more : (p : Problem) (limit : Option ℤ) (lines : List Line) (pairs : List Pair) (due : List (List Pair)) (line : Line) (rest : List Line) (count : ℕ) →
+    Reached p limit lines (pairs ∷ due) (line ∷ rest) count → IsRightLine p limit pairs line → Reached p limit lines (due_after line (pairs ∷ due)) rest (count + 1)
+reached_more p limit lines pairs due line rest count so_far here = record {
+  before = so_far.before ++ place pairs line ∷ [];
+  placed = so_far.placed ∙ sym (append_assoc so_far.before (place pairs line ∷ []) (flat (due_after line (pairs ∷ due)) rest));
+  counted = omega (arith, length-append so_far.before (place pairs line ∷ []), so_far.counted);
+  right = All-push (IsRightPlace p limit) so_far.before (place pairs line) so_far.right here;
+  enough = omega (arith, so_far.enough);
+}
+
+-- all lines are right
+pub reached_end : (p : Problem) (limit : Option ℤ) (lines : List Line) (due : List (List Pair)) (count : ℕ) (t : Tree) → IsTreeOf lines t → Reached p limit lines due [] count → AreRightLines p limit lines
+reached_end p limit lines due count t of so_far = record {
+  whole = t;
+  tree_of = of;
+  right = rw (sym (flat_whole t lines of.shape of.spelled) ∙ so_far.placed ∙ append-nil so_far.before) so_far.right;
+}
+
+pub reached_wrong : (p : Problem) (limit : Option ℤ) (first : ℕ) (lines : List Line) (pairs : List Pair) (due : List (List Pair)) (line : Line) (rest : List Line) (count : ℕ) (t : Tree) (fault : RecordFault) →
+    IsTreeOf lines t → Reached p limit lines (pairs ∷ due) (line ∷ rest) count → (¬ IsRightLine p limit pairs line) → fault ≡ record { line = first + count; why = why_wrong line } → IsFirstWrong p limit first lines fault
+reached_wrong p limit first lines pairs due line rest count t fault of so_far no_right is = record {
+  whole = t;
+  tree_of = of;
+  first_of = record {
+    before = so_far.before;
+    here = place pairs line;
+    behind = flat (due_after line (pairs ∷ due)) rest;
+    placed = sym (flat_whole t lines of.shape of.spelled) ∙ so_far.placed;
+    right = so_far.right;
+    wrong = no_right;
+    line = ap (λ (f : RecordFault). f.line) is ∙ ap (λ (n : ℕ). first + n) (sym so_far.counted);
+    why = ap (λ (f : RecordFault). f.why) is;
+  };
+}
+
+-- the lines from an index on are the line there and those behind it
+pub line_there : (lines : List Line) (i : ℕ) (line : Line) → i < length lines → line ≡ get_or lines i line → drop i lines ≡ line ∷ drop (i + 1) lines
+line_there lines i line within is = drop_more lines i line within ∙ ap (λ (x : Line). x ∷ drop (i + 1) lines) (sym is)
+
+-- ---- a node that is dead
+
+not_both : (arcs : List Lag) → HasNoPositiveCycle arcs → HasPositiveCycle arcs → ⊥
+not_both arcs live cycle =
+    let low : weight cycle.1 ≤ℤ pos 0 = live cycle.0 cycle.1 cycle.2.closed in
+    omega (arith, ints)
+
+solved_lives : (p : Problem) (pairs : List Pair) (limit : Option ℤ) → IsSolvedUnder p pairs limit → IsLive p pairs
+solved_lives p pairs None right = absurd right
+solved_lives p pairs (Some limit) right = right.is_live
+
+cut_lives : (p : Problem) (pairs : List Pair) (limit : Option ℤ) → IsCutUnder p pairs limit → IsLive p pairs
+cut_lives p pairs None right = absurd right
+cut_lives p pairs (Some limit) right = right.is_live
+
+pub dead_alone : (p : Problem) (limit : Option ℤ) (pairs : List Pair) (line : Line) → IsDead p pairs → line ≢ kind.Dead → ¬ IsRightLine p limit pairs line
+dead_alone p limit pairs (kind.Force pair) died other right = not_both _ right.is_live died
+dead_alone p limit pairs kind.Solved died other right = not_both _ (solved_lives p pairs limit right) died
+dead_alone p limit pairs kind.Cut died other right = not_both _ (cut_lives p pairs limit right) died
+dead_alone p limit pairs kind.Dead died other right = absurd (other refl)
+dead_alone p limit pairs (kind.Split resource members) died other right = not_both _ right.0 died
+
+-- the first line of a tree, and what comes after it
+record Head (pairs : List Pair) (t : Tree) : Type 0 where
+  line : Line
+  after : List Place
+  rest : List Line
+  placed : places pairs t ≡ place pairs line ∷ after
+  spelled : lines_of t ≡ line ∷ rest
+
+head_of : (pairs : List Pair) (t : Tree) → Head pairs t
+head_of pairs (force pair t) = record { line = kind.Force pair; after = places (pairs ++ pair ∷ []) t; rest = lines_of t; placed = refl; spelled = refl }
+head_of pairs solved = record { line = kind.Solved; after = []; rest = []; placed = refl; spelled = refl }
+head_of pairs cut = record { line = kind.Cut; after = []; rest = []; placed = refl; spelled = refl }
+head_of pairs dead = record { line = kind.Dead; after = []; rest = []; placed = refl; spelled = refl }
+head_of pairs (split resource members kids) = record { line = kind.Split resource members; after = kid_places pairs (ordered_pairs members) kids; rest = _; placed = refl; spelled = refl }
+
+pub tree_some : (lines : List Line) (t : Tree) → IsTreeOf lines t → 0 < length lines
+tree_some lines t of =
+    let head = head_of [] t in
+    let long : length lines ≡ length (head.line ∷ head.rest) = ap length (sym of.spelled ∙ head.spelled) in
+    omega arith
+
+pub dead_right : (p : Problem) (limit : Option ℤ) (lines : List Line) (line : Line) (t : Tree) → IsTreeOf lines t → line ≡ get_or lines 0 line → line ≡ kind.Dead → IsDead p [] → AreRightLines p limit lines
+dead_right p limit lines line t of at is died = record { whole = t; tree_of = of; right = by_tree t of.spelled }
+  where
+    first : get_or lines 0 line ≡ kind.Dead
+    first = sym at ∙ is
+
+    by_tree : (t : Tree) → lines_of t ≡ lines → All (IsRightPlace p limit) (places [] t)
+    by_tree (force pair t) spelled = absurd (let bad : kind.Force pair ≡ kind.Dead = ap (λ (ls : List Line). get_or ls 0 line) spelled ∙ first in cc)
+    by_tree solved spelled = absurd (let bad : kind.Solved ≡ kind.Dead = ap (λ (ls : List Line). get_or ls 0 line) spelled ∙ first in cc)
+    by_tree cut spelled = absurd (let bad : kind.Cut ≡ kind.Dead = ap (λ (ls : List Line). get_or ls 0 line) spelled ∙ first in cc)
+    by_tree dead spelled = All-cons (IsRightPlace p limit) (place [] kind.Dead) [] died (All-nil (IsRightPlace p limit))
+    by_tree (split resource members kids) spelled = absurd (let bad : kind.Split resource members ≡ kind.Dead = ap (λ (ls : List Line). get_or ls 0 line) spelled ∙ first in cc)
+
+pub dead_wrong : (p : Problem) (limit : Option ℤ) (first : ℕ) (lines : List Line) (line : Line) (t : Tree) (fault : RecordFault) → IsTreeOf lines t → line ≡ get_or lines 0 line → line ≢ kind.Dead → IsDead p [] → fault ≡ record { line = first; why = why_wrong line } → IsFirstWrong p limit first lines fault
+dead_wrong p limit first lines line t fault of at other died is =
+    let head = head_of [] t in
+    let same : line ≡ head.line = at ∙ ap (λ (ls : List Line). get_or ls 0 line) (sym of.spelled ∙ head.spelled) in
+    record {
+      whole = t;
+      tree_of = of;
+      first_of = record {
+        before = [];
+        here = place [] line;
+        behind = head.after;
+        placed = head.placed ∙ ap (λ (l : Line). place [] l ∷ head.after) (sym same);
+        right = All-nil (IsRightPlace p limit);
+        wrong = dead_alone p limit [] line died other;
+        line = omega (arith, ap (λ (f : RecordFault). f.line) is);
+        why = ap (λ (f : RecordFault). f.why) is;
+      };
+    }

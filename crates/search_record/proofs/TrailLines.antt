@@ -1,12 +1,11 @@
 -- The lines of a trail's tree, one node after another.
-use Rattle.std.proofs.Common.{◌≡◌, ℕ, suc, ◌+◌, ◌*◌, ◌<◌, ◌≤◌, List, [], ◌∷◌, ◌++◌, length, map, reverse, refl, sym, ap, ◌∙◌, subst, arith, append_assoc, append-nil, length-append, Option}
-use Rattle.std.specs.Prelude.{ℤ}
+use Rattle.std.proofs.Common.{◌≡◌, ℕ, suc, ◌+◌, ◌*◌, ◌<◌, ◌≤◌, List, [], ◌∷◌, ◌++◌, length, map, reverse, refl, sym, ap, ◌∙◌, subst, arith, append_assoc, length-append, Option, ℤ}
 use Rattle.std.specs.List.{All, AllZip}
 use Rattle.std.proofs.lemmas.List.{reverse-append}
 use Rattle.std.proofs.lemmas.List.Elements.{All-nil, All-cons, All-head, All-tail}
 use Rattle.network.specs.Problem.{Problem}
-use Rattle.network.specs.declared.lag.Pair.{Pair}
-use Rattle.branching.specs.Pairs.{ordered_pairs}
+use Rattle.network.specs.declared.parts.Pair.{Pair}
+use Rattle.branching.specs.Subproblem.{ordered_pairs}
 use Rattle.trail.specs.Trail.{PairFate, was_named, was_dead, was_not_opened, Ending, not_ended, was_cut, was_solved, was_split, Entry, entry_at}
 use Rattle.trail.specs.RightTrail.{IsRightFate, IsRightEnding, IsRightTrail}
 use Rattle.record_text.specs.declared.line.Line.{Line}
@@ -106,12 +105,6 @@ pub record Walked (entries : List Entry) (written : List Line) (splits : List (L
 abbrev pub left : List Entry → List (List PairFate) → ℕ
 left entries splits = 2 * length (lines_left entries splits) + length splits
 
-pub walked_start : (entries : List Entry) → 0 < length entries → Walked entries [] ((was_named 0 ∷ []) ∷ [])
-walked_start entries some = record {
-  whole = append-nil (lines_of (tree_under entries 0) ++ []) ∙ append-nil (lines_of (tree_under entries 0));
-  named = All-cons (All (IsNamed (length entries))) (was_named 0 ∷ []) [] (All-cons (IsNamed (length entries)) (was_named 0) [] some (All-nil (IsNamed (length entries)))) (All-nil (All (IsNamed (length entries))));
-}
-
 pub walked_past : (entries : List Entry) (written : List Line) (splits : List (List PairFate)) → Walked entries written ([] ∷ splits) → Walked entries written splits
 walked_past entries written splits w = record { whole = w.whole; named = All-tail (All (IsNamed (length entries))) [] splits w.named }
 
@@ -145,9 +138,6 @@ some_line entries (was_not_opened forced) = omega (arith, length-append (map kin
 pub left_falls : (entries : List Entry) (fate : PairFate) (fates : List PairFate) (splits : List (List PairFate)) → KidsAreLater entries → IsNamed (length entries) fate → left entries (fates_behind entries fate ∷ fates ∷ splits) < left entries ((fate ∷ fates) ∷ splits)
 left_falls entries fate fates splits later known =
     omega (arith, some_line entries fate, ap length (left_step entries later fate fates splits known), length-append (fate_lines entries fate) (lines_left entries (fates_behind entries fate ∷ fates ∷ splits)))
-
-pub left_falls_past : (entries : List Entry) (splits : List (List PairFate)) → left entries splits < left entries ([] ∷ splits)
-left_falls_past entries splits = omega arith
 
 -- what is last in the code comes first
 pub last_first : {X Y : Type 0} (f : X → Y) (xs : List X) (x : X) → map f (reverse (xs ++ x ∷ [])) ≡ f x ∷ map f (reverse xs)

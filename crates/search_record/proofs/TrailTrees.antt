@@ -1,12 +1,11 @@
 -- The tree of a whole trail is right.
-use Rattle.std.proofs.Common.{◌≡◌, ℕ, zero, suc, ◌+◌, ◌<◌, ◌≤◌, true, List, [], ◌∷◌, ◌++◌, length, get_or, refl, sym, ap, ◌∙◌, subst, arith, append_assoc, append-nil, Option, Some, None}
-use Rattle.std.specs.Prelude.{ℤ}
+use Rattle.std.proofs.Common.{◌≡◌, ℕ, zero, suc, ◌+◌, ◌<◌, ◌≤◌, true, List, [], ◌∷◌, ◌++◌, length, get_or, refl, sym, ap, ◌∙◌, subst, arith, append_assoc, append-nil, Option, Some, None, ℤ, IfSome}
 use Rattle.std.specs.List.{All, AllZip}
 use Rattle.std.proofs.lemmas.List.Elements.{All-nil, All-cons, All-append}
-use Rattle.network.specs.declared.lag.Pair.{Pair}
-use Rattle.network.specs.Forbidden.{IsForbidden}
-use Rattle.network.specs.Problem.{Problem}
-use Rattle.branching.specs.Pairs.{ordered_pairs}
+use Rattle.network.specs.declared.parts.Pair.{Pair}
+use Rattle.network.specs.Schedule.{IsForbidden, ScheduleOf, IsFeasible}
+use Rattle.network.specs.Problem.{Problem, IsProject, AreStarts}
+use Rattle.branching.specs.Subproblem.{ordered_pairs}
 use Rattle.branching.specs.Right.{AllForced}
 use Rattle.branching.proofs.OrderedPairs.{count_pairs}
 use Rattle.trail.specs.declared.trail.Origin.{Origin}
@@ -14,10 +13,14 @@ use Rattle.trail.specs.Trail.{PairFate, was_named, was_dead, was_not_opened, End
 use Rattle.trail.specs.RightTrail.{IsKidUnder, IsRightFate, IsRightEnding, has_ended, IsWholeTree}
 use Rattle.record_text.specs.declared.line.Line.{Line}
 use Rattle.record_text.specs.declared.line.Line.TheVariants as kind
-use Rattle.record_text.specs.Tree.{Tree, cut, dead, Trees, count_trees, IsTree, AreTrees}
-use Rattle.search_record.specs.Places.{place, places, kid_places}
-use Rattle.search_record.specs.Right.{IsRightLine, IsRightPlace}
+use Rattle.record_text.specs.Tree.{Tree, cut, dead, Trees, count_trees, IsTree, AreTrees, SearchRecord, lines_of}
+use Rattle.search_record.specs.Due.{place, places, kid_places}
+use Rattle.search_record.specs.Right.{IsRightLine, IsRightPlace, claim_of, IsKeptSchedule, limit_of, AreRightStarts, IsRight}
 use Rattle.search_record.specs.TrailTree.{with_forced, fate_tree, fate_trees, ending_tree, tree_within, tree_under}
+use Rattle.branching.specs.Fair.{ceiling_of}
+use Rattle.record_text.specs.Kinds.{IsRecord}
+use Rattle.record_text.specs.Text.{IsWritableClaim, search_kind}
+use Rattle.search_record.proofs.Truth.{spelled_claim, spelled_tree}
 
 -- what a tree is to be, below a node's pairs
 pub record IsRightTree (p : Problem) (limit : Option ℤ) (pairs : List Pair) (t : Tree) : Type 0 where
@@ -114,3 +117,45 @@ trail_right p limit (root ∷ entries) is =
     within_right p limit (root ∷ entries) is (length (root ∷ entries)) 0 (omega arith) (omega arith) []
     (root_path entries root.origin root.forced is.right.rooted.0)
     (subst (AllForced p []) (sym is.right.rooted.1) tt)
+
+-- ---- The record of a whole trail is right.
+
+-- the best of a search for the project, and the whole trail of that
+pub record IsOver (p : Problem) (best : Option ScheduleOf) (entries : List Entry) : Type 0 where
+  pub limits : IsProject p
+  pub whole : IsWholeTree p (ceiling_of best) entries
+  pub of_project : IfSome best (λ s. s.project ≡ p)
+  pub kept : IfSome best IsKeptSchedule
+
+same_limit : (best : Option ScheduleOf) → limit_of (claim_of best) ≡ ceiling_of best
+same_limit None = refl
+same_limit (Some schedule) = refl
+
+claim_spelled : (p : Problem) (best : Option ScheduleOf) → IsProject p → IfSome best (λ s. s.project ≡ p) → IfSome best IsKeptSchedule → IsWritableClaim (claim_of best)
+claim_spelled p None is same kept = tt
+claim_spelled p (Some s) is same kept = spelled_claim p s.starts is (subst (λ (q : Problem). IsFeasible q s.starts) same kept.0) (subst (λ (q : Problem). AreStarts q s.starts) same kept.1)
+
+starts_right : (p : Problem) (best : Option ScheduleOf) → IfSome best (λ s. s.project ≡ p) → IfSome best IsKeptSchedule → AreRightStarts p (claim_of best)
+starts_right p None same kept = tt
+starts_right p (Some s) same kept = (subst (λ (q : Problem). IsFeasible q s.starts) same kept.0, refl)
+
+pub trail_record : (p : Problem) (best : Option ScheduleOf) (entries : List Entry) (r : SearchRecord) → IsOver p best entries → r.claim ≡ claim_of best → r.lines ≡ lines_of (tree_under entries 0) → IsRecord search_kind r
+trail_record p best entries r over claim lines =
+    let whole = trail_right p (ceiling_of best) entries over.whole in
+    record {
+      claim = rw claim (claim_spelled p best over.limits over.of_project over.kept);
+      lines = rw lines (spelled_tree p (ceiling_of best) over.limits (tree_under entries 0) whole.shape whole.right);
+      whole = (tree_under entries 0, record { shape = whole.shape; spelled = sym lines });
+    }
+
+pub record_right : (p : Problem) (best : Option ScheduleOf) (entries : List Entry) (r : SearchRecord) → IsOver p best entries → r.claim ≡ claim_of best → r.lines ≡ lines_of (tree_under entries 0) → IsRight p r
+record_right p best entries r over claim lines =
+    let whole = trail_right p (ceiling_of best) entries over.whole in
+    record {
+      starts = subst (AreRightStarts p) (sym claim) (starts_right p best over.of_project over.kept);
+      lines = record {
+        whole = tree_under entries 0;
+        tree_of = record { shape = whole.shape; spelled = sym lines };
+        right = subst (λ (limit : Option ℤ). All (IsRightPlace p limit) (places [] (tree_under entries 0))) (sym (ap limit_of claim ∙ same_limit best)) whole.right;
+      };
+    }

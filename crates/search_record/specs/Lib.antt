@@ -1,10 +1,4 @@
-pub mod Places
-pub mod Right
-pub mod Proves
-pub mod Faults
-pub mod Members
-pub mod Later
-pub mod Node
 pub mod Due
-pub mod Claims
+pub mod Right
+pub mod Node
 pub mod TrailTree

@@ -1,8 +1,8 @@
 -- A node of a record's tree, with the matrix of its project and pairs as far as there is one.
 use Rattle.std.specs.Prelude.{◌≡◌, ℕ, ◌+◌, ◌<◌, ◌≤◌, Option, MatchOption, List, [], ◌∷◌, ◌++◌, length, take}
-use Rattle.network.specs.declared.lag.Pair.{Pair}
+use Rattle.network.specs.declared.parts.Pair.{Pair}
 use Rattle.network.specs.Problem.{Problem, NameActivities}
-use Rattle.longest_path.specs.Marked.{Marked}
+use Rattle.longest_path.specs.Saved.{Marked}
 use Rattle.branching.specs.Path.{Path, IsPath}
 use Rattle.branching.specs.Right.{IsDead}
 

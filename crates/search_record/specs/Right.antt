@@ -1,20 +1,26 @@
 -- When a record is right for a project.
-use Rattle.std.specs.Prelude.{◌≡◌, ◌↔◌, ℤ, Bool, IsTrue, Option, Some, None, List, []}
+use Rattle.std.specs.Prelude.{◌≡◌, ◌↔◌, ℤ, Bool, IsTrue, Option, Some, None, List, [], ◌<◌, ◌∷◌, ℕ, ◌+◌, length}
 use Rattle.std.specs.List.{All}
-use Rattle.network.specs.declared.lag.Pair.{Pair}
-use Rattle.network.specs.Problem.{Problem}
-use Rattle.network.specs.ProjectMatrix.{IsProjectMatrix}
-use Rattle.network.specs.Schedule.{IsFeasible, makespan}
-use Rattle.network.specs.Walk.{Rows}
+use Rattle.network.specs.declared.parts.Pair.{Pair}
+use Rattle.network.specs.Problem.{Problem, activity_count, NameActivities, AreStarts}
+use Rattle.network.specs.Walk.{IsProjectMatrix, Rows}
+use Rattle.network.specs.Schedule.{IsFeasible, makespan, ScheduleOf, IsShortest, HasNoSchedule}
 use Rattle.branching.specs.Subproblem.{IsLive}
 use Rattle.branching.specs.Right.{IsForced, IsRightSet, IsDead, IsCutUnder, IsSolvedUnder}
 use Rattle.record_text.specs.declared.line.Claim.{Claim}
 use Rattle.record_text.specs.declared.line.Claim.TheVariants as claims
 use Rattle.record_text.specs.declared.line.Line.{Line}
 use Rattle.record_text.specs.declared.line.Line.TheVariants as kind
-use Rattle.record_text.specs.SearchRecord.{SearchRecord, IsTreeOf}
-use Rattle.record_text.specs.Tree.{Tree}
-use Rattle.search_record.specs.Places.{Place, places}
+use Rattle.record_text.specs.Tree.{SearchRecord, IsTreeOf, Tree}
+use Rattle.search_record.specs.Due.{Place, places}
+use Rattle.search_record.specs.declared.verification.Proved.{Proved}
+use Rattle.search_record.specs.declared.verification.Proved.TheVariants.{Optimal, NoSchedule}
+use Rattle.record_text.specs.declared.fault.RecordFault.{RecordFault}
+use Rattle.record_text.specs.declared.fault.Why.{Why}
+use Rattle.record_text.specs.declared.fault.Why.TheVariants as why
+use Rattle.record_text.specs.FirstWrong.{IsFirstWrongOf, IsFirstFaultOf}
+use Rattle.record_text.specs.Kinds.{head_rows}
+use Rattle.record_text.specs.Text.{search_kind}
 
 -- the makespan that no schedule may be below, if one is claimed
 abbrev pub limit_of : Claim → Option ℤ
@@ -50,3 +56,78 @@ AreRightStarts p claims.NoSchedule = Unit {0}
 pub record IsRight (p : Problem) (r : SearchRecord) : Type 0 where
   pub starts : AreRightStarts p r.claim
   pub lines : AreRightLines p (limit_of r.claim) r.lines
+
+-- ---- Which lines name activities alone.
+
+-- the numbers of the line are those of activities
+abbrev pub NamesActivities : Problem → Line → Type 0
+NamesActivities p (kind.Force pair) = NameActivities p (pair ∷ [])
+NamesActivities p (kind.Split resource members) = All (λ i. i < activity_count p) members
+NamesActivities p line = Unit {0}
+
+-- ---- What a search claims in the end.
+
+-- that its best schedule is a shortest one, or that there is no schedule where it found none
+abbrev pub claim_of : Option ScheduleOf → Claim
+claim_of None = claims.NoSchedule
+claim_of (Some best) = claims.Optimal (makespan best.starts) best.starts
+
+-- a schedule as its type keeps it
+abbrev pub IsKeptSchedule : ScheduleOf → Type 0
+IsKeptSchedule s = IsFeasible s.project s.starts × AreStarts s.project s.starts
+
+-- ---- What a right record proves.
+
+-- what a claim says, apart from the starts
+abbrev pub proved_of : Claim → Proved
+proved_of (claims.Optimal makespan starts) = Optimal makespan
+proved_of claims.NoSchedule = NoSchedule
+
+-- it is true of the project
+abbrev pub IsTrueOf : Problem → Proved → Type 0
+IsTrueOf p (Optimal makespan) = IsShortest p makespan
+IsTrueOf p NoSchedule = HasNoSchedule p
+
+-- what a right record claims is true
+abbrev pub RightIsTrue : Type 0
+RightIsTrue = (p : Problem) (r : SearchRecord) → IsRight p r → IsTrueOf p (proved_of r.claim)
+
+-- ---- The first fault of a record that is not right.
+
+-- the number of the tree's first line
+abbrev pub tree_line : Claim → ℕ
+tree_line claim = length (head_rows search_kind claim) + 1
+
+-- what is wrong where a line is
+abbrev pub why_wrong : Line → Why
+why_wrong (kind.Force pair) = why.Force
+why_wrong (kind.Split resource members) = why.Set
+why_wrong leaf = why.Leaf
+
+abbrev pub why_wrong_at : Place → Why
+why_wrong_at here = why_wrong here.line
+
+-- of the lines of a tree, which are numbered from this one, the first that is not right
+pub record IsFirstWrong
+    (p : Problem) (limit : Option ℤ) (first : ℕ) (lines : List Line) (fault : RecordFault) : Type 0 where
+  pub whole : Tree
+  pub tree_of : IsTreeOf lines whole
+  pub first_of : IsFirstWrongOf (IsRightPlace p limit) why_wrong_at first (places [] whole) fault
+
+-- the same where the root of the tree is dead, whatever the project and the limit
+abbrev pub IsFirstWrongOfDead : ℕ → List Line → RecordFault → Type 0
+IsFirstWrongOfDead first lines fault =
+    (p : Problem) (limit : Option ℤ) → IsDead p [] → IsFirstWrong p limit first lines fault
+
+-- the starts come first, then the lines in their order
+abbrev pub IsFirstFault : Problem → SearchRecord → RecordFault → Type 0
+IsFirstFault p r fault =
+    IsFirstFaultOf (AreRightStarts p r.claim) (IsFirstWrong p (limit_of r.claim) (tree_line r.claim) r.lines) fault
+
+-- a record with a first fault is not right
+abbrev pub FaultIsWrong : Type 0
+FaultIsWrong = (p : Problem) (r : SearchRecord) (fault : RecordFault) → IsFirstFault p r fault → ¬ IsRight p r
+
+-- and has no other
+abbrev pub FirstFaultIsOne : Type 0
+FirstFaultIsOne = (p : Problem) (r : SearchRecord) (a b : RecordFault) → IsFirstFault p r a → IsFirstFault p r b → a ≡ b

@@ -1,18 +1,40 @@
 //! The nodes of a record that must still come.
 
-ghost use Rattle.std.specs.Prelude.{◌≡◌, ◌<◌, List, [], ◌∷◌, drop, length, IfOk, OnOk};
-ghost use Rattle.network.specs.declared.lag.Pair.{Pair};
+ghost use Rattle.std.specs.Prelude.{◌≡◌, ◌++◌, map, reverse, OnOk, ◌<◌, List, [], ◌∷◌, drop, length, IfOk};
+ghost use Rattle.search_record.specs.Due.{StayNested, later_at, IsRootDue, due_forced, due_split, due_after};
+ghost use Rattle.network.specs.declared.parts.Pair.{Pair};
 ghost use Rattle.network.specs.Problem.{NameActivities};
 ghost use Rattle.branching.specs.Path.{Path};
-ghost use Rattle.search_record.specs.Due.{IsRootDue, due_forced, due_split, due_after};
 
-use crate::later::{Later, push_later};
 use crate::node::Node;
 use branching::ordered_pairs;
 use network::{Pair, Project};
 use record_text::Line;
 use std::alloc::{AllocError, Global};
 use std::marker::Model;
+
+/// A node that comes later: how many pairs of the path it keeps, and the one that it adds.
+#[derive(Clone, Copy, PartialEq, Eq, Debug)]
+pub(crate) struct Later {
+    pub(crate) depth: usize,
+    pub(crate) pair: Pair,
+}
+
+/// Adds a later node for each pair, that of the first pair last.
+pub(crate) fn push_later(
+    later: &mut Vec<Later>,
+    depth: usize,
+    mut pairs: Vec<Pair>,
+) -> Result<(), AllocError>
+    ensures added { OnOk result (reverse later.new.items
+        ≡ map (later_at depth) pairs.items ++ reverse later.old.items) }
+    ensures nested { StayNested depth pairs.items (reverse later.old.items) (reverse later.new.items) }
+{
+    while let Some(pair) = pairs.pop() {
+        later.push(Later { depth, pair })?;
+    }
+    Ok(())
+}
 
 /// The nodes of a record's tree that are due.
 #[derive(Drop)]
@@ -26,8 +48,7 @@ pub(crate) struct Due<'a> {
 
 impl<'a> Model for Due<'a> {
     ghost use Rattle.std.specs.Prelude.{reverse};
-    ghost use Rattle.search_record.specs.Due.{DueNodes, IsDueAlong};
-    ghost use Rattle.search_record.specs.Later.{nodes_due};
+    ghost use Rattle.search_record.specs.Due.{DueNodes, IsDueAlong, nodes_due};
 
     ghost Value = { DueNodes };
 
@@ -42,7 +63,7 @@ impl<'a> Model for Due<'a> {
 impl<'a> Due<'a> {
     ghost use Rattle.std.specs.List.{All};
     ghost use Rattle.network.specs.Problem.{activity_count};
-    ghost use Rattle.search_record.specs.Members.{NamesActivities};
+    ghost use Rattle.search_record.specs.Right.{NamesActivities};
 
     /// The node without pairs alone; none where the project itself has a closed walk of positive weight.
     pub(crate) fn root(alloc: Global, project: &'a Project) -> Result<Option<Due<'a>>, AllocError>

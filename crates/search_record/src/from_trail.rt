@@ -1,10 +1,9 @@
 //! Makes the record of a search from its trail.
 
 ghost use Rattle.std.specs.Prelude.{◌≡◌, IfOk, OnOk, IfSome, option_map};
-ghost use Rattle.branching.specs.Covered.{ceiling_of};
+ghost use Rattle.branching.specs.Fair.{ceiling_of};
 ghost use Rattle.trail.specs.RightTrail.{IsWholeTree};
-ghost use Rattle.search_record.specs.Claims.{claim_of, IsKeptSchedule};
-ghost use Rattle.search_record.specs.Right.{IsRight};
+ghost use Rattle.search_record.specs.Right.{claim_of, IsKeptSchedule, IsRight};
 
 use crate::walk::trail_lines;
 use network::Schedule;

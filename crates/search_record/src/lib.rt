@@ -8,16 +8,11 @@
 mod due;
 mod from_trail;
 mod judge;
-mod later;
-mod laws;
 mod lines;
 mod node;
-mod proved;
 mod verification;
 mod walk;
 
 pub use from_trail::of_trail;
-pub use laws::right_law;
-pub use proved::Proved;
 pub use record_text::{Record, RecordFault, Why};
-pub use verification::verify;
+pub use verification::{Proved, right_law, verify};

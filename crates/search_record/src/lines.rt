@@ -3,12 +3,10 @@
 ghost use Rattle.std.specs.Prelude.{◌≡◌, ◌≢◌, ◌≤◌, ◌↔◌, [], ℤ, Option, IsTrue, OnOk, IfErr};
 ghost use Rattle.network.specs.Problem.{Problem};
 ghost use Rattle.branching.specs.Right.{IsDead};
-ghost use Rattle.record_text.specs.Tree.{Tree};
-ghost use Rattle.record_text.specs.SearchRecord.{IsTreeOf};
+ghost use Rattle.record_text.specs.Tree.{Tree, IsTreeOf};
 ghost use Rattle.record_text.specs.declared.line.Line.TheVariants as kind;
 ghost use Rattle.record_text.specs.declared.fault.Why.TheVariants.{Memory};
-ghost use Rattle.search_record.specs.Right.{AreRightLines};
-ghost use Rattle.search_record.specs.Faults.{why_wrong, IsFirstWrong, IsFirstWrongOfDead};
+ghost use Rattle.search_record.specs.Right.{AreRightLines, why_wrong, IsFirstWrong, IsFirstWrongOfDead};
 
 use crate::due::Due;
 use network::Project;

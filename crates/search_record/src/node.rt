@@ -2,7 +2,7 @@
 
 ghost use Rattle.std.specs.Prelude.{◌≡◌, ◌≤◌, ◌↔◌, ◌++◌, ◌∷◌, [], length, take, IsTrue, IfOk, OnOk, OnErr, MatchOption};
 ghost use Rattle.network.specs.Problem.{NameActivities};
-ghost use Rattle.network.specs.ProjectMatrix.{IsProjectMatrix};
+ghost use Rattle.network.specs.Walk.{IsProjectMatrix};
 ghost use Rattle.branching.specs.Path.{Path};
 ghost use Rattle.branching.specs.Right.{IsDead};
 ghost use Rattle.search_record.specs.Node.{IsAlongSome, IsRootNode, GoesAlong, StaysAlong};

@@ -1,18 +1,32 @@
 //! The checker of records of a search.
 
+ghost use Rattle.search_record.specs.Right.{RightIsTrue, FaultIsWrong, FirstFaultIsOne, limit_of, AreRightStarts, IsRight, proved_of, IsTrueOf, IsFirstFault};
 ghost use Rattle.std.specs.Prelude.{◌≡◌, ◌≢◌, ◌↔◌, IsTrue, IfOk, IfErr, OnOk};
 ghost use Rattle.record_text.specs.Text.{IsWritableClaim};
 ghost use Rattle.record_text.specs.declared.fault.Why.TheVariants.{Memory};
-ghost use Rattle.search_record.specs.Right.{limit_of, AreRightStarts, IsRight};
-ghost use Rattle.search_record.specs.Proves.{proved_of, IsTrueOf};
-ghost use Rattle.search_record.specs.Faults.{IsFirstFault};
 
 use crate::lines::check_lines;
-use crate::proved::Proved;
 use network::Project;
 use record_text::{Claim, Record, RecordFault, Why, tree_line};
 use schedule_check::violations;
 use std::alloc::{AllocError, Global};
+
+/// What a right record proves of its project.
+#[derive(Clone, Copy, PartialEq, Eq, Debug)]
+pub enum Proved {
+    /// The shortest feasible schedule takes this many periods.
+    Optimal { makespan: i64 },
+    /// There is no feasible schedule.
+    NoSchedule,
+}
+
+/// Laws over the definitions. What a right record claims is true. A record with a first fault is not right, and has no
+/// other first fault.
+pub fn right_law()
+    ensures holds { RightIsTrue }
+    ensures wrong { FaultIsWrong }
+    ensures one { FirstFaultIsOne }
+{}
 
 /// What a claim says, apart from the starts.
 fn proved_of(claim: &Claim) -> Proved

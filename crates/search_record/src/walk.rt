@@ -1,11 +1,10 @@
 //! Writes the nodes of a trail in the order of a record.
 
 ghost use Rattle.std.specs.Prelude.{◌≡◌, ◌<◌, ◌++◌, map, length, IfOk, OnOk};
-ghost use Rattle.trail.specs.TrailViews.{pair_fate, node_ending, trail_entry};
+ghost use Rattle.trail.specs.Trail.{pair_fate, node_ending, trail_entry};
 ghost use Rattle.record_text.specs.Tree.{lines_of};
 ghost use Rattle.record_text.specs.declared.line.Line.TheVariants as kind;
-ghost use Rattle.search_record.specs.TrailTree.{tree_under, ending_line, ending_fates, node_lines, fate_lines, fates_behind};
-ghost use Rattle.search_record.specs.TrailTree.{IsNamed, KidsAreLater};
+ghost use Rattle.search_record.specs.TrailTree.{tree_under, ending_line, ending_fates, node_lines, fate_lines, fates_behind, IsNamed, KidsAreLater};
 
 use network::Pair;
 use record_text::{Line, Members};

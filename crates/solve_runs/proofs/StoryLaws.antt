@@ -1,15 +1,13 @@
 -- What is replied with starts, and what is read without.
-use Rattle.std.proofs.Common.{◌≡◌, ℕ, ◌+◌, Bool, true, false, List, [], Option, arith}
-use Rattle.std.specs.Prelude.{Result, Ok, Err, IfErr}
+use Rattle.std.proofs.Common.{◌≡◌, ℕ, ◌+◌, Bool, true, false, List, [], Option, arith, Result, Ok, Err, IfErr}
 use Rattle.std.proofs.KnownBytes.{Consumes-nil}
 use Rattle.words.specs.declared.TheConstants.{MAX_TEXT_BYTES}
 use Rattle.answers.specs.declared.fault.Fault.{Fault}
 use Rattle.answers.specs.declared.fault.Fault.TheVariants as faults
 use Rattle.answers.specs.Faults.{IsNoDeviceFault}
 use Rattle.runs.specs.declared.job.Job.TheVariants as jobs
-use Rattle.runs.specs.Devices.{Span, GaveUpTo, IsUntouched, NeverFailed}
+use Rattle.runs.specs.Runs.{Span, GaveUpTo, IsUntouched, NeverFailed, HasRead, ReplyOf}
 use Rattle.runs.specs.Outcome.{GivesStarts, SpellsOne}
-use Rattle.runs.specs.Runs.{HasRead, ReplyOf}
 use Rattle.solve_runs.specs.Story.{IsStartedReply, ReplyTo}
 
 pub replies_started : (start json : Bool) (reply : ReplyOf) (text more : List ℕ) → start ≡ true → SpellsOne text (λ p. GivesStarts p more (IsStartedReply p json reply)) → ReplyTo start json reply text more

@@ -1,19 +1,72 @@
 -- The story of a run: what it replies to the texts that its inputs tell.
-use Rattle.std.specs.Prelude.{◌≡◌, ◌⊎◌, ℕ, ℤ, List, Bool, true, false, length, Option, None, Some}
+use Rattle.std.specs.Prelude.{Some, true, ◌≡◌, ℕ, List, ◌++◌, Bool, false, codes, drop, ◌⊎◌, ℤ, length, Option, None}
+use Rattle.runs.specs.declared.job.Job.{Job}
+use Rattle.runs.specs.declared.job.Job.TheVariants as jobs
+use Rattle.runs.specs.declared.job.TheConstants.{ONE_WORKER}
+use Rattle.solve_runs.specs.declared.asked.Asked.{Asked}
+use Rattle.std.specs.Fmt.{decimal}
+use Rattle.plain_search.specs.declared.search.Outcome.{Outcome}
+use Rattle.answers.specs.Outcomes.{SaysOutcome}
+use Rattle.solve_runs.specs.declared.figures.Figures.{Figures}
 use Rattle.network.specs.Problem.{Problem}
-use Rattle.network.specs.Schedule.{IsFeasible}
-use Rattle.plain_search.specs.declared.outcome.Outcome.{Outcome}
-use Rattle.lemma_text.specs.LemmaRecord.{LemmaRecordOf}
+use Rattle.network.specs.Schedule.{makespan, IsFeasible}
+use Rattle.plain_search.specs.declared.search.Outcome.TheVariants.{Optimal, NoSchedule, Stopped}
+use Rattle.plain_search.specs.Verdicts.{IsTrueOf}
+use Rattle.lemma_text.specs.declared.record.Claim.{Claim}
+use Rattle.lemma_text.specs.declared.record.Claim.TheVariants as claims
+use Rattle.lemma_text.specs.Blocks.{LemmaRecordOf}
+use Rattle.lemma_check.specs.Right.{IsRight}
 use Rattle.lemma_text.specs.Text.{lemma_kind}
 use Rattle.record_text.specs.Kinds as records
 use Rattle.answers.specs.Answers.{IsViolationsText}
 use Rattle.runs.specs.Outcome.{GivesStarts, IfTextsTold, SpellsOne}
 use Rattle.runs.specs.Runs.{ReplyOf}
-use Rattle.solve_runs.specs.declared.asked.Asked.{Asked}
-use Rattle.solve_runs.specs.declared.figures.Figures.{Figures}
-use Rattle.solve_runs.specs.Asking.{job_of}
-use Rattle.solve_runs.specs.Figures.{Says}
-use Rattle.solve_runs.specs.Shown.{IsShown}
+
+-- ---- What a run of `solve` reads and writes.
+
+-- the job of psmax that reads the same inputs, and writes an answer and a record
+abbrev pub job_of : Asked → Job
+job_of asked = jobs.Solve (Some ONE_WORKER) 1 asked.start asked.json true
+
+-- ---- The figures of a search in a line of JSON, and what is said of an outcome.
+
+-- the members of the figures, before those of an answer of psmax
+abbrev pub figures_text : Figures → List ℕ
+figures_text f =
+    codes "{\"conflicts\":" ++ (decimal f.conflicts
+    ++ (codes ",\"decisions\":" ++ (decimal f.decisions
+    ++ (codes ",\"lines\":" ++ (decimal f.lines
+    ++ (codes ",\"record_bytes\":" ++ (decimal f.record_bytes
+    ++ (codes ",\"seconds\":" ++ (decimal f.seconds ++ codes ",\"version\":\"0.9.0\",")))))))))
+
+-- the line of JSON: the figures, and then the members of psmax's line, which begins with a bracket
+abbrev pub with_figures : Figures → List ℕ → List ℕ
+with_figures f line = figures_text f ++ drop 1 line
+
+-- psmax's line for the outcome, with the figures
+pub record SaysFigures (f : Figures) (outcome : Outcome) (exit : ℕ) (written : List ℕ) : Type 0 where
+  pub line : List ℕ
+  pub said : SaysOutcome outcome true exit line
+  pub text : written ≡ with_figures f line
+
+-- what is said of an outcome: psmax's answer, and with JSON the figures before it
+abbrev pub Says : Bool → Figures → Outcome → ℕ → List ℕ → Type 0
+Says false f outcome exit written = SaysOutcome outcome false exit written
+Says true f outcome exit written = SaysFigures f outcome exit written
+
+-- ---- An outcome that a record of lemmas shows.
+
+-- the claim of a record that shows the outcome
+abbrev pub claim_of : Outcome → Claim
+claim_of (Optimal best) = claims.Optimal (makespan best.starts) best.starts
+claim_of NoSchedule = claims.NoSchedule
+claim_of (Stopped best bound) = claims.Bound bound
+
+-- the record is right for the project and claims the outcome, which is true
+pub record IsShown (p : Problem) (outcome : Outcome) (shown : LemmaRecordOf) : Type 0 where
+  pub right : IsRight p shown
+  pub claims : shown.claim ≡ claim_of outcome
+  pub true_of : IsTrueOf p outcome
 
 -- the text says an outcome, which the record at hand shows: it is right for the project, and the outcome is true of it
 pub record IsShownReply (p : Problem) (json : Bool) (reply : ReplyOf) : Type 0 where

@@ -1,7 +1,7 @@
 //! What a run of `psprove solve` is asked for.
 
 ghost use Rattle.std.specs.Prelude.{◌≡◌};
-ghost use Rattle.solve_runs.specs.Asking.{job_of};
+ghost use Rattle.solve_runs.specs.Story.{job_of};
 
 use crate::turns::SMALL;
 use lemma_search::{Chosen, Options};

@@ -1,7 +1,7 @@
 //! What is said of an outcome. A line of JSON has the figures of the search before psmax's members.
 
 ghost use Rattle.std.specs.Prelude.{◌≡◌, IfOk, string_bytes};
-ghost use Rattle.solve_runs.specs.Figures.{Says, figures_text, with_figures};
+ghost use Rattle.solve_runs.specs.Story.{Says, figures_text, with_figures};
 
 use answers::{Answer, solved_answer};
 use plain_search::Outcome;

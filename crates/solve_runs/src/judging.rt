@@ -2,15 +2,14 @@
 
 ghost use Rattle.std.specs.Prelude.{◌≡◌, IsTrue, IfOk, IfErr, IfSome, OnOk};
 ghost use Rattle.std.specs.Arc.{arc_value};
-ghost use Rattle.network.specs.Limits.{AreStarts};
+ghost use Rattle.network.specs.Problem.{AreStarts};
 ghost use Rattle.network.specs.Schedule.{IsFeasible};
-ghost use Rattle.branching.specs.Covered.{IsScheduleFor};
+ghost use Rattle.branching.specs.Fair.{IsScheduleFor};
 ghost use Rattle.lemma_text.specs.Text.{lemma_kind};
 ghost use Rattle.record_text.specs.Kinds as records;
-ghost use Rattle.lemma_check.specs.Right.{IsRight};
-ghost use Rattle.lemma_check.specs.Proves.{proved_of, IsTrueOf};
+ghost use Rattle.lemma_check.specs.Right.{IsRight, proved_of, IsTrueOf};
 ghost use Rattle.answers.specs.Faults.{exit_of, IsNoDeviceFault};
-ghost use Rattle.solve_runs.specs.Shown.{IsShown};
+ghost use Rattle.solve_runs.specs.Story.{IsShown};
 
 use answers::Fault;
 use lemma_check::verify;

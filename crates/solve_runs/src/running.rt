@@ -3,11 +3,9 @@
 ghost use Rattle.std.specs.Prelude.{◌≡◌, ◌≢◌, ◌<◌, Some, Err, IfOk, IfErr, IfSome, IfNone};
 ghost use Rattle.answers.specs.declared.fault.Fault.TheVariants as faults;
 ghost use Rattle.answers.specs.Faults.{exit_of};
-ghost use Rattle.runs.specs.Devices.{span, OneFailedWhere};
+ghost use Rattle.runs.specs.Runs.{span, OneFailedWhere, HasRead, IsCutShort, IsNoReply, IsWritten};
 ghost use Rattle.runs.specs.Outcome.{IfTextsTold};
-ghost use Rattle.runs.specs.Runs.{HasRead, IsCutShort, IsNoReply, IsWritten};
-ghost use Rattle.solve_runs.specs.Asking.{job_of};
-ghost use Rattle.solve_runs.specs.Story.{IsReply, Replies};
+ghost use Rattle.solve_runs.specs.Story.{job_of, IsReply, Replies};
 
 use crate::asked::Asked;
 use crate::solving::{solved, solved_from};

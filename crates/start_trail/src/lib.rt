@@ -6,7 +6,6 @@
 #![tactic(auto)]
 
 mod arcs;
-mod literal;
 mod making;
 mod nogoods;
 mod reason;
@@ -15,8 +14,7 @@ mod trail;
 mod watching;
 
 pub use arcs::Arcs;
-pub use literal::{Literal, NO_LITERAL, greatest_slot, least_slot};
 pub use nogoods::{Nogoods, Note};
-pub use reason::{Conflict, Reason, Stop};
+pub use reason::{Conflict, Literal, NO_LITERAL, Reason, Stop, greatest_slot, least_slot};
 pub use rules::{Rules, Use};
 pub use trail::{Event, Trail};

@@ -1,7 +1,7 @@
 //! The numbers of a project in units of time.
 
 use crate::arcs::Arcs;
-use crate::literal::least_slot;
+use crate::reason::least_slot;
 use crate::rules::MAX_HORIZON;
 use network::Project;
 use std::alloc::{AllocError, Global};

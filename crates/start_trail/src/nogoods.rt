@@ -1,6 +1,6 @@
 //! The nogoods of a search, watched by two literals each.
 
-use crate::literal::{Literal, NO_LITERAL};
+use crate::reason::{Literal, NO_LITERAL};
 use crate::watching::Watch;
 use search_parts::{Chains, Idle, least_half};
 use std::alloc::{AllocError, Global};

@@ -1,8 +1,8 @@
 //! What a search on bounds needs to know of a project.
 
 use crate::arcs::Arcs;
-use crate::literal::least_slot;
 use crate::making::{Numbers, arcs_of, horizon_of, numbers_of};
+use crate::reason::least_slot;
 use network::Project;
 use std::alloc::{AllocError, Global};
 use tables::{Rows, Table};

@@ -1,7 +1,6 @@
 //! The bounds of all starts, with the events that moved them.
 
-use crate::literal::Literal;
-use crate::reason::{Conflict, Reason, Stop};
+use crate::reason::{Conflict, Literal, Reason, Stop};
 use std::alloc::{AllocError, Global};
 use tables::{Table, narrow};
 

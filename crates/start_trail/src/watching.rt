@@ -1,8 +1,7 @@
 //! Which nogoods to look at when a bound moves.
 
-use crate::literal::Literal;
 use crate::nogoods::Nogoods;
-use crate::reason::{Conflict, Reason, Stop};
+use crate::reason::{Conflict, Literal, Reason, Stop};
 use crate::trail::Trail;
 
 /// A literal watches a nogood. The watch has the literal's value, and a literal of the nogood whose reverse may hold.

@@ -2,7 +2,7 @@
 #![tactic(auto)]
 
 ghost use Rattle.std.specs.Prelude.{◌≡◌, IsTrue};
-ghost use Rattle.network.specs.Limits.{AreStarts};
+ghost use Rattle.network.specs.Problem.{AreStarts};
 
 use network::{Lag, MAX_START, Pair, Parts, Project};
 use std::alloc::Global;

@@ -1,23 +1,93 @@
 -- A trail stays right as nodes are split and kids are opened.
-use Rattle.std.proofs.Common.{◌≡◌, ℕ, suc, ◌+◌, ◌<◌, ◌≤◌, Bool, true, false, cond, List, [], ◌∷◌, ◌++◌, length, map, drop, refl, sym, ap, ◌∙◌, subst, arith, append_assoc, length-append, Option, Some, None}
-use Rattle.std.specs.Prelude.{ℤ, slice_get}
+use Rattle.std.proofs.Common.{ℕ, List, [], ◌∷◌, ◌++◌, arith, Option, Some, None, ◌≡◌, zero, suc, ◌+◌, ◌<◌, length, get_or, refl, sym, ap, ◌∙◌, append_assoc, length-append, ◌≤◌, Bool, true, false, cond, map, drop, subst, ℤ, slice_set, slice_get}
 use Rattle.std.specs.List.{AllZip}
 use Rattle.std.proofs.lemmas.Int.{ints}
-use Rattle.std.proofs.Math.Seq.{get_or-append_seam}
 use Rattle.network.specs.Problem.{Problem}
-use Rattle.network.specs.declared.lag.Pair.{Pair}
-use Rattle.branching.specs.Subproblem.{Subproblem}
-use Rattle.branching.specs.Pairs.{ordered_pairs}
-use Rattle.branching.specs.Right.{AllForced, IsDead, IsCutUnder}
-use Rattle.branching.specs.Ceiling.{Reaches, is_below, IsInTime}
+use Rattle.network.specs.declared.parts.Pair.{Pair}
+use Rattle.branching.specs.Subproblem.{ordered_pairs, Subproblem}
+use Rattle.branching.specs.Right.{IsCutUnder, IsSolvedUnder, IsInTime, AllForced, IsDead, Reaches, is_below}
+use Rattle.trail.specs.Trail.{PairFate, was_named, was_dead, was_not_opened, Ending, not_ended, was_cut, was_solved, was_split, Entry, entry_at, path_to, paths_after, path_after, no_entry, Origin}
+use Rattle.trail.specs.RightTrail.{IsRightFate, IsRightEnding, IsRightTrail, kids_below, IsNotOpenedUnder}
+use Rattle.std.proofs.lemmas.List.{get_or_append_left}
+use Rattle.std.proofs.Math.Seq.{get_or-append_seam}
 use Rattle.branching.specs.Fates.{FateOf, is_kid, is_dead, is_cut, IsKidBy, AreFates}
 use Rattle.branching.proofs.Together.{node_cut}
-use Rattle.trail.specs.Below.{kids_below}
-use Rattle.trail.specs.Trail.{PairFate, was_named, was_dead, was_not_opened, Ending, not_ended, was_cut, was_solved, was_split, Entry, entry_at, no_entry, path_to}
-use Rattle.trail.specs.RightTrail.{IsNotOpenedUnder, IsRightFate, IsRightEnding}
 use Rattle.trail.specs.Recording.{kid_entry, opened_or_cut, fates_under}
-use Rattle.trail.proofs.TrailFalls.{cut_falls}
-use Rattle.trail.proofs.TrailPaths.{path_kept, path_opens}
+
+-- ---- What is right for a limit is right for a lower one.
+
+-- a best that falls, or the first one: what was in time for the old limit is in time for the new one
+pub cut_falls : (p : Problem) (old new : Option ℤ) (pairs : List Pair) → IsInTime old new → IsCutUnder p pairs old → IsCutUnder p pairs new
+cut_falls p None new pairs less right = absurd right
+cut_falls p (Some old) None pairs less right = absurd less
+cut_falls p (Some old) (Some new) pairs less right = record { is_live = right.is_live; bound = right.bound; bound_of = right.bound_of; reaches = omega (arith, ints, right.reaches, less) }
+
+pub solved_falls : (p : Problem) (old new : Option ℤ) (pairs : List Pair) → IsInTime old new → IsSolvedUnder p pairs old → IsSolvedUnder p pairs new
+solved_falls p None new pairs less right = absurd right
+solved_falls p (Some old) None pairs less right = absurd less
+solved_falls p (Some old) (Some new) pairs less right = record { is_live = right.is_live; starts = right.starts; least = right.least; feasible = right.feasible; reaches = omega (arith, ints, right.reaches, less) }
+
+fates_fall : (p : Problem) (old new : Option ℤ) (entries : List Entry) (name : ℕ) (added : List Pair) (fates : List PairFate) → IsInTime old new → AllZip (IsRightFate p old entries name) added fates → AllZip (IsRightFate p new entries name) added fates
+fates_fall p old new entries name [] [] less h = tt
+fates_fall p old new entries name [] (fate ∷ fates) less h = absurd h
+fates_fall p old new entries name (pair ∷ added) [] less h = absurd h
+fates_fall p old new entries name (pair ∷ added) (fate ∷ fates) less h = (one fate h.0, fates_fall p old new entries name added fates less h.1)
+  where
+    one : (fate : PairFate) → IsRightFate p old entries name pair fate → IsRightFate p new entries name pair fate
+    one (was_named later) u = u
+    one (was_dead forced) u = u
+    one (was_not_opened forced) u = record { all_forced = u.all_forced; cut = cut_falls p old new ((path_to entries name ++ pair ∷ []) ++ forced) less u.cut }
+
+pub ending_falls : (p : Problem) (old new : Option ℤ) (entries : List Entry) (name : ℕ) (ending : Ending) → IsInTime old new → IsRightEnding p old entries name ending → IsRightEnding p new entries name ending
+ending_falls p old new entries name not_ended less h = tt
+ending_falls p old new entries name was_cut less h = cut_falls p old new (path_to entries name) less h
+ending_falls p old new entries name was_solved less h = solved_falls p old new (path_to entries name) less h
+ending_falls p old new entries name (was_split resource members fates) less h = (h.0, h.1, fates_fall p old new entries name (ordered_pairs members) fates less h.2)
+
+-- a best that falls keeps a trail right
+pub trail_falls : (p : Problem) (old new : Option ℤ) (entries : List Entry) → IsInTime old new → IsRightTrail p old entries → IsRightTrail p new entries
+trail_falls p old new entries less right = record { rooted = right.rooted; endings = λ name known. ending_falls p old new entries name (entry_at entries name).ending less (right.endings name known) }
+
+-- ---- The pairs of a trail's nodes, as the trail grows.
+
+pub length_paths : (paths : List (List Pair)) (entries : List Entry) → length (paths_after paths entries) ≡ length paths + length entries
+length_paths paths [] = omega arith
+length_paths paths (entry ∷ entries) = omega (arith, length_paths (paths ++ path_after paths entry.origin entry.forced ∷ []) entries, length-append paths (path_after paths entry.origin entry.forced ∷ []))
+
+-- what comes later leaves the paths of the earlier names
+pub paths_keep : (paths : List (List Pair)) (entries : List Entry) (name : ℕ) → name < length paths → get_or (paths_after paths entries) name [] ≡ get_or paths name []
+paths_keep paths [] name known = refl
+paths_keep paths (entry ∷ entries) name known =
+    paths_keep (paths ++ path_after paths entry.origin entry.forced ∷ []) entries name (omega (arith, length-append paths (path_after paths entry.origin entry.forced ∷ [])))
+    ∙ get_or_append_left paths (path_after paths entry.origin entry.forced ∷ []) [] name known
+
+pub paths_append : (paths : List (List Pair)) (xs ys : List Entry) → paths_after paths (xs ++ ys) ≡ paths_after (paths_after paths xs) ys
+paths_append paths [] ys = refl
+paths_append paths (x ∷ xs) ys = paths_append (paths ++ path_after paths x.origin x.forced ∷ []) xs ys
+
+-- entries added at the end leave the paths and the entries of the earlier names
+pub path_kept : (xs ys : List Entry) (name : ℕ) → name < length xs → path_to (xs ++ ys) name ≡ path_to xs name
+path_kept xs ys name known = ap (λ (paths : List (List Pair)). get_or paths name []) (paths_append [] xs ys) ∙ paths_keep (paths_after [] xs) ys name (omega (arith, length_paths [] xs))
+
+-- the path of a node is that of the node above it, its own pair and what that forces
+pub path_opens : (xs ys : List Entry) (entry : Entry) (origin : Origin) → entry.origin ≡ Some origin → origin.parent < length xs → path_to (xs ++ entry ∷ ys) (length xs) ≡ (path_to (xs ++ entry ∷ ys) origin.parent ++ origin.pair ∷ []) ++ entry.forced
+path_opens xs ys entry origin from above =
+    let paths = paths_after [] xs in
+    let own = path_after paths entry.origin entry.forced in
+    let count : length paths ≡ length xs = omega (arith, length_paths [] xs) in
+    ap (λ (ps : List (List Pair)). get_or ps (length xs) []) (paths_append [] xs (entry ∷ ys))
+    ∙ paths_keep (paths ++ own ∷ []) ys (length xs) (omega (arith, length-append paths (own ∷ [])))
+    ∙ ap (λ (n : ℕ). get_or (paths ++ own ∷ []) n []) (sym count)
+    ∙ get_or-append_seam paths own [] []
+    ∙ ap (λ (o : Option Origin). path_after paths o entry.forced) from
+    ∙ sym (append_assoc (get_or paths origin.parent []) (origin.pair ∷ []) entry.forced)
+    ∙ ap (λ (path : List Pair). (path ++ origin.pair ∷ []) ++ entry.forced) (sym (path_kept xs (entry ∷ ys) origin.parent above))
+
+-- how a node ended is no part of any path
+pub ended_paths : (paths : List (List Pair)) (entries : List Entry) (name : ℕ) (ending : Ending) → paths_after paths (slice_set entries name (record { origin = (entry_at entries name).origin; forced = (entry_at entries name).forced; ending = ending })) ≡ paths_after paths entries
+ended_paths paths [] name ending = refl
+ended_paths paths (entry ∷ entries) zero ending = refl
+ended_paths paths (entry ∷ entries) (suc name) ending = ended_paths (paths ++ path_after paths entry.origin entry.forced ∷ []) entries name ending
 
 -- the names stay, with their pairs
 pub record Extends (old new : List Entry) : Type 0 where

@@ -1,5 +1,3 @@
-pub mod Below
-pub mod Recording
 pub mod RightTrail
+pub mod Recording
 pub mod Trail
-pub mod TrailViews

@@ -1,15 +1,14 @@
 -- What becomes of a trail when a node that it tells of ends, and when kids are opened.
 use Rattle.std.specs.Prelude.{ℕ, ◌+◌, ◌<◌, ◌^◌, ℤ, Bool, true, false, if◌then◌else◌, Option, None, Some, option_map, List, [], ◌∷◌, ◌++◌, map, length, drop, slice_get, slice_set}
-use Rattle.network.specs.declared.lag.Pair.{Pair}
+use Rattle.network.specs.declared.parts.Pair.{Pair}
 use Rattle.network.specs.Schedule.{ScheduleOf}
 use Rattle.forbidden_sets.specs.MinimalSet.{MinimalSet}
 use Rattle.branching.specs.Subproblem.{Subproblem}
 use Rattle.branching.specs.Fates.{FateOf, is_kid, is_dead, is_cut}
 use Rattle.branching.specs.Fair.{Expansion}
-use Rattle.branching.specs.Ceiling.{is_below}
-use Rattle.trail.specs.Below.{kids_below}
-use Rattle.trail.specs.Trail.{PairFate, was_named, was_dead, was_not_opened, Ending, not_ended, was_cut, was_solved, was_split, Entry, TrailOf, entry_at}
-use Rattle.trail.specs.declared.trail.Origin.{Origin}
+use Rattle.branching.specs.Right.{is_below}
+use Rattle.trail.specs.RightTrail.{kids_below}
+use Rattle.trail.specs.Trail.{PairFate, was_named, was_dead, was_not_opened, Ending, not_ended, was_cut, was_solved, was_split, Entry, TrailOf, entry_at, Origin}
 
 -- the node under a name ends so
 abbrev pub ended_as : List Entry → ℕ → Ending → List Entry

@@ -1,11 +1,10 @@
 -- When a trail is right: what ended could end so, under the makespan that nothing longer than is looked for.
 use Rattle.std.specs.Prelude.{◌≡◌, ℕ, ◌<◌, ℤ, Bool, true, false, Option, None, List, [], ◌∷◌, ◌++◌, length}
-use Rattle.std.specs.List.{AllZip}
-use Rattle.network.specs.declared.lag.Pair.{Pair}
+use Rattle.std.specs.List.{AllZip, filter}
+use Rattle.network.specs.declared.parts.Pair.{Pair}
 use Rattle.network.specs.Problem.{Problem}
-use Rattle.branching.specs.Pairs.{ordered_pairs}
-use Rattle.branching.specs.Subproblem.{IsLive}
-use Rattle.branching.specs.Right.{AllForced, IsRightSet, IsDead, IsCutUnder, IsSolvedUnder}
+use Rattle.branching.specs.Subproblem.{ordered_pairs, IsLive, Subproblem}
+use Rattle.branching.specs.Right.{AllForced, IsRightSet, IsDead, IsCutUnder, IsSolvedUnder, is_below}
 use Rattle.trail.specs.Trail.{PairFate, was_named, was_dead, was_not_opened, Ending, not_ended, was_cut, was_solved, was_split, Entry, entry_at, path_to}
 
 -- the pair gave the node of this later name, whose pairs are its parent's, the pair, and what that forces
@@ -61,3 +60,9 @@ has_ended (was_split resource members fates) = true
 pub record IsWholeTree (p : Problem) (limit : Option ℤ) (entries : List Entry) : Type 0 where
   pub right : IsRightTrail p limit entries
   pub ended : (name : ℕ) → name < length entries → has_ended (entry_at entries name).ending ≡ true
+
+-- ---- What may lead to a schedule that is shorter than a limit.
+
+-- the kids that may lead to a schedule shorter than the limit
+abbrev pub kids_below : Option ℤ → List Subproblem → List Subproblem
+kids_below limit kids = filter (λ (kid : Subproblem). is_below limit kid.bound) kids

@@ -1,9 +1,16 @@
 -- What a trail knows of each node that was opened: where it came from, which pairs were forced, and
 -- how it ended.
-use Rattle.std.specs.Prelude.{ℕ, List, [], ◌∷◌, ◌++◌, Option, None, Some, slice_index_or}
-use Rattle.network.specs.declared.lag.Pair.{Pair}
+use Rattle.std.specs.Prelude.{ℕ, List, [], ◌∷◌, ◌++◌, Option, None, Some, slice_index_or, map}
+use Rattle.network.specs.declared.parts.Pair.{Pair}
 use Rattle.network.specs.Problem.{Problem}
-use Rattle.trail.specs.declared.trail.Origin.{Origin}
+pub use Rattle.trail.specs.declared.trail.Origin.{Origin}
+use Rattle.std.specs.Arc.{arc_value}
+use Rattle.trail.specs.declared.trail.KidFate.{KidFate}
+use Rattle.trail.specs.declared.trail.KidFate.TheVariants as fate
+use Rattle.trail.specs.declared.trail.NodeEnding.{NodeEnding}
+use Rattle.trail.specs.declared.trail.NodeEnding.TheVariants as ending
+pub use Rattle.trail.specs.declared.trail.TrailEntry.{TrailEntry}
+use Rattle.trail.specs.declared.trail.Trail.TheInside.{Inside}
 
 -- what a pair of a split set gave: a node under a name, or none, with the pairs that were forced until then
 pub data PairFate : Type 0 where
@@ -48,3 +55,30 @@ paths_after paths (entry ∷ entries) = paths_after (paths ++ path_after paths e
 -- the pairs of the node under a name
 abbrev pub path_to : List Entry → ℕ → List Pair
 path_to entries name = slice_index_or (paths_after [] entries) name []
+
+-- ---- A trail's parts, as contracts see them.
+
+abbrev pub pair_fate : KidFate → PairFate
+pair_fate (fate.Opened name) = was_named name
+pair_fate (fate.Dead forced) = was_dead forced.items
+pair_fate (fate.Cut forced) = was_not_opened forced.items
+
+abbrev pub node_ending : NodeEnding → Ending
+node_ending ending.Open = not_ended
+node_ending ending.Cut = was_cut
+node_ending ending.Solved = was_solved
+node_ending (ending.Split resource members fates) = was_split resource members.items (map pair_fate fates.items)
+
+abbrev pub trail_entry : TrailEntry → Entry
+trail_entry e = record { origin = e.origin; forced = e.forced.items; ending = node_ending e.ending }
+
+abbrev pub trail_of : Inside → TrailOf
+trail_of t = record { project = arc_value t.project; entries = map trail_entry t.entries.items }
+
+-- the trail with other entries
+abbrev pub with_entries : (List Entry → List Entry) → TrailOf → TrailOf
+with_entries f trail = record { project = trail.project; entries = f trail.entries }
+
+-- the trail of a project with these entries
+abbrev pub trail_for : Problem → List Entry → TrailOf
+trail_for p entries = record { project = p; entries = entries }

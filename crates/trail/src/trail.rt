@@ -2,10 +2,9 @@
 
 ghost use Rattle.std.specs.Prelude.{◌≡◌, ◌+◌, ◌^◌, ◌<◌, ◌≤◌, ◌++◌, map, drop, length, replicate, IfOk, OnOk, OnErr};
 ghost use Rattle.std.specs.Arc.{arc_value};
-ghost use Rattle.branching.specs.Fate.{fate_value};
-ghost use Rattle.trail.specs.Below.{kids_below};
-ghost use Rattle.trail.specs.Trail.{no_entry};
-ghost use Rattle.trail.specs.TrailViews.{pair_fate, node_ending, trail_entry, trail_for, with_entries};
+ghost use Rattle.branching.specs.Fates.{fate_value};
+ghost use Rattle.trail.specs.RightTrail.{kids_below};
+ghost use Rattle.trail.specs.Trail.{no_entry, pair_fate, node_ending, trail_entry, trail_for, with_entries};
 ghost use Rattle.trail.specs.Recording.{ended_as, kid_entry, kid_fate, next_name, fates_under, ending_of, checked_in};
 
 use branching::{Fate, Lean, PairList, Report, is_below};
@@ -73,7 +72,7 @@ impl Model for Trail {
 
     ghost Value = { TrailOf };
 
-    ghost use Rattle.trail.specs.TrailViews.{trail_of};
+    ghost use Rattle.trail.specs.Trail.{trail_of};
 
     ghost view = { trail_of };
 }
@@ -233,7 +232,7 @@ fn set_ending(entry: &mut TrailEntry, ending: NodeEnding)
 }
 
 impl Trail {
-    ghost use Rattle.trail.specs.TrailViews.{trail_entry};
+    ghost use Rattle.trail.specs.Trail.{trail_entry};
 
     /// The trail of a project before its search: an entry for the root, if that is opened.
     pub fn new(alloc: Global, project: Arc<Project>, roots: usize) -> Result<Trail, AllocError>

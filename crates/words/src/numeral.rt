@@ -3,7 +3,7 @@
 ghost use Rattle.std.specs.Prelude.{◌≡◌, ◌<◌, ◌≤◌, ◌^◌, IfSome};
 ghost use Rattle.std.specs.List.{list_all};
 ghost use Rattle.std.specs.Char.{is_ascii_digit};
-ghost use Rattle.words.specs.Numbers.{natural, integer};
+ghost use Rattle.words.specs.Words.{natural, integer};
 
 /// The most digits that may be asked for: so many spell a number that fits an `i64`.
 pub const MAX_DIGITS: usize = 18;
@@ -31,7 +31,7 @@ pub fn natural(word: &[u8], most: usize) -> Option<u64>
 }
 
 /// The number that a minus or nothing, and then 1 to `most` digits, spell, leading zeros among them.
-#[tactic(auto, unfolding(crate::specs::Numbers::integer))]
+#[tactic(auto, unfolding(crate::specs::Words::integer))]
 pub fn integer(word: &[u8], most: usize) -> Option<i64>
     requires { most ≤ MAX_DIGITS }
     ensures { result ≡ integer most word.now }

@@ -1,4 +1,3 @@
 pub mod Desks
-pub mod Faults
-pub mod Locking
 pub mod Solving
+pub mod Locking

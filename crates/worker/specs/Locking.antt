@@ -1,7 +1,7 @@
 -- What a locked section does to the book when a worker ends before the search is over.
 use Rattle.std.specs.Prelude.{◌≡◌, ◌≢◌, ℕ, true, Result}
 use Rattle.book.specs.State.{BookState}
-use Rattle.book.specs.GivingBack.{GivesBack}
+use Rattle.book.specs.Steps.{GivesBack}
 use Rattle.book.specs.declared.answers.CheckFault.{CheckFault}
 use Rattle.book.specs.declared.answers.CheckFault.TheVariants as fault
 use Rattle.worker.specs.declared.fault.WorkFault.{WorkFault}

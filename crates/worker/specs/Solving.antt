@@ -1,16 +1,25 @@
 -- What a search by workers says in the end.
-use Rattle.std.specs.Prelude.{◌≡◌, ◌+◌, ◌<◌, ◌≤ℤ◌, ◌↔◌, ℕ, ℤ, [], Option, None, Some, IfSome, IsSomeAnd, length, sum, vec_len}
+use Rattle.std.specs.Prelude.{◌≡◌, ◌+◌, ◌<◌, ◌≤ℤ◌, ◌↔◌, ℕ, ℤ, [], Option, None, Some, IfSome, IsSomeAnd, length, sum, vec_len, ◌≢◌, ◌⊎◌, Result, Ok, Err}
 use Rattle.network.specs.Problem.{Problem}
 use Rattle.network.specs.Schedule.{ScheduleOf, makespan}
-use Rattle.branching.specs.Covered.{ceiling_of}
+use Rattle.branching.specs.Fair.{ceiling_of}
 use Rattle.plain_search.specs.Verdicts.{IsNoLongerThan, IsTrueOf}
-use Rattle.plain_search.specs.declared.outcome.Outcome.{Outcome}
-use Rattle.plain_search.specs.declared.outcome.Outcome.TheVariants.{Optimal, NoSchedule, Stopped}
+use Rattle.plain_search.specs.declared.search.Outcome.{Outcome}
+use Rattle.plain_search.specs.declared.search.Outcome.TheVariants.{Optimal, NoSchedule, Stopped}
 use Rattle.book.specs.State.{BookState, live}
 use Rattle.trail.specs.Trail.{TrailOf}
-use Rattle.book.specs.Verdicts.{IsLeast, known_bounds}
+use Rattle.book.specs.Sound.{IsLeast, known_bounds}
 use Rattle.trail.specs.RightTrail.{IsWholeTree}
 use Rattle.worker.specs.declared.solution.Solved.{Solved}
+use Rattle.book.specs.Steps.{AreAllowed}
+use Rattle.book.specs.declared.answers.BookFault.{BookFault}
+use Rattle.book.specs.declared.answers.BookFault.TheVariants as book_fault
+use Rattle.book.specs.declared.answers.CheckFault.{CheckFault}
+use Rattle.book.specs.declared.answers.CheckFault.TheVariants as check_fault
+use Rattle.worker.specs.declared.fault.SolveFault.{SolveFault}
+use Rattle.worker.specs.declared.fault.SolveFault.TheVariants as fault
+use Rattle.worker.specs.declared.fault.WorkFault.{WorkFault}
+use Rattle.worker.specs.declared.fault.WorkFault.TheVariants as work_fault
 
 -- the search was stopped before it was over
 abbrev pub IsStopped : Outcome → Type 0
@@ -50,3 +59,36 @@ best_of (Stopped best bound) = best
 pub record IsTrailOf (p : Problem) (outcome : Outcome) (trail : TrailOf) : Type 0 where
   pub of_project : trail.project ≡ p
   pub whole : ¬ IsStopped outcome → IsWholeTree p (ceiling_of (best_of outcome)) trail.entries
+
+-- ---- What a search by workers may fail with.
+
+-- a book that can't be opened, as a fault of the search
+abbrev pub IsSolveFault : BookFault → SolveFault → Type 0
+IsSolveFault book_fault.Limit found = found ≡ fault.Limit
+IsSolveFault book_fault.Memory found = found ≡ fault.Memory
+
+-- why a worker ended before the search was over, as a fault of the search
+abbrev pub IsWorkFault : WorkFault → SolveFault → Type 0
+IsWorkFault work_fault.Memory found = found ≡ fault.Memory
+IsWorkFault (work_fault.Refused why) found = found ≡ fault.Refused why
+
+-- a fault of a worker: want of memory, or a refusal of the book
+abbrev pub IsOfWork : SolveFault → Type 0
+IsOfWork found = (why : WorkFault) × IsWorkFault why found
+
+-- a fault of an opening: there may not be so many workers or takes, or memory ran out
+abbrev pub IsOfOpening : SolveFault → Type 0
+IsOfOpening found = (found ≡ fault.Limit) ⊎ (found ≡ fault.Memory)
+
+-- why a node can't be given back
+abbrev pub IsOfGivingBack : CheckFault → Type 0
+IsOfGivingBack found = (found ≡ check_fault.Unknown) ⊎ ((found ≡ check_fault.NotInHand) ⊎ (found ≡ check_fault.Memory))
+
+-- a fault of a search that may have so many workers and takes
+abbrev pub IsWithinLimits : SolveFault → Type 0
+IsWithinLimits found = found ≢ fault.Limit
+
+-- Limit comes exactly where there may not be so many workers or takes
+abbrev pub RefusesLimits : {A : Type 0} → ℕ → ℕ → Result A SolveFault → Type 0
+RefusesLimits workers takes (Ok found) = AreAllowed workers takes
+RefusesLimits workers takes (Err found) = (found ≡ fault.Limit) ↔ ¬ AreAllowed workers takes

@@ -31,7 +31,7 @@ impl From<AllocError> for SolveFault {
 }
 
 impl From<BookFault> for SolveFault {
-    ghost use Rattle.worker.specs.Faults.{IsSolveFault};
+    ghost use Rattle.worker.specs.Solving.{IsSolveFault};
 
     ghost from_gives = { IsSolveFault };
 
@@ -51,7 +51,7 @@ pub(crate) enum WorkFault {
 }
 
 impl From<WorkFault> for SolveFault {
-    ghost use Rattle.worker.specs.Faults.{IsWorkFault};
+    ghost use Rattle.worker.specs.Solving.{IsWorkFault};
 
     ghost from_gives = { IsWorkFault };
 

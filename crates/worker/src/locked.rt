@@ -1,10 +1,7 @@
 //! A book and the shares of those who checked nodes in, under one lock.
 
 ghost use Rattle.std.specs.Prelude.{◌≡◌, ◌+◌, ◌<◌, ◌≤◌, OnOk, OnErr};
-ghost use Rattle.book.specs.Taking.{Takes};
-ghost use Rattle.book.specs.CheckingIn.{ChecksInForReuse};
-ghost use Rattle.book.specs.GivingBack.{GivesBack};
-ghost use Rattle.book.specs.Offering.{Offers};
+ghost use Rattle.book.specs.Steps.{Takes, ChecksInForReuse, GivesBack, Offers};
 ghost use Rattle.worker.specs.Locking.{GivesBackAndHalts, Halts, Stops};
 
 use crate::fault::WorkFault;

@@ -4,7 +4,7 @@ ghost use Rattle.std.specs.Prelude.{◌≡◌, ◌≤◌, IfOk, IfErr};
 ghost use Rattle.std.specs.Arc.{arc_value};
 ghost use Rattle.branching.specs.Path.{IsAt};
 ghost use Rattle.worker.specs.Desks.{SeatedAt, StaysAt, CountsAccepted};
-ghost use Rattle.worker.specs.Faults.{IsOfWork};
+ghost use Rattle.worker.specs.Solving.{IsOfWork};
 
 use crate::desk::Desk;
 use crate::fault::{SolveFault, WorkFault};

@@ -1,10 +1,10 @@
 //! The book that workers share, under its lock.
 
 ghost use Rattle.std.specs.Prelude.{◌≡◌, ◌+◌, ℕ, IfOk, IfErr, map, sum_by, vec_len};
-ghost use Rattle.best_word.specs.View.{Lowers};
+ghost use Rattle.best_word.specs.Word.{Lowers};
 ghost use Rattle.worker.specs.Desks.{IsRow, IsRowAt, SeatedAt, CountsAccepted, tally_of};
-ghost use Rattle.branching.specs.ReportView.{AreListsOf};
-ghost use Rattle.worker.specs.Faults.{IsOfGivingBack, IsOfOpening, RefusesLimits};
+ghost use Rattle.branching.specs.Fair.{AreListsOf};
+ghost use Rattle.worker.specs.Solving.{IsOfGivingBack, IsOfOpening, RefusesLimits};
 ghost use Rattle.worker.specs.Locking.{IsEndFor};
 
 use crate::desk::{Desk, Tally};

@@ -6,8 +6,7 @@ ghost use Rattle.std.specs.Bool.{OnTrue};
 ghost use Rattle.network.specs.Schedule.{makespan};
 ghost use Rattle.plain_search.specs.Verdicts.{IsTrueOf};
 ghost use Rattle.worker.specs.Desks.{HasTold, IsRow};
-ghost use Rattle.worker.specs.Faults.{IsWithinLimits, RefusesLimits};
-ghost use Rattle.worker.specs.Solving.{HasBestWithin, IsOutcomeOf, IsSolution, IsTrailOf};
+ghost use Rattle.worker.specs.Solving.{IsWithinLimits, RefusesLimits, HasBestWithin, IsOutcomeOf, IsSolution, IsTrailOf};
 
 use crate::desk::{Desk, Tally};
 use crate::fault::SolveFault;

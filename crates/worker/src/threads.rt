@@ -2,7 +2,7 @@
 
 ghost use Rattle.std.specs.Prelude.{◌≡◌, ◌≤◌, IfOk, IfErr, vec_len, vec_capacity, []};
 ghost use Rattle.worker.specs.Desks.{IsRow};
-ghost use Rattle.worker.specs.Faults.{IsWithinLimits};
+ghost use Rattle.worker.specs.Solving.{IsWithinLimits};
 
 use crate::desk::Desk;
 use crate::fault::{SolveFault, WorkFault};

@@ -1,10 +1,9 @@
-use Rattle.std.proofs.Common.{◌≡◌, ◌∙◌, ap, arith, pos, rules, w64, length, [], Option, ℤ}
+use Rattle.std.proofs.Common.{◌≡◌, ◌∙◌, ap, arith, pos, rules, w64, length, [], Option, ℤ, SFits}
 use Rattle.std.specs.Option.{unwrap_or}
 use Rattle.std.proofs.lemmas.Int.{to_z-of_z}
-use mir.Val.{SFits}
 use Rattle.network.specs.Walk.{entry, weights_from}
-use Rattle.network.proofs.Lists.{appended_more}
-use Rattle.earliest.proofs.StartLaws.{AreEarliest-weights}
+use Rattle.network.proofs.FaultLaws.{appended_more}
+use Rattle.earliest.proofs.Ends.{AreEarliest-weights}
 use Rattle.earliest.proofs.least_starts_in.Goals as goal
 
 pub loop-i-preserved : goal.loop-i-preserved

@@ -1,12 +1,11 @@
-use Rattle.std.proofs.Common.{◌≡◌, ◌-◌, refl, ◌∙◌, ap, arith, pos, rules, w64, length, [], Option, ℤ, ◌-ℤ◌, to_z, of_z}
+use Rattle.std.proofs.Common.{◌≡◌, ◌-◌, refl, ◌∙◌, ap, arith, pos, rules, w64, length, [], Option, ℤ, ◌-ℤ◌, to_z, of_z, SFits}
 use Rattle.std.specs.Option.{unwrap_or}
 use Rattle.std.proofs.lemmas.Int.{to_z-of_z}
-use mir.Val.{SFits}
 use Rattle.network.specs.Problem.{end_of}
 use Rattle.network.specs.Walk.{entry}
-use Rattle.network.proofs.Lists.{appended_more}
-use Rattle.earliest.specs.Tails.{tail_weight, tail_weights}
-use Rattle.earliest.proofs.TailLaws.{AreTails-weights, difference_fits}
+use Rattle.network.proofs.FaultLaws.{appended_more}
+use Rattle.earliest.specs.Ends.{tail_weight, tail_weights}
+use Rattle.earliest.proofs.Ends.{AreTails-weights, difference_fits}
 use Rattle.earliest.proofs.tails.Goals as goal
 
 pub loop-i-preserved : goal.loop-i-preserved

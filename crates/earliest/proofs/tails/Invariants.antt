@@ -1,6 +1,6 @@
 use Rattle.std.proofs.Common.{◌≡◌, map}
 use Rattle.std.specs.List.{range_with_len}
-use Rattle.earliest.specs.Tails.{tail_weight}
+use Rattle.earliest.specs.Ends.{tail_weight}
 use Rattle.earliest.proofs.tails.Given as goal
 
 abbrev pub invariant-loop-i : goal.invariant-loop-i

@@ -2,7 +2,7 @@
 
 ghost use Rattle.std.specs.Prelude.{◌<◌};
 ghost use Rattle.network.specs.Problem.{resource_count};
-ghost use Rattle.profile.specs.SweepOf.{IsSweepFor};
+ghost use Rattle.profile.specs.Overloads.{IsSweepFor};
 
 use super::next;
 use network::Project;

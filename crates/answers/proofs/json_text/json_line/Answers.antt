@@ -1,8 +1,7 @@
-use Rattle.std.proofs.Common.{◌++◌, ◌∙◌, ap}
-use Rattle.std.specs.Prelude.{option_map, codes}
+use Rattle.std.proofs.Common.{◌++◌, ◌∙◌, ap, option_map, codes}
 use Rattle.std.proofs.lemmas.Result.{MatchResult-weaker}
 use Rattle.serde_json.specs.Written.{compact_text}
-use Rattle.answers.proofs.JsonLaws.{answer_no_float, answer_printed}
+use Rattle.answers.proofs.OutcomeLaws.{answer_no_float, answer_printed}
 use Rattle.answers.proofs.json_text.json_line.Goals as goal
 
 pub line_of-requires : goal.line_of-requires

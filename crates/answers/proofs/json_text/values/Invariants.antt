@@ -1,6 +1,6 @@
 use Rattle.std.proofs.Common.{◌≡◌, map, take, Some}
 use Rattle.serde_json.specs.View.{view}
-use Rattle.answers.specs.JsonLine.{number_data}
+use Rattle.answers.specs.Answers.{number_data}
 use Rattle.answers.proofs.json_text.values.Given as goal
 
 abbrev pub invariant-loop-number : goal.invariant-loop-number

@@ -2,10 +2,10 @@ use Rattle.std.proofs.Common.{◌≡◌, [], ◌∷◌, inl, subst, rules}
 use Rattle.std.specs.Arc.{arc_value}
 use Rattle.std.specs.List.Sorted.{IsPermutation}
 use Rattle.branching.specs.Subproblem.{Subproblem}
-use Rattle.branching.specs.Covered.{IsRootOf}
+use Rattle.branching.specs.Fair.{IsRootOf}
 use Rattle.book.specs.State.{Named}
 use Rattle.book.specs.OpenNodes.{Inserts}
-use Rattle.book.proofs.Opened.{only_order}
+use Rattle.book.proofs.Steps.{only_order}
 use Rattle.book.proofs.book.first_nodes.Goals as goal
 
 pub returns : goal.returns

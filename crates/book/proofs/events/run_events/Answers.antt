@@ -1,7 +1,6 @@
 use Rattle.std.proofs.Common.{◌≡◌, ◌+◌, ◌++◌, List, ◌∷◌, [], subst, sym, vec_len, vec_capacity, arith, rules, length-append}
-use Rattle.book.specs.Events.{Run}
-use Rattle.book.specs.declared.events.Reply.{Reply}
-use Rattle.book.proofs.Runs.{run_more}
+use Rattle.book.specs.Events.{Run, Reply}
+use Rattle.book.proofs.Steps.{run_more}
 use Rattle.book.proofs.events.run_events.Goals as goal
 
 pub loop-event-preserved : goal.loop-event-preserved

@@ -1,7 +1,7 @@
 use Rattle.std.proofs.Common.{subst, arith}
 use Rattle.std.proofs.lemmas.Int.{ints}
-use Rattle.book.specs.Verdicts.{IsLeast}
-use Rattle.book.proofs.LeastNumber.{least_left, least_right}
+use Rattle.book.specs.Sound.{IsLeast}
+use Rattle.book.proofs.Names.{least_left, least_right}
 use Rattle.book.proofs.least.lesser.Goals as goal
 
 pub returns-then-left-right : goal.returns-then-left-right

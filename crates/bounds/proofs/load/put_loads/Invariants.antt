@@ -1,5 +1,5 @@
 use Rattle.std.proofs.Common.{◌≡◌, ℕ, ◌-◌, ◌<◌, length, get_or}
-use Rattle.bounds.specs.Ranked.{keyed_load}
+use Rattle.bounds.specs.Loads.{keyed_load}
 use Rattle.bounds.proofs.load.put_loads.Given as goal
 
 abbrev pub invariant-loop-i : goal.invariant-loop-i

@@ -1,4 +1,4 @@
-use Rattle.bounds.specs.Ranking.{IsRanked}
+use Rattle.bounds.specs.Loads.{IsRanked}
 use Rattle.bounds.proofs.load.rank_keys.Given as goal
 
 abbrev pub invariant-loop-i : goal.invariant-loop-i

@@ -1,7 +1,7 @@
 use Rattle.std.proofs.Common.{◌∙◌, pos, arith}
 use Rattle.network.specs.Schedule.{start}
 use Rattle.bounds.specs.declared.task_buffers.Task.{Task}
-use Rattle.bounds.proofs.Writing.{map_written}
+use Rattle.bounds.proofs.Ranked.{map_written}
 use Rattle.bounds.proofs.load.take_keys.Goals as goal
 
 pub returns : goal.returns

@@ -1,6 +1,6 @@
 use Rattle.std.proofs.Common.{◌≡◌, ℕ, ◌<◌, pos, get_or}
 use Rattle.network.specs.Schedule.{start}
-use Rattle.bounds.specs.Ranked.{task_at}
+use Rattle.bounds.specs.Loads.{task_at}
 use Rattle.bounds.proofs.load.take_keys.Given as goal
 
 abbrev pub invariant-loop-i : goal.invariant-loop-i

@@ -1,10 +1,8 @@
 use Rattle.std.proofs.Common.{sym, ◌∙◌, subst, List, length, map}
 use Rattle.std.specs.List.{range_with_len}
 use Rattle.std.specs.List.Sorted.{IsPermutation}
-use Rattle.bounds.specs.declared.load.Load.{Load}
 use Rattle.orders.specs.Orders.{IsOrder}
-use Rattle.bounds.specs.Loads.{AreFalling}
-use Rattle.bounds.specs.Ranked.{keyed_load}
+use Rattle.bounds.specs.Loads.{AreFalling, keyed_load, Load}
 use Rattle.bounds.proofs.Ranked.{order_long, order_below, order_has_keys, order_kept, keys_are_ends, keys_long, loads_moved, loads_from_order}
 use Rattle.bounds.proofs.load.take_loads.Goals as goal
 

@@ -1,7 +1,7 @@
 use Rattle.std.proofs.Common.{◌≡◌, refl, ap, ◌∙◌, ℕ, ◌+◌, ◌<◌, ◌≤◌, max, ⊎_elim, pos, get_or, unsigned_abs, rules, arith, below_more, w64, FitsSigned}
 use Rattle.std.proofs.lemmas.Bool.{cases_lt}
 use Rattle.std.proofs.lemmas.Int.{to_z-of_z}
-use Rattle.bounds.specs.Ends.{ends_of}
+use Rattle.bounds.specs.Energy.{ends_of}
 use Rattle.bounds.proofs.LateWork.{ord_max-max}
 use Rattle.bounds.proofs.resource_buffers.greatest_ends.Goals as goal
 

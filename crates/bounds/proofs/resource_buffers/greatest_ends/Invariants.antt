@@ -1,5 +1,5 @@
 use Rattle.std.proofs.Common.{ℕ, ◌<◌, ◌≤◌, length}
-use Rattle.bounds.specs.Ends.{ends_of}
+use Rattle.bounds.specs.Energy.{ends_of}
 use Rattle.bounds.proofs.resource_buffers.greatest_ends.Given as goal
 
 abbrev pub invariant-loop-i : goal.invariant-loop-i

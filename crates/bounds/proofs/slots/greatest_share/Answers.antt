@@ -1,10 +1,7 @@
 use Rattle.std.proofs.Common.{◌≡◌, ◌∙◌, ◌-◌, subst, ℕ, ◌+◌, ◌*◌, ◌<◌, max, List, length, take, get_or, slice_index_or, arith}
 use Rattle.std.proofs.lemmas.List.{take_all, get_or_default}
-use Rattle.bounds.specs.declared.load.Load.{Load}
-use Rattle.bounds.specs.Loads.{IsSmall, IsAbove}
-use Rattle.bounds.proofs.LateWork.{ord_max-max}
-use Rattle.bounds.proofs.ShareLimits.{product_small, reached_small}
-use Rattle.bounds.proofs.Marks.{line_long, line_rises}
+use Rattle.bounds.specs.Loads.{IsSmall, IsAbove, Load}
+use Rattle.bounds.proofs.LateWork.{ord_max-max, product_small, reached_small, line_long, line_rises}
 use Rattle.bounds.proofs.Fills.{Filled, AreOnLine, IsNext, IsStep, filled_start, filled_more, filled_small, room_enough, own_small}
 use Rattle.bounds.proofs.slots.greatest_share.Goals as goal
 use Rattle.bounds.proofs.slots.greatest_share.Goals.{After-fill-last, After-max-filled}

@@ -1,5 +1,5 @@
 use Rattle.std.proofs.Common.{arith}
-use Rattle.bounds.proofs.Marks.{line_written}
+use Rattle.bounds.proofs.LateWork.{line_written}
 use Rattle.bounds.proofs.slots.take_line.Goals as goal
 
 pub returns : goal.returns

@@ -1,5 +1,5 @@
 use Rattle.std.proofs.Common.{◌≡◌, ℕ, ◌+◌, ◌≤◌, get_or}
-use Rattle.bounds.specs.Slots.{room_before}
+use Rattle.bounds.specs.Loads.{room_before}
 use Rattle.bounds.proofs.slots.take_rooms.Given as goal
 
 abbrev pub invariant-loop-place : goal.invariant-loop-place

@@ -1,13 +1,9 @@
-use Rattle.std.proofs.Common.{◌≡◌, refl, sym, ap, ◌∙◌, ℕ, ◌*◌, true, false, cond, List, [], ◌∷◌, ◌++◌, append-nil, map, unsigned_abs, rules, arith, w64, FitsSigned}
-use Rattle.std.specs.Prelude.{nat_lt}
+use Rattle.std.proofs.Common.{◌≡◌, refl, sym, ap, ◌∙◌, ℕ, ◌*◌, true, false, cond, List, [], ◌∷◌, ◌++◌, append-nil, map, unsigned_abs, rules, arith, w64, FitsSigned, nat_lt, lt-ltb, le-ltb}
 use Rattle.std.specs.List.{filter, range_with_len}
-use Rattle.std.proofs.lemmas.Bool.{lt-ltb, le-ltb}
 use Rattle.std.proofs.lemmas.Int.{to_z-of_z}
 use Rattle.std.proofs.lemmas.List.FromFn.{filter_of_map_range_with_len_more}
 use Rattle.network.specs.Problem.{Problem, duration}
-use Rattle.bounds.specs.declared.task_buffers.Task.{Task}
-use Rattle.bounds.specs.Energy.{work}
-use Rattle.bounds.specs.Tasks.{task, has_work}
+use Rattle.bounds.specs.Energy.{work, task, has_work, Task}
 use Rattle.bounds.proofs.task_buffers.tasks_of.Goals as goal
 use Rattle.bounds.proofs.task_buffers.tasks_of.Goals.{then-work-gt0+in_ok-push, else-work-gt0}
 

@@ -1,6 +1,6 @@
 use Rattle.std.proofs.Common.{◌≡◌, map}
 use Rattle.std.specs.List.{filter, range_with_len}
-use Rattle.bounds.specs.Tasks.{task, has_work}
+use Rattle.bounds.specs.Energy.{task, has_work}
 use Rattle.bounds.proofs.task_buffers.tasks_of.Given as goal
 
 abbrev pub invariant-loop-activity : goal.invariant-loop-activity

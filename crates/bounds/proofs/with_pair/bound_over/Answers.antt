@@ -1,24 +1,20 @@
-use Rattle.std.proofs.Common.{◌≡◌, ◌∙◌, sym, ap, subst, rules, ℕ, ◌-◌, ◌<◌, ◌≤◌, ◌≤ℤ◌, arith, ℤ, pos, List, length, get_or, [], ◌∷◌, w64, to_z, FitsSigned, ◌++◌}
-use Rattle.std.specs.Prelude.{unsigned_abs}
+use Rattle.std.proofs.Common.{◌≡◌, ◌∙◌, sym, ap, subst, rules, ℕ, ◌-◌, ◌<◌, ◌≤◌, ◌≤ℤ◌, arith, ℤ, pos, List, length, get_or, [], ◌∷◌, w64, to_z, FitsSigned, ◌++◌, unsigned_abs}
 use Rattle.std.specs.Int.{int_max}
 use Rattle.std.specs.Option.{unwrap_or}
 use Rattle.std.proofs.lemmas.Int.{to_z-of_z, ints}
-use Rattle.network.specs.declared.lag.Lag.{Lag}
-use Rattle.network.specs.declared.lag.Pair.{Pair}
+use Rattle.network.specs.declared.parts.Lag.{Lag}
+use Rattle.network.specs.declared.parts.Pair.{Pair}
 use Rattle.network.specs.Problem.{Problem, activity_count, end_of, pair_arc, NameActivities}
-use Rattle.network.specs.ProjectMatrix.{IsProjectMatrix}
+use Rattle.network.specs.Walk.{IsProjectMatrix, Rows, weights_from}
 use Rattle.network.specs.Schedule.{start}
-use Rattle.network.specs.Walk.{Rows, weights_from}
 use Rattle.longest_path.specs.Insert.{rows_over, ClosesNone}
-use Rattle.earliest.specs.Tails.{tail_weights}
-use Rattle.bounds.specs.declared.limits.TheConstants.{MAX_END, MAX_SHARE}
-use Rattle.bounds.specs.Ends.{AreEnds}
-use Rattle.bounds.specs.Bound.{critical_weight}
-use Rattle.bounds.specs.With.{IsBoundUnder}
-use Rattle.bounds.proofs.LoadLimits.{end_limit}
-use Rattle.bounds.proofs.Terms.{end_above}
-use Rattle.bounds.proofs.WithLaws.{ends_there, matrix_more, heads_are_ends, tails_are_ends, last_head}
-use Rattle.bounds.proofs.UnderCeiling.{greater_under}
+use Rattle.earliest.specs.Ends.{tail_weights}
+pub use Rattle.bounds.specs.declared.limits.TheConstants.{MAX_END, MAX_SHARE}
+use Rattle.bounds.specs.Energy.{AreEnds}
+use Rattle.bounds.specs.Bound.{critical_weight, IsBoundUnder}
+use Rattle.bounds.proofs.LateWork.{end_limit}
+use Rattle.bounds.proofs.Greatest.{end_above}
+use Rattle.bounds.proofs.WithLaws.{ends_there, matrix_more, heads_are_ends, tails_are_ends, last_head, greater_under}
 use Rattle.bounds.proofs.with_pair.bound_over.Goals as goal
 
 pub take_heads_with-requires-clause-from_activity : goal.take_heads_with-requires-clause-from_activity

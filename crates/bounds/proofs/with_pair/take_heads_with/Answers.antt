@@ -2,7 +2,7 @@ use Rattle.std.proofs.Common.{rules, refl, ◌≡◌, ◌∙◌, ap, pos, w64, F
 use Rattle.std.specs.Option.{unwrap_or}
 use Rattle.std.proofs.lemmas.Int.{to_z-of_z}
 use Rattle.longest_path.specs.Insert.{entry_over}
-use Rattle.bounds.proofs.Writing.{set_more}
+use Rattle.bounds.proofs.Ranked.{set_more}
 use Rattle.bounds.proofs.WithLaws.{heads_over}
 use Rattle.bounds.proofs.with_pair.take_heads_with.Goals as goal
 

@@ -3,9 +3,9 @@ use Rattle.std.specs.Option.{unwrap_or}
 use Rattle.std.proofs.lemmas.Int.{to_z-of_z}
 use Rattle.network.specs.Problem.{duration, end_of}
 use Rattle.network.specs.Walk.{entry}
-use Rattle.longest_path.specs.Relax.{greater, joined}
+use Rattle.longest_path.specs.Matrix.{greater, joined}
 use Rattle.longest_path.specs.Insert.{entry_over}
-use Rattle.bounds.proofs.Writing.{set_more}
+use Rattle.bounds.proofs.Ranked.{set_more}
 use Rattle.bounds.proofs.WithLaws.{tails_over, joined_late, difference_small}
 use Rattle.bounds.proofs.with_pair.take_tails_with.Goals as goal
 

@@ -1,17 +1,15 @@
-use Rattle.std.proofs.Common.{refl, ◌∙◌, rules, ◌≤ℤ◌, w64, List, ◌∷◌, [], ◌++◌}
+use Rattle.std.proofs.Common.{refl, ◌∙◌, rules, ◌≤ℤ◌, w64, List, ◌∷◌, [], ◌++◌, SFits}
 use Rattle.std.specs.List.{Contains}
 use Rattle.std.proofs.lemmas.Int.{to_z-of_z}
 use Rattle.std.proofs.lemmas.List.Elements.{Contains-append_left, Contains-push}
-use mir.Val.{SFits}
-use Rattle.network.specs.declared.lag.Pair.{Pair}
+use Rattle.network.specs.declared.parts.Pair.{Pair}
 use Rattle.network.specs.Problem.{Problem}
 use Rattle.network.specs.Walk.{Rows}
-use Rattle.bounds.specs.Bound.{IsBoundOf}
-use Rattle.bounds.specs.With.{IsBoundWith, IsBoundUnder}
-use Rattle.bounds.proofs.UnderCeiling.{IsBoundWith-exists}
+use Rattle.bounds.specs.Bound.{IsBoundOf, IsBoundWith, IsBoundUnder}
+use Rattle.bounds.proofs.WithLaws.{IsBoundWith-exists}
 use Rattle.branching.specs.Subproblem.{Subproblem, kid_of}
-use Rattle.branching.specs.Ceiling.{IsUnder, Reaches}
-use Rattle.branching.proofs.ForcedMatrices.{cut_from, kid_at}
+use Rattle.branching.specs.Right.{IsUnder, Reaches}
+use Rattle.branching.proofs.Forcings.{cut_from, kid_at}
 use Rattle.branching.proofs.Again.{again, closes_none_again}
 use Rattle.branching.proofs.branch.bounded.Goals as goal
 

@@ -1,19 +1,15 @@
-use Rattle.std.proofs.Common.{refl, ap, ◌∙◌, rules, ◌≤ℤ◌, ◌∷◌, ◌++◌, [], w64}
+use Rattle.std.proofs.Common.{refl, ap, ◌∙◌, rules, ◌≤ℤ◌, ◌∷◌, ◌++◌, [], w64, SFits}
 use Rattle.std.proofs.lemmas.Int.{to_z-of_z}
-use mir.Val.{SFits}
-use Rattle.network.specs.declared.lag.Pair.{Pair}
+use Rattle.network.specs.declared.parts.Pair.{Pair}
 use Rattle.network.specs.Problem.{pair_arc}
-use Rattle.network.specs.ProjectMatrix.{IsProjectMatrix}
-use Rattle.network.specs.Walk.{Rows}
+use Rattle.network.specs.Walk.{IsProjectMatrix, Rows}
 use Rattle.longest_path.specs.Insert.{rows_over}
-use Rattle.bounds.specs.Bound.{critical_weight, IsBoundOf}
-use Rattle.bounds.specs.With.{IsBoundWith, IsBoundUnder}
-use Rattle.bounds.proofs.UnderCeiling.{IsBoundWith-exists}
-use Rattle.branching.specs.Base.{BaseOf}
-use Rattle.branching.specs.Subproblem.{Subproblem, kid_of}
-use Rattle.branching.specs.Ceiling.{IsUnder, Reaches}
+use Rattle.bounds.specs.Bound.{critical_weight, IsBoundOf, IsBoundWith, IsBoundUnder}
+use Rattle.bounds.proofs.WithLaws.{IsBoundWith-exists}
+use Rattle.branching.specs.Subproblem.{BaseOf, Subproblem, kid_of}
+use Rattle.branching.specs.Right.{IsUnder, Reaches}
 use Rattle.branching.proofs.Nodes.{matrix_with}
-use Rattle.branching.proofs.ForcedMatrices.{none_forced, cut_from, cut_by_least, kid_at}
+use Rattle.branching.proofs.Forcings.{none_forced, cut_from, cut_by_least, kid_at}
 use Rattle.branching.proofs.branch.branch_of.Goals as goal
 
 pub returns-then-not-is_below-clause-branch : goal.returns-then-not-is_below-clause-branch

@@ -1,8 +1,7 @@
 use Rattle.std.proofs.Common.{◌≡◌, ◌∙◌}
 use Rattle.network.specs.Problem.{pair_arc}
-use Rattle.longest_path.specs.Insert.{AddsArc}
-use Rattle.longest_path.specs.Fault.{IsInsertFault}
-use Rattle.branching.proofs.ForcedMatrices.{dead_at_once}
+use Rattle.longest_path.specs.Insert.{AddsArc, IsInsertFault}
+use Rattle.branching.proofs.Forcings.{dead_at_once}
 use Rattle.branching.proofs.Paths.{matrix_more, closes_with}
 use Rattle.branching.proofs.branch.branch_with_forced.Goals as goal
 

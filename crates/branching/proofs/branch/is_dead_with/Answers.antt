@@ -1,8 +1,7 @@
-use Rattle.std.proofs.Common.{◌≡◌, sym, ap, ◌∙◌, rules, pos, ◌+ℤ◌, ◌<ℤ◌, ◌≤ℤ◌, Some, true, false, ◌∷◌, ◌++◌, [], w64}
+use Rattle.std.proofs.Common.{◌≡◌, sym, ap, ◌∙◌, rules, pos, ◌+ℤ◌, ◌<ℤ◌, ◌≤ℤ◌, Some, true, false, ◌∷◌, ◌++◌, [], w64, SFits}
 use Rattle.std.specs.Int.Signed.{lt_z}
 use Rattle.std.proofs.lemmas.Int.{to_z-of_z}
 use Rattle.std.proofs.lemmas.Bool.{OnTrue_from, OnFalse_from}
-use mir.Val.{SFits}
 use Rattle.network.specs.Problem.{Problem, duration, pair_arc}
 use Rattle.network.specs.Walk.{entry}
 use Rattle.longest_path.specs.Insert.{ClosesNone}

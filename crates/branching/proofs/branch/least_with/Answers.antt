@@ -1,11 +1,9 @@
-use Rattle.std.proofs.Common.{◌≡◌, ap, ◌∙◌, rules, pos, ◌-◌, ◌+ℤ◌, ℤ, Option, w64}
+use Rattle.std.proofs.Common.{◌≡◌, ap, ◌∙◌, rules, pos, ◌-◌, ◌+ℤ◌, ℤ, Option, w64, SFits}
 use Rattle.std.specs.Option.{unwrap_or}
 use Rattle.std.proofs.lemmas.Int.{to_z-of_z}
-use mir.Val.{SFits}
-use Rattle.network.specs.Problem.{Problem, activity_count, end_of, duration}
+use Rattle.network.specs.Problem.{Problem, activity_count, end_of, duration, IsWithin}
 use Rattle.network.specs.Walk.{entry}
-use Rattle.network.specs.Limits.{IsWithin}
-use Rattle.network.specs.declared.limits.TheConstants.{MAX_WALK_WEIGHT}
+pub use Rattle.network.specs.declared.limits.TheConstants.{MAX_WALK_WEIGHT}
 use Rattle.branching.proofs.Nodes.{rows_of, ends_of, least_with_critical, weight_within, sum_fits, sums_fit}
 use Rattle.branching.proofs.branch.least_with.Goals as goal
 

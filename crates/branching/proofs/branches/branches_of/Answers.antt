@@ -1,10 +1,9 @@
-use Rattle.std.proofs.Common.{rules, w64, length, ◌<◌, ◌∙◌}
-use mir.Val.{SFits}
+use Rattle.std.proofs.Common.{rules, w64, length, ◌<◌, ◌∙◌, SFits}
 use Rattle.std.proofs.lemmas.Int.{to_z-of_z}
 use Rattle.std.specs.Arc.{arc_value}
 use Rattle.std.proofs.lemmas.List.{map-append, take_more}
-use Rattle.network.specs.declared.lag.Pair.{Pair}
-use Rattle.branching.specs.Fate.{fate_value}
+use Rattle.network.specs.declared.parts.Pair.{Pair}
+use Rattle.branching.specs.Fates.{fate_value}
 use Rattle.branching.proofs.Again.{named_one}
 use Rattle.branching.proofs.Fates.{fate_kid, fate_dead, fate_cut}
 use Rattle.branching.proofs.branches.branches_of.Goals as goal

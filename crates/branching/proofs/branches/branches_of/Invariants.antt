@@ -1,8 +1,6 @@
-use Rattle.std.proofs.Common.{◌≡◌, take, map}
-use Rattle.std.specs.Prelude.{IfSome}
+use Rattle.std.proofs.Common.{◌≡◌, take, map, IfSome}
 use Rattle.std.specs.Arc.{arc_value}
-use Rattle.branching.specs.Fate.{fate_value}
-use Rattle.branching.specs.Fates.{AreFates}
+use Rattle.branching.specs.Fates.{fate_value, AreFates}
 use Rattle.branching.specs.Parent.{IsParent}
 use Rattle.branching.proofs.branches.branches_of.Given as goal
 

@@ -1,11 +1,9 @@
-use Rattle.std.proofs.Common.{◌≡◌, None, [], ap, ◌∙◌, rules, w64}
+use Rattle.std.proofs.Common.{◌≡◌, None, [], ap, ◌∙◌, rules, w64, SFits, Result, Ok, Err, IfOk}
 use Rattle.std.proofs.lemmas.Int.{to_z-of_z}
-use mir.Val.{SFits}
 use Rattle.std.specs.Arc.{arc_value}
 use Rattle.branching.specs.Subproblem.{Subproblem, IsNode}
-use Rattle.std.specs.Prelude.{Result, Ok, Err, IfOk}
-use Rattle.std.specs.declared.alloc.AllocError.{AllocError}
-use Rattle.branching.specs.Ceiling.{IsUnder, Reaches}
+pub use Rattle.std.specs.declared.alloc.AllocError.{AllocError}
+use Rattle.branching.specs.Right.{IsUnder, Reaches}
 use Rattle.branching.specs.Fair.{Expansion}
 use Rattle.branching.proofs.Together.{report_cut}
 use Rattle.branching.proofs.Covers.{reached_over}

@@ -1,16 +1,13 @@
 use Rattle.std.proofs.Common.{ℕ, map, ◌≡◌, ap, ◌∙◌}
 use Rattle.std.specs.Arc.{arc_value}
 use Rattle.std.specs.List.{All}
-use Rattle.network.specs.Forbidden.{IsMinimalForbidden}
-use Rattle.network.specs.Schedule.{running}
+use Rattle.network.specs.Schedule.{IsMinimalForbidden, running}
 use Rattle.forbidden_sets.specs.MinimalSet.{MinimalSet}
-use Rattle.branching.specs.Subproblem.{Subproblem}
+use Rattle.branching.specs.Subproblem.{Subproblem, ordered_pairs}
 use Rattle.branching.specs.Right.{IsRightSet}
-use Rattle.branching.specs.Fate.{fate_value}
-use Rattle.branching.specs.Fates.{AreFates}
+use Rattle.branching.specs.Fates.{fate_value, AreFates}
 use Rattle.branching.specs.Fair.{IsNewTo}
-use Rattle.branching.specs.Pairs.{ordered_pairs}
-use Rattle.network.proofs.Running.{running_below, running_rising}
+use Rattle.network.proofs.Schedules.{running_below, running_rising}
 use Rattle.branching.proofs.Together.{run_together, minimal_together, new_pairs, named_pairs, report_split}
 use Rattle.branching.proofs.expansion.report_split.Goals as goal
 

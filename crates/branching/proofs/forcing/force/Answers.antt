@@ -1,17 +1,13 @@
-use Rattle.std.proofs.Common.{◌≡◌, ap, ◌∙◌, rules, ◌++◌, ◌∷◌, [], List, w64}
+use Rattle.std.proofs.Common.{◌≡◌, ap, ◌∙◌, rules, ◌++◌, ◌∷◌, [], List, w64, SFits}
 use Rattle.std.proofs.lemmas.Int.{to_z-of_z}
-use mir.Val.{SFits}
-use Rattle.network.specs.declared.lag.Pair.{Pair}
+use Rattle.network.specs.declared.parts.Pair.{Pair}
 use Rattle.network.specs.Problem.{Problem, pair_arc}
 use Rattle.network.specs.Walk.{Rows}
-use Rattle.longest_path.specs.Insert.{AddsArc}
-use Rattle.longest_path.specs.Fault.{IsInsertFault}
-use Rattle.branching.specs.Base.{BaseOf}
-use Rattle.rivals.specs.Incompatible.{AreIncompatible, AllIncompatible}
-use Rattle.rivals.specs.IncompatibleRows.{pairs_of, AreRowsOf}
+use Rattle.longest_path.specs.Insert.{AddsArc, IsInsertFault}
+use Rattle.branching.specs.Subproblem.{BaseOf}
+use Rattle.rivals.specs.Incompatible.{AreIncompatible, AllIncompatible, pairs_of, AreRowsOf}
 use Rattle.branching.specs.Forcing.{IsFirstForced}
-use Rattle.branching.proofs.ForcedMatrices.{both_named, one_forced, dead_forced}
-use Rattle.branching.proofs.Forcings.{first_among, first_incompatible, rows_incompatible}
+use Rattle.branching.proofs.Forcings.{both_named, one_forced, dead_forced, first_among, first_incompatible, rows_incompatible}
 use Rattle.branching.proofs.Paths.{matrix_more}
 use Rattle.branching.proofs.Rounds.{fewer_left}
 use Rattle.branching.proofs.forcing.force.Goals as goal

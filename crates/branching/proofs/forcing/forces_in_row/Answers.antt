@@ -1,20 +1,15 @@
-use Rattle.std.proofs.Common.{◌≡◌, refl, sym, ◌∙◌, rules, w64, ℕ, ◌<◌, ◌≤◌, ◌+ℤ◌, Some, None, length, get_or, ◌↔◌}
+use Rattle.std.proofs.Common.{◌≡◌, refl, sym, ◌∙◌, rules, w64, ℕ, ◌<◌, ◌≤◌, ◌+ℤ◌, Some, None, length, get_or, ◌↔◌, SFits, take_all}
 use Rattle.std.proofs.lemmas.Int.{to_z-of_z}
-use mir.Val.{SFits}
 use Rattle.std.specs.Bool.{IsTrue}
 use Rattle.std.specs.List.{All}
-use Rattle.std.proofs.lemmas.List.{take_all}
-use Rattle.network.specs.declared.lag.Pair.{Pair}
-use Rattle.network.specs.Problem.{duration, pair_arc}
+use Rattle.network.specs.declared.parts.Pair.{Pair}
+use Rattle.network.specs.Problem.{duration, pair_arc, pair_of}
 use Rattle.network.specs.Walk.{entry}
-use Rattle.longest_path.specs.Relax.{greater, joined}
-use Rattle.rivals.specs.declared.incompatible.Incompatible.{Incompatible}
+use Rattle.longest_path.specs.Matrix.{greater, joined}
+pub use Rattle.rivals.specs.declared.incompatible.Incompatible.{Incompatible}
 use Rattle.branching.specs.Forcing.{IsForcedWith, way_over}
-use Rattle.rivals.specs.Incompatible.{AreIncompatible}
-use Rattle.rivals.specs.IncompatibleRows.{pairs_before}
-use Rattle.network.specs.Pairs.{pair_of}
-use Rattle.branching.proofs.Forcings.{unless, when, both_ways, over_by, by_way, no_way, none_before, none_over, none_from, none_of_all, pair_more, some_of_row, row_at}
-use Rattle.branching.proofs.ForcedMatrices.{both_named}
+use Rattle.rivals.specs.Incompatible.{AreIncompatible, pairs_before}
+use Rattle.branching.proofs.Forcings.{unless, when, both_ways, over_by, by_way, no_way, none_before, none_over, none_from, none_of_all, pair_more, some_of_row, row_at, both_named}
 use Rattle.branching.proofs.forcing.forces_in_row.Goals as goal
 use Rattle.branching.proofs.forcing.forces_in_row.Goals.{in-Some-get+else-is_forced_at, in_default-get}
 

@@ -1,8 +1,7 @@
-use Rattle.std.proofs.Common.{refl, ◌≤◌, length}
+use Rattle.std.proofs.Common.{refl, ◌≤◌, length, take_all}
 use Rattle.std.specs.List.{All}
-use Rattle.std.proofs.lemmas.List.{take_all}
 use Rattle.branching.specs.Forcing.{IsForcedWith}
-use Rattle.rivals.specs.IncompatibleRows.{pairs_of}
+use Rattle.rivals.specs.Incompatible.{pairs_of}
 use Rattle.branching.proofs.Forcings.{unless, when, all_more, none_in_row, none_of_all, some_of_rows}
 use Rattle.branching.proofs.forcing.forces_some.Goals as goal
 

@@ -1,9 +1,8 @@
-use Rattle.std.proofs.Common.{◌≡◌, rules, pos, ◌+ℤ◌, false, w64}
+use Rattle.std.proofs.Common.{◌≡◌, rules, pos, ◌+ℤ◌, false, w64, SFits}
 use Rattle.std.specs.Int.Signed.{le_z}
 use Rattle.std.proofs.lemmas.Int.{to_z-of_z}
-use mir.Val.{SFits}
-use Rattle.network.specs.Limits.{IsWithin}
-use Rattle.longest_path.specs.declared.with_arc.TheConstants.{MAX_WAY_WITH}
+use Rattle.network.specs.Problem.{IsWithin}
+pub use Rattle.longest_path.specs.declared.insert.TheConstants.{MAX_WAY_WITH}
 use Rattle.branching.proofs.Nodes.{ends_of, way_amount_fits}
 use Rattle.branching.proofs.Forcings.{forced_by}
 use Rattle.branching.proofs.forcing.is_forced_at.Goals as goal

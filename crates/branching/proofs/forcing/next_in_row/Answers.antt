@@ -1,13 +1,10 @@
-use Rattle.std.proofs.Common.{◌≡◌, ℕ, ◌<◌, ◌≤◌, length, get_or}
+use Rattle.std.proofs.Common.{◌≡◌, ℕ, ◌<◌, ◌≤◌, length, get_or, take_all}
 use Rattle.std.specs.List.{All}
-use Rattle.std.proofs.lemmas.List.{take_all}
-use Rattle.rivals.specs.declared.incompatible.Incompatible.{Incompatible}
+pub use Rattle.rivals.specs.declared.incompatible.Incompatible.{Incompatible}
 use Rattle.branching.specs.Forcing.{IsForcedIn}
-use Rattle.rivals.specs.Incompatible.{AreIncompatible}
-use Rattle.rivals.specs.IncompatibleRows.{pairs_before}
-use Rattle.network.specs.Pairs.{pair_of}
-use Rattle.branching.proofs.Forcings.{unless, when, pair_more, first_of_row, row_at}
-use Rattle.branching.proofs.ForcedMatrices.{both_named}
+use Rattle.rivals.specs.Incompatible.{AreIncompatible, pairs_before}
+use Rattle.network.specs.Problem.{pair_of}
+use Rattle.branching.proofs.Forcings.{unless, when, pair_more, first_of_row, row_at, both_named}
 use Rattle.branching.proofs.forcing.next_in_row.Goals as goal
 
 pub get-requires-clause-to_activity : goal.get-requires-clause-to_activity

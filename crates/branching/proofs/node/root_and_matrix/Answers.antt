@@ -1,9 +1,7 @@
-use Rattle.std.proofs.Common.{◌≡◌, sym, subst, rules, [], w64}
+use Rattle.std.proofs.Common.{◌≡◌, sym, subst, rules, [], w64, SFits}
 use Rattle.std.specs.Arc.{arc_value}
 use Rattle.std.proofs.lemmas.Int.{to_z-of_z}
-use mir.Val.{SFits}
-use Rattle.network.specs.Limits.{IsProject}
-use Rattle.network.specs.Problem.{Problem, activity_count, arcs_of}
+use Rattle.network.specs.Problem.{IsProject, Problem, activity_count, arcs_of}
 use Rattle.network.specs.Walk.{IsMatrixOf}
 use Rattle.bounds.specs.Bound.{IsMatrixFor, IsBoundOf, IsTrueBoundFor}
 use Rattle.branching.proofs.Nodes.{no_pairs, root_is_node, root_of}

@@ -1,15 +1,11 @@
-use Rattle.std.proofs.Common.{◌<◌, ℕ, List, length, sym, subst, arith}
-use Rattle.std.specs.Prelude.{pos, ◌≤ℤ◌}
+use Rattle.std.proofs.Common.{◌<◌, ℕ, List, length, sym, subst, arith, pos, ◌≤ℤ◌, take_all}
 use Rattle.network.specs.declared.limits.TheConstants.{MAX_AMOUNT}
 use Rattle.std.specs.List.{All, AllPairs}
-use Rattle.std.proofs.lemmas.List.{take_all}
 use Rattle.std.proofs.lemmas.List.Elements.{All-push}
 use Rattle.std.proofs.lemmas.List.Sorted.{All-permutation}
 use Rattle.network.specs.Problem.{demand}
-use Rattle.forbidden_sets.specs.declared.shrinking.Load.{Load}
-use Rattle.forbidden_sets.specs.Shrunk.{AreLoads, ComesBefore}
-use Rattle.forbidden_sets.proofs.Order.{sorted_by_demand}
-use Rattle.forbidden_sets.proofs.Shrunken.{one_load, no_load, AreLoads-permutation, written_whole}
+use Rattle.forbidden_sets.specs.MinimalSet.{AreLoads, ComesBefore, Load}
+use Rattle.forbidden_sets.proofs.Shrunken.{sorted_by_demand, one_load, no_load, AreLoads-permutation, written_whole}
 use Rattle.forbidden_sets.proofs.shrinking.by_demand.Goals as goal
 use Rattle.forbidden_sets.proofs.shrinking.by_demand.Goals.{then-demand-gt0+in_ok-push, else-demand-gt0}
 

@@ -1,9 +1,8 @@
-use Rattle.std.proofs.Common.{take}
-use Rattle.std.specs.Prelude.{pos, ◌≤ℤ◌}
+use Rattle.std.proofs.Common.{take, pos, ◌≤ℤ◌}
 use Rattle.network.specs.declared.limits.TheConstants.{MAX_AMOUNT}
 use Rattle.std.specs.List.{All}
 use Rattle.network.specs.Problem.{demand}
-use Rattle.forbidden_sets.specs.Shrunk.{AreLoads}
+use Rattle.forbidden_sets.specs.MinimalSet.{AreLoads}
 use Rattle.forbidden_sets.proofs.shrinking.by_demand.Given as goal
 
 abbrev pub invariant-loop-activity : goal.invariant-loop-activity

@@ -1,10 +1,7 @@
-use Rattle.std.proofs.Common.{◌≡◌, ◌-◌, length, take, drop, arith}
-use Rattle.std.specs.Prelude.{Result, Ok, Err, IfOk}
-use Rattle.std.proofs.lemmas.List.{take_all, length-drop}
+use Rattle.std.proofs.Common.{◌≡◌, ◌-◌, length, take, drop, arith, Result, Ok, Err, IfOk, take_all, length-drop}
 use Rattle.forbidden_sets.specs.declared.shrinking.Load.{Load}
 use Rattle.network.specs.Problem.{demand, capacity}
-use Rattle.forbidden_sets.proofs.Rising.{length_rising}
-use Rattle.forbidden_sets.proofs.Shrunken.{loads_few, shrunk}
+use Rattle.forbidden_sets.proofs.Shrunken.{length_rising, loads_few, shrunk}
 use Rattle.forbidden_sets.proofs.shrinking.least_needed.Goals as goal
 
 -- what follows of a result from two things said of it

@@ -2,8 +2,7 @@ use Rattle.std.proofs.Common.{◌≡◌, ◌<◌, ◌∙◌, refl, ap, map}
 use Rattle.std.proofs.lemmas.List.Elements.{All-contains}
 use Rattle.network.specs.Problem.{demand, activity_count}
 use Rattle.forbidden_sets.specs.MinimalSet.{MinimalSet}
-use Rattle.forbidden_sets.proofs.Shrunken.{is_minimal_set, is_minimal_forbidden}
-use Rattle.forbidden_sets.proofs.Rising.{length_rising}
+use Rattle.forbidden_sets.proofs.Shrunken.{is_minimal_set, is_minimal_forbidden, length_rising}
 use Rattle.forbidden_sets.proofs.shrinking.shrink_activities.Goals as goal
 
 pub demands_of-requires-clause-members : goal.demands_of-requires-clause-members

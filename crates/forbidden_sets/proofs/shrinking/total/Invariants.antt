@@ -1,5 +1,4 @@
-use Rattle.std.proofs.Common.{◌≡◌, ◌≤◌, ◌*◌, take}
-use Rattle.std.specs.Prelude.{unsigned_abs}
+use Rattle.std.proofs.Common.{◌≡◌, ◌≤◌, ◌*◌, take, unsigned_abs}
 use Rattle.std.specs.List.{sum_by}
 use Rattle.network.specs.declared.limits.TheConstants.{MAX_AMOUNT}
 use Rattle.forbidden_sets.proofs.shrinking.total.Given as goal

@@ -1,9 +1,7 @@
-use Rattle.std.proofs.Common.{rules, get_or, w64}
-use Rattle.std.specs.Prelude.{◌↔◌, IsTrue}
+use Rattle.std.proofs.Common.{rules, get_or, w64, ◌↔◌, IsTrue, SFits}
 use Rattle.std.proofs.lemmas.Bool.{iff_false}
 use Rattle.std.proofs.lemmas.Int.{to_z-of_z}
 use Rattle.std.proofs.lemmas.List.Elements.{All-more}
-use mir.Val.{SFits}
 use Rattle.lemma_check.specs.Reasons.{RunsWithin}
 use Rattle.lemma_check.proofs.Loops.{some_fails, none_fails}
 use Rattle.lemma_check.proofs.clique.all_run_within.Goals as goal

@@ -1,9 +1,7 @@
-use Rattle.std.proofs.Common.{◌≡◌, arith, rules, ◌<◌, ◌+ℤ◌, pos, w64}
-use Rattle.std.specs.Prelude.{◌↔◌, IsTrue, ◌<ℤ◌, unsigned_abs}
+use Rattle.std.proofs.Common.{◌≡◌, arith, rules, ◌<◌, ◌+ℤ◌, pos, w64, ◌↔◌, IsTrue, ◌<ℤ◌, unsigned_abs, SFits, to_z}
 use Rattle.std.specs.List.{All, sum_by}
 use Rattle.std.proofs.lemmas.Bool.{iff_false}
 use Rattle.std.proofs.lemmas.Int.{ints, to_z-of_z}
-use mir.Val.{SFits, to_z}
 use Rattle.network.specs.Problem.{duration}
 use Rattle.lemma_check.specs.Reasons.{RunsWithin, IsClique}
 use Rattle.lemma_check.proofs.Loops.{refused}

@@ -1,6 +1,5 @@
-use Rattle.std.proofs.Common.{ℕ, ◌<◌, List}
-use Rattle.std.specs.Prelude.{slice_index}
-use Rattle.network.specs.declared.lag.Lag.{Lag}
+use Rattle.std.proofs.Common.{ℕ, ◌<◌, List, slice_index}
+use Rattle.network.specs.declared.parts.Lag.{Lag}
 use Rattle.network.specs.Problem.{activity_count}
 use Rattle.network.specs.Walk.{IsMatrixOf}
 use Rattle.lemma_check.specs.Reasons.{RunApart}

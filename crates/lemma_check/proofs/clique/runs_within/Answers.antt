@@ -1,8 +1,6 @@
-use Rattle.std.proofs.Common.{rules, arith, ◌-ℤ◌, w64}
-use Rattle.std.specs.Prelude.{◌↔◌, IsTrue}
+use Rattle.std.proofs.Common.{rules, arith, ◌-ℤ◌, w64, ◌↔◌, IsTrue, SFits}
 use Rattle.std.proofs.lemmas.Bool.{iff_false}
 use Rattle.std.proofs.lemmas.Int.{ints, to_z-of_z}
-use mir.Val.{SFits}
 use Rattle.network.specs.Problem.{duration}
 use Rattle.longest_path.specs.Insert.{arc_of}
 use Rattle.lemma_check.specs.Reasons.{Implies, RunsWithin}

@@ -1,7 +1,5 @@
-use Rattle.std.proofs.Common.{rules, w64}
-use Rattle.std.specs.Prelude.{◌↔◌, IsTrue}
+use Rattle.std.proofs.Common.{rules, w64, ◌↔◌, IsTrue, SFits}
 use Rattle.std.proofs.lemmas.Int.{to_z-of_z}
-use mir.Val.{SFits}
 use Rattle.longest_path.specs.Insert.{arc_of}
 use Rattle.lemma_check.specs.Reasons.{Implies}
 use Rattle.lemma_check.proofs.clique.starts_after_end.Goals as goal

@@ -1,11 +1,10 @@
 use Rattle.std.proofs.Common.{ℕ, ◌≤◌, List, length, arith}
 use Rattle.std.proofs.lemmas.Int.{ints}
 use Rattle.network.specs.declared.limits.TheConstants.{MAX_ACTIVITIES}
-use Rattle.network.specs.Limits.{IsProject}
-use Rattle.network.specs.Problem.{Problem, activity_count}
-use Rattle.rivals.proofs.Rising.{rising_length}
+use Rattle.network.specs.Problem.{IsProject, Problem, activity_count}
+use Rattle.rivals.proofs.Apart.{rising_length}
 use Rattle.schedule_check.specs.Members.{AreMembers}
-use Rattle.lemma_check.proofs.Overlaps.{begins}
+use Rattle.lemma_check.proofs.Windows.{begins}
 use Rattle.lemma_check.proofs.clique.total_duration.Goals as goal
 
 -- there are no more members than activities

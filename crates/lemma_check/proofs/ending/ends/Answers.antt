@@ -1,8 +1,6 @@
-use Rattle.std.proofs.Common.{rules, Bool, List, w64}
-use Rattle.std.specs.Prelude.{◌↔◌, IsTrue}
+use Rattle.std.proofs.Common.{rules, Bool, List, w64, ◌↔◌, IsTrue, SFits}
 use Rattle.std.proofs.lemmas.Int.{to_z-of_z}
-use mir.Val.{SFits}
-use Rattle.network.specs.declared.lag.Lag.{Lag}
+use Rattle.network.specs.declared.parts.Lag.{Lag}
 use Rattle.network.specs.Walk.{HasNoPositiveCycle}
 use Rattle.lemma_check.specs.Reasons.{IsSet, IsLoad, IsClique, IsUse}
 use Rattle.lemma_check.proofs.ending.ends.Goals as goal

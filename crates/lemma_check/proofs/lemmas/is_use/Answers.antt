@@ -1,5 +1,4 @@
-use Rattle.std.proofs.Common.{[], get_or}
-use Rattle.std.specs.Prelude.{◌↔◌, IsTrue}
+use Rattle.std.proofs.Common.{[], get_or, ◌↔◌, IsTrue}
 use Rattle.std.specs.List.{All}
 use Rattle.lemma_check.specs.Reasons.{Implies}
 use Rattle.lemma_check.proofs.lemmas.is_use.Goals as goal

@@ -4,7 +4,7 @@ use Rattle.std.proofs.lemmas.List.Elements.{All-nil}
 use Rattle.record_text.proofs.FirstWrong.{fault_at}
 use Rattle.lemma_check.specs.Right.{IsRightLine}
 use Rattle.lemma_check.proofs.DeadLines.{dead_more, dead_wrong}
-use Rattle.lemma_check.proofs.Reached.{right_all, first_wrong}
+use Rattle.lemma_check.proofs.Standings.{right_all, first_wrong}
 use Rattle.lemma_check.proofs.lines.check_dead.Goals as goal
 
 pub loop-index-init : goal.loop-index-init

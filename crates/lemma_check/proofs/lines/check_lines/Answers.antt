@@ -4,13 +4,12 @@ use Rattle.std.proofs.lemmas.List.Elements.{All-nil}
 use Rattle.std.proofs.lemmas.Option.{slice_get_read}
 use Rattle.std.proofs.lemmas.Result.{on_ok_weaker, IfErr-weaker}
 use Rattle.network.specs.Problem.{Problem}
-use Rattle.record_text.specs.declared.fault.Why.TheVariants.{Memory}
+pub use Rattle.record_text.specs.declared.fault.Why.TheVariants.{Memory}
 use Rattle.record_text.proofs.FirstWrong.{fault_at}
-use Rattle.lemma_check.specs.Faults.{first_line, why_wrong, IsFirstWrong}
+use Rattle.lemma_check.specs.Right.{first_line, why_wrong, IsFirstWrong, IsRightAt, IsRightLine}
 use Rattle.lemma_check.specs.Places.{Place, first_place}
 use Rattle.lemma_check.specs.Standing.{IsDeadAt}
-use Rattle.lemma_check.specs.Right.{IsRightAt, IsRightLine}
-use Rattle.lemma_check.proofs.Reached.{memory_says, place_at, place_more, right_more, right_all, first_wrong}
+use Rattle.lemma_check.proofs.Standings.{memory_says, place_at, place_more, right_more, right_all, first_wrong}
 use Rattle.lemma_check.proofs.lines.check_lines.Goals as goal
 
 pub returns-in_default-clause-right : goal.returns-in_default-clause-right

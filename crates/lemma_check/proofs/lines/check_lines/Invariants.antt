@@ -1,6 +1,6 @@
 use Rattle.lemma_check.specs.Places.{first_place}
-use Rattle.lemma_check.specs.State.{IsAt}
-use Rattle.lemma_check.proofs.Reached.{place_at, AreRightBefore}
+use Rattle.lemma_check.specs.Standing.{IsAt}
+use Rattle.lemma_check.proofs.Standings.{place_at, AreRightBefore}
 use Rattle.lemma_check.proofs.lines.check_lines.Given as goal
 
 -- the lines so far are right, and the state is at the next one

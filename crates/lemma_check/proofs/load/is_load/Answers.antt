@@ -1,15 +1,10 @@
-use Rattle.std.proofs.Common.{◌≡◌, arith, rules, ◌*◌, ◌<◌, ◌≤◌, ◌-ℤ◌, w64}
-use Rattle.std.specs.Prelude.{unsigned_abs}
-use Rattle.std.specs.Prelude.{◌<ℤ◌}
+use Rattle.std.proofs.Common.{◌≡◌, arith, rules, ◌*◌, ◌<◌, ◌≤◌, ◌-ℤ◌, w64, unsigned_abs, ◌<ℤ◌, ltb-true, lt-ltb, SFits}
 use Rattle.std.specs.List.{sum_by}
 use Rattle.std.proofs.lemmas.Int.{ints, to_z-of_z}
-use Rattle.std.proofs.lemmas.Bool.{ltb-true, lt-ltb}
 use Rattle.std.proofs.lemmas.Nat.{mul-le}
-use mir.Val.{SFits}
 use Rattle.network.specs.Problem.{activities, capacity, demand}
-use Rattle.lemma_check.specs.Reasons.{IsLoad}
-use Rattle.lemma_check.specs.Parts.{part_of, load_of}
-use Rattle.lemma_check.proofs.PartLaws.{part_is, load_most}
+use Rattle.lemma_check.specs.Reasons.{IsLoad, part_of, load_of}
+use Rattle.lemma_check.proofs.Windows.{part_is, load_most}
 use Rattle.lemma_check.proofs.load.is_load.Goals as goal
 
 pub overflow_mul-result : goal.overflow_mul-result

@@ -1,11 +1,10 @@
-use Rattle.std.proofs.Common.{◌≡◌, refl, arith, rules, ℕ, ◌*◌, ◌≤◌, w64}
+use Rattle.std.proofs.Common.{◌≡◌, refl, arith, rules, ℕ, ◌*◌, ◌≤◌, w64, SFits}
 use Rattle.std.specs.List.{range_with_len}
 use Rattle.std.proofs.lemmas.Int.{ints, to_z-of_z}
 use Rattle.std.proofs.lemmas.Nat.{mul-le}
-use mir.Val.{SFits}
 use Rattle.network.specs.Problem.{demand, activity_count}
-use Rattle.lemma_check.specs.Parts.{part_of, load_of}
-use Rattle.lemma_check.proofs.PartLaws.{load_more}
+use Rattle.lemma_check.specs.Reasons.{part_of, load_of}
+use Rattle.lemma_check.proofs.Windows.{load_more}
 use Rattle.lemma_check.proofs.load.load.Goals as goal
 
 pub loop-activity-preserved : goal.loop-activity-preserved

@@ -1,6 +1,6 @@
 use Rattle.std.proofs.Common.{◌≡◌, ◌≤◌, ◌*◌}
 use Rattle.std.specs.List.{range_with_len}
-use Rattle.lemma_check.specs.Parts.{load_of}
+use Rattle.lemma_check.specs.Reasons.{load_of}
 use Rattle.lemma_check.proofs.load.load.Given as goal
 
 abbrev pub invariant-loop-activity : goal.invariant-loop-activity

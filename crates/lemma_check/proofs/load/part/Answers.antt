@@ -1,11 +1,9 @@
-use Rattle.std.proofs.Common.{◌≡◌, refl, sym, ◌∙◌, arith, rules, ◌+ℤ◌, ◌-ℤ◌, pos, Some, w64}
-use Rattle.std.specs.Prelude.{◌≤ℤ◌, unsigned_abs}
+use Rattle.std.proofs.Common.{◌≡◌, refl, sym, ◌∙◌, arith, rules, ◌+ℤ◌, ◌-ℤ◌, pos, Some, w64, ◌≤ℤ◌, unsigned_abs, SFits}
 use Rattle.std.specs.Int.{int_max, int_min}
 use Rattle.std.proofs.lemmas.Int.{ints, clamps, to_z-of_z}
-use mir.Val.{SFits}
-use Rattle.network.specs.Limits.{IsWithin}
+use Rattle.network.specs.Problem.{IsWithin}
 use Rattle.network.specs.Walk.{entry}
-use Rattle.lemma_check.specs.declared.weights.TheConstants.{MAX_WAY_WEIGHT}
+pub use Rattle.lemma_check.specs.declared.weights.TheConstants.{MAX_WAY_WEIGHT}
 use Rattle.lemma_check.proofs.load.part.Goals as goal
 
 pub overflow_add-head : goal.overflow_add-head

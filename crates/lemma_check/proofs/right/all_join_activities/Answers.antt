@@ -1,6 +1,6 @@
 use Rattle.std.proofs.Common.{pos}
 use Rattle.std.proofs.lemmas.List.Elements.{All-more}
-use Rattle.network.specs.declared.lag.Lag.{Lag}
+use Rattle.network.specs.declared.parts.Lag.{Lag}
 use Rattle.lemma_check.specs.Right.{JoinsActivities}
 use Rattle.lemma_check.proofs.Loops.{none_fails}
 use Rattle.lemma_check.proofs.right.all_join_activities.Goals as goal

@@ -1,12 +1,10 @@
-use Rattle.std.proofs.Common.{◌≡◌, ◌∙◌, rules, arith, inr, ⊎_elim, [], ◌∷◌, ◌++◌, ◌-ℤ◌, pos, w64}
-use Rattle.std.specs.Prelude.{◌↔◌, IsTrue}
+use Rattle.std.proofs.Common.{◌≡◌, ◌∙◌, rules, arith, inr, ⊎_elim, [], ◌∷◌, ◌++◌, ◌-ℤ◌, pos, w64, ◌↔◌, IsTrue, SFits}
 use Rattle.std.proofs.lemmas.Bool.{iff_false}
 use Rattle.std.proofs.lemmas.Int.{ints, to_z-of_z}
-use mir.Val.{SFits}
 use Rattle.network.specs.Problem.{activity_count}
 use Rattle.network.specs.Walk.{IsMatrixOf}
 use Rattle.longest_path.specs.Insert.{rows_over}
-use Rattle.longest_path.proofs.RowsOver.{length-rows_over}
+use Rattle.longest_path.proofs.Inserted.{length-rows_over}
 use Rattle.lemma_check.specs.Reasons.{Implies, Ends}
 use Rattle.lemma_check.specs.Right.{JoinsActivities, IsShown, reverse_of}
 use Rattle.lemma_check.proofs.Weighing.{reversed}

@@ -1,9 +1,7 @@
-use Rattle.std.proofs.Common.{rules, arith, get_or, ◌-ℤ◌, pos, w64}
-use Rattle.std.specs.Prelude.{◌↔◌, IsTrue}
+use Rattle.std.proofs.Common.{rules, arith, get_or, ◌-ℤ◌, pos, w64, ◌↔◌, IsTrue, SFits}
 use Rattle.std.proofs.lemmas.Bool.{iff_false}
 use Rattle.std.proofs.lemmas.Int.{ints, to_z-of_z}
 use Rattle.std.proofs.lemmas.List.Elements.{All-more}
-use mir.Val.{SFits}
 use Rattle.longest_path.specs.Insert.{arc_of}
 use Rattle.lemma_check.specs.Reasons.{Implies, EndsAfterStart}
 use Rattle.lemma_check.proofs.Loops.{some_fails, none_fails}

@@ -1,6 +1,6 @@
 use Rattle.std.proofs.Common.{List, take}
 use Rattle.std.specs.List.{All}
-use Rattle.network.specs.declared.lag.Lag.{Lag}
+use Rattle.network.specs.declared.parts.Lag.{Lag}
 use Rattle.network.specs.Problem.{activity_count}
 use Rattle.network.specs.Walk.{IsMatrixOf}
 use Rattle.lemma_check.specs.Reasons.{EndsAfterStart}

@@ -1,13 +1,11 @@
 use Rattle.std.proofs.Common.{◌≡◌}
 use Rattle.std.specs.List.{All}
 use Rattle.std.proofs.lemmas.Result.{err_from_is_err_and}
-use Rattle.record_text.specs.declared.fault.Why.TheVariants.{Memory}
+pub use Rattle.record_text.specs.declared.fault.Why.TheVariants.{Memory}
 use Rattle.record_text.proofs.KindLaws.{is_memory}
-use Rattle.lemma_check.specs.Faults.{first_line}
+use Rattle.lemma_check.specs.Right.{first_line, AreRightStarts, IsRightLine}
 use Rattle.lemma_check.specs.Places.{first_place, placed}
-use Rattle.lemma_check.specs.Right.{AreRightStarts, IsRightLine}
-use Rattle.lemma_check.proofs.Truth.{right_is_true}
-use Rattle.lemma_check.proofs.Wrong.{wrong_line}
+use Rattle.lemma_check.proofs.Truth.{right_is_true, wrong_line}
 use Rattle.lemma_check.proofs.verification.verify.Goals as goal
 
 pub returns-in_err-check_lines-clause-only : goal.returns-in_err-check_lines-clause-only

@@ -1,9 +1,8 @@
-use Rattle.std.proofs.Common.{rules, ◌+ℤ◌, w64}
+use Rattle.std.proofs.Common.{rules, ◌+ℤ◌, w64, SFits}
 use Rattle.std.proofs.lemmas.Int.{to_z-of_z}
-use mir.Val.{SFits}
-use Rattle.network.specs.declared.limits.TheConstants.{MAX_WALK_WEIGHT}
-use Rattle.network.specs.Limits.{IsWithin}
-use Rattle.lemma_check.specs.declared.weights.TheConstants.{MAX_WAY_WEIGHT}
+pub use Rattle.network.specs.declared.limits.TheConstants.{MAX_WALK_WEIGHT}
+use Rattle.network.specs.Problem.{IsWithin}
+pub use Rattle.lemma_check.specs.declared.weights.TheConstants.{MAX_WAY_WEIGHT}
 use Rattle.lemma_check.proofs.Weighing.{way_small, part_fits, way_fits}
 use Rattle.lemma_check.proofs.weights.way.Goals as goal
 

@@ -1,7 +1,7 @@
 use Rattle.std.proofs.Common.{◌∙◌, ◌≡◌, inl, inr}
 use Rattle.std.proofs.lemmas.Result.{MatchResult-weaker, err_from_is_err_and}
 use Rattle.lemma_text.specs.Text.{lemma_kind}
-use Rattle.lemma_check.specs.Faults.{IsFirstFault}
+use Rattle.lemma_check.specs.Right.{IsFirstFault}
 use Rattle.runs.proofs.TextLaws.{spells_one, record_whole, no_proof_whole}
 use Rattle.lemma_runs.specs.Outcome.{IsProvedText}
 use Rattle.lemma_runs.proofs.running.proof.Goals as goal

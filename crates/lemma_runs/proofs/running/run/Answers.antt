@@ -1,6 +1,6 @@
 use Rattle.std.proofs.Common.{ap, ◌∙◌}
 use Rattle.runs.proofs.CallLaws.{MatchOption-weaker, inputs_are_told}
-use Rattle.answers.specs.declared.answer.Answer.{Answer}
+pub use Rattle.answers.specs.declared.answer.Answer.{Answer}
 use Rattle.answers.specs.Faults.{exit_of}
 use Rattle.lemma_runs.proofs.running.run.Goals as goal
 

@@ -1,16 +1,12 @@
-use Rattle.std.proofs.Common.{◌≡◌, ◌≢◌, List, ℕ, [], ◌∷◌, Some, None, sym, subst, rules}
-use Rattle.std.specs.Prelude.{codes}
+use Rattle.std.proofs.Common.{◌≡◌, ◌≢◌, List, ℕ, [], ◌∷◌, Some, None, sym, subst, rules, codes, SFits, w64}
 use Rattle.std.proofs.lemmas.Result.{err_from_is_err_and}
 use Rattle.std.proofs.lemmas.Int.{to_z-of_z}
-use mir.Val.{SFits}
-use mir.Syntax.{w64}
 use Rattle.record_text.specs.Reading.{starts_in}
 use Rattle.record_text.specs.TextFaults.{HasFault}
 use Rattle.record_text.proofs.KindLaws.{missing_fault, form_fault, stands_second}
 use Rattle.lemma_text.specs.Text.{lemma_kind}
 use Rattle.lemma_text.specs.Reading.{amount_after}
-use Rattle.lemma_text.proofs.HeadFaults.{stands_third, no_second, no_third, bound_read, optimal_read}
-use Rattle.lemma_text.proofs.TextLaws.{facts}
+use Rattle.lemma_text.proofs.TextLaws.{stands_third, no_second, no_third, bound_read, optimal_read, facts}
 use Rattle.lemma_text.proofs.read.read_claim.Goals as goal
 
 pub returns-in_err-row-clause-fault : goal.returns-in_err-row-clause-fault

@@ -4,11 +4,10 @@ use Rattle.record_text.specs.Rows.{form, trailing, missing}
 use Rattle.record_text.specs.Kinds.{AreRows, head_rows}
 use Rattle.record_text.proofs.KindLaws.{grammar, named, record_from}
 use Rattle.lemma_text.specs.Text.{lemma_kind}
-use Rattle.record_text.proofs.Pieces.{not_nil}
+use Rattle.record_text.proofs.Rows.{not_nil}
 use Rattle.record_text.proofs.Leads.{reached_more, reached_missing, reached_form, reached_trailing}
 use Rattle.lemma_text.proofs.LineReads.{at_takes}
-use Rattle.lemma_text.proofs.BlockLines.{rules, few_due}
-use Rattle.lemma_text.proofs.TextLaws.{facts}
+use Rattle.lemma_text.proofs.TextLaws.{rules, few_due, facts}
 use Rattle.lemma_text.proofs.read.read_lines.Goals as goal
 
 pub returns-in_err-row-clause-fault : goal.returns-in_err-row-clause-fault

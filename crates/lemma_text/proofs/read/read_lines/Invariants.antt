@@ -3,7 +3,7 @@ use Rattle.record_text.specs.declared.TheConstants.{MAX_RECORD_BYTES}
 use Rattle.record_text.proofs.Leads.{Reached}
 use Rattle.record_text.specs.Kinds.{head_rows}
 use Rattle.lemma_text.specs.Text.{lemma_kind}
-use Rattle.lemma_text.proofs.BlockLines.{rules}
+use Rattle.lemma_text.proofs.TextLaws.{rules}
 use Rattle.lemma_text.proofs.read.read_lines.Given as goal
 
 abbrev pub invariant-loop-due : goal.invariant-loop-due

@@ -1,7 +1,6 @@
-use Rattle.std.proofs.Common.{◌++◌, List, sym, ap, ◌∙◌}
-use Rattle.std.specs.Prelude.{option_map}
-use Rattle.network.specs.declared.lag.Lag.{Lag}
-use Rattle.lemma_text.proofs.LagReads.{lags_more, row_none, found_more}
+use Rattle.std.proofs.Common.{◌++◌, List, sym, ap, ◌∙◌, option_map}
+use Rattle.network.specs.declared.parts.Lag.{Lag}
+use Rattle.lemma_text.proofs.HeadReads.{lags_more, row_none, found_more}
 use Rattle.lemma_text.proofs.read_lags.lags.Goals as goal
 
 pub returns-in_default-lag_first : goal.returns-in_default-lag_first

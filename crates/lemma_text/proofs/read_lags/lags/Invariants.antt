@@ -1,6 +1,5 @@
-use Rattle.std.proofs.Common.{◌≡◌, ◌++◌, List}
-use Rattle.std.specs.Prelude.{option_map}
-use Rattle.network.specs.declared.lag.Lag.{Lag}
+use Rattle.std.proofs.Common.{◌≡◌, ◌++◌, List, option_map}
+use Rattle.network.specs.declared.parts.Lag.{Lag}
 use Rattle.record_text.specs.Reading.{fields_left}
 use Rattle.record_text.proofs.RowReads.{left_size}
 use Rattle.lemma_text.specs.Reading.{lags}

@@ -1,6 +1,5 @@
-use Rattle.std.proofs.Common.{◌≡◌, rules}
-use Rattle.std.specs.Prelude.{string_bytes}
-use Rattle.record_text.proofs.Pieces.{written}
+use Rattle.std.proofs.Common.{◌≡◌, rules, string_bytes}
+use Rattle.record_text.proofs.Rows.{written}
 use Rattle.record_text.specs.Kinds.{head_rows}
 use Rattle.lemma_text.specs.Text.{row_of, lemma_kind}
 use Rattle.lemma_text.proofs.record.text_of.Goals as goal

@@ -1,8 +1,7 @@
-use Rattle.std.proofs.Common.{ℕ, ◌≤◌, ◌-◌, arith, w32}
+use Rattle.std.proofs.Common.{ℕ, ◌≤◌, ◌-◌, arith, w32, SFits}
 use Rattle.std.proofs.lemmas.Int.{to_z-of_z}
-use mir.Val.{SFits}
-use Rattle.longest_path.specs.Grid.{GainsNothingAt}
-use Rattle.longest_path.proofs.Gains.{one_less}
+use Rattle.longest_path.specs.Matrix.{GainsNothingAt}
+use Rattle.longest_path.proofs.Over.{one_less}
 use Rattle.longest_path.proofs.columns.end_of_gains.Goals as goal
 
 pub gains-requires-clause-fits : goal.gains-requires-clause-fits

@@ -1,5 +1,5 @@
 use Rattle.std.proofs.Common.{ℕ, ◌≤◌, ◌-◌, length}
-use Rattle.longest_path.specs.Grid.{GainsNothingAt}
+use Rattle.longest_path.specs.Matrix.{GainsNothingAt}
 use Rattle.longest_path.proofs.columns.end_of_gains.Given as goal
 
 abbrev pub invariant-loop-end : goal.invariant-loop-end

@@ -1,8 +1,7 @@
-use Rattle.std.proofs.Common.{ℕ, ◌<◌, w32}
+use Rattle.std.proofs.Common.{ℕ, ◌<◌, w32, SFits}
 use Rattle.std.proofs.lemmas.Int.{to_z-of_z}
-use mir.Val.{SFits}
-use Rattle.longest_path.specs.Grid.{GainsNothingAt}
-use Rattle.longest_path.proofs.Gains.{one_more}
+use Rattle.longest_path.specs.Matrix.{GainsNothingAt}
+use Rattle.longest_path.proofs.Over.{one_more}
 use Rattle.longest_path.proofs.columns.first_gain.Goals as goal
 
 pub gains-requires-clause-fits : goal.gains-requires-clause-fits

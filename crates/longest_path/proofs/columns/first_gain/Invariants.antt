@@ -1,5 +1,5 @@
 use Rattle.std.proofs.Common.{ℕ, ◌<◌}
-use Rattle.longest_path.specs.Grid.{GainsNothingAt}
+use Rattle.longest_path.specs.Matrix.{GainsNothingAt}
 use Rattle.longest_path.proofs.columns.first_gain.Given as goal
 
 abbrev pub invariant-loop-b : goal.invariant-loop-b

@@ -1,9 +1,8 @@
-use Rattle.std.proofs.Common.{rules, ℕ, ◌<◌, ◌≤◌, w32, w64}
+use Rattle.std.proofs.Common.{rules, ℕ, ◌<◌, ◌≤◌, w32, w64, SFits}
 use Rattle.std.proofs.lemmas.Int.{to_z-of_z}
-use mir.Val.{SFits}
-use Rattle.longest_path.specs.Grid.{GainsNothingAt}
+use Rattle.longest_path.specs.Matrix.{GainsNothingAt}
 use Rattle.longest_path.proofs.Cells.{light_fits}
-use Rattle.longest_path.proofs.Gains.{small_arc, start_gains_nothing}
+use Rattle.longest_path.proofs.Over.{small_arc, start_gains_nothing}
 use Rattle.longest_path.proofs.columns.gaining_columns.Goals as goal
 
 pub first_gain-from-requires-clause-fits : goal.first_gain-from-requires-clause-fits

@@ -1,11 +1,9 @@
-use Rattle.std.proofs.Common.{rules, ◌≡◌, pos, Some, arith, w32, get_or, ap, ◌≤ℤ◌}
+use Rattle.std.proofs.Common.{rules, ◌≡◌, pos, Some, arith, w32, get_or, ap, ◌≤ℤ◌, SFits}
 use Rattle.std.proofs.lemmas.Int.{to_z-of_z, ints}
-use mir.Val.{SFits}
 use Rattle.std.proofs.lemmas.List.{get_or_default}
-use Rattle.longest_path.specs.Relax.{joined}
-use Rattle.longest_path.specs.Grid.{nothing, weight_of, weight_at}
+use Rattle.longest_path.specs.Matrix.{joined, nothing, weight_of, weight_at}
 use Rattle.longest_path.proofs.Cells.{small_sum}
-use Rattle.longest_path.proofs.Gains.{gain_test}
+use Rattle.longest_path.proofs.Over.{gain_test}
 use Rattle.longest_path.proofs.columns.gains.Goals as goal
 
 pub sum-requires : goal.sum-requires

@@ -1,8 +1,7 @@
-use Rattle.std.proofs.Common.{rules, ◌≡◌, ◌+ℤ◌, Some, refl, sym, ◌∙◌, w64}
+use Rattle.std.proofs.Common.{rules, ◌≡◌, ◌+ℤ◌, Some, refl, sym, ◌∙◌, w64, SFits}
 use Rattle.std.proofs.lemmas.Int.{to_z-of_z}
-use mir.Val.{SFits}
 use Rattle.network.specs.Walk.{entry}
-use Rattle.longest_path.specs.Relax.{Reaches}
+use Rattle.longest_path.specs.Matrix.{Reaches}
 use Rattle.longest_path.proofs.Reach.{joined-some}
 use Rattle.longest_path.proofs.Over.{one_sum_fits, reached_at}
 use Rattle.longest_path.proofs.insert.first_over.Goals as goal

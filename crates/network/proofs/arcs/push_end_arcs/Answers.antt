@@ -1,8 +1,7 @@
-use Rattle.std.proofs.Common.{arith, rules, get_or, pos, w64}
+use Rattle.std.proofs.Common.{arith, rules, get_or, pos, w64, SFits}
 use Rattle.std.proofs.lemmas.Int.{to_z-of_z}
-use mir.Val.{SFits}
 use Rattle.network.specs.Problem.{lasting}
-use Rattle.network.proofs.Lists.{appended_more}
+use Rattle.network.proofs.FaultLaws.{appended_more}
 use Rattle.network.proofs.arcs.push_end_arcs.Goals as goal
 
 pub loop-i-preserved : goal.loop-i-preserved

@@ -1,6 +1,6 @@
 use Rattle.std.proofs.Common.{arith, refl, ◌+◌}
 use Rattle.network.specs.Problem.{start_arc}
-use Rattle.network.proofs.Lists.{appended_more}
+use Rattle.network.proofs.FaultLaws.{appended_more}
 use Rattle.network.proofs.arcs.push_start_arcs.Goals as goal
 
 pub loop-i-preserved : goal.loop-i-preserved

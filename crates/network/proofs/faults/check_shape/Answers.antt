@@ -1,7 +1,7 @@
 use Rattle.std.proofs.Common.{◌≡◌, sym, ◌∙◌, length, arith}
 use Rattle.std.proofs.lemmas.List.{length-map}
 use Rattle.std.proofs.lemmas.List.Folds.{list_all-map}
-use Rattle.network.specs.Parts.{problem_of}
+use Rattle.network.specs.Problem.{problem_of}
 use Rattle.network.proofs.FaultLaws.{no_shape_fault}
 use Rattle.network.proofs.faults.check_shape.Goals as goal
 

@@ -1,4 +1,4 @@
-use Rattle.network.proofs.Running.{running_below, running_rising}
+use Rattle.network.proofs.Schedules.{running_below, running_rising}
 use Rattle.node_tests.proofs.sets.set_of.Goals as goal
 
 pub shrink-requires-clause-running : goal.shrink-requires-clause-running

@@ -1,5 +1,5 @@
 use Rattle.std.proofs.Common.{◌∙◌}
-use Rattle.network.proofs.Running.{running_below, running_rising}
+use Rattle.network.proofs.Schedules.{running_below, running_rising}
 use Rattle.node_tests.proofs.sets.swept_set_of.Goals as goal
 
 pub shrink_activities-requires-clause-activities : goal.shrink_activities-requires-clause-activities

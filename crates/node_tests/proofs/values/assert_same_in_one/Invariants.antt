@@ -1,4 +1,4 @@
-use Rattle.bounds.specs.Workspace.{IsWorkspaceFor}
+use Rattle.bounds.specs.Bound.{IsWorkspaceFor}
 use Rattle.node_tests.proofs.values.assert_same_in_one.Given as goal
 
 abbrev pub invariant-loop-first : goal.invariant-loop-first

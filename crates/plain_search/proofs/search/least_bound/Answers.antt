@@ -1,8 +1,6 @@
-use Rattle.std.proofs.Common.{◌≡◌, sym, ap, ◌∙◌, rules, ◌++◌, ◌∷◌, [], Some, ◌⊎◌, ◌<◌, ◌+◌, length, map, take, arith, w64}
-use Rattle.std.specs.Prelude.{◌≤ℤ◌}
+use Rattle.std.proofs.Common.{◌≡◌, sym, ap, ◌∙◌, rules, ◌++◌, ◌∷◌, [], Some, ◌⊎◌, ◌<◌, ◌+◌, length, map, take, arith, w64, ◌≤ℤ◌, SFits}
 use Rattle.std.proofs.lemmas.Int.{to_z-of_z}
 use Rattle.std.proofs.lemmas.List.{take_more, map-append}
-use mir.Val.{SFits}
 use Rattle.std.specs.Arc.{arc_value}
 use Rattle.branching.specs.Subproblem.{Subproblem}
 use Rattle.plain_search.proofs.Takes.{lower_all}

@@ -1,10 +1,9 @@
-use Rattle.std.proofs.Common.{◌≡◌, ◌++◌, ◌∷◌, [], ap, ◌∙◌, rules, map, w64}
+use Rattle.std.proofs.Common.{◌≡◌, ◌++◌, ◌∷◌, [], ap, ◌∙◌, rules, map, w64, SFits}
 use Rattle.std.specs.Arc.{arc_value}
 use Rattle.std.proofs.lemmas.Int.{to_z-of_z}
 use Rattle.std.proofs.lemmas.List.{map-append}
-use mir.Val.{SFits}
 use Rattle.branching.specs.Subproblem.{Subproblem}
-use Rattle.branching.specs.Ceiling.{Reaches}
+use Rattle.branching.specs.Right.{Reaches}
 use Rattle.branching.proofs.Covers.{reached_not_under}
 use Rattle.plain_search.proofs.Takes.{drop_one}
 use Rattle.plain_search.proofs.search.next_node.Goals as goal

@@ -1,6 +1,6 @@
 use Rattle.std.proofs.Common.{◌≡◌, refl, sym, ap, ◌∙◌, ◌⊎◌, inl, inr, [], arith}
 use Rattle.std.specs.Arc.{arc_value}
-use Rattle.branching.specs.Covered.{IsRootOf}
+use Rattle.branching.specs.Fair.{IsRootOf}
 use Rattle.branching.specs.Path.{Path}
 use Rattle.branching.proofs.Covers.{none_on_cycle}
 use Rattle.plain_search.proofs.Outcomes.{none_taken, one_taken, stops_after, stops_below}

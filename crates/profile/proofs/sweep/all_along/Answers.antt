@@ -1,13 +1,10 @@
-use Rattle.std.proofs.Common.{rules, ◌<◌, ◌∙◌, ◌++◌, ap, subst, length, get_or, List, refl, arith, w64, to_z, of_z}
-use Rattle.std.specs.Prelude.{pos, ℤ}
+use Rattle.std.proofs.Common.{rules, ◌<◌, ◌∙◌, ◌++◌, ap, subst, length, get_or, List, refl, arith, w64, to_z, of_z, pos, ℤ}
 use Rattle.std.proofs.lemmas.Int.{ints}
-use Rattle.profile.specs.Overloads.{start_times}
+use Rattle.profile.specs.Overloads.{start_times, Excess}
 use Rattle.std.specs.Global.{Vec}
 use Rattle.profile.specs.Counts.{counted_use}
-use Rattle.profile.specs.declared.overload.Excess.{Excess}
-use Rattle.profile.proofs.Excesses.{excesses_same}
+use Rattle.profile.proofs.Swept.{excesses_same, item_is, next_later, time_moves, excesses_more}
 use Rattle.profile.proofs.Counted.{AreCounts, counts_none, counts_further, ended_less, counted_is}
-use Rattle.profile.proofs.Firsts.{item_is, next_later, time_moves, excesses_more}
 use Rattle.profile.proofs.sweep.all_along.Goals as goal
 
 pub loop-time-init : goal.loop-time-init

@@ -2,7 +2,7 @@ use Rattle.std.proofs.Common.{◌≡◌, take}
 use Rattle.std.specs.List.{flat_map}
 use Rattle.profile.specs.Overloads.{start_times, excesses_at}
 use Rattle.profile.proofs.Counted.{AreCounts}
-use Rattle.profile.proofs.Firsts.{time_after}
+use Rattle.profile.proofs.Swept.{time_after}
 use Rattle.profile.proofs.sweep.all_along.Given as goal
 
 abbrev pub invariant-loop-time : goal.invariant-loop-time

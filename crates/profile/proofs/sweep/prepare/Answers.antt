@@ -1,5 +1,4 @@
-use Rattle.std.proofs.Common.{◌≡◌, ◌∙◌, ap, List, length}
-use Rattle.std.specs.Prelude.{ℤ}
+use Rattle.std.proofs.Common.{◌≡◌, ◌∙◌, ap, List, length, ℤ}
 use Rattle.std.specs.Global.{Vec}
 use Rattle.network.specs.Problem.{activity_count}
 use Rattle.orders.proofs.OrderLaws.{have_keys}

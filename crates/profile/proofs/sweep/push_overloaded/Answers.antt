@@ -1,6 +1,6 @@
 use Rattle.std.proofs.Common.{refl}
 use Rattle.profile.specs.Counts.{counted_use}
-use Rattle.profile.proofs.Excesses.{excess_more, excess_none}
+use Rattle.profile.proofs.Swept.{excess_more, excess_none}
 use Rattle.profile.proofs.sweep.push_overloaded.Goals as goal
 use Rattle.profile.proofs.sweep.push_overloaded.Goals.{then-used-capacity+in_ok-push, else-used-capacity}
 

@@ -1,6 +1,6 @@
 use Rattle.std.proofs.Common.{◌≡◌, ◌++◌}
 use Rattle.profile.specs.Counts.{counted_use}
-use Rattle.profile.proofs.Excesses.{first_excesses}
+use Rattle.profile.proofs.Swept.{first_excesses}
 use Rattle.profile.proofs.sweep.push_overloaded.Given as goal
 
 abbrev pub invariant-loop-resource : goal.invariant-loop-resource

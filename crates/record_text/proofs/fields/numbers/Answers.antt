@@ -1,5 +1,4 @@
-use Rattle.std.proofs.Common.{◌≡◌, Some, rules}
-use Rattle.std.specs.Prelude.{option_map}
+use Rattle.std.proofs.Common.{◌≡◌, Some, rules, option_map}
 use Rattle.record_text.specs.Reading.{numbers, fields_left}
 use Rattle.record_text.proofs.RowReads.{all_numbers, numbers_take}
 use Rattle.record_text.proofs.fields.numbers.Goals as goal

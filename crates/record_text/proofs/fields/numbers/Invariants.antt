@@ -1,5 +1,4 @@
-use Rattle.std.proofs.Common.{◌≡◌, ◌++◌, ℕ, List}
-use Rattle.std.specs.Prelude.{option_map}
+use Rattle.std.proofs.Common.{◌≡◌, ◌++◌, ℕ, List, option_map}
 use Rattle.record_text.specs.Reading.{numbers, fields_left}
 use Rattle.record_text.proofs.RowReads.{left_size}
 use Rattle.record_text.proofs.fields.numbers.Given as goal

@@ -1,14 +1,10 @@
-use Rattle.std.proofs.Common.{◌≢◌, List, ℕ, [], ◌∷◌, sym, subst, rules}
-use Rattle.std.specs.Prelude.{codes}
+use Rattle.std.proofs.Common.{◌≢◌, List, ℕ, [], ◌∷◌, sym, subst, rules, codes, SFits, w64}
 use Rattle.std.proofs.lemmas.Result.{err_from_is_err_and}
 use Rattle.std.proofs.lemmas.Int.{to_z-of_z}
-use mir.Val.{SFits}
-use mir.Syntax.{w64}
 use Rattle.record_text.specs.TextFaults.{HasFault}
 use Rattle.record_text.specs.Text.{search_kind}
 use Rattle.record_text.proofs.KindLaws.{missing_fault, form_fault, stands_second}
-use Rattle.record_text.proofs.RowFaults.{stands_third, no_second, no_third, claim_read}
-use Rattle.record_text.proofs.TextLaws.{facts}
+use Rattle.record_text.proofs.TextLaws.{stands_third, no_second, no_third, claim_read, facts}
 use Rattle.record_text.proofs.read.read_claim.Goals as goal
 
 pub returns-in_err-row-clause-fault : goal.returns-in_err-row-clause-fault

@@ -3,12 +3,11 @@ use Rattle.std.proofs.lemmas.Result.{err_from_is_err_and}
 use Rattle.record_text.specs.Rows.{form, trailing, missing}
 use Rattle.record_text.specs.Kinds.{AreRows, head_rows}
 use Rattle.record_text.specs.Text.{search_kind}
-use Rattle.record_text.proofs.LineReads.{members_fit}
-use Rattle.record_text.proofs.Pieces.{not_nil}
+use Rattle.record_text.proofs.RowReads.{members_fit}
+use Rattle.record_text.proofs.Rows.{not_nil}
 use Rattle.record_text.proofs.Leads.{reached_more, reached_missing, reached_form, reached_trailing}
 use Rattle.record_text.proofs.KindLaws.{grammar, named, record_from}
-use Rattle.record_text.proofs.TextLaws.{facts}
-use Rattle.record_text.proofs.TreeLines.{rules, next_room}
+use Rattle.record_text.proofs.TextLaws.{facts, rules, next_room}
 use Rattle.record_text.proofs.read.read_lines.Goals as goal
 
 pub returns-in_err-row-clause-fault : goal.returns-in_err-row-clause-fault

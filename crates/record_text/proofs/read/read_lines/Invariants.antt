@@ -1,9 +1,8 @@
 use Rattle.std.proofs.Common.{◌+◌, ◌*◌, ◌≤◌, length}
-use Rattle.record_text.specs.declared.TheConstants.{MAX_RECORD_BYTES}
-use Rattle.record_text.specs.Kinds.{head_rows}
+use Rattle.record_text.specs.Kinds.{head_rows, MAX_RECORD_BYTES}
 use Rattle.record_text.specs.Text.{search_kind}
 use Rattle.record_text.proofs.Leads.{Reached}
-use Rattle.record_text.proofs.TreeLines.{rules}
+use Rattle.record_text.proofs.TextLaws.{rules}
 use Rattle.record_text.proofs.read.read_lines.Given as goal
 
 abbrev pub invariant-loop-due : goal.invariant-loop-due

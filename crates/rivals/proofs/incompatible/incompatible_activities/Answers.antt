@@ -1,7 +1,7 @@
 use Rattle.std.proofs.Common.{◌<◌}
 use Rattle.std.proofs.lemmas.List.Elements.{All-push}
 use Rattle.network.specs.Problem.{activity_count}
-use Rattle.rivals.specs.IncompatibleRows.{IsRowOf}
+use Rattle.rivals.specs.Incompatible.{IsRowOf}
 use Rattle.rivals.proofs.incompatible.incompatible_activities.Goals as goal
 use Rattle.rivals.proofs.incompatible.incompatible_activities.Goals.{then-not-is_empty+in_ok-push, else-not-is_empty}
 

@@ -1,4 +1,4 @@
-use Rattle.rivals.specs.IncompatibleRows.{AreRowsOf}
+use Rattle.rivals.specs.Incompatible.{AreRowsOf}
 use Rattle.rivals.proofs.incompatible.incompatible_activities.Given as goal
 
 abbrev pub invariant-loop-activity : goal.invariant-loop-activity

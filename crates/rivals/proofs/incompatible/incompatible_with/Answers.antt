@@ -4,7 +4,7 @@ use Rattle.std.proofs.lemmas.Bool.{cases_lt}
 use Rattle.std.proofs.lemmas.List.{map-append}
 use Rattle.std.proofs.lemmas.List.Elements.{All-push, Contains-append_left, Contains-push}
 use Rattle.rivals.specs.Incompatible.{AreIncompatible}
-use Rattle.network.specs.Pairs.{pair_of}
+use Rattle.network.specs.Problem.{pair_of}
 use Rattle.rivals.proofs.incompatible.incompatible_with.Goals as goal
 use Rattle.rivals.proofs.incompatible.incompatible_with.Goals.{then-are_incompatible+in_ok-push, else-are_incompatible}
 

@@ -1,8 +1,7 @@
 use Rattle.std.proofs.Common.{ℕ, ◌<◌}
 use Rattle.std.specs.List.{Contains}
-use Rattle.network.specs.Pairs.{pair_of}
-use Rattle.rivals.specs.Incompatible.{AllIncompatible, AreIncompatible}
-use Rattle.rivals.specs.IncompatibleRows.{pairs_before}
+use Rattle.network.specs.Problem.{pair_of}
+use Rattle.rivals.specs.Incompatible.{AllIncompatible, AreIncompatible, pairs_before}
 use Rattle.rivals.proofs.incompatible.incompatible_with.Given as goal
 
 abbrev pub invariant-loop-other : goal.invariant-loop-other

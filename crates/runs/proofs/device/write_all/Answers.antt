@@ -1,5 +1,5 @@
 use Rattle.std.proofs.Common.{rules}
-use Rattle.runs.proofs.DeviceLaws.{taken_more}
+use Rattle.runs.proofs.TextLaws.{taken_more}
 use Rattle.runs.proofs.device.write_all.Goals as goal
 
 pub loop-start-preserved : goal.loop-start-preserved

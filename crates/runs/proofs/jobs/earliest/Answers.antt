@@ -1,8 +1,6 @@
-use Rattle.std.proofs.Common.{append-nil, rules, refl, inr}
-use mir.Val.{SFits}
-use mir.Syntax.{w64}
+use Rattle.std.proofs.Common.{append-nil, rules, refl, inr, SFits, w64}
 use Rattle.std.proofs.lemmas.Int.{to_z-of_z}
-use Rattle.runs.proofs.AnswerLaws.{least_said}
+use Rattle.runs.proofs.CallLaws.{least_said}
 use Rattle.runs.proofs.jobs.earliest.Goals as goal
 use Rattle.runs.proofs.jobs.earliest.Goals.{in-Ok+in_ok-starts-in-Ok+in_ok-text-in-Ok, in-Err-PositiveCycle+in_ok-text-in-Err-PositiveCycle}
 

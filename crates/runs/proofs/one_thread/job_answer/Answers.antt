@@ -3,7 +3,7 @@ use Rattle.std.proofs.lemmas.Result.{MatchResult-weaker, err_from_is_err_and}
 use Rattle.runs.proofs.CallLaws.{answers_alone}
 use Rattle.runs.proofs.TextLaws.{spells_one, starts_whole, starts_fault_whole, record_whole, no_proof_whole}
 use Rattle.record_text.specs.Text.{search_kind}
-use Rattle.search_record.specs.Faults.{IsFirstFault}
+use Rattle.search_record.specs.Right.{IsFirstFault}
 use Rattle.answers.specs.Answers.{IsCheckText, IsProvedText}
 use Rattle.runs.proofs.one_thread.job_answer.Goals as goal
 

@@ -1,6 +1,6 @@
 use Rattle.std.proofs.Common.{None}
 use Rattle.runs.proofs.CallLaws.{MatchOption-weaker, read_is_told, records_nothing, write_has_reply}
-use Rattle.answers.specs.declared.answer.Answer.{Answer}
+pub use Rattle.answers.specs.declared.answer.Answer.{Answer}
 use Rattle.runs.proofs.one_thread.run.Goals as goal
 
 pub returns-in-Ok-clause-replied : goal.returns-in-Ok-clause-replied

@@ -1,7 +1,6 @@
-use Rattle.std.proofs.Common.{◌≡◌, ◌+◌, ◌<◌, ◌≤◌, ◌++◌, take, length, arith}
-use Rattle.std.proofs.lemmas.List.{length-take, length-append}
+use Rattle.std.proofs.Common.{◌≡◌, ◌+◌, ◌<◌, ◌≤◌, ◌++◌, take, length, arith, length-take, length-append}
 use Rattle.std.proofs.KnownBytes.{Consumes-trans}
-use Rattle.runs.proofs.DeviceLaws.{whole_to_limit, whole_to_end}
+use Rattle.runs.proofs.TextLaws.{whole_to_limit, whole_to_end}
 use Rattle.runs.proofs.reading.read_text.Goals as goal
 use Rattle.runs.proofs.reading.read_text.Goals.{else-loop-buffer-test, then-loop-buffer-test+in-Ok+then-n-eq0}
 

@@ -1,7 +1,5 @@
-use Rattle.std.proofs.Common.{string_bytes, to_z-of_z, rules}
-use mir.Val.{SFits}
-use mir.Syntax.{w64}
-use Rattle.sch_reader.proofs.Lines.{amounts_line}
+use Rattle.std.proofs.Common.{string_bytes, to_z-of_z, rules, SFits, w64}
+use Rattle.sch_reader.proofs.Printed.{amounts_line}
 use Rattle.sch_reader.proofs.canonical.put_amounts_row.Goals as goal
 
 pub returns : goal.returns

@@ -1,5 +1,5 @@
 use Rattle.std.proofs.Common.{string_bytes}
-use Rattle.sch_reader.proofs.Lines.{arcs_line}
+use Rattle.sch_reader.proofs.Printed.{arcs_line}
 use Rattle.sch_reader.proofs.canonical.put_arcs_row.Goals as goal
 
 pub returns : goal.returns

@@ -1,5 +1,5 @@
 use Rattle.std.proofs.Common.{string_bytes}
-use Rattle.sch_reader.proofs.Lines.{capacities_line}
+use Rattle.sch_reader.proofs.Printed.{capacities_line}
 use Rattle.sch_reader.proofs.canonical.put_capacities.Goals as goal
 
 pub returns : goal.returns

@@ -1,7 +1,7 @@
 use Rattle.std.proofs.Common.{◌≡◌, ◌++◌, take, map, string_bytes}
 use Rattle.std.specs.List.{flat_map}
 use Rattle.std.specs.Fmt.{decimal}
-use Rattle.sch_reader.specs.Canonical.{tabbed}
+use Rattle.sch_reader.specs.Text.{tabbed}
 use Rattle.sch_reader.proofs.canonical.put_ends.Given as goal
 
 abbrev pub invariant-loop-lag : goal.invariant-loop-lag

@@ -1,6 +1,6 @@
 use Rattle.std.proofs.Common.{◌≡◌, ◌++◌, take, map, string_bytes}
 use Rattle.std.specs.List.{flat_map}
-use Rattle.sch_reader.specs.Canonical.{tabbed, bracketed}
+use Rattle.sch_reader.specs.Text.{tabbed, bracketed}
 use Rattle.sch_reader.proofs.canonical.put_lags.Given as goal
 
 abbrev pub invariant-loop-lag : goal.invariant-loop-lag

@@ -1,11 +1,9 @@
-use Rattle.std.proofs.Common.{◌≡◌, ◌++◌, List, take, sym, ap, subst, ◌∙◌, string_bytes}
-use Rattle.std.proofs.lemmas.List.{append-nil}
+use Rattle.std.proofs.Common.{◌≡◌, ◌++◌, List, take, sym, ap, subst, ◌∙◌, string_bytes, append-nil}
 use Rattle.std.proofs.lemmas.List.Sums.{prefix_len-le-length}
-use Rattle.network.specs.declared.lag.Lag.{Lag}
-use Rattle.sch_reader.specs.Text.{lags_from}
-use Rattle.sch_reader.specs.Canonical.{line, arcs_row, network_row}
-use Rattle.sch_reader.proofs.Lines.{row_more}
-use Rattle.sch_reader.proofs.RowsOfArcs.{AreFrom, own_arcs, later_arcs, all_arcs}
+use Rattle.network.specs.declared.parts.Lag.{Lag}
+use Rattle.sch_reader.specs.Text.{lags_from, line, arcs_row, network_row}
+use Rattle.sch_reader.proofs.Printed.{row_more}
+use Rattle.sch_reader.proofs.NetworkRows.{AreFrom, own_arcs, later_arcs, all_arcs}
 use Rattle.sch_reader.proofs.canonical.put_network_rows.Goals as goal
 
 pub loop-activity-init : goal.loop-activity-init

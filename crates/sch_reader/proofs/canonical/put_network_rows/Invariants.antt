@@ -1,7 +1,7 @@
 use Rattle.std.proofs.Common.{◌≡◌, ◌++◌, map, string_bytes}
 use Rattle.std.specs.List.{flat_map, range_with_len}
-use Rattle.sch_reader.specs.Canonical.{line, network_row}
-use Rattle.sch_reader.proofs.RowsOfArcs.{AreFrom}
+use Rattle.sch_reader.specs.Text.{line, network_row}
+use Rattle.sch_reader.proofs.NetworkRows.{AreFrom}
 use Rattle.sch_reader.proofs.canonical.put_network_rows.Given as goal
 
 abbrev pub invariant-loop-activity : goal.invariant-loop-activity

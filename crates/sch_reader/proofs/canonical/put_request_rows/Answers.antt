@@ -1,8 +1,6 @@
-use Rattle.std.proofs.Common.{◌≡◌, ◌++◌, List, ℕ, ap, refl, ◌∙◌, string_bytes, to_z-of_z, rules}
-use mir.Val.{SFits, to_z, of_z}
-use mir.Syntax.{w64}
-use Rattle.sch_reader.specs.Canonical.{line, amounts_row, request_row}
-use Rattle.sch_reader.proofs.Lines.{row_more}
+use Rattle.std.proofs.Common.{◌≡◌, ◌++◌, List, ℕ, ap, refl, ◌∙◌, string_bytes, to_z-of_z, rules, SFits, to_z, of_z, w64}
+use Rattle.sch_reader.specs.Text.{line, amounts_row, request_row}
+use Rattle.sch_reader.proofs.Printed.{row_more}
 use Rattle.sch_reader.proofs.canonical.put_request_rows.Goals as goal
 
 pub loop-activity-preserved : goal.loop-activity-preserved

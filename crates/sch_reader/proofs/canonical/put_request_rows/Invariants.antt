@@ -1,6 +1,6 @@
 use Rattle.std.proofs.Common.{◌≡◌, ◌++◌, map, string_bytes}
 use Rattle.std.specs.List.{flat_map, range_with_len}
-use Rattle.sch_reader.specs.Canonical.{line, request_row}
+use Rattle.sch_reader.specs.Text.{line, request_row}
 use Rattle.sch_reader.proofs.canonical.put_request_rows.Given as goal
 
 abbrev pub invariant-loop-activity : goal.invariant-loop-activity

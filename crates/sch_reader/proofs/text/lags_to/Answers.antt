@@ -1,11 +1,9 @@
 use Rattle.std.proofs.lemmas.Int.{to_z-of_z}
-use mir.Val.{SFits}
-use mir.Syntax.{w64}
-use Rattle.std.proofs.Common.{rules, ◌≡◌, get_or, nat_abs, pos}
+use Rattle.std.proofs.Common.{rules, ◌≡◌, get_or, nat_abs, pos, SFits, w64}
 use Rattle.std.proofs.lemmas.Result.{err_from_is_err_and}
 use Rattle.sch_reader.specs.Layout.{lags_to}
 use Rattle.sch_reader.specs.Reading.{reading}
-use Rattle.sch_reader.proofs.Loops.{lags_turn, lags_fail, lags_end}
+use Rattle.sch_reader.proofs.Readings.{lags_turn, lags_fail, lags_end}
 use Rattle.sch_reader.proofs.text.lags_to.Goals as goal
 
 pub returns-in_err-weight : goal.returns-in_err-weight

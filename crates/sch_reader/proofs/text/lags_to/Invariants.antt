@@ -1,7 +1,7 @@
 use Rattle.std.proofs.Common.{◌≡◌, drop}
 use Rattle.sch_reader.specs.Layout.{lags_to}
 use Rattle.sch_reader.specs.Reading.{reading}
-use Rattle.sch_reader.proofs.Loops.{lags_so_far}
+use Rattle.sch_reader.proofs.Readings.{lags_so_far}
 use Rattle.sch_reader.proofs.text.lags_to.Given as goal
 
 abbrev pub invariant-loop-end : goal.invariant-loop-end

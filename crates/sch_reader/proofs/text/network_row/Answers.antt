@@ -1,8 +1,6 @@
 use Rattle.std.proofs.lemmas.Result.{err_from_is_err_and}
 use Rattle.std.proofs.lemmas.Int.{to_z-of_z}
-use mir.Val.{SFits}
-use mir.Syntax.{w64}
-use Rattle.std.proofs.Common.{◌≡◌, refl, rules, nat_abs}
+use Rattle.std.proofs.Common.{◌≡◌, refl, rules, nat_abs, SFits, w64}
 use Rattle.sch_reader.specs.Layout.{network_row}
 use Rattle.sch_reader.proofs.Readings.{reading_bind}
 use Rattle.sch_reader.proofs.text.network_row.Goals as goal

@@ -3,7 +3,7 @@ use Rattle.std.proofs.lemmas.Result.{err_from_is_err_and}
 use Rattle.network.specs.declared.limits.TheConstants.{MAX_LAGS}
 use Rattle.sch_reader.specs.Layout.{network_rows}
 use Rattle.sch_reader.specs.Reading.{reading}
-use Rattle.sch_reader.proofs.Loops.{networks_turn, networks_fail, networks_end}
+use Rattle.sch_reader.proofs.Readings.{networks_turn, networks_fail, networks_end}
 use Rattle.sch_reader.proofs.text.network_rows.Goals as goal
 
 pub returns-in_err-of_row : goal.returns-in_err-of_row

@@ -2,7 +2,7 @@ use Rattle.std.proofs.Common.{◌≡◌, ◌-◌, ◌+◌}
 use Rattle.network.specs.declared.limits.TheConstants.{MAX_LAGS}
 use Rattle.sch_reader.specs.Layout.{network_rows}
 use Rattle.sch_reader.specs.Reading.{reading}
-use Rattle.sch_reader.proofs.Loops.{networks_so_far}
+use Rattle.sch_reader.proofs.Readings.{networks_so_far}
 use Rattle.sch_reader.proofs.text.network_rows.Given as goal
 
 abbrev pub invariant-loop-row : goal.invariant-loop-row

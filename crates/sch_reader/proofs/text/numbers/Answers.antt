@@ -1,11 +1,9 @@
 use Rattle.std.proofs.lemmas.Int.{to_z-of_z}
-use mir.Val.{SFits}
-use mir.Syntax.{w64}
-use Rattle.std.proofs.Common.{rules}
+use Rattle.std.proofs.Common.{rules, SFits, w64}
 use Rattle.std.proofs.lemmas.Result.{err_from_is_err_and}
 use Rattle.sch_reader.specs.Layout.{row_of}
 use Rattle.sch_reader.specs.Reading.{reading}
-use Rattle.sch_reader.proofs.Loops.{row_turn, row_fails, row_ends}
+use Rattle.sch_reader.proofs.Readings.{row_turn, row_fails, row_ends}
 use Rattle.sch_reader.proofs.text.numbers.Goals as goal
 
 pub returns-in_err-number : goal.returns-in_err-number

@@ -1,7 +1,7 @@
 use Rattle.std.proofs.Common.{◌≡◌, ◌-◌}
 use Rattle.sch_reader.specs.Layout.{row_of}
 use Rattle.sch_reader.specs.Reading.{reading}
-use Rattle.sch_reader.proofs.Loops.{numbers_so_far}
+use Rattle.sch_reader.proofs.Readings.{numbers_so_far}
 use Rattle.sch_reader.proofs.text.numbers.Given as goal
 
 abbrev pub invariant-loop : goal.invariant-loop

@@ -1,6 +1,6 @@
 use Rattle.std.proofs.Common.{◌∙◌, arith}
 use Rattle.std.proofs.lemmas.Result.{err_from_is_err_and}
-use Rattle.network.specs.Parts.{problem_of}
+use Rattle.network.specs.Problem.{problem_of}
 use Rattle.sch_reader.proofs.Spelled.{read_is_spelled, read_alone, spelled_once, fault_of_spelled, first_fault, not_long, is_made}
 use Rattle.sch_reader.proofs.text.read_sch.Goals as goal
 

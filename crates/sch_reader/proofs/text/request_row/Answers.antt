@@ -1,7 +1,5 @@
-use Rattle.std.proofs.Common.{refl, rules}
+use Rattle.std.proofs.Common.{refl, rules, SFits, w64}
 use Rattle.std.proofs.lemmas.Int.{to_z-of_z}
-use mir.Val.{SFits}
-use mir.Syntax.{w64}
 use Rattle.sch_reader.specs.Layout.{request_row}
 use Rattle.sch_reader.proofs.Readings.{reading_bind}
 use Rattle.sch_reader.proofs.text.request_row.Goals as goal

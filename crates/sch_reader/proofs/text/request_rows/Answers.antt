@@ -1,12 +1,10 @@
 use Rattle.std.proofs.lemmas.Int.{to_z-of_z}
-use mir.Val.{SFits}
-use mir.Syntax.{w64}
-use Rattle.std.proofs.Common.{rules, ◌+◌}
+use Rattle.std.proofs.Common.{rules, ◌+◌, SFits, w64}
 use Rattle.std.proofs.lemmas.Result.{err_from_is_err_and}
 use Rattle.std.proofs.lemmas.List.{map_push}
 use Rattle.sch_reader.specs.Layout.{request_rows, Requests, requests_of}
 use Rattle.sch_reader.specs.Reading.{reading}
-use Rattle.sch_reader.proofs.Loops.{requests_turn, requests_fail, requests_end}
+use Rattle.sch_reader.proofs.Readings.{requests_turn, requests_fail, requests_end}
 use Rattle.sch_reader.proofs.text.request_rows.Goals as goal
 
 pub returns-in_err-duration : goal.returns-in_err-duration

@@ -1,7 +1,7 @@
 use Rattle.std.proofs.Common.{◌≡◌, ◌-◌, ◌+◌}
 use Rattle.sch_reader.specs.Layout.{request_rows, requests_of}
 use Rattle.sch_reader.specs.Reading.{reading}
-use Rattle.sch_reader.proofs.Loops.{requests_so_far}
+use Rattle.sch_reader.proofs.Readings.{requests_so_far}
 use Rattle.sch_reader.proofs.text.request_rows.Given as goal
 
 abbrev pub invariant-loop-id : goal.invariant-loop-id

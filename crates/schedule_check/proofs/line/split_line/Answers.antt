@@ -1,5 +1,5 @@
 use Rattle.std.proofs.Common.{length}
-use Rattle.schedule_check.proofs.LineLaws.{lines-first, lines-last}
+use Rattle.schedule_check.proofs.StartsTexts.{lines-first, lines-last}
 use Rattle.schedule_check.proofs.Tables.{positive}
 use Rattle.schedule_check.proofs.line.split_line.Goals as goal
 

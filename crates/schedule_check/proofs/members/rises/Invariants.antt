@@ -1,5 +1,4 @@
-use Rattle.std.proofs.Common.{ℕ, ◌+◌, ◌<◌}
-use Rattle.std.specs.Prelude.{slice_index}
+use Rattle.std.proofs.Common.{ℕ, ◌+◌, ◌<◌, slice_index}
 use Rattle.schedule_check.proofs.members.rises.Given as goal
 
 abbrev pub invariant-loop-place : goal.invariant-loop-place

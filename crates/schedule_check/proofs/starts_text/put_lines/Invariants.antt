@@ -1,7 +1,6 @@
 use Rattle.std.proofs.Common.{◌≡◌, ◌+◌, ◌≤◌, length}
 use Rattle.std.specs.Str.Lines.{lines}
-use Rattle.schedule_check.specs.Starts.{line_entries}
-use Rattle.schedule_check.specs.Table.{first_fault, with_entries}
+use Rattle.schedule_check.specs.Starts.{line_entries, first_fault, with_entries}
 use Rattle.schedule_check.proofs.starts_text.put_lines.Given as goal
 
 abbrev pub invariant-loop-bytes : goal.invariant-loop-bytes

@@ -1,7 +1,7 @@
 use Rattle.std.proofs.Common.{◌∙◌, sym, ap, None, Some, length}
 use Rattle.std.proofs.lemmas.List.{with_items_is}
 use Rattle.std.proofs.lemmas.Result.{err_from_is_err_and}
-use Rattle.schedule_check.proofs.Texts.{lines_fault, lines_table}
+use Rattle.schedule_check.proofs.StartsTexts.{lines_fault, lines_table}
 use Rattle.schedule_check.proofs.starts_text.read_lines.Goals as goal
 
 pub returns-in_err-put_lines-clause-fault : goal.returns-in_err-put_lines-clause-fault

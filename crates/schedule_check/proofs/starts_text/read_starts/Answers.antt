@@ -1,12 +1,9 @@
-use Rattle.std.proofs.Common.{◌≡◌, ◌∙◌, sym, subst, ap, map, length, List, ℤ, Option, None, Some, arith}
-use Rattle.std.specs.Prelude.{pos, unwrap_or}
+use Rattle.std.proofs.Common.{◌≡◌, ◌∙◌, sym, subst, ap, map, length, List, ℤ, Option, None, Some, arith, pos, unwrap_or}
 use Rattle.std.proofs.lemmas.Result.{err_from_is_err_and, IfOk-weaker, IfErr-weaker, on_ok_weaker}
 use Rattle.std.specs.List.{All}
-use Rattle.network.specs.Limits.{IsTime}
-use Rattle.schedule_check.specs.declared.fault.StartsFault.{StartsFault}
-use Rattle.schedule_check.specs.Starts.{starts_fault, starts_of, missing_fault}
-use Rattle.schedule_check.proofs.Texts.{starts_count, starts_within, fault_of_lines, fault_of_table}
-use Rattle.schedule_check.proofs.StartsTexts.{IsStartsText-from_fault, not_starts_text}
+use Rattle.network.specs.Problem.{IsTime}
+use Rattle.schedule_check.specs.Starts.{starts_fault, starts_of, missing_fault, StartsFault}
+use Rattle.schedule_check.proofs.StartsTexts.{starts_count, starts_within, fault_of_lines, fault_of_table, IsStartsText-from_fault, not_starts_text}
 use Rattle.schedule_check.proofs.starts_text.read_starts.Goals as goal
 
 -- the fault of the text is that of the table

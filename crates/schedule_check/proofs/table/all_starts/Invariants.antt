@@ -1,5 +1,4 @@
-use Rattle.std.proofs.Common.{◌≡◌, ℕ, ◌<◌, false, get_or, map, take, None, unwrap_or}
-use Rattle.std.specs.Prelude.{pos, is_none}
+use Rattle.std.proofs.Common.{◌≡◌, ℕ, ◌<◌, false, get_or, map, take, None, unwrap_or, pos, is_none}
 use Rattle.schedule_check.proofs.table.all_starts.Given as goal
 
 abbrev pub invariant-loop-activity : goal.invariant-loop-activity

@@ -1,5 +1,4 @@
-use Rattle.std.proofs.Common.{◌≡◌, get_or, SFits, w64, to_z, of_z, arith, refl}
-use Rattle.std.specs.Prelude.{ℤ, pos, ◌+ℤ◌, int_lt}
+use Rattle.std.proofs.Common.{◌≡◌, get_or, SFits, w64, to_z, of_z, arith, refl, ℤ, pos, ◌+ℤ◌, int_lt}
 use Rattle.std.specs.Int.Signed.{lt_z}
 use Rattle.std.proofs.lemmas.Int.{ints, to_z-of_z}
 use Rattle.schedule_check.proofs.violation.breaks.Goals as goal

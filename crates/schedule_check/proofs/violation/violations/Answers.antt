@@ -1,12 +1,10 @@
-use Rattle.std.proofs.Common.{◌≡◌, ◌<◌, ◌∙◌, sym, subst, ℕ, List, [], arith}
-use Rattle.std.specs.Prelude.{◌↔◌}
-use Rattle.std.proofs.lemmas.List.{append-nil}
-use Rattle.network.specs.declared.lag.Pair.{Pair}
+use Rattle.std.proofs.Common.{◌≡◌, ◌<◌, ◌∙◌, sym, subst, ℕ, List, [], arith, ◌↔◌, append-nil}
+use Rattle.network.specs.declared.parts.Pair.{Pair}
 use Rattle.network.specs.Problem.{activity_count, rules}
 use Rattle.network.specs.Schedule.{IsFeasible}
 use Rattle.network.specs.Walk.{AreInside, AreLight}
-use Rattle.network.proofs.ArcLaws.{AreInside-arcs_of, AreLight-arcs_of}
-use Rattle.schedule_check.specs.declared.violation.Violation.{Violation}
+use Rattle.network.proofs.FaultLaws.{AreInside-arcs_of, AreLight-arcs_of}
+pub use Rattle.schedule_check.specs.declared.violation.Violation.{Violation}
 use Rattle.schedule_check.proofs.Listed.{violations_none, joined}
 use Rattle.schedule_check.proofs.violation.violations.Goals as goal
 

@@ -1,13 +1,12 @@
 use Rattle.std.proofs.Common.{List, Option, sym, subst, ap, ◌∙◌, option_map}
-use Rattle.network.specs.Limits.{IsProject}
+use Rattle.network.specs.Problem.{IsProject}
 use Rattle.network.specs.Schedule.{ScheduleOf}
-use Rattle.branching.specs.Covered.{ceiling_of}
+use Rattle.branching.specs.Fair.{ceiling_of}
 use Rattle.trail.specs.Trail.{Entry}
-use Rattle.record_text.specs.SearchRecord.{SearchRecord}
-use Rattle.record_text.specs.Tree.{lines_of}
+use Rattle.record_text.specs.Tree.{SearchRecord, lines_of}
 use Rattle.search_record.specs.TrailTree.{KidsAreLater, tree_under}
 use Rattle.search_record.proofs.TrailLines.{kids_are_later}
-use Rattle.search_record.proofs.WholeTrails.{IsOver, trail_record, record_right}
+use Rattle.search_record.proofs.TrailTrees.{IsOver, trail_record, record_right}
 use Rattle.search_record.proofs.from_trail.of_trail.Goals as goal
 
 pub trail_lines-requires : goal.trail_lines-requires

@@ -1,6 +1,5 @@
-use Rattle.std.proofs.Common.{rules, w64}
+use Rattle.std.proofs.Common.{rules, w64, SFits}
 use Rattle.std.proofs.lemmas.Int.{to_z-of_z}
-use mir.Val.{SFits}
 use Rattle.search_record.proofs.Decides.{cut_by}
 use Rattle.search_record.proofs.judge.is_cut.Goals as goal
 

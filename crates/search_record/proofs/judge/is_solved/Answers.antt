@@ -1,7 +1,6 @@
-use Rattle.std.proofs.Common.{◌≡◌, ◌-◌, ◌<◌, ◌≤◌, ◌∙◌, ap, arith, rules, length, pos, ℕ, w64}
+use Rattle.std.proofs.Common.{◌≡◌, ◌-◌, ◌<◌, ◌≤◌, ◌∙◌, ap, arith, rules, length, pos, ℕ, w64, SFits}
 use Rattle.std.proofs.lemmas.Int.{to_z-of_z}
 use Rattle.std.proofs.lemmas.List.{get_or_read}
-use mir.Val.{SFits}
 use Rattle.network.specs.Problem.{activity_count}
 use Rattle.network.specs.Schedule.{start, makespan, IsWithinCapacities}
 use Rattle.profile.specs.Overloads.{IsFirstOverload}

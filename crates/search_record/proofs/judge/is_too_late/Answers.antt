@@ -1,6 +1,5 @@
-use Rattle.std.proofs.Common.{◌≡◌, sym, ◌∙◌, rules, ◌+ℤ◌, None, Some, w64}
+use Rattle.std.proofs.Common.{◌≡◌, sym, ◌∙◌, rules, ◌+ℤ◌, None, Some, w64, SFits}
 use Rattle.std.proofs.lemmas.Int.{to_z-of_z}
-use mir.Val.{SFits}
 use Rattle.network.specs.Problem.{duration}
 use Rattle.network.specs.Walk.{entry}
 use Rattle.branching.specs.Right.{IsTooLateFor}

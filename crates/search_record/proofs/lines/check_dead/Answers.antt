@@ -1,8 +1,8 @@
 use Rattle.std.proofs.Common.{◌≡◌, ap}
 use Rattle.std.proofs.lemmas.Bool.{iff_false}
-use Rattle.search_record.specs.Faults.{why_wrong}
+use Rattle.search_record.specs.Right.{why_wrong}
 use Rattle.record_text.proofs.FirstWrong.{fault_at}
-use Rattle.search_record.proofs.Reached.{tree_some, dead_right, dead_wrong}
+use Rattle.search_record.proofs.Steps.{tree_some, dead_right, dead_wrong}
 use Rattle.search_record.proofs.lines.check_dead.Goals as goal
 
 pub bounds-lines-0 : goal.bounds-lines-0

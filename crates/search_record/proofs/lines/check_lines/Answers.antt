@@ -2,11 +2,9 @@ use Rattle.std.proofs.Common.{◌≡◌, ◌≤◌, ◌+◌, ◌∙◌, [], ◌�
 use Rattle.std.proofs.lemmas.Bool.{iff_false}
 use Rattle.std.proofs.lemmas.List.{drop_all}
 use Rattle.search_record.specs.Due.{DueNodes}
-use Rattle.search_record.specs.Right.{IsRightLine}
-use Rattle.search_record.specs.Faults.{why_wrong}
-use Rattle.search_record.proofs.Steps.{named_line}
+use Rattle.search_record.specs.Right.{IsRightLine, why_wrong}
+use Rattle.search_record.proofs.Steps.{named_line, Reached, reached_start, reached_more, reached_end, reached_wrong, some_due, line_there}
 use Rattle.record_text.proofs.FirstWrong.{fault_at}
-use Rattle.search_record.proofs.Reached.{Reached, reached_start, reached_more, reached_end, reached_wrong, some_due, line_there}
 use Rattle.search_record.proofs.lines.check_lines.Goals as goal
 
 pub loop-index-init : goal.loop-index-init

@@ -1,5 +1,5 @@
 use Rattle.std.proofs.Common.{◌≡◌, drop}
-use Rattle.search_record.proofs.Reached.{Reached}
+use Rattle.search_record.proofs.Steps.{Reached}
 use Rattle.search_record.proofs.lines.check_lines.Given as goal
 
 -- the lines so far are right, and the nodes of the others are due

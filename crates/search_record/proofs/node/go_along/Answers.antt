@@ -2,7 +2,7 @@ use Rattle.std.proofs.Common.{◌≡◌, arith, length}
 use Rattle.network.specs.Problem.{pair_arc}
 use Rattle.longest_path.specs.Insert.{AddsArc, ClosesCycle}
 use Rattle.branching.proofs.Nodes.{rows_of}
-use Rattle.search_record.proofs.Along.{along_added, along_closed, along_dead, all_marked}
+use Rattle.search_record.proofs.Decides.{along_added, along_closed, along_dead, all_marked}
 use Rattle.search_record.proofs.node.go_along.Goals as goal
 
 pub returns-then-mark_count-depth-clause-along : goal.returns-then-mark_count-depth-clause-along

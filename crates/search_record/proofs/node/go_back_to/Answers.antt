@@ -1,5 +1,5 @@
 use Rattle.std.proofs.Common.{arith, ap, length}
-use Rattle.search_record.proofs.Along.{went_back, marks_before}
+use Rattle.search_record.proofs.Decides.{went_back, marks_before}
 use Rattle.search_record.proofs.node.go_back_to.Goals as goal
 
 pub loop-matrix-preserved : goal.loop-matrix-preserved

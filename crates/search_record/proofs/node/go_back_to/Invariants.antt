@@ -1,5 +1,5 @@
 use Rattle.std.proofs.Common.{◌≡◌, ◌≤◌, List, length}
-use Rattle.network.specs.declared.lag.Pair.{Pair}
+use Rattle.network.specs.declared.parts.Pair.{Pair}
 use Rattle.network.specs.Problem.{Problem}
 use Rattle.search_record.specs.Node.{IsMarkedAlong}
 use Rattle.search_record.proofs.node.go_back_to.Given as goal

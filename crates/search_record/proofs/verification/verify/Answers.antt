@@ -1,10 +1,9 @@
 use Rattle.std.proofs.Common.{◌≡◌}
 use Rattle.std.proofs.lemmas.Result.{err_from_is_err_and}
-use Rattle.record_text.specs.declared.fault.Why.TheVariants.{Memory}
+pub use Rattle.record_text.specs.declared.fault.Why.TheVariants.{Memory}
 use Rattle.record_text.proofs.KindLaws.{is_memory}
 use Rattle.search_record.specs.Right.{limit_of, AreRightStarts, AreRightLines}
-use Rattle.search_record.proofs.Truth.{right_is_true}
-use Rattle.search_record.proofs.Wrong.{wrong_line}
+use Rattle.search_record.proofs.Truth.{right_is_true, wrong_line}
 use Rattle.search_record.proofs.verification.verify.Goals as goal
 
 pub returns-in_err-check_lines-clause-only : goal.returns-in_err-check_lines-clause-only

@@ -1,7 +1,7 @@
 use Rattle.std.proofs.Common.{◌≡◌, ◌∷◌, [], List, length, map, ap, refl, arith}
 use Rattle.std.proofs.lemmas.List.{length-map}
-use Rattle.trail.specs.TrailViews.{pair_fate, trail_entry}
-use Rattle.trail.specs.declared.trail.KidFate.{KidFate}
+use Rattle.trail.specs.Trail.{pair_fate, trail_entry}
+pub use Rattle.trail.specs.declared.trail.KidFate.{KidFate}
 use Rattle.search_record.specs.TrailTree.{IsNamed}
 use Rattle.search_record.proofs.TrailLines.{stack_past, stack_known, stack_more}
 use Rattle.search_record.proofs.walk.tree_lines.Goals as goal

@@ -1,5 +1,5 @@
 use Rattle.std.proofs.Common.{map, reverse}
-use Rattle.trail.specs.TrailViews.{pair_fate, trail_entry}
+use Rattle.trail.specs.Trail.{pair_fate, trail_entry}
 use Rattle.search_record.proofs.TrailLines.{Walked, left}
 use Rattle.search_record.proofs.walk.tree_lines.Given as goal
 

@@ -4,8 +4,7 @@ use Rattle.std.proofs.lemmas.Result.{MatchResult-weaker}
 use Rattle.network.specs.Schedule.{IsFeasible}
 use Rattle.runs.proofs.CallLaws.{refuses_start}
 use Rattle.runs.proofs.TextLaws.{starts_whole, starts_fault_whole}
-use Rattle.solve_runs.specs.Asking.{job_of}
-use Rattle.solve_runs.specs.Story.{IsStartedReply}
+use Rattle.solve_runs.specs.Story.{job_of, IsStartedReply}
 use Rattle.solve_runs.proofs.StoryLaws.{err_both, no_failed_read, reads_alone, replies_started}
 use Rattle.solve_runs.proofs.running.solve_reply.Goals as goal
 

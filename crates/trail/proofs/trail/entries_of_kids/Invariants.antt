@@ -1,7 +1,7 @@
 use Rattle.std.proofs.Common.{◌≡◌, ◌++◌, map, drop}
 use Rattle.std.specs.Arc.{arc_value}
-use Rattle.trail.specs.Below.{kids_below}
-use Rattle.trail.specs.TrailViews.{trail_entry}
+use Rattle.trail.specs.RightTrail.{kids_below}
+use Rattle.trail.specs.Trail.{trail_entry}
 use Rattle.trail.specs.Recording.{kid_entry}
 use Rattle.trail.proofs.trail.entries_of_kids.Given as goal
 

@@ -1,7 +1,7 @@
 use Rattle.std.proofs.Common.{◌≡◌, ◌++◌, ◌+◌, ◌≤◌, map, drop, length}
 use Rattle.std.specs.Arc.{arc_value}
-use Rattle.branching.specs.Fate.{fate_value}
-use Rattle.trail.specs.TrailViews.{pair_fate}
+use Rattle.branching.specs.Fates.{fate_value}
+use Rattle.trail.specs.Trail.{pair_fate}
 use Rattle.trail.specs.Recording.{fates_under}
 use Rattle.trail.proofs.trail.fates_of_pairs.Given as goal
 

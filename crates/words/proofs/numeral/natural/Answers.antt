@@ -1,7 +1,7 @@
 use Rattle.std.proofs.Common.{◌≡◌, ◌<◌, ◌^◌, arith, rules, length, IfSome}
-use Rattle.words.specs.declared.numeral.TheConstants.{MAX_DIGITS}
-use Rattle.words.specs.Numbers.{natural}
-use Rattle.words.proofs.NumberLaws.{AreDigits, IsUtf8-digits, parsed}
+pub use Rattle.words.specs.declared.numeral.TheConstants.{MAX_DIGITS}
+use Rattle.words.specs.Words.{natural}
+use Rattle.words.proofs.WordLaws.{AreDigits, IsUtf8-digits, parsed}
 use Rattle.words.proofs.numeral.natural.Goals as goal
 
 pub returns-in_default-clause-value : goal.returns-in_default-clause-value

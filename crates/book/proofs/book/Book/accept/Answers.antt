@@ -1,25 +1,19 @@
-use Rattle.std.proofs.Common.{◌≡◌, ◌+◌, ℕ, ℤ, true, false, List, Option, None, Some, subst, sym, ap, ◌∙◌, arith, rules}
+use Rattle.std.proofs.Common.{◌≡◌, ◌+◌, ℕ, ℤ, true, false, List, Option, None, Some, subst, sym, ap, ◌∙◌, arith, rules, IfSome, option_map}
 use Rattle.std.specs.Option.{is_some, option_or}
-use Rattle.std.specs.Prelude.{IfSome, option_map}
 use Rattle.std.specs.Arc.{arc_value}
 use Rattle.network.specs.Schedule.{ScheduleOf}
-use Rattle.branching.specs.Covered.{ceiling_of}
+use Rattle.branching.specs.Fair.{ceiling_of, Expansion, IsFair, IsReport}
 use Rattle.std.proofs.Math.ListN.{set}
 use Rattle.std.proofs.lemmas.Option.{slice_get_within}
-use Rattle.branching.specs.Fair.{Expansion, IsFair, IsReport}
 use Rattle.book.specs.State.{Named, BookState}
-use Rattle.book.specs.CheckingIn.{MayCheckIn, Accepts}
-use Rattle.book.specs.declared.answers.CheckedIn.{CheckedIn}
-use Rattle.book.specs.Offering.{IsShorterFound}
+use Rattle.book.specs.Steps.{MayCheckIn, Accepts, IsShorterFound, CheckedIn}
 use Rattle.book.specs.OpenNodes.{InsertsKids}
-use Rattle.trail.specs.Trail.{TrailOf}
+use Rattle.trail.specs.Trail.{TrailOf, with_entries}
 use Rattle.trail.specs.Recording.{checked_in}
-use Rattle.trail.specs.TrailViews.{with_entries}
 use Rattle.book.specs.Views.{state_of, IsKept, KeepsBook}
-use Rattle.book.specs.declared.book.Book.TheInside.{Inside}
-use Rattle.book.proofs.Accepting.{not_improved, improved, accepts, older_than_next, names_last_opened}
-use Rattle.book.proofs.KeptTrail.{entries_in, entries_changed, project_kept, held_known}
-use Rattle.book.proofs.Steps.{kept_accepted}
+pub use Rattle.book.specs.declared.book.Book.TheInside.{Inside}
+use Rattle.book.proofs.Steps.{not_improved, improved, accepts, older_than_next, names_last_opened, kept_accepted}
+use Rattle.book.proofs.Recorded.{entries_in, entries_changed, project_kept, held_known}
 use Rattle.book.proofs.book.Book.accept.Goals as goal
 
 may_check_in : (b : Inside) (s : BookState) (worker name : ℕ) (report : Expansion) → state_of b ≡ s → MayCheckIn s worker name report → MayCheckIn (state_of b) worker name report

@@ -1,17 +1,14 @@
-use Rattle.std.proofs.Common.{◌≡◌, ◌<◌, ◌≤ℤ◌, ◌+◌, ℕ, zero, suc, ℤ, List, [], ◌∷◌, Option, None, Some, refl, sym, ap, ◌∙◌, subst, inl, inr, length, arith, rules}
-use Rattle.std.specs.Prelude.{IfSome, option_map}
+use Rattle.std.proofs.Common.{◌≡◌, ◌<◌, ◌≤ℤ◌, ◌+◌, ℕ, zero, suc, ℤ, List, [], ◌∷◌, Option, None, Some, refl, sym, ap, ◌∙◌, subst, inl, inr, length, arith, rules, IfSome, option_map}
 use Rattle.std.specs.List.{All, Any, Contains}
 use Rattle.std.proofs.lemmas.Int.{ints}
 use Rattle.std.proofs.lemmas.List.Elements.{All-nil, All-cons, All-head, All-tail}
 use Rattle.std.specs.Arc.{arc_value}
-use Rattle.branching.specs.Ceiling.{IsUnder, Reaches}
+use Rattle.branching.specs.Right.{IsUnder, Reaches}
 use Rattle.book.specs.State.{Named, BookState, best_makespan}
-use Rattle.book.specs.Verdicts.{IsLeast, bounds_of}
+use Rattle.book.specs.Sound.{IsLeast, bounds_of, note_cut}
 use Rattle.book.specs.Views.{state_of, IsKept}
 use Rattle.trail.specs.Trail.{Entry, TrailOf}
-use Rattle.book.specs.Recorded.{note_cut}
-use Rattle.book.proofs.KeptTrail.{entries_in, entries_changed, project_kept}
-use Rattle.book.proofs.RecordedSteps.{cut_state}
+use Rattle.book.proofs.Recorded.{entries_in, entries_changed, project_kept, cut_state}
 use Rattle.book.proofs.Steps.{kept_cut}
 use Rattle.book.proofs.book.Book.cut_settled.Goals as goal
 

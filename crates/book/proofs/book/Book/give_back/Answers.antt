@@ -3,7 +3,7 @@ use Rattle.std.specs.Arc.{arc_value}
 use Rattle.std.proofs.Math.ListN.{set}
 use Rattle.std.proofs.lemmas.Option.{slice_get_within}
 use Rattle.book.specs.State.{Named, BookState}
-use Rattle.book.specs.GivingBack.{ReturnsNode}
+use Rattle.book.specs.Steps.{ReturnsNode}
 use Rattle.book.specs.OpenNodes.{Inserts}
 use Rattle.book.specs.Views.{state_of}
 use Rattle.book.proofs.Steps.{not_open, kept_returned}

@@ -2,11 +2,9 @@ use Rattle.std.proofs.Common.{◌≡◌, ◌<◌, ◌+◌, ◌∷◌, List, Opti
 use Rattle.std.proofs.Math.ListN.{set}
 use Rattle.std.specs.List.Sorted.{IsPermutation}
 use Rattle.std.proofs.lemmas.List.Sorted.{IsPermutation-refl}
-use Rattle.book.specs.State.{Named, BookState}
-use Rattle.book.specs.Taking.{IsFull}
-use Rattle.book.specs.Hands.{held_node}
+use Rattle.book.specs.State.{Named, BookState, held_node}
+use Rattle.book.specs.Steps.{IsFull, Ticket}
 use Rattle.book.specs.Views.{state_of}
-use Rattle.book.specs.declared.answers.Ticket.{Ticket}
 use Rattle.book.proofs.Steps.{kept_handed_out}
 use Rattle.book.proofs.book.Book.hand_out.Goals as goal
 

@@ -2,10 +2,10 @@ use Rattle.std.proofs.Common.{◌≡◌, ◌≢◌, ℕ, ℤ, Option, Some, refl
 use Rattle.std.specs.Arc.{arc_value}
 use Rattle.branching.specs.Subproblem.{Subproblem}
 use Rattle.book.specs.State.{BookState, best_makespan}
-use Rattle.branching.specs.Ceiling.{IsInTime}
-use Rattle.book.specs.CheckingIn.{IsInHand}
+use Rattle.branching.specs.Right.{IsInTime}
+use Rattle.book.specs.Steps.{IsInHand}
 use Rattle.book.specs.Views.{state_of}
-use Rattle.book.specs.declared.book.Book.TheInside.{Inside}
+pub use Rattle.book.specs.declared.book.Book.TheInside.{Inside}
 use Rattle.book.proofs.book.Book.judge.Goals as goal
 
 held_there : (b : Inside) (s : BookState) (worker name : ℕ) (node : Subproblem) → state_of b ≡ s → slice_get b.hands worker ≡ Some (Some (record { name = name; node = node })) → slice_get s.hands worker ≡ Some (Some (record { name = name; node = node }))

@@ -3,9 +3,9 @@ use Rattle.std.specs.Arc.{arc_value}
 use Rattle.std.proofs.Math.ListN.{replicate}
 use Rattle.network.specs.Problem.{Problem}
 use Rattle.book.specs.State.{Named, BookState}
-use Rattle.book.specs.Opening.{AreAllowed, AreFirst}
+use Rattle.book.specs.Steps.{AreAllowed, AreFirst}
 use Rattle.book.specs.Views.{IsKept}
-use Rattle.book.proofs.Opened.{kept_opened}
+use Rattle.book.proofs.Steps.{kept_opened}
 use Rattle.book.proofs.book.Book.open.Goals as goal
 
 abbrev opened_state : Problem → List Named → ℕ → List (Option Named) → ℕ → BookState

@@ -1,5 +1,5 @@
 use Rattle.std.proofs.Common.{rules}
-use Rattle.book.proofs.Tickets.{takes_ticket}
+use Rattle.book.proofs.Steps.{takes_ticket}
 use Rattle.book.proofs.book.Book.take.Goals as goal
 
 pub returns-clause-step : goal.returns-clause-step

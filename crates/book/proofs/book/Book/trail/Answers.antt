@@ -1,7 +1,7 @@
 use Rattle.std.proofs.Common.{subst}
-use Rattle.book.specs.Recorded.{EndsWhole}
+use Rattle.book.specs.Sound.{EndsWhole}
 use Rattle.book.specs.Views.{state_of}
-use Rattle.book.proofs.RecordedSteps.{trail_whole}
+use Rattle.book.proofs.Recorded.{trail_whole}
 use Rattle.book.proofs.book.Book.trail.Goals as goal
 
 pub returns-clause-whole : goal.returns-clause-whole

@@ -1,13 +1,10 @@
-use Rattle.std.proofs.Common.{◌≡◌, ◌<◌, ◌+◌, ℤ, [], Some, subst, sym, length, length-append, arith, rules}
+use Rattle.std.proofs.Common.{◌≡◌, ◌<◌, ◌+◌, ℤ, [], Some, subst, sym, length, length-append, arith, rules, w64, to_z, of_z}
 use Rattle.std.proofs.lemmas.Int.{ints}
-use mir.Syntax.{w64}
-use mir.Val.{to_z, of_z}
 use Rattle.book.specs.State.{BookState, in_hand, live, best_makespan}
 use Rattle.book.specs.Views.{state_of}
-use Rattle.book.specs.declared.book.Book.TheInside.{Inside}
-use Rattle.book.proofs.Lists.{nothing_of_length}
-use Rattle.book.specs.Sound.{IsSound}
-use Rattle.book.specs.Verdicts.{IsLeast, known_bounds}
+pub use Rattle.book.specs.declared.book.Book.TheInside.{Inside}
+use Rattle.book.proofs.Names.{nothing_of_length}
+use Rattle.book.specs.Sound.{IsSound, IsLeast, known_bounds}
 use Rattle.book.specs.declared.answers.Verdict.TheVariants as verdict
 use Rattle.book.proofs.Verdicts.{nothing_known, bound_is_best, verdict_true}
 use Rattle.book.proofs.book.Book.verdict.Goals as goal

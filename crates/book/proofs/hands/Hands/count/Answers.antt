@@ -1,7 +1,7 @@
 use Rattle.std.proofs.Common.{◌≡◌, sym, ◌∙◌, rules}
 use Rattle.std.specs.List.{count_by}
 use Rattle.std.specs.Option.{is_some}
-use Rattle.book.proofs.InHand.{length_in_hand}
+use Rattle.book.proofs.Filing.{length_in_hand}
 use Rattle.book.proofs.hands.Hands.count.Goals as goal
 
 pub returns : goal.returns

@@ -1,6 +1,6 @@
 use Rattle.std.proofs.Common.{Some}
 use Rattle.std.proofs.lemmas.List.{map-set}
-use Rattle.book.specs.Hands.{hand_of}
+use Rattle.book.specs.State.{hand_of}
 use Rattle.book.proofs.hands.Hands.fill.Goals as goal
 
 pub returns : goal.returns

@@ -1,11 +1,8 @@
-use Rattle.std.proofs.Common.{◌≢◌, List, Option, [], ◌∷◌, subst, sym, take, map, arith, rules}
-use Rattle.std.proofs.lemmas.List.{take_all}
+use Rattle.std.proofs.Common.{◌≢◌, List, Option, [], ◌∷◌, subst, sym, take, map, arith, rules, take_all}
 use Rattle.std.proofs.lemmas.List.Elements.{All-append}
 use Rattle.std.specs.List.{All}
-use Rattle.book.specs.State.{Named, in_hand}
-use Rattle.book.specs.Hands.{hand_of}
-use Rattle.book.specs.declared.hands.Held.{Held}
-use Rattle.book.proofs.InHand.{in_hand_more}
+use Rattle.book.specs.State.{Named, in_hand, hand_of, Held}
+use Rattle.book.proofs.Filing.{in_hand_more}
 use Rattle.book.proofs.hands.Hands.find.Goals as goal
 
 pub loop-worker-preserved : goal.loop-worker-preserved

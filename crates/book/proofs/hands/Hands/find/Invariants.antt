@@ -1,7 +1,6 @@
 use Rattle.std.proofs.Common.{◌≢◌, map, take}
 use Rattle.std.specs.List.{All}
-use Rattle.book.specs.State.{Named, in_hand}
-use Rattle.book.specs.Hands.{hand_of}
+use Rattle.book.specs.State.{Named, in_hand, hand_of}
 use Rattle.book.proofs.hands.Hands.find.Given as goal
 
 abbrev pub invariant-loop-worker : goal.invariant-loop-worker

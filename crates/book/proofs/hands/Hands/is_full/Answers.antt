@@ -1,7 +1,6 @@
 use Rattle.std.proofs.Common.{◌≡◌, ◌<◌, Option, Some, refl, ap, ◌∙◌, length, arith, slice_get, option_map}
 use Rattle.std.proofs.lemmas.Option.{slice_get-map, slice_get_read}
-use Rattle.book.specs.Hands.{held_node, hand_of}
-use Rattle.book.specs.declared.hands.Held.{Held}
+use Rattle.book.specs.State.{held_node, hand_of, Held}
 use Rattle.book.proofs.hands.Hands.is_full.Goals as goal
 
 pub returns-in-Some : goal.returns-in-Some

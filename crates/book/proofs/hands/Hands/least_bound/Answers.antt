@@ -1,10 +1,8 @@
 use Rattle.std.proofs.Common.{ℤ, List, Option, [], ◌∷◌, subst, sym, ap, ◌∙◌, take, map, arith}
 use Rattle.std.proofs.lemmas.List.{map-append, take_all}
-use Rattle.book.specs.State.{Named, in_hand}
-use Rattle.book.specs.Verdicts.{IsLeast, bounds_of}
-use Rattle.book.specs.Hands.{hand_of}
-use Rattle.book.specs.declared.hands.Held.{Held}
-use Rattle.book.proofs.InHand.{in_hand_more}
+use Rattle.book.specs.State.{Named, in_hand, hand_of, Held}
+use Rattle.book.specs.Sound.{IsLeast, bounds_of}
+use Rattle.book.proofs.Filing.{in_hand_more}
 use Rattle.book.proofs.hands.Hands.least_bound.Goals as goal
 
 pub loop-hand-preserved : goal.loop-hand-preserved

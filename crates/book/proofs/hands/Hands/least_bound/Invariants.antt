@@ -1,7 +1,6 @@
 use Rattle.std.proofs.Common.{map, take}
-use Rattle.book.specs.State.{in_hand}
-use Rattle.book.specs.Verdicts.{IsLeast, bounds_of}
-use Rattle.book.specs.Hands.{hand_of}
+use Rattle.book.specs.State.{in_hand, hand_of}
+use Rattle.book.specs.Sound.{IsLeast, bounds_of}
 use Rattle.book.proofs.hands.Hands.least_bound.Given as goal
 
 abbrev pub invariant-loop-hand : goal.invariant-loop-hand

@@ -1,7 +1,6 @@
 use Rattle.std.proofs.Common.{◌≡◌, ◌∙◌, ℕ, zero, suc, List, ◌∷◌, Option, None, refl, ap, map, arith}
 use Rattle.std.proofs.Math.ListN.{replicate}
-use Rattle.book.specs.State.{Named}
-use Rattle.book.specs.Hands.{hand_of}
+use Rattle.book.specs.State.{Named, hand_of}
 use Rattle.book.proofs.hands.Hands.new.Goals as goal
 
 empty_hands : (n : ℕ) → ◌≡◌ {A = List (Option Named)} (map hand_of (replicate n None)) (replicate n None)

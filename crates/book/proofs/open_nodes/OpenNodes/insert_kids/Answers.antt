@@ -2,9 +2,9 @@ use Rattle.std.proofs.Common.{◌≡◌, ◌<◌, ◌≤◌, ◌+◌, ◌-◌, �
 use Rattle.std.proofs.lemmas.List.{take_more, map-append, length-map, take_all}
 use Rattle.std.specs.Arc.{arc_value}
 use Rattle.branching.specs.Subproblem.{Subproblem}
-use Rattle.branching.specs.Ceiling.{is_below}
+use Rattle.branching.specs.Right.{is_below}
 use Rattle.book.specs.OpenNodes.{InsertsKids, Inserts}
-use Rattle.book.proofs.Lists.{filter_at_most}
+use Rattle.book.proofs.Names.{filter_at_most}
 use Rattle.book.proofs.Filing.{KidsSoFar, so_far_none, so_far_skipped, so_far_inserted, all_inserted}
 use Rattle.book.proofs.open_nodes.OpenNodes.insert_kids.Goals as goal
 

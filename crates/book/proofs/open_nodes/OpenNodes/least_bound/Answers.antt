@@ -1,10 +1,8 @@
-use Rattle.std.proofs.Common.{◌≡◌, ℤ, Some, subst, sym, map, arith}
+use Rattle.std.proofs.Common.{◌≡◌, ℤ, Some, subst, sym, map, arith, w64, to_z, of_z}
 use Rattle.std.proofs.lemmas.Int.{ints}
-use mir.Syntax.{w64}
-use mir.Val.{to_z, of_z}
-use Rattle.book.specs.Verdicts.{IsLeast, bounds_of}
+use Rattle.book.specs.Sound.{IsLeast, bounds_of}
 use Rattle.book.specs.OpenNodes.{open_node}
-use Rattle.book.proofs.Ranks.{first_is_least}
+use Rattle.book.proofs.Filing.{first_is_least}
 use Rattle.book.proofs.open_nodes.OpenNodes.least_bound.Goals as goal
 
 pub returns : goal.returns

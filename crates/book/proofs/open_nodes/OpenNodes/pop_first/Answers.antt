@@ -4,11 +4,9 @@ use Rattle.std.specs.Arc.{arc_value}
 use Rattle.std.proofs.lemmas.List.Elements.{All-head, All-tail}
 use Rattle.branching.specs.Subproblem.{Subproblem}
 use Rattle.book.specs.State.{node_named}
-use Rattle.book.specs.Taking.{GoesBefore}
-use Rattle.book.specs.OpenNodes.{open_node, IsFiled}
-use Rattle.book.specs.declared.open_nodes.Rank.{Rank}
-use Rattle.book.specs.declared.open_nodes.OpenNode.{OpenNode}
-use Rattle.book.proofs.Ranks.{goes_before_others}
+use Rattle.book.specs.Steps.{GoesBefore}
+use Rattle.book.specs.OpenNodes.{open_node, IsFiled, Rank, OpenNode}
+use Rattle.book.proofs.Filing.{goes_before_others}
 use Rattle.book.proofs.open_nodes.OpenNodes.pop_first.Goals as goal
 
 pub invariant_of-self-2 : goal.invariant_of-self-2

@@ -2,7 +2,7 @@ use Rattle.std.proofs.Common.{nat_cmp, ◌≡◌, ◌∙◌, subst, sym, ℕ, �
 use Rattle.network.specs.Problem.{Problem, resource_count}
 use Rattle.std.specs.Ordering.{ord_max}
 use Rattle.bounds.specs.Energy.{IsResourceEnergy}
-use Rattle.bounds.specs.declared.limits.TheConstants.{MAX_SHARE}
+pub use Rattle.bounds.specs.declared.limits.TheConstants.{MAX_SHARE}
 use Rattle.bounds.proofs.LateWork.{ord_max-max}
 use Rattle.bounds.proofs.Energies.{IsEnergyUpTo, energy_more, energy_stopped, energy_whole}
 use Rattle.bounds.proofs.resource_buffers.ResourceBuffers.energy_under.Goals as goal

@@ -1,6 +1,6 @@
 use Rattle.std.proofs.Common.{[], arith}
-use Rattle.network.proofs.Lists.{appended_more}
-use Rattle.bounds.specs.Tasks.{tasks_of}
+use Rattle.network.proofs.FaultLaws.{appended_more}
+use Rattle.bounds.specs.Energy.{tasks_of}
 use Rattle.bounds.proofs.resource_buffers.ResourceBuffers.new.Goals as goal
 
 pub loop-resource-preserved : goal.loop-resource-preserved

@@ -1,6 +1,6 @@
 use Rattle.std.proofs.Common.{◌≡◌, map}
 use Rattle.std.specs.List.{range_with_len}
-use Rattle.bounds.specs.Tasks.{tasks_of}
+use Rattle.bounds.specs.Energy.{tasks_of}
 use Rattle.bounds.proofs.resource_buffers.ResourceBuffers.new.Given as goal
 
 abbrev pub invariant-loop-resource : goal.invariant-loop-resource

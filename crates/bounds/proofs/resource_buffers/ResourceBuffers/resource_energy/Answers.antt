@@ -2,8 +2,7 @@ use Rattle.std.proofs.Common.{◌≡◌, ap, ◌∙◌, subst, ℕ, ◌<◌, max
 use Rattle.std.specs.Int.{div_ceil}
 use Rattle.std.proofs.lemmas.List.FromFn.{get_or-map-range_with_len, length-map-range_with_len}
 use Rattle.network.specs.Problem.{Problem, resource_count, capacity}
-use Rattle.bounds.specs.declared.task_buffers.Task.{Task}
-use Rattle.bounds.specs.Tasks.{tasks_of, all_tasks}
+use Rattle.bounds.specs.Energy.{tasks_of, all_tasks, Task}
 use Rattle.bounds.specs.Loads.{IsGreatestShareOf}
 use Rattle.bounds.proofs.Tasks.{tasks_limited}
 use Rattle.bounds.proofs.Energies.{resource_share, resource_limit}

@@ -1,13 +1,9 @@
 use Rattle.std.proofs.Common.{◌≡◌, rules, sym, ap, ◌∙◌, subst, ℕ, ◌≤◌, ℤ, List, length, take}
 use Rattle.std.specs.List.{All}
 use Rattle.bounds.specs.declared.task_buffers.Task.{Task}
-use Rattle.bounds.specs.declared.load.Load.{Load}
-use Rattle.bounds.specs.declared.limits.TheConstants.{MAX_END}
-use Rattle.bounds.specs.Loads.{AreTailsOf, AreLoadsOf, IsGreatestShare}
-use Rattle.bounds.specs.Ranked.{AreRanked, AreRankedLoads}
-use Rattle.bounds.proofs.LoadLimits.{loads_limited, tails_limited}
-use Rattle.bounds.proofs.Writing.{written_back}
-use Rattle.bounds.proofs.Ranked.{ranked_loads}
+use Rattle.bounds.specs.Loads.{AreTailsOf, AreLoadsOf, IsGreatestShare, AreRanked, AreRankedLoads, Load, MAX_END}
+use Rattle.bounds.proofs.LateWork.{loads_limited, tails_limited}
+use Rattle.bounds.proofs.Ranked.{written_back, ranked_loads}
 use Rattle.bounds.proofs.task_buffers.TaskBuffers.greatest_share.Goals as goal
 use Rattle.bounds.proofs.task_buffers.TaskBuffers.greatest_share.Goals.{After-as_mut_slice-9}
 

@@ -1,6 +1,6 @@
 use Rattle.std.proofs.Common.{rules, w64, FitsSigned}
 use Rattle.std.proofs.lemmas.Int.{to_z-of_z}
-use Rattle.bounds.proofs.UnderCeiling.{IsTrueBoundWith-low}
+use Rattle.bounds.proofs.WithLaws.{IsTrueBoundWith-low}
 use Rattle.bounds.proofs.workspace.Workspace.bound_under.Goals as goal
 
 pub returns-clause-holds : goal.returns-clause-holds

@@ -1,6 +1,6 @@
 use Rattle.std.proofs.Common.{◌≡◌, ◌∷◌, [], ◌++◌, List, ◌∙◌, ap}
 use Rattle.std.specs.Arc.{arc_value}
-use Rattle.network.specs.declared.lag.Pair.{Pair}
+use Rattle.network.specs.declared.parts.Pair.{Pair}
 use Rattle.network.specs.Problem.{Problem, pair_arc}
 use Rattle.branching.specs.Path.{Path}
 use Rattle.branching.proofs.Paths.{went_on, pair_fault}

@@ -1,5 +1,4 @@
-use Rattle.std.proofs.Common.{rules, ◌≡◌, ◌∷◌, [], ◌++◌, length, sym, ◌∙◌, Some}
-use Rattle.std.specs.Prelude.{slice_get}
+use Rattle.std.proofs.Common.{rules, ◌≡◌, ◌∷◌, [], ◌++◌, length, sym, ◌∙◌, Some, slice_get}
 use Rattle.branching.proofs.Paths.{begun_more, one_more, all_there, no_cycle_before}
 use Rattle.branching.proofs.searcher.Searcher.go_on.Goals as goal
 

@@ -1,6 +1,5 @@
-use Rattle.std.proofs.Common.{rules, w64}
+use Rattle.std.proofs.Common.{rules, w64, SFits}
 use Rattle.std.proofs.lemmas.Int.{to_z-of_z}
-use mir.Val.{SFits}
 use Rattle.longest_path.specs.Insert.{AddsArc, ClosesCycle}
 use Rattle.lemma_check.proofs.Standings.{stands_dead, stands_added, stands_closed}
 use Rattle.lemma_check.proofs.state.State.add.Goals as goal

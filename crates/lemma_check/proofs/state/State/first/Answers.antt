@@ -1,6 +1,5 @@
-use Rattle.std.proofs.Common.{◌≡◌, sym, ◌∙◌, [], rules, w64, Some, None}
+use Rattle.std.proofs.Common.{◌≡◌, sym, ◌∙◌, [], rules, w64, Some, None, SFits}
 use Rattle.std.proofs.lemmas.Int.{to_z-of_z}
-use mir.Val.{SFits}
 use Rattle.network.specs.Problem.{rules as project_rules}
 use Rattle.lemma_check.specs.Places.{Place, bound_of, deadline}
 use Rattle.lemma_check.proofs.Standings.{stands_rules, first_dead}

@@ -1,8 +1,7 @@
 use Rattle.std.proofs.Common.{sym, ap, ◌∙◌}
 use Rattle.network.specs.Walk.{IsMatrixOf}
 use Rattle.network.specs.Problem.{activity_count}
-use Rattle.lemma_check.specs.Lemmas.{lemmas_of}
-use Rattle.lemma_check.specs.Places.{arcs_at}
+use Rattle.lemma_check.specs.Places.{lemmas_of, arcs_at}
 use Rattle.lemma_check.proofs.Standings.{live_matrix, is_open}
 use Rattle.lemma_check.proofs.state.State.is_right.Goals as goal
 

@@ -1,9 +1,8 @@
 use Rattle.std.proofs.Common.{◌∙◌, ap, length, pos, take, Some}
 use Rattle.std.proofs.lemmas.List.{take_more}
-use Rattle.network.specs.declared.lag.Lag.{Lag}
-use Rattle.longest_path.specs.Marked.{Marked}
-use Rattle.lemma_check.specs.Lemmas.{first_arcs}
-use Rattle.lemma_check.specs.Places.{Place}
+use Rattle.network.specs.declared.parts.Lag.{Lag}
+use Rattle.longest_path.specs.Saved.{Marked}
+use Rattle.lemma_check.specs.Places.{first_arcs, Place}
 use Rattle.lemma_check.proofs.Standings.{stands_opened}
 use Rattle.lemma_check.proofs.state.State.open.Goals as goal
 

@@ -1,11 +1,10 @@
-use Rattle.std.proofs.Common.{◌≡◌, List, length, take, Some}
+use Rattle.std.proofs.Common.{◌≡◌, List, length, take, Some, slice_get}
 use Rattle.network.specs.Problem.{Problem}
-use Rattle.std.specs.Prelude.{slice_get}
 use Rattle.lemma_text.specs.declared.line.Line.{Line}
 use Rattle.lemma_text.specs.declared.line.Line.TheVariants as kind
 use Rattle.lemma_check.specs.Places.{Place, place, open_lemma}
 use Rattle.lemma_check.specs.Right.{MayOpen}
-use Rattle.lemma_check.specs.State.{IsAt}
+use Rattle.lemma_check.specs.Standing.{IsAt}
 use Rattle.lemma_check.proofs.state.State.open.Given as goal
 
 -- the lemma has the arcs that were added

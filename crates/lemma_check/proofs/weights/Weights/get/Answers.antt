@@ -1,10 +1,9 @@
-use Rattle.std.proofs.Common.{◌≡◌, refl, sym, ap, ◌∙◌, ◌<◌, length, rules, w64, Some}
+use Rattle.std.proofs.Common.{◌≡◌, refl, sym, ap, ◌∙◌, ◌<◌, length, rules, w64, Some, SFits}
 use Rattle.std.proofs.lemmas.Int.{to_z-of_z}
-use mir.Val.{SFits}
 use Rattle.network.specs.Walk.{Rows, entry}
-use Rattle.longest_path.specs.Relax.{joined}
+use Rattle.longest_path.specs.Matrix.{joined}
 use Rattle.longest_path.specs.Insert.{rows_over, entry_over}
-use Rattle.longest_path.proofs.RowsOver.{entry-rows_over}
+use Rattle.longest_path.proofs.Inserted.{entry-rows_over}
 use Rattle.lemma_check.proofs.Weighing.{length-rows_with}
 use Rattle.lemma_check.proofs.weights.Weights.get.Goals as goal
 

@@ -1,6 +1,5 @@
-use Rattle.std.proofs.Common.{◌≡◌, sym, ◌∙◌, length, rules, w64, Some, None}
+use Rattle.std.proofs.Common.{◌≡◌, sym, ◌∙◌, length, rules, w64, Some, None, SFits}
 use Rattle.std.proofs.lemmas.Int.{to_z-of_z}
-use mir.Val.{SFits}
 use Rattle.network.specs.Walk.{entry}
 use Rattle.lemma_check.specs.Reasons.{Implies}
 use Rattle.lemma_check.proofs.Weighing.{implied_by, not_implied}

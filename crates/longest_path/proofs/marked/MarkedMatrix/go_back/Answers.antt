@@ -1,7 +1,7 @@
 use Rattle.std.proofs.Common.{ℕ, ◌≡◌, ◌∷◌, [], ◌++◌, sym, ◌∙◌, ap, reverse, List, Option}
 use Rattle.std.specs.Option.{option_to_list}
-use Rattle.longest_path.specs.Marked.{Marked, IsMarked, marked_rows}
-use Rattle.longest_path.proofs.Marking.{last_count, at_mark, marks_before, went_back}
+use Rattle.longest_path.specs.Saved.{Marked, IsMarked, marked_rows}
+use Rattle.longest_path.proofs.Saving.{last_count, at_mark, marks_before, went_back}
 use Rattle.longest_path.proofs.marked.MarkedMatrix.go_back.Goals as goal
 use Rattle.network.specs.Walk.{Rows}
 

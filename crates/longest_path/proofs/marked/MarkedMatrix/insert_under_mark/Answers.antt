@@ -1,9 +1,7 @@
-use Rattle.std.proofs.Common.{◌≡◌, ap, w64}
+use Rattle.std.proofs.Common.{◌≡◌, ap, w64, rules, SFits}
 use Rattle.std.proofs.lemmas.Int.{to_z-of_z}
-use Rattle.longest_path.specs.Marked.{Marked}
+use Rattle.longest_path.specs.Saved.{Marked}
 use Rattle.longest_path.proofs.marked.MarkedMatrix.insert_under_mark.Goals as goal
-use mir.Val.{SFits}
-use Rattle.std.proofs.Common.{rules}
 
 pub returns-in-Err-clause-fault : goal.returns-in-Err-clause-fault
 returns-in-Err-clause-fault c =

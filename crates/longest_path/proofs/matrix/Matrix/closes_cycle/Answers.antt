@@ -1,11 +1,9 @@
-use Rattle.std.proofs.Common.{refl, ◌≡◌, ◌<◌, length, sym, ◌∙◌, ap, w64, rules, Some, Bool, true, false, ℤ, pos, ◌≤ℤ◌}
+use Rattle.std.proofs.Common.{refl, ◌≡◌, ◌<◌, length, sym, ◌∙◌, ap, w64, rules, Some, Bool, true, false, ℤ, pos, ◌≤ℤ◌, SFits}
 use Rattle.std.specs.Bool.{MatchBool}
 use Rattle.std.proofs.lemmas.Int.{to_z-of_z}
-use mir.Val.{SFits}
 use Rattle.network.specs.Walk.{entry}
-use Rattle.longest_path.specs.Relax.{joined, IfSomeAbove}
-use Rattle.longest_path.specs.Insert.{ClosesCycle}
-use Rattle.longest_path.specs.Effect.{TakesArc}
+use Rattle.longest_path.specs.Matrix.{joined, IfSomeAbove}
+use Rattle.longest_path.specs.Insert.{ClosesCycle, TakesArc}
 use Rattle.longest_path.proofs.Over.{transitive, some_sum_fits}
 use Rattle.longest_path.proofs.Inserted.{GainsNothing, adds, still_matrix, closes}
 use Rattle.longest_path.proofs.matrix.Matrix.closes_cycle.Goals as goal

@@ -1,8 +1,7 @@
 use Rattle.std.proofs.Common.{◌≡◌, refl, length, sym, ◌∙◌, w64, ℕ}
 use Rattle.std.proofs.lemmas.Int.{to_z-of_z}
 use Rattle.network.specs.Walk.{entry}
-use Rattle.longest_path.specs.Insert.{arc_of, IsOver}
-use Rattle.longest_path.specs.Effect.{TakesArc}
+use Rattle.longest_path.specs.Insert.{arc_of, IsOver, TakesArc}
 use Rattle.longest_path.proofs.Over.{room_kept}
 use Rattle.longest_path.proofs.matrix.Matrix.insert.Goals as goal
 

@@ -1,4 +1,4 @@
-use Rattle.network.proofs.Rows.{row_count}
+use Rattle.network.proofs.FaultLaws.{row_count}
 use Rattle.network.proofs.project.Project.demands.Goals as goal
 
 pub returns-clause-count : goal.returns-clause-count

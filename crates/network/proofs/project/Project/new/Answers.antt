@@ -1,5 +1,5 @@
 use Rattle.std.proofs.Common.{sym}
-use Rattle.network.specs.Parts.{problem_of}
+use Rattle.network.specs.Problem.{problem_of}
 use Rattle.network.proofs.FaultLaws.{IsProject-from_no_fault, not_project, on_err}
 use Rattle.network.proofs.project.Project.new.Goals as goal
 

@@ -1,4 +1,4 @@
-use Rattle.profile.specs.SweepOf.{IsSweepFor}
+use Rattle.profile.specs.Overloads.{IsSweepFor}
 use Rattle.node_tests.proofs.overloads.all_starts.assert_all.Given as goal
 
 abbrev pub invariant-loop-list : goal.invariant-loop-list

@@ -1,11 +1,9 @@
-use Rattle.std.proofs.Common.{subst, rules, Some, None, map, arith, w64, ◌≤ℤ◌, ◌<ℤ◌}
+use Rattle.std.proofs.Common.{subst, rules, Some, None, map, arith, w64, ◌≤ℤ◌, ◌<ℤ◌, SFits}
 use Rattle.std.proofs.lemmas.Int.{ints, to_z-of_z}
-use mir.Val.{SFits}
 use Rattle.std.specs.Arc.{arc_value}
 use Rattle.network.specs.Schedule.{makespan}
-use Rattle.plain_search.specs.States.{SearchState, IsSoundState, IsLeastBound}
-use Rattle.plain_search.specs.Takes.{IsOutcomeOf}
-use Rattle.plain_search.specs.declared.outcome.Outcome.TheVariants.{Optimal, Stopped}
+use Rattle.plain_search.specs.Takes.{SearchState, IsSoundState, IsLeastBound, IsOutcomeOf}
+pub use Rattle.plain_search.specs.declared.search.Outcome.TheVariants.{Optimal, Stopped}
 use Rattle.plain_search.proofs.Outcomes.{stopped, optimal, outcome_true}
 use Rattle.plain_search.proofs.search.Search.into_outcome.Goals as goal
 

@@ -2,9 +2,8 @@ use Rattle.std.proofs.Common.{◌≡◌, refl, sym, ◌++◌, [], List, ap, ◌�
 use Rattle.std.specs.Arc.{arc_value}
 use Rattle.std.proofs.lemmas.List.{map-append}
 use Rattle.branching.specs.Subproblem.{Subproblem}
-use Rattle.branching.specs.Covered.{IsNodeOf, ceiling_of}
-use Rattle.plain_search.specs.States.{SearchState}
-use Rattle.plain_search.specs.Takes.{DropsOver, IsTake}
+use Rattle.branching.specs.Fair.{IsNodeOf, ceiling_of}
+use Rattle.plain_search.specs.Takes.{SearchState, DropsOver, IsTake}
 use Rattle.plain_search.proofs.Takes.{drops_keep, take_keeps, last_is_node}
 use Rattle.plain_search.proofs.search.Search.take.Goals as goal
 

@@ -1,7 +1,7 @@
 use Rattle.std.proofs.Common.{sym, subst, rules, w64}
 use Rattle.std.proofs.lemmas.Int.{to_z-of_z}
-use Rattle.network.specs.Limits.{IsTime}
-use Rattle.profile.proofs.Firsts.{first_is_time}
+use Rattle.network.specs.Problem.{IsTime}
+use Rattle.profile.proofs.Swept.{first_is_time}
 use Rattle.profile.proofs.overload_sweep.OverloadSweep.first.Goals as goal
 
 pub take_running-requires-clause-time : goal.take_running-requires-clause-time

@@ -1,9 +1,8 @@
-use Rattle.std.proofs.Common.{◌∙◌, ◌++◌, ◌≡◌, ap, rules}
-use Rattle.std.specs.Prelude.{string_bytes}
+use Rattle.std.proofs.Common.{◌∙◌, ◌++◌, ◌≡◌, ap, rules, string_bytes}
 use Rattle.std.specs.List.{flat_map}
 use Rattle.record_text.specs.Kinds.{head_rows}
 use Rattle.record_text.specs.Text.{row_of, line_text, search_kind}
-use Rattle.record_text.proofs.Pieces.{written}
+use Rattle.record_text.proofs.Rows.{written}
 use Rattle.record_text.proofs.record.Record.write.Goals as goal
 
 pub returns-clause-text : goal.returns-clause-text

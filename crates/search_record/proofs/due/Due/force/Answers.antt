@@ -1,8 +1,7 @@
 use Rattle.std.proofs.Common.{◌∙◌, reverse, ap}
 use Rattle.std.proofs.lemmas.Result.{on_ok_weaker}
 use Rattle.branching.specs.Path.{Path}
-use Rattle.search_record.specs.Later.{nodes_due}
-use Rattle.search_record.specs.Due.{DueNodes, IsDueAlong, due_forced}
+use Rattle.search_record.specs.Due.{nodes_due, DueNodes, IsDueAlong, due_forced}
 use Rattle.search_record.proofs.Steps.{either, forced_along, forced_due}
 use Rattle.search_record.proofs.due.Due.force.Goals as goal
 

@@ -1,9 +1,7 @@
 use Rattle.std.proofs.Common.{◌≡◌, ◌∙◌, List, [], ◌∷◌, ◌++◌, reverse, sym, ap, take, drop}
-use Rattle.network.specs.declared.lag.Pair.{Pair}
+use Rattle.network.specs.declared.parts.Pair.{Pair}
 use Rattle.branching.specs.Path.{Path}
-use Rattle.search_record.specs.declared.later.Later.{Later}
-use Rattle.search_record.specs.Later.{nodes_due}
-use Rattle.search_record.specs.Due.{DueNodes, IsDueAlong}
+use Rattle.search_record.specs.Due.{nodes_due, DueNodes, IsDueAlong, Later}
 use Rattle.search_record.proofs.Steps.{either, kept_along, forced_along, left_due, last_later}
 use Rattle.search_record.proofs.due.Due.leave.Goals as goal
 

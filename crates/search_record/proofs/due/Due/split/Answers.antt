@@ -1,8 +1,7 @@
 use Rattle.std.proofs.Common.{ℕ, ◌<◌, ◌∙◌, List, ◌++◌, length, map, reverse, ap}
-use Rattle.network.specs.declared.lag.Pair.{Pair}
+use Rattle.network.specs.declared.parts.Pair.{Pair}
 use Rattle.network.specs.Problem.{NameActivities}
-use Rattle.search_record.specs.Later.{later_at, nodes_due}
-use Rattle.search_record.specs.Due.{DueNodes, due_split}
+use Rattle.search_record.specs.Due.{later_at, nodes_due, DueNodes, due_split}
 use Rattle.search_record.proofs.Steps.{split_due, split_along, named_pairs}
 use Rattle.search_record.proofs.due.Due.split.Goals as goal
 

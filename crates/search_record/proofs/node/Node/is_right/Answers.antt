@@ -1,7 +1,6 @@
-use Rattle.std.proofs.Common.{ap}
-use Rattle.std.specs.Prelude.{◌↔◌, IsTrue, Bool}
+use Rattle.std.proofs.Common.{ap, ◌↔◌, IsTrue, Bool}
 use Rattle.std.proofs.lemmas.Result.{IfOk-weaker}
-use Rattle.network.specs.ProjectMatrix.{IsProjectMatrix}
+use Rattle.network.specs.Walk.{IsProjectMatrix}
 use Rattle.branching.specs.Path.{Path}
 use Rattle.search_record.specs.Right.{IsRightLine}
 use Rattle.search_record.proofs.node.Node.is_right.Goals as goal

@@ -1,6 +1,6 @@
 use Rattle.std.proofs.Common.{◌≤◌, ap, length}
 use Rattle.branching.specs.Path.{Path}
-use Rattle.search_record.proofs.Along.{along_kept}
+use Rattle.search_record.proofs.Decides.{along_kept}
 use Rattle.search_record.proofs.node.Node.keep.Goals as goal
 
 pub invariant_of-self : goal.invariant_of-self

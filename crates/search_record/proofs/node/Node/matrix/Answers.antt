@@ -1,7 +1,7 @@
 use Rattle.std.proofs.Common.{◌<◌, arith, ap, length}
 use Rattle.branching.specs.Path.{Path}
 use Rattle.branching.specs.Right.{IsDead}
-use Rattle.search_record.proofs.Along.{dead_along}
+use Rattle.search_record.proofs.Decides.{dead_along}
 use Rattle.search_record.proofs.node.Node.matrix.Goals as goal
 
 pub returns-then-mark_count-len : goal.returns-then-mark_count-len

@@ -2,10 +2,8 @@ use Rattle.std.proofs.Common.{◌≡◌, ◌∙◌, ◌++◌, ℕ, List, map, le
 use Rattle.std.proofs.lemmas.List.{length-map}
 use Rattle.network.specs.Problem.{Problem}
 use Rattle.branching.specs.Fair.{Expansion}
-use Rattle.trail.specs.Below.{kids_below}
-use Rattle.trail.specs.Trail.{Entry, Ending, TrailOf}
-use Rattle.trail.specs.TrailViews.{node_ending, trail_entry, trail_for}
-use Rattle.trail.specs.declared.trail.TrailEntry.{TrailEntry}
+use Rattle.trail.specs.RightTrail.{kids_below}
+use Rattle.trail.specs.Trail.{Entry, Ending, TrailOf, node_ending, trail_entry, trail_for, TrailEntry}
 use Rattle.trail.specs.Recording.{kid_entry, ending_of, ended_as}
 use Rattle.trail.proofs.TrailSteps.{ended_append}
 use Rattle.trail.proofs.trail.Trail.check_in.Goals as goal

@@ -1,10 +1,8 @@
 use Rattle.std.proofs.Common.{◌≡◌, ◌<◌, ℕ, zero, suc, List, [], ◌∷◌, map, length, get_or, ap, ◌∙◌, arith, rules}
 use Rattle.std.proofs.Math.ListN.{set}
-use Rattle.trail.specs.Trail.{Entry, TrailOf}
-use Rattle.trail.specs.TrailViews.{trail_entry, trail_of, node_ending}
+use Rattle.trail.specs.Trail.{Entry, TrailOf, trail_entry, trail_of, node_ending, TrailEntry}
 use Rattle.trail.specs.Recording.{ended_as}
-use Rattle.trail.specs.declared.trail.TrailEntry.{TrailEntry}
-use Rattle.trail.specs.declared.trail.NodeEnding.{NodeEnding}
+pub use Rattle.trail.specs.declared.trail.NodeEnding.{NodeEnding}
 use Rattle.trail.proofs.trail.Trail.end.Goals as goal
 
 -- the entry at a place, ended

@@ -1,7 +1,6 @@
 use Rattle.std.proofs.Common.{◌≡◌, map}
 use Rattle.std.proofs.Math.ListN.{replicate}
-use Rattle.trail.specs.Trail.{no_entry}
-use Rattle.trail.specs.TrailViews.{trail_entry}
+use Rattle.trail.specs.Trail.{no_entry, trail_entry}
 use Rattle.trail.proofs.trail.Trail.new.Given as goal
 
 abbrev pub invariant-loop : goal.invariant-loop

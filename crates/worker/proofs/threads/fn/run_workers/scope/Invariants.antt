@@ -1,5 +1,4 @@
-use Rattle.std.proofs.Common.{◌≡◌, ◌+◌, length, vec_len}
-use Rattle.std.specs.Prelude.{vec_capacity, true}
+use Rattle.std.proofs.Common.{◌≡◌, ◌+◌, length, vec_len, vec_capacity, true}
 use Rattle.worker.specs.Desks.{IsRowAt}
 use Rattle.worker.proofs.threads.fn.run_workers.scope.Given as goal
 

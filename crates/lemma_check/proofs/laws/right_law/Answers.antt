@@ -1,6 +1,0 @@
-use Rattle.lemma_check.proofs.Truth.{right_is_true}
-use Rattle.lemma_check.proofs.Wrong.{fault_is_wrong, one_fault}
-use Rattle.lemma_check.proofs.laws.right_law.Goals as goal
-
-pub returns : goal.returns
-returns c = record { holds = right_is_true; wrong = fault_is_wrong; one = one_fault }
