@@ -20,7 +20,7 @@ use Rattle.plain_search.specs.declared.search.TheConstants.{MAX_TAKES}
 use Rattle.trail.specs.Trail.{Entry, no_entry}
 use Rattle.book.specs.declared.answers.TheConstants.{MAX_WORKERS}
 use Rattle.book.specs.declared.answers.BookFault.{BookFault}
-use Rattle.book.specs.declared.answers.BookFault.TheVariants as fault
+use Rattle.book.specs.declared.answers.BookFault.TheVariants as refused
 use Rattle.std.specs.Arc.{arc_value}
 use Rattle.book.specs.Sound.{note_cut}
 pub use Rattle.book.specs.declared.answers.Ticket.{Ticket}
@@ -186,8 +186,8 @@ IsOpened p workers takes new = (nodes : List Named) × AreFirst p nodes × (new 
 
 abbrev pub Opens : Problem → ℕ → ℕ → Result BookState BookFault → Type 0
 Opens p workers takes (Ok new) = AreAllowed workers takes × IsOpened p workers takes new
-Opens p workers takes (Err fault.Limit) = ¬ AreAllowed workers takes
-Opens p workers takes (Err fault.Memory) = AreAllowed workers takes
+Opens p workers takes (Err refused.Limit) = ¬ AreAllowed workers takes
+Opens p workers takes (Err refused.Memory) = AreAllowed workers takes
 
 -- what is known of the first nodes: the root has no parent and no pairs
 abbrev pub first_entries : List Named → List Entry
@@ -201,8 +201,8 @@ IsOpenedRecorded p workers takes new =
 
 abbrev pub OpensRecorded : Problem → ℕ → ℕ → Result BookState BookFault → Type 0
 OpensRecorded p workers takes (Ok new) = AreAllowed workers takes × IsOpenedRecorded p workers takes new
-OpensRecorded p workers takes (Err fault.Limit) = ¬ AreAllowed workers takes
-OpensRecorded p workers takes (Err fault.Memory) = AreAllowed workers takes
+OpensRecorded p workers takes (Err refused.Limit) = ¬ AreAllowed workers takes
+OpensRecorded p workers takes (Err refused.Memory) = AreAllowed workers takes
 
 -- ---- What becomes of a book when a worker asks for a node, in seven cases.
 
