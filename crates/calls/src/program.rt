@@ -1,0 +1,100 @@
+//! What both programs do around a call: they read its words, and print why it has no answer.
+
+use crate::call::Call;
+use crate::command_line::WordsFault;
+use crate::files::FileFault;
+use answers::Fault;
+use runs::Ended;
+use std::env;
+use std::fs::{self, Files};
+use std::io::{self, ErrorKind};
+use std::process::ExitCode;
+use std::rt::Runtime;
+
+/// What stands in for a standard device that is closed: a folder gives no bytes, and takes none.
+const FOLDER: &str = "/";
+
+/// Prints how a run of the program ended, where it has no answer.
+pub fn report<R: Eprint>(rt: &R, program: &str, ended: &Ended) -> ExitCode {
+    if let Some(fault) = ended.fault {
+        let _ = eprintln!(rt; "{program}: {fault}");
+    }
+    ExitCode::from(ended.exit)
+}
+
+/// Prints what words that are no call get: help to standard output, the rest to standard error.
+pub fn refuse<R: Runtime>(rt: &R, program: &str, fault: &WordsFault) -> ExitCode {
+    match fault {
+        WordsFault::Help { text } => match print!(rt; "{text}") {
+            Ok(()) => ExitCode::from(0),
+            Err(_) => report(rt, program, &Ended::with(Fault::WriteFailed)),
+        },
+        WordsFault::Bad { text } => {
+            let _ = eprint!(rt; "{text}");
+            ExitCode::from(2)
+        }
+        WordsFault::Memory => report(rt, program, &Ended::with(Fault::Memory)),
+    }
+}
+
+/// Prints that two words name one file.
+fn refuse_loss<R: Eprint>(rt: &R, reads: &str) -> ExitCode {
+    let _ = eprintln!(rt; "error: {reads} and --record name the same file");
+    ExitCode::from(2)
+}
+
+/// Prints that a file can't be opened.
+pub fn refuse_file<R: Eprint>(rt: &R, program: &str, name: Option<&String>) -> ExitCode {
+    if let Some(name) = name {
+        let _ = eprintln!(rt; "{program}: cannot open {name}");
+    }
+    ExitCode::from(1)
+}
+
+/// Prints why the files of a call are not open.
+pub fn refuse_files<R: Eprint>(rt: &R, program: &str, call: &Call, fault: FileFault) -> ExitCode {
+    match fault {
+        FileFault::LosesProject => refuse_loss(rt, "standard input"),
+        FileFault::LosesStarts => refuse_loss(rt, "--start"),
+        FileFault::Second => refuse_file(rt, program, call.second.as_ref()),
+        FileFault::Record => refuse_file(rt, program, call.record_file.as_ref()),
+        FileFault::Memory => report(rt, program, &Ended::with(Fault::Memory)),
+    }
+}
+
+/// Three open files. While they are held, no standard device is closed, and no file opens in the place of one. So an
+/// answer doesn't go into a record.
+pub struct Held<F> {
+    _files: [io::Result<F>; 3],
+}
+
+/// Holds the standard devices open.
+pub fn hold_devices<R: Files>(rt: &R) -> Held<R::File> {
+    Held {
+        _files: [
+            fs::open(rt, FOLDER),
+            fs::open(rt, FOLDER),
+            fs::open(rt, FOLDER),
+        ],
+    }
+}
+
+/// The words of the command line as text.
+fn read_words<R: Runtime>(rt: &R) -> io::Result<Vec<String>> {
+    Ok(env::args(rt)?.collect(rt.alloc())?)
+}
+
+/// The words of the command line. If there is no memory for them, or one is no text, it prints that, and the result is
+/// the status with which the program ends.
+pub fn words<R: Runtime>(rt: &R, program: &str) -> Result<Vec<String>, ExitCode> {
+    match read_words(rt) {
+        Ok(words) => Ok(words),
+        Err(error) if error.kind() == ErrorKind::OutOfMemory => {
+            Err(report(rt, program, &Ended::with(Fault::Memory)))
+        }
+        Err(_) => {
+            let _ = eprintln!(rt; "error: a word of the command line is not UTF-8");
+            Err(ExitCode::from(2))
+        }
+    }
+}
