@@ -1,2 +1,1 @@
-mod JsonLaws
 pub mod OutcomeLaws

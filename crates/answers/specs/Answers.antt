@@ -61,7 +61,7 @@ start_lines i (start ∷ starts) = (decimal i ++ (codes " " ++ (signed_decimal s
 
 -- a word with a makespan, and the starts
 abbrev pub starts_text : List ℕ → ℤ → List ℤ → List ℕ
-starts_text word number starts = (word ++ (codes " " ++ (signed_decimal number ++ codes "\n"))) ++ start_lines 0 starts
+starts_text word periods starts = (word ++ (codes " " ++ (signed_decimal periods ++ codes "\n"))) ++ start_lines 0 starts
 
 abbrev pub cycle_line : ℕ → List ℕ
 cycle_line top = codes "positive cycle " ++ (decimal top ++ codes "\n")
@@ -141,7 +141,7 @@ bound_text bound = codes " bound " ++ (signed_decimal bound ++ codes "\n")
 
 -- a makespan with a lower bound of all makespans, and the starts
 abbrev pub stopped_text : ℤ → ℤ → List ℤ → List ℕ
-stopped_text number bound starts = (codes "feasible " ++ (signed_decimal number ++ bound_text bound)) ++ start_lines 0 starts
+stopped_text periods bound starts = (codes "feasible " ++ (signed_decimal periods ++ bound_text bound)) ++ start_lines 0 starts
 
 -- the texts of each status, or, where that is asked for, the lines of JSON
 abbrev pub optimal_text : Bool → List ℤ → List ℕ

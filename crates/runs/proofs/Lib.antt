@@ -1,4 +1,2 @@
-mod DeviceLaws
-mod AnswerLaws
 pub mod TextLaws
 pub mod CallLaws
