@@ -5,7 +5,6 @@ use crate::command_line::WordsFault;
 use crate::files::FileFault;
 use answers::Fault;
 use runs::Ended;
-use std::env;
 use std::fs::{self, Files};
 use std::io::{self, ErrorKind};
 use std::process::ExitCode;
@@ -79,15 +78,14 @@ pub fn hold_devices<R: Files>(rt: &R) -> Held<R::File> {
     }
 }
 
-/// The words of the command line as text.
-fn read_words<R: Runtime>(rt: &R) -> io::Result<Vec<String>> {
-    Ok(env::args(rt)?.collect(rt.alloc())?)
-}
-
-/// The words of the command line. If there is no memory for them, or one is no text, it prints that, and the result is
-/// the status with which the program ends.
-pub fn words<R: Runtime>(rt: &R, program: &str) -> Result<Vec<String>, ExitCode> {
-    match read_words(rt) {
+/// The words of the command line as they were read. If there was no memory for them, or one is no text, it prints that,
+/// and the result is the status with which the program ends.
+pub fn words_or_exit<R: Eprint>(
+    rt: &R,
+    program: &str,
+    words: io::Result<Vec<String>>,
+) -> Result<Vec<String>, ExitCode> {
+    match words {
         Ok(words) => Ok(words),
         Err(error) if error.kind() == ErrorKind::OutOfMemory => {
             Err(report(rt, program, &Ended::with(Fault::Memory)))

@@ -6,18 +6,18 @@ mod command_line;
 mod help;
 
 use answers::Fault;
-use calls::{Call, Opener, hold_devices, refuse, refuse_file, refuse_files, report, words};
+use calls::{Call, Opener, hold_devices, refuse, refuse_file, refuse_files, report, words_or_exit};
 use command_line::{Work, work_of};
 use lemma_runs::run;
 use runs::{Ended, Reader, Writer};
 use solve_runs::{Asked, solve};
 use std::alloc::Global;
-use std::fs;
-use std::io::{self, ErrorKind};
+use std::io::ErrorKind;
 use std::process::ExitCode;
 use std::rt::Runtime;
 use std::sync::Wait;
 use std::thread::Threads;
+use std::{env, fs, io};
 
 /// The program's name in what it prints.
 const PROGRAM: &str = "psprove";
@@ -71,8 +71,13 @@ fn perform<R: Runtime + Threads + Wait + Sync>(rt: &R, alloc: Global, work: &Wor
     }
 }
 
+/// The words of the command line.
+fn words(rt: &HostRuntime) -> io::Result<Vec<String>> {
+    Ok(env::args(rt)?.collect(rt.alloc())?)
+}
+
 fn main(rt: HostRuntime) -> ExitCode {
-    let words = match words(&rt, PROGRAM) {
+    let words = match words_or_exit(&rt, PROGRAM, words(&rt)) {
         Ok(words) => words,
         Err(exit) => return exit,
     };

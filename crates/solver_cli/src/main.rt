@@ -3,15 +3,15 @@
 
 ghost use Rattle.calls.specs.Calls.{IsCall};
 
-use calls::{Call, Opener, call_of, hold_devices, refuse, refuse_files, report, words};
+use calls::{Call, Opener, call_of, hold_devices, refuse, refuse_files, report, words_or_exit};
 use parallel_runs::run_parallel;
 use runs::{Reader, Writer};
 use std::alloc::Global;
-use std::io;
 use std::process::ExitCode;
 use std::rt::Runtime;
 use std::sync::Wait;
 use std::thread::Threads;
+use std::{env, io};
 use worker::OpenGate;
 
 /// The program's name in what it prints.
@@ -42,8 +42,13 @@ fn perform<R: Runtime + Threads + Wait + Sync>(rt: &R, alloc: Global, call: &Cal
     report(rt, PROGRAM, &ended)
 }
 
+/// The words of the command line.
+fn words(rt: &HostRuntime) -> io::Result<Vec<String>> {
+    Ok(env::args(rt)?.collect(rt.alloc())?)
+}
+
 fn main(rt: HostRuntime) -> ExitCode {
-    let words = match words(&rt, PROGRAM) {
+    let words = match words_or_exit(&rt, PROGRAM, words(&rt)) {
         Ok(words) => words,
         Err(exit) => return exit,
     };
