@@ -63,6 +63,7 @@ pub fn refuse_files<R: Eprint>(rt: &R, program: &str, call: &Call, fault: FileFa
 
 /// Three open files. While they are held, no standard device is closed, and no file opens in the place of one. So an
 /// answer doesn't go into a record.
+#[derive(Drop)]
 pub struct Held<F> {
     _files: [io::Result<F>; 3],
 }
