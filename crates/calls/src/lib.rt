@@ -10,4 +10,4 @@ mod program;
 pub use call::Call;
 pub use command_line::{WordsFault, call_of, file_name, words_fault};
 pub use files::{FileFault, Opened, Opener};
-pub use program::{Held, hold_devices, refuse, refuse_file, refuse_files, report, words_or_exit};
+pub use program::{refuse, refuse_file, refuse_files, report, words_or_exit};

@@ -5,13 +5,9 @@ use crate::command_line::WordsFault;
 use crate::files::FileFault;
 use answers::Fault;
 use runs::Ended;
-use std::fs::{self, Files};
 use std::io::{self, ErrorKind};
 use std::process::ExitCode;
 use std::rt::Runtime;
-
-/// What stands in for a standard device that is closed: a folder gives no bytes, and takes none.
-const FOLDER: &str = "/";
 
 /// Prints how a run of the program ended, where it has no answer.
 pub fn report<R: Eprint>(rt: &R, program: &str, ended: &Ended) -> ExitCode {
@@ -58,24 +54,6 @@ pub fn refuse_files<R: Eprint>(rt: &R, program: &str, call: &Call, fault: FileFa
         FileFault::Second => refuse_file(rt, program, call.second.as_ref()),
         FileFault::Record => refuse_file(rt, program, call.record_file.as_ref()),
         FileFault::Memory => report(rt, program, &Ended::with(Fault::Memory)),
-    }
-}
-
-/// Three open files. While they are held, no standard device is closed, and no file opens in the place of one. So an
-/// answer doesn't go into a record.
-#[derive(Drop)]
-pub struct Held<F> {
-    _files: [io::Result<F>; 3],
-}
-
-/// Holds the standard devices open.
-pub fn hold_devices<R: Files>(rt: &R) -> Held<R::File> {
-    Held {
-        _files: [
-            fs::open(rt, FOLDER),
-            fs::open(rt, FOLDER),
-            fs::open(rt, FOLDER),
-        ],
     }
 }
 

@@ -6,7 +6,7 @@ mod command_line;
 mod help;
 
 use answers::Fault;
-use calls::{Call, Opener, hold_devices, refuse, refuse_file, refuse_files, report, words_or_exit};
+use calls::{Call, Opener, refuse, refuse_file, refuse_files, report, words_or_exit};
 use command_line::{Work, work_of};
 use lemma_runs::run;
 use runs::{Ended, Reader, Writer};
@@ -21,6 +21,10 @@ use std::{env, fs, io};
 
 /// The program's name in what it prints.
 const PROGRAM: &str = "psprove";
+
+/// What stands in for a standard device that is closed: a folder gives no bytes, and takes none. While it is open, no file
+/// opens in the place of one, and no answer goes into a record.
+const FOLDER: &str = "/";
 
 /// Opens the project's file, and checks the record on standard input against it.
 fn verify<R: Runtime>(rt: &R, alloc: Global, name: &String) -> ExitCode {
@@ -64,7 +68,9 @@ fn search<R: Runtime + Threads + Wait + Sync>(
 
 /// Does the work.
 fn perform<R: Runtime + Threads + Wait + Sync>(rt: &R, alloc: Global, work: &Work) -> ExitCode {
-    let _devices = hold_devices(rt);
+    let _input = fs::open(rt, FOLDER);
+    let _output = fs::open(rt, FOLDER);
+    let _faults = fs::open(rt, FOLDER);
     match work {
         Work::Verify { project } => verify(rt, alloc, project),
         Work::Solve { asked, call } => search(rt, alloc, *asked, call),

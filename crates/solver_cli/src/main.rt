@@ -3,7 +3,7 @@
 
 ghost use Rattle.calls.specs.Calls.{IsCall};
 
-use calls::{Call, Opener, call_of, hold_devices, refuse, refuse_files, report, words_or_exit};
+use calls::{Call, Opener, call_of, refuse, refuse_files, report, words_or_exit};
 use parallel_runs::run_parallel;
 use runs::{Reader, Writer};
 use std::alloc::Global;
@@ -11,18 +11,24 @@ use std::process::ExitCode;
 use std::rt::Runtime;
 use std::sync::Wait;
 use std::thread::Threads;
-use std::{env, io};
+use std::{env, fs, io};
 use worker::OpenGate;
 
 /// The program's name in what it prints.
 const PROGRAM: &str = "psmax";
+
+/// What stands in for a standard device that is closed: a folder gives no bytes, and takes none. While it is open, no file
+/// opens in the place of one, and no answer goes into a record.
+const FOLDER: &str = "/";
 
 /// Opens the files that the call names, and runs its job. The devices are standard input and output, the second input
 /// and the output of the record.
 fn perform<R: Runtime + Threads + Wait + Sync>(rt: &R, alloc: Global, call: &Call) -> ExitCode
     requires { IsCall call.now }
 {
-    let _devices = hold_devices(rt);
+    let _input = fs::open(rt, FOLDER);
+    let _output = fs::open(rt, FOLDER);
+    let _faults = fs::open(rt, FOLDER);
     let mut files = match Opener::new(rt).open(call) {
         Ok(files) => files,
         Err(fault) => return refuse_files(rt, PROGRAM, call, fault),
