@@ -8,7 +8,7 @@ use Rattle.network.specs.Walk.{entry}
 use Rattle.longest_path.specs.Matrix.{greater, joined}
 pub use Rattle.rivals.specs.declared.incompatible.Incompatible.{Incompatible}
 use Rattle.branching.specs.Forcing.{IsForcedWith, way_over}
-use Rattle.rivals.specs.Incompatible.{AreIncompatible, pairs_before}
+use Rattle.rivals.specs.Incompatible.{pairs_before}
 use Rattle.branching.proofs.Forcings.{unless, when, both_ways, over_by, by_way, no_way, none_before, none_over, none_from, none_of_all, pair_more, some_of_row, row_at, both_named}
 use Rattle.branching.proofs.forcing.forces_in_row.Goals as goal
 use Rattle.branching.proofs.forcing.forces_in_row.Goals.{in-Some-get+else-is_forced_at, in_default-get}
