@@ -1,46 +1,15 @@
 //! A matrix of pairs that are added one by one, and taken away from the last one on.
 
-ghost use Rattle.std.specs.Prelude.{◌≡◌, ◌<◌, ◌≤◌, [], ◌∷◌, ◌++◌, length, take, slice_get, Some, IfOk, IfErr, OnOk, OnErr};
-ghost use Rattle.std.specs.Arc.{arc_value};
-ghost use Rattle.std.specs.Bool.{OnTrue};
+ghost use Rattle.std.specs.Prelude.{◌≡◌, ◌<◌, ◌≤◌, [], ◌∷◌, ◌++◌, length, take, IfErr, OnOk, OnErr};
 ghost use Rattle.network.specs.Problem.{Problem, arcs_of, NameActivities};
 ghost use Rattle.network.specs.Walk.{HasNoPositiveCycle};
-ghost use Rattle.branching.specs.Fair.{IsReportOn, FindsNothingOver};
-ghost use Rattle.branching.specs.Path.{front, HasRoomFor, IsFrontOf, IsPath, IsPairFault, IsShared};
-ghost use Rattle.branching.specs.Subproblem.{IsTiedTo};
+ghost use Rattle.branching.specs.Path.{front, IsFrontOf, IsPath, IsPairFault};
 
-use crate::expansion::expand_by;
-use crate::lean::Lean;
 use crate::pair_list::PairList;
-use crate::report::Report;
-use crate::workspace::Workspace;
 use longest_path::{MarkedMatrix, Matrix, PathFault};
 use network::{Pair, Project};
 use std::alloc::{AllocError, Global};
 use std::marker::Model;
-use std::sync::Arc;
-
-/// Whether the pair at a place is this one.
-fn has_at(pairs: &PairList, place: usize, pair: Pair) -> bool
-    ensures { OnTrue result (slice_get pairs.now place ≡ Some pair) }
-{
-    match pairs.get(place) {
-        Some(other) => other.before == pair.before && other.after == pair.after,
-        None => false,
-    }
-}
-
-/// With how many pairs both lists begin.
-fn shared_count(left: &[Pair], right: &PairList) -> usize
-    ensures { IsShared result left.now right.now }
-{
-    for (place, pair) in left.iter().enumerate() {
-        if !has_at(right, place, *pair) {
-            return place;
-        }
-    }
-    left.len()
-}
 
 /// Pairs that were added to a project, and the matrix of the project and the pairs. It goes back where pairs are taken
 /// away.
@@ -48,7 +17,7 @@ fn shared_count(left: &[Pair], right: &PairList) -> usize
 pub struct PairMatrix {
     pairs: Vec<Pair>,
     /// With a mark for each pair.
-    matrix: MarkedMatrix,
+    pub(crate) matrix: MarkedMatrix,
 }
 
 impl Model for PairMatrix {
@@ -127,7 +96,7 @@ impl PairMatrix {
     }
 
     /// Adds those of the pairs that are still missing.
-    fn go_on(&mut self, project: &Project, pairs: &PairList) -> Result<(), AllocError>
+    pub(crate) fn go_on(&mut self, project: &Project, pairs: &PairList) -> Result<(), AllocError>
         requires path { IsPath project.now self.old }
         requires begun { self.old.pairs ≡ take (length self.old.pairs) pairs.now }
         requires named { NameActivities project.now pairs.now }
@@ -144,38 +113,5 @@ impl PairMatrix {
             }
         }
         Ok(())
-    }
-
-    /// Goes back to where its pairs and these part, and adds the others. Where memory runs out, it has the first so many
-    /// of these.
-    pub(crate) fn move_to(&mut self, project: &Project, pairs: &PairList) -> Result<(), AllocError>
-        requires path { IsPath project.now self.old }
-        requires named { NameActivities project.now pairs.now }
-        requires live { HasNoPositiveCycle (arcs_of project.now pairs.now) }
-        ensures path { IsPath project.now self.new }
-        ensures pairs { OnOk result (self.new.pairs ≡ pairs.now) }
-        ensures front { IsFrontOf self.new.pairs pairs.now }
-    {
-        let shared = shared_count(self.pairs.as_slice(), pairs);
-        self.keep(shared);
-        self.go_on(project, pairs)
-    }
-
-    /// What a node gives below a ceiling, by its matrix. All stays as it was.
-    pub(crate) fn expand(
-        &mut self,
-        alloc: Global,
-        node: &Arc<Lean>,
-        workspace: &mut Workspace,
-        ceiling: Option<i64>,
-    ) -> Result<Report, AllocError>
-        requires tied { IsTiedTo (arc_value node.now) self.old.marked.rows }
-        requires room { HasRoomFor (arc_value node.now).project workspace.old }
-        ensures unchanged { self.new ≡ self.old }
-        ensures room { HasRoomFor (arc_value node.now).project workspace.new }
-        ensures report { IfOk result (IsReportOn (arc_value node.now) ceiling) }
-        ensures over { IfOk result (FindsNothingOver (arc_value node.now) ceiling) }
-    {
-        expand_by(alloc, node, &mut self.matrix, workspace, ceiling)
     }
 }

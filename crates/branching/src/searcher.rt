@@ -1,13 +1,15 @@
 //! One matrix that moves from node to node.
 
-ghost use Rattle.std.specs.Prelude.{◌≡◌, ◌↔◌, IsTrue, [], IfOk, OnOk};
+ghost use Rattle.std.specs.Prelude.{◌≡◌, ◌↔◌, IsTrue, [], slice_get, Some, IfOk, OnOk};
 ghost use Rattle.std.specs.Arc.{arc_value};
+ghost use Rattle.std.specs.Bool.{OnTrue};
 ghost use Rattle.network.specs.Problem.{arcs_of, NameActivities};
 ghost use Rattle.network.specs.Walk.{HasNoPositiveCycle, IsProjectMatrix};
 ghost use Rattle.branching.specs.Fair.{IsReportOn, FindsNothingOver};
-ghost use Rattle.branching.specs.Path.{IsAt, IsFrontOf};
+ghost use Rattle.branching.specs.Path.{IsAt, IsFrontOf, IsShared};
 
 use crate::branches::Branches;
+use crate::expansion::expand_by;
 use crate::lean::Lean;
 use crate::node::Node;
 use crate::pair_list::PairList;
@@ -15,10 +17,32 @@ use crate::pair_matrix::PairMatrix;
 use crate::report::Report;
 use crate::workspace::Workspace;
 use longest_path::Matrix;
-use network::Project;
+use network::{Pair, Project};
 use std::alloc::{AllocError, Global};
 use std::marker::Model;
 use std::sync::Arc;
+
+/// Whether the pair at a place is this one.
+fn has_at(pairs: &PairList, place: usize, pair: Pair) -> bool
+    ensures { OnTrue result (slice_get pairs.now place ≡ Some pair) }
+{
+    match pairs.get(place) {
+        Some(other) => other.before == pair.before && other.after == pair.after,
+        None => false,
+    }
+}
+
+/// With how many pairs both lists begin.
+fn shared_count(left: &[Pair], right: &PairList) -> usize
+    ensures { IsShared result left.now right.now }
+{
+    for (place, pair) in left.iter().enumerate() {
+        if !has_at(right, place, *pair) {
+            return place;
+        }
+    }
+    left.len()
+}
 
 /// The matrix of a project and the pairs of the node that a search is at. It moves from node to node. It goes back to
 /// where the pairs of both part, and then inserts one pair after the other.
@@ -79,7 +103,9 @@ impl Searcher {
         ensures pairs { OnOk result (self.new.pairs ≡ pairs.now) }
         ensures front { IsFrontOf self.new.pairs pairs.now }
     {
-        self.at.move_to(&self.project, pairs)
+        let shared = shared_count(self.at.pairs(), pairs);
+        self.at.keep(shared);
+        self.at.go_on(&self.project, pairs)
     }
 
     /// Drops what a report's lists hold, and keeps their memory for the next expansion.
@@ -112,7 +138,8 @@ impl Searcher {
         ensures over { IfOk result (FindsNothingOver (arc_value node.now) ceiling) }
     {
         let _is_node = node.pairs();
-        self.at.expand(alloc, node, &mut self.workspace, ceiling)
+        let matrix = &mut self.at.matrix;
+        expand_by(alloc, node, matrix, &mut self.workspace, ceiling)
     }
 
     /// Moves to a node and expands it there. Where memory runs out, the searcher is at the node or on the way.

@@ -9,20 +9,18 @@ use Rattle.branching.proofs.pair_matrix.PairMatrix.add.Goals as goal
 
 pub insert_under_mark-requires-clause-from_activity : goal.insert_under_mark-requires-clause-from_activity
 insert_under_mark-requires-clause-from_activity c =
-    let marked : c.self.inside.matrix ≡ c.args.self.now.marked = ap (λ (s : PairRows). s.marked) c.self.view_is in
     let ends = rows_of c.args.project.now c.args.self.now.pairs c.args.self.now.marked.rows c.args.pair c.requires.path.matrix c.requires.named in
-    rw (c.pair_arc-arc.ensures.arc, marked) ends.0
+    rw (c.pair_arc-arc.ensures.arc, ap (λ (s : PairRows). s.marked) c.self.view_is) ends.0
 
 pub insert_under_mark-requires-clause-to_activity : goal.insert_under_mark-requires-clause-to_activity
 insert_under_mark-requires-clause-to_activity c =
-    let marked : c.self.inside.matrix ≡ c.args.self.now.marked = ap (λ (s : PairRows). s.marked) c.self.view_is in
     let ends = rows_of c.args.project.now c.args.self.now.pairs c.args.self.now.marked.rows c.args.pair c.requires.path.matrix c.requires.named in
-    rw (c.pair_arc-arc.ensures.arc, marked) ends.1
+    rw (c.pair_arc-arc.ensures.arc, ap (λ (s : PairRows). s.marked) c.self.view_is) ends.1
 
 pub returns-in-Err-clause-fault : goal.returns-in-Err-clause-fault
 returns-in-Err-clause-fault c =
-    let marked : c.self.inside.matrix ≡ c.args.self.now.marked = ap (λ (s : PairRows). s.marked) c.self.view_is in
-    pair_fault c.args.project.now c.args.self.now.pairs c.args.pair c.args.self.now.marked.rows c.in-Err.fault c.requires.path.matrix (rw (c.pair_arc-arc.ensures.arc, marked) at c.in-Err.ensures.fault)
+    let fault = rw (c.pair_arc-arc.ensures.arc, ap (λ (s : PairRows). s.marked) c.self.view_is) at c.in-Err.ensures.fault in
+    pair_fault c.args.project.now c.args.self.now.pairs c.args.pair c.args.self.now.marked.rows c.in-Err.fault c.requires.path.matrix fault
 
 pub invariant_of-self-2 : goal.invariant_of-self-2
 invariant_of-self-2 c =

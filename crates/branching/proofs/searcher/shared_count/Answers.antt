@@ -2,7 +2,7 @@ use Rattle.std.proofs.Common.{◌≡◌, ◌<◌, arith, length, get_or, Some, s
 use Rattle.std.proofs.lemmas.Option.{slice_get_within}
 use Rattle.network.specs.declared.parts.Pair.{Pair}
 use Rattle.branching.proofs.Paths.{shared_more}
-use Rattle.branching.proofs.pair_matrix.shared_count.Goals as goal
+use Rattle.branching.proofs.searcher.shared_count.Goals as goal
 
 pub loop-place-preserved : goal.loop-place-preserved
 loop-place-preserved c =
