@@ -17,7 +17,7 @@ use crate::least::lesser;
 use crate::nodes_left::NodesLeft;
 use crate::open_nodes::OpenNodes;
 use crate::recording::{clear_open, open_kids, shorter_found};
-use branching::{Branches, Report, is_below, is_in_time, makespan_of, root};
+use branching::{Branches, Report, is_below, is_in_time, lean_root, makespan_of};
 use longest_path::PathFault;
 use network::{Project, Schedule};
 use plain_search::MAX_TAKES;
@@ -66,13 +66,13 @@ pub fn are_allowed(workers: usize, takes: u64) -> bool
 fn first_nodes(alloc: Global, project: &Arc<Project>) -> Result<OpenNodes, AllocError>
     ensures { IfOk result (AreFirst (arc_value project.now)) }
 {
-    let root = match root(alloc, Arc::try_clone(project)?) {
+    let root = match lean_root(alloc, Arc::try_clone(project)?) {
         Ok(root) => root,
         Err(PathFault::PositiveCycle { .. }) => return Ok(OpenNodes::new(alloc)),
         Err(PathFault::Memory) => return Err(AllocError),
     };
     let mut nodes = OpenNodes::new(alloc);
-    nodes.insert(0, root.lean())?;
+    nodes.insert(0, &root)?;
     Ok(nodes)
 }
 

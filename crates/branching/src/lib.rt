@@ -26,7 +26,7 @@ pub use branches::Branches;
 pub use ceiling::{is_below, is_in_time, makespan_of};
 pub use expansion::expand;
 pub use lean::Lean;
-pub use node::{Node, root, root_and_matrix};
+pub use node::{Node, lean_root, root};
 pub use pair_list::PairList;
 pub use pair_matrix::PairMatrix;
 pub use pairs::ordered_pairs;

@@ -4,7 +4,7 @@ ghost use Rattle.std.specs.Prelude.{◌≡◌, ◌↔◌, IsTrue, [], slice_get,
 ghost use Rattle.std.specs.Arc.{arc_value};
 ghost use Rattle.std.specs.Bool.{OnTrue};
 ghost use Rattle.network.specs.Problem.{arcs_of, NameActivities};
-ghost use Rattle.network.specs.Walk.{HasNoPositiveCycle, IsProjectMatrix};
+ghost use Rattle.network.specs.Walk.{HasNoPositiveCycle};
 ghost use Rattle.branching.specs.Fair.{IsReportOn, FindsNothingOver};
 ghost use Rattle.branching.specs.Path.{IsAt, IsFrontOf, IsShared};
 
@@ -16,7 +16,6 @@ use crate::pair_list::PairList;
 use crate::pair_matrix::PairMatrix;
 use crate::report::Report;
 use crate::workspace::Workspace;
-use longest_path::Matrix;
 use network::{Pair, Project};
 use std::alloc::{AllocError, Global};
 use std::marker::Model;
@@ -66,26 +65,19 @@ impl Model for Searcher {
 }
 
 impl Searcher {
-    /// A searcher at the root, which has no pairs and this matrix.
-    pub fn new(alloc: Global, project: Arc<Project>, matrix: Matrix) -> Result<Searcher, AllocError>
-        requires { IsProjectMatrix (arc_value project) [] matrix }
-        ensures { IfOk result (λ searcher. searcher ≡ record { project = arc_value project; pairs = [] }) }
-    {
-        let workspace = Workspace::new(alloc, &project)?;
-        Ok(Searcher {
-            project,
-            at: PairMatrix::new(alloc, matrix),
-            workspace,
-        })
-    }
-
     /// A searcher at the root of a node's project.
     pub fn for_node(alloc: Global, node: &Lean) -> Result<Searcher, AllocError>
         ensures { IfOk result (λ searcher. searcher ≡ record { project = node.now.project; pairs = [] }) }
     {
         let base = node.base();
         let matrix = base.matrix().try_copy(alloc)?;
-        Searcher::new(alloc, Arc::try_clone(base.project())?, matrix)
+        let project = Arc::try_clone(base.project())?;
+        let workspace = Workspace::new(alloc, &project)?;
+        Ok(Searcher {
+            project,
+            at: PairMatrix::new(alloc, matrix),
+            workspace,
+        })
     }
 
     /// Whether it can move to this node, which is so where both are of the same project.

@@ -6,7 +6,7 @@ ghost use Rattle.branching.specs.Fair.{IsRootOf, IsShorterOf, ceiling_of};
 ghost use Rattle.plain_search.specs.Takes.{IsLeastBound, PopsUnder, IsTake, IsOutcomeOf, StopsOnlyAfter, first_state};
 ghost use Rattle.plain_search.specs.Verdicts.{IsTrueOf, StopsBelowBest};
 
-use branching::{Lean, Searcher, is_below, makespan_of, root_and_matrix};
+use branching::{Lean, Searcher, is_below, lean_root, makespan_of};
 use longest_path::PathFault;
 use network::{Project, Schedule};
 use std::alloc::{AllocError, Global};
@@ -208,12 +208,12 @@ pub fn search_alone(
     ensures below_best { IfOk result StopsBelowBest }
     ensures takes { IfOk result (StopsOnlyAfter (arc_value project.now) takes) }
 {
-    let (root, matrix) = match root_and_matrix(alloc, Arc::try_clone(project)?) {
-        Ok(opened) => opened,
+    let root = match lean_root(alloc, Arc::try_clone(project)?) {
+        Ok(root) => root,
         Err(PathFault::PositiveCycle { .. }) => return Ok(Outcome::NoSchedule),
         Err(PathFault::Memory) => return Err(AllocError),
     };
-    let mut searcher = Searcher::new(alloc, Arc::try_clone(project)?, matrix)?;
+    let mut searcher = Searcher::for_node(alloc, &root)?;
     let mut search = Search::new(alloc, Arc::try_clone(project)?, root)?;
     for _ in 0..takes {
         if search.is_done() {
