@@ -11,7 +11,7 @@ use Rattle.std.specs.Map.{keys_of}
 use Rattle.std.specs.BTreeMap.Range.{IsLeBy, IsLtBy}
 use Rattle.std.proofs.lemmas.List.Elements.{All-nil, All-cons, All-head, All-tail, All-weaker, filter-append}
 use Rattle.book.specs.Steps.{GoesBefore, named_from}
-use Rattle.book.specs.Sound.{IsLeast, bounds_of, AreNamedBelow}
+use Rattle.book.specs.Sound.{bounds_of, AreNamedBelow}
 use Rattle.book.specs.OpenNodes.{open_node, IsFiled, IsNamedOtherThan, is_older, Inserts, InsertsKids, Rank, OpenNode}
 use Rattle.std.specs.Arc.{arc_value}
 use Rattle.std.specs.BTreeMap.{insert_entry}
@@ -19,7 +19,7 @@ use Rattle.std.specs.List.Sorted.{IsPermutation}
 use Rattle.std.proofs.lemmas.List.Sorted.{IsPermutation-refl, IsPermutation-trans, IsPermutation-cons, IsPermutation-middle, IsPermutation-append_left, IsPermutation-to_front, All-permutation, IsPermutation-append_right}
 use Rattle.branching.specs.Subproblem.{Subproblem}
 use Rattle.book.specs.State.{Named, BookState, in_hand, live, hand_of, Held}
-use Rattle.branching.specs.Right.{is_below}
+use Rattle.branching.specs.Right.{is_below, IsLeast}
 use Rattle.trail.specs.RightTrail.{kids_below}
 use Rattle.book.proofs.Names.{named_from_more}
 use Rattle.std.specs.Option.{is_some}

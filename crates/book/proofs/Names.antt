@@ -4,11 +4,12 @@ use Rattle.std.specs.List.{All, count_by, Any, filter}
 use Rattle.std.specs.List.Sorted.{IsPermutation}
 use Rattle.std.proofs.lemmas.Bool.{cases_lt}
 use Rattle.std.proofs.lemmas.List.Sums.{sum_by-cons, sum_by-append}
-use Rattle.std.proofs.lemmas.List.Elements.{All-nil, All-cons, All-head, All-tail, All-weaker, All-append, Contains-append_left, Contains-append_right}
+use Rattle.std.proofs.lemmas.List.Elements.{All-nil, All-cons, All-head, All-tail, All-weaker}
 use Rattle.std.proofs.lemmas.List.Sorted.{sum_by-IsPermutation}
 use Rattle.branching.specs.Subproblem.{Subproblem}
+use Rattle.branching.specs.Right.{IsLeast}
 use Rattle.book.specs.State.{Named}
-use Rattle.book.specs.Sound.{AreNamedOnce, AreNamedBelow, nodes_of, IsLeast}
+use Rattle.book.specs.Sound.{AreNamedOnce, AreNamedBelow, nodes_of}
 use Rattle.book.specs.Steps.{named_from}
 use Rattle.book.specs.OpenNodes.{IsNamedOtherThan}
 use Rattle.std.specs.Option.{option_to_list}
@@ -138,15 +139,6 @@ none_of_nothing P some = absurd (omega arith)
 append_none : (xs : List ℤ) → xs ++ [] ≡ xs
 append_none [] = refl
 append_none (x ∷ xs) = ap (λ ys. x ∷ ys) (append_none xs)
-
-pub least_left : (xs ys : List ℤ) (a b : ℤ) → IsLeast xs (Some a) → IsLeast ys (Some b) → a ≤ℤ b → IsLeast (xs ++ ys) (Some a)
-least_left xs ys a b f g l = (Contains-append_left xs ys a f.0, All-append (λ n. a ≤ℤ n) xs ys f.1 (All-weaker (λ n. b ≤ℤ n) (λ n. a ≤ℤ n) (λ n h. omega (arith, ints)) ys g.1))
-
-pub least_right : (xs ys : List ℤ) (a b : ℤ) → IsLeast xs (Some a) → IsLeast ys (Some b) → b ≤ℤ a → IsLeast (xs ++ ys) (Some b)
-least_right xs ys a b f g l = (Contains-append_right xs ys b g.0, All-append (λ n. b ≤ℤ n) xs ys (All-weaker (λ n. a ≤ℤ n) (λ n. b ≤ℤ n) (λ n h. omega (arith, ints)) xs f.1) g.1)
-
-pub least_of_one : (n : ℤ) → IsLeast (n ∷ []) (Some n)
-least_of_one n = ((0, omega arith, refl), All-cons (λ m. n ≤ℤ m) n [] (omega (arith, ints)) (All-nil (λ m. n ≤ℤ m)))
 
 pub least_of_option : (o : Option ℤ) → IsLeast (option_to_list o) o
 least_of_option None = refl

@@ -8,8 +8,9 @@ use Rattle.network.specs.Problem.{Problem}
 use Rattle.network.specs.Schedule.{ScheduleOf, IsFeasible, makespan, HasNoSchedule}
 use Rattle.branching.specs.Subproblem.{Subproblem, NodeStandsFor}
 use Rattle.branching.specs.Fair.{IsNodeOf, IsScheduleFor, ceiling_of, IsShorterThan}
+use Rattle.branching.specs.Right.{IsLeast}
 use Rattle.book.specs.State.{Named, BookState, live, best_makespan}
-use Rattle.book.specs.Sound.{nodes_of, IsSound, IsLeast, bounds_of, known_bounds, IsBoundFor, IsReached, IsTrueOf, IsVerdictOf}
+use Rattle.book.specs.Sound.{nodes_of, IsSound, bounds_of, known_bounds, IsBoundFor, IsReached, IsTrueOf, IsVerdictOf}
 use Rattle.book.specs.declared.answers.Verdict.{Verdict}
 use Rattle.book.specs.declared.answers.Verdict.TheVariants as verdict
 use Rattle.book.proofs.Names.{all_right, all_unmapped, none_of_nothing}

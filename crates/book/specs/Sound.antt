@@ -3,6 +3,7 @@ use Rattle.std.specs.Prelude.{◌≡◌, ℕ, ◌+◌, ◌*◌, ◌<◌, ◌≤�
 use Rattle.std.specs.List.{All, count_by, Contains}
 use Rattle.branching.specs.Subproblem.{Subproblem}
 use Rattle.branching.specs.Fair.{IsCovered}
+use Rattle.branching.specs.Right.{IsLeast}
 use Rattle.branching.specs.declared.report.TheConstants.{MAX_KIDS}
 use Rattle.plain_search.specs.declared.search.TheConstants.{MAX_TAKES}
 use Rattle.book.specs.State.{Named, BookState, in_hand, live, best_makespan}
@@ -67,11 +68,6 @@ abbrev pub EndsWhole : BookState → Type 0
 EndsWhole s = live s ≡ [] → IfSome s.trail (IsWholeTree s.project (best_makespan s))
 
 -- ---- What a book says of its project.
-
--- the least of the numbers, none where there is none
-abbrev pub IsLeast : List ℤ → Option ℤ → Type 0
-IsLeast numbers None = numbers ≡ []
-IsLeast numbers (Some least) = Contains numbers least × All (λ number. least ≤ℤ number) numbers
 
 abbrev pub bounds_of : List Named → List ℤ
 bounds_of nodes = map (λ (n : Named). n.node.bound) nodes

@@ -6,6 +6,7 @@ use Rattle.branching.specs.Subproblem.{Subproblem}
 use Rattle.branching.specs.Fair.{ceiling_of}
 use Rattle.trail.specs.Trail.{Entry}
 use Rattle.std.specs.Arc.{arc_value}
+use Rattle.book.specs.declared.counts.Counts.{Counts}
 pub use Rattle.book.specs.declared.hands.Held.{Held}
 
 -- a node that is open or in hand, and the name that it was opened under
@@ -55,25 +56,18 @@ best_makespan s = ceiling_of s.best
 
 -- ---- How many nodes there are and were.
 
-pub record CountsOf : Type 0 where
-  pub opened : ℕ
-  pub checked : ℕ
-  pub cut : ℕ
-  pub taken : ℕ
-  -- the open ones
-  pub waiting : ℕ
-  pub hand : ℕ
-
--- counts, in this order
-abbrev pub tally : ℕ → ℕ → ℕ → ℕ → ℕ → ℕ → CountsOf
-tally opened checked cut taken waiting hand =
-    record { opened = opened; checked = checked; cut = cut; taken = taken; waiting = waiting; hand = hand }
-
-abbrev pub counts_of : BookState → CountsOf
-counts_of s = tally s.opened s.checked s.cut s.taken (length s.waiting) (length (in_hand s.hands))
+abbrev pub counts_of : BookState → Counts
+counts_of s = record {
+  opened = s.opened;
+  checked = s.checked;
+  cut = s.cut;
+  taken = s.taken;
+  waiting = length s.waiting;
+  hand = length (in_hand s.hands);
+}
 
 -- each node that was opened was checked in, was cut, is open or is in hand
-abbrev pub AddUp : CountsOf → Type 0
+abbrev pub AddUp : Counts → Type 0
 AddUp c = c.opened ≡ c.checked + c.cut + c.waiting + c.hand
 
 -- ---- The nodes in hand, as they are kept.

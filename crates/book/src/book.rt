@@ -3,9 +3,10 @@
 ghost use Rattle.std.specs.Prelude.{◌≡◌, ◌↔◌, ◌<◌, IsTrue, true, false, length, IfOk, IfErr, IfSome, option_map};
 ghost use Rattle.std.specs.Arc.{arc_value};
 ghost use Rattle.branching.specs.Fair.{AreListsOf};
-ghost use Rattle.book.specs.Sound.{IsSound, IsWithinLimits, IsRecorded, EndsWhole, IsLeast, known_bounds, IsBoundFor, IsTrueOf, IsVerdictOf};
+ghost use Rattle.branching.specs.Right.{IsLeast};
+ghost use Rattle.book.specs.Sound.{IsSound, IsWithinLimits, IsRecorded, EndsWhole, known_bounds, IsBoundFor, IsTrueOf, IsVerdictOf};
 ghost use Rattle.book.specs.Steps.{AreAllowed, AreFirst, Opens, OpensRecorded, Offers, IsFull, Cuts, HandsOut, Takes, MayCheckIn, Judges, Accepts, ChecksIn, ChecksInForReuse, GivesBack};
-ghost use Rattle.book.specs.State.{counts_of};
+ghost use Rattle.book.specs.State.{counts_of, AddUp};
 ghost use Rattle.trail.specs.Trail.{trail_for};
 
 use crate::answers::{
@@ -13,11 +14,10 @@ use crate::answers::{
 };
 use crate::counts::Counts;
 use crate::hands::Hands;
-use crate::least::lesser;
 use crate::nodes_left::NodesLeft;
 use crate::open_nodes::OpenNodes;
 use crate::recording::{clear_open, open_kids, shorter_found};
-use branching::{Branches, Report, is_below, is_in_time, makespan_of, root};
+use branching::{Branches, Report, is_below, is_in_time, lean_root, makespan_of};
 use longest_path::PathFault;
 use network::{Project, Schedule};
 use plain_search::MAX_TAKES;
@@ -66,13 +66,13 @@ pub fn are_allowed(workers: usize, takes: u64) -> bool
 fn first_nodes(alloc: Global, project: &Arc<Project>) -> Result<OpenNodes, AllocError>
     ensures { IfOk result (AreFirst (arc_value project.now)) }
 {
-    let root = match root(alloc, Arc::try_clone(project)?) {
+    let root = match lean_root(alloc, Arc::try_clone(project)?) {
         Ok(root) => root,
         Err(PathFault::PositiveCycle { .. }) => return Ok(OpenNodes::new(alloc)),
         Err(PathFault::Memory) => return Err(AllocError),
     };
     let mut nodes = OpenNodes::new(alloc);
-    nodes.insert(0, root.lean())?;
+    nodes.insert(0, &root)?;
     Ok(nodes)
 }
 
@@ -339,17 +339,18 @@ impl Book {
     /// How many nodes there are and were.
     pub fn counts(&self) -> Counts
         ensures counts { result ≡ counts_of self.now }
+        ensures add_up { AddUp result }
         ensures sound { IsSound self.now }
         ensures within { IsWithinLimits self.now }
     {
-        Counts::new(
-            self.opened,
-            self.checked,
-            self.cut,
-            self.taken,
-            self.waiting.len() as u64,
-            self.hands.count() as u64,
-        )
+        Counts {
+            opened: self.opened,
+            checked: self.checked,
+            cut: self.cut,
+            taken: self.taken,
+            waiting: self.waiting.len() as u64,
+            hand: self.hands.count() as u64,
+        }
     }
 
     /// The best schedule so far.

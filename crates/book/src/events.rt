@@ -63,7 +63,7 @@ pub fn run_events(
     ensures unchanged { OnErr result (book.new ≡ book.old) }
     ensures sound { IsSound book.new }
 {
-    prove!(book.counts().cut() <= book.counts().opened());
+    prove!(book.counts().cut <= book.counts().opened);
     let mut replies = Vec::with_capacity(alloc, events.len())?;
     for event in events {
         let reply = apply(book, event);

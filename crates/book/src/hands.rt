@@ -5,9 +5,9 @@ ghost use Rattle.std.specs.Arc.{arc_value};
 ghost use Rattle.std.specs.List.{All};
 ghost use Rattle.book.specs.State.{Named, node_named, Holds, in_hand, held_node, hand_of};
 ghost use Rattle.book.specs.Steps.{IsFull};
-ghost use Rattle.book.specs.Sound.{IsLeast, bounds_of};
+ghost use Rattle.branching.specs.Right.{IsLeast};
+ghost use Rattle.book.specs.Sound.{bounds_of};
 
-use crate::least::lesser;
 use branching::Lean;
 use std::alloc::{AllocError, Global};
 use std::marker::Model;

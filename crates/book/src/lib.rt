@@ -11,7 +11,6 @@ mod book;
 mod counts;
 mod events;
 mod hands;
-mod least;
 mod nodes_left;
 mod open_nodes;
 mod recording;

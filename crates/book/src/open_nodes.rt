@@ -4,7 +4,8 @@ ghost use Rattle.std.specs.Prelude.{◌≡◌, ◌+◌, ◌<◌, ◌^◌, [], �
 ghost use Rattle.std.specs.Arc.{arc_value};
 ghost use Rattle.std.specs.List.{All, filter};
 ghost use Rattle.book.specs.State.{Named, held_node};
-ghost use Rattle.book.specs.Sound.{AreNamedBelow, IsLeast, bounds_of};
+ghost use Rattle.branching.specs.Right.{IsLeast};
+ghost use Rattle.book.specs.Sound.{AreNamedBelow, bounds_of};
 ghost use Rattle.book.specs.Steps.{GoesBefore};
 ghost use Rattle.book.specs.OpenNodes.{IsNamedOtherThan, Inserts, InsertsKids, is_older};
 

@@ -5,7 +5,7 @@
 #![tactic(auto)]
 
 use anyhow::{Context, bail};
-use book::{Book, Take};
+use book::{Book, Counts, Take};
 use branching::{expand, rebuild};
 use plain_search::MAX_TAKES;
 use sch_reader::read_sch;
@@ -53,7 +53,7 @@ fn search_once(rt: &HostRuntime, book: &mut Book, spent: &mut Spent) -> anyhow::
 fn fill(rt: &HostRuntime, book: &mut Book, nodes: u64) -> anyhow::Result<()> {
     let mut spent = Spent::new();
     for _ in 0..MAX_TAKES {
-        if book.counts().waiting() >= nodes || !search_once(rt, book, &mut spent)? {
+        if book.counts().waiting >= nodes || !search_once(rt, book, &mut spent)? {
             break;
         }
     }
@@ -79,9 +79,14 @@ fn measure(rt: &HostRuntime, book: &mut Book, rounds: u64) -> anyhow::Result<()>
 }
 
 fn print_counts(rt: &HostRuntime, book: &Book) -> anyhow::Result<()> {
-    let counts = book.counts();
-    let (opened, checked, cut) = (counts.opened(), counts.checked(), counts.cut());
-    let (taken, waiting, hand) = (counts.taken(), counts.waiting(), counts.hand());
+    let Counts {
+        opened,
+        checked,
+        cut,
+        taken,
+        waiting,
+        hand,
+    } = book.counts();
     println!(rt;
         "opened {opened}, checked in {checked}, cut {cut}, taken {taken}, open {waiting}, in hand {hand}"
     )?;

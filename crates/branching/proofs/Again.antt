@@ -1,5 +1,5 @@
 -- The matrix of a project and pairs when a pair is added again.
-use Rattle.std.proofs.Common.{◌≡◌, refl, subst, ℕ, ◌+◌, ◌<◌, ◌≤◌, arith, ℤ, pos, ◌≤ℤ◌, Option, None, Some, ⊎_elim, List, [], ◌∷◌, ◌++◌, map, length, get_or}
+use Rattle.std.proofs.Common.{◌≡◌, refl, subst, ℕ, ◌<◌, arith, ℤ, pos, ◌≤ℤ◌, Option, None, Some, ⊎_elim, List, [], ◌∷◌, ◌++◌, map, length, get_or}
 use Rattle.std.proofs.lemmas.Int.{ints}
 use Rattle.std.specs.List.{Contains}
 use Rattle.std.proofs.lemmas.List.Elements.{All-nil, All-cons, All-push, All-contains, All-get_or, Contains-append_left, Contains-append_right, Contains-append_cases, Contains-push_cases}

@@ -98,7 +98,7 @@ unless b P fails means holds = let passes : b ≡ true = means.1 holds in let ba
 pub when : (b : Bool) (P : Type 0) → b ≡ true → IsTrue b ↔ P → P
 when b P passes means = means.0 passes
 
-pub both_ways : {P Q R : Type 0} → P ↔ Q → Q ↔ R → P ↔ R
+both_ways : {P Q R : Type 0} → P ↔ Q → Q ↔ R → P ↔ R
 both_ways first second = (λ p. second.0 (first.0 p), λ r. first.1 (second.1 r))
 
 -- where some doesn't hold, it holds of none
@@ -197,7 +197,7 @@ pub no_way : (p : Problem) (rows : Rows) (added pair : Pair) → way_over p rows
 no_way p rows added pair none with_arc = let bad : None ≡ Some with_arc.way = sym none ∙ with_arc.is_way in cc
 
 -- the way, by its two parts
-pub over_by : (p : Problem) (rows : Rows) (added pair : Pair) (first last : ℤ) → joined (entry rows pair.before added.before) (Some (duration p added.before)) ≡ Some first → entry rows added.after pair.after ≡ Some last → way_over p rows added pair ≡ Some (first +ℤ last)
+over_by : (p : Problem) (rows : Rows) (added pair : Pair) (first last : ℤ) → joined (entry rows pair.before added.before) (Some (duration p added.before)) ≡ Some first → entry rows added.after pair.after ≡ Some last → way_over p rows added pair ≡ Some (first +ℤ last)
 over_by p rows added pair first last e f = rw (e, f) refl
 
 -- there is none where there is no first part, or no last one
@@ -212,13 +212,18 @@ none_from p rows added pair e = by (joined (entry rows pair.before added.before)
     by (Some x) = rw e refl
 
 -- a way that forces the pair
-pub by_way : (p : Problem) (rows : Rows) (added pair : Pair) (way : ℤ) → way_over p rows added pair ≡ Some way → IsForcedAt p pair (greater (entry rows pair.before pair.after) (Some way)) ↔ IsForcedWith p rows added pair
+by_way : (p : Problem) (rows : Rows) (added pair : Pair) (way : ℤ) → way_over p rows added pair ≡ Some way → IsForcedAt p pair (greater (entry rows pair.before pair.after) (Some way)) ↔ IsForcedWith p rows added pair
 by_way p rows added pair way is_way = (
   λ forced. record { way = way; is_way = is_way; forced = forced },
   λ with_arc.
       let same : with_arc.way ≡ way = same_some with_arc.way way (way_over p rows added pair) with_arc.is_way is_way in
       rw same at with_arc.forced,
 )
+
+-- so a test of that weight tells whether the pair is forced
+pub forced_over : {P : Type 0} (p : Problem) (rows : Rows) (added pair : Pair) (first last : ℤ) → joined (entry rows pair.before added.before) (Some (duration p added.before)) ≡ Some first → entry rows added.after pair.after ≡ Some last →
+    (P ↔ IsForcedAt p pair (greater (entry rows pair.before pair.after) (Some (first +ℤ last)))) → P ↔ IsForcedWith p rows added pair
+forced_over p rows added pair first last e f known = both_ways known (by_way p rows added pair (first +ℤ last) (over_by p rows added pair first last e f))
 
 pub first_among : (p : Problem) (rows : Rows) (pairs : List Pair) (pair : Pair) → IsFirstForced p rows pairs pair → Contains pairs pair
 first_among p rows pairs pair first = rw first.split (Contains-append_right first.before (pair ∷ first.after) pair (here pair first.after))

@@ -4,7 +4,7 @@ use Rattle.std.specs.Option.{unwrap_or}
 use Rattle.std.specs.Int.{w64}
 use Rattle.std.specs.Int.Signed.{lt_z}
 use Rattle.std.proofs.lemmas.Int.{ints}
-use Rattle.std.proofs.lemmas.List.Elements.{All-nil, All-head}
+use Rattle.std.proofs.lemmas.List.Elements.{All-nil, All-cons, All-head}
 use Rattle.network.specs.declared.parts.Lag.{Lag}
 use Rattle.network.specs.declared.parts.Pair.{Pair}
 use Rattle.network.specs.Problem.{Problem, activity_count, end_of, duration, pair_arc, arcs_of, NameActivities, IsProject, IsAmount, IsWithin}
@@ -19,6 +19,7 @@ use Rattle.longest_path.proofs.Reach.{joined-some, same_some}
 use Rattle.earliest.proofs.Ends.{from_start, to_end, reached}
 use Rattle.bounds.specs.Bound.{critical_weight, IsBoundOf, IsTrueBoundFor}
 use Rattle.bounds.proofs.WithLaws.{matrix_more}
+use Rattle.branching.specs.Right.{IsLeast}
 use Rattle.branching.specs.Fair.{IsRootOf}
 use Rattle.branching.specs.Subproblem.{Subproblem, IsNode, IsTiedTo}
 
@@ -139,3 +140,6 @@ root_of p root bound is is_node = record {
   of_project = record { project = ap (λ (n : Subproblem). n.project) is; is_node = subst (λ (n : Subproblem). IsNode n) (sym is) is_node };
   no_pairs = ap (λ (n : Subproblem). n.pairs) is;
 }
+
+pub least_of_one : (n : ℤ) → IsLeast (n ∷ []) (Some n)
+least_of_one n = ((0, omega arith, refl), All-cons (λ m. n ≤ℤ m) n [] (omega (arith, ints)) (All-nil (λ m. n ≤ℤ m)))

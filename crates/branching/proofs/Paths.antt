@@ -1,5 +1,5 @@
 -- What a searcher keeps while pairs are added and taken away.
-use Rattle.std.proofs.Common.{◌≡◌, refl, sym, ◌∙◌, ap, ℕ, ◌+◌, ◌-◌, ◌<◌, ◌≤◌, suc, arith, pos, ◌<ℤ◌, ◌≤ℤ◌, None, Some, inl, inr, List, [], ◌∷◌, ◌++◌, map, length, take, drop, get_or, length-append, add-one, append_assoc, slice_get}
+use Rattle.std.proofs.Common.{◌≡◌, refl, sym, ◌∙◌, ap, subst, ℕ, ◌+◌, ◌-◌, ◌<◌, ◌≤◌, suc, arith, pos, ◌<ℤ◌, ◌≤ℤ◌, None, Some, inl, inr, List, [], ◌∷◌, ◌++◌, map, length, take, drop, get_or, length-append, add-one, append_assoc, slice_get}
 use Rattle.std.proofs.lemmas.Int.{ints}
 use Rattle.std.proofs.Math.Seq.{take-append_seam, take-suc}
 use Rattle.std.proofs.lemmas.List.{take_all, take-append-drop, map-append}
@@ -11,10 +11,9 @@ use Rattle.network.specs.Problem.{Problem, activity_count, pair_arc, rules, arcs
 use Rattle.network.specs.Walk.{Rows, IsWalk, weight, HasPositiveCycle, HasNoPositiveCycle, IsProjectMatrix}
 use Rattle.network.proofs.Schedules.{arcs_of-push}
 use Rattle.longest_path.specs.Insert.{AddsArc, ClosesCycle, IsInsertFault}
-use Rattle.longest_path.specs.Saved.{Marked}
 use Rattle.longest_path.specs.declared.fault.PathFault.{PathFault}
 use Rattle.longest_path.specs.declared.fault.PathFault.TheVariants.{PositiveCycle, Memory}
-use Rattle.branching.specs.Path.{front, LeadBack, IsPath, IsPairFault}
+use Rattle.branching.specs.Path.{front, LeadBack, PairRows, IsPath, IsPairFault}
 
 abbrev AreThere : Problem → Pair → Type 0
 AreThere p q = (q.before < activity_count p) × (q.after < activity_count p)
@@ -45,12 +44,17 @@ front-push pairs pair =
     let less : length (pairs ++ pair ∷ []) - 1 ≡ length pairs = omega arith in
     ap (λ n. take n (pairs ++ pair ∷ [])) less ∙ take-append_seam pairs (pair ∷ [])
 
-pub went_on : (p : Problem) (pairs : List Pair) (pair : Pair) (m new : Marked) → IsPath p pairs m → NameActivities p (pair ∷ []) → AddsArc (pair_arc p pair) m.rows new.rows → new.marks ≡ m.rows ∷ m.marks → IsPath p (pairs ++ pair ∷ []) new
-went_on p pairs pair m new path named adds marks =
-    let some : length (pairs ++ pair ∷ []) ≡ length pairs + 1 = length-append pairs (pair ∷ []) in
-    let is_front : front (pairs ++ pair ∷ []) ≡ pairs = front-push pairs pair in
-    let back : LeadBack p (pairs ++ pair ∷ []) (m.rows ∷ m.marks) = (omega arith, rw is_front path.matrix, rw is_front path.back) in
-    record { matrix = matrix_more p pairs pair m.rows new.rows path.matrix named adds; back = rw marks back }
+pub went_on : (p : Problem) (s new : PairRows) (pair : Pair) → IsPath p s → NameActivities p (pair ∷ []) → AddsArc (pair_arc p pair) s.marked.rows new.marked.rows → new.marked.marks ≡ s.marked.rows ∷ s.marked.marks → new.pairs ≡ s.pairs ++ pair ∷ [] → IsPath p new
+went_on p s new pair path named adds marks pairs =
+    let some : length (s.pairs ++ pair ∷ []) ≡ length s.pairs + 1 = length-append s.pairs (pair ∷ []) in
+    let is_front : front (s.pairs ++ pair ∷ []) ≡ s.pairs = front-push s.pairs pair in
+    let back : LeadBack p (s.pairs ++ pair ∷ []) (s.marked.rows ∷ s.marked.marks) = (omega arith, rw is_front path.matrix, rw is_front path.back) in
+    record { matrix = rw pairs (matrix_more p s.pairs pair s.marked.rows new.marked.rows path.matrix named adds); back = rw (marks, pairs) back }
+
+pub went_back : (p : Problem) (s new : PairRows) → IsPath p s → s.marked.marks ≡ new.marked.rows ∷ new.marked.marks → new.pairs ≡ front s.pairs → IsPath p new
+went_back p s new path marks pairs =
+    let back : LeadBack p s.pairs (new.marked.rows ∷ new.marked.marks) = subst (λ (ms : List Rows). LeadBack p s.pairs ms) marks path.back in
+    record { matrix = rw pairs back.1; back = rw pairs back.2 }
 
 -- ---- going on along a list
 

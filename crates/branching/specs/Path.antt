@@ -35,10 +35,15 @@ LeadBack p pairs [] = pairs ≡ []
 LeadBack p pairs (rows ∷ marks) =
     (0 < length pairs) × IsProjectMatrix p (front pairs) rows × LeadBack p (front pairs) marks
 
+-- pairs that were added, and rows with marks
+pub record PairRows : Type 0 where
+  pub pairs : List Pair
+  pub marked : Marked
+
 -- the rows are the matrix of the project and the pairs, and the marks lead back
-pub record IsPath (p : Problem) (pairs : List Pair) (m : Marked) : Type 0 where
-  pub matrix : IsProjectMatrix p pairs m.rows
-  pub back : LeadBack p pairs m.marks
+pub record IsPath (p : Problem) (s : PairRows) : Type 0 where
+  pub matrix : IsProjectMatrix p s.pairs s.marked.rows
+  pub back : LeadBack p s.pairs s.marked.marks
 
 -- a pair that isn't added closes a walk of positive weight, or there was no memory
 abbrev pub IsPairFault : Problem → List Pair → PathFault → Type 0
@@ -59,6 +64,6 @@ pub record HasRoomFor (p : Problem) (workspace : Workspace) : Type 0 where
   pub overloads : IsSweepFor p workspace.overloads
 
 -- the matrix goes back along the pairs, and there is room for the project's nodes
-pub record IsSearcher (p : Problem) (pairs : List Pair) (m : Marked) (workspace : Workspace) : Type 0 where
-  pub path : IsPath p pairs m
+pub record IsSearcher (p : Problem) (s : PairRows) (workspace : Workspace) : Type 0 where
+  pub path : IsPath p s
   pub room : HasRoomFor p workspace

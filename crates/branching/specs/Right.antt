@@ -1,6 +1,6 @@
 -- When a step of a search is right, in a node of a project that has these pairs.
-use Rattle.std.specs.Prelude.{ℕ, ◌<◌, ℤ, pos, neg_ℤ, ◌≤ℤ◌, ◌<ℤ◌, Option, None, Some, List, [], ◌∷◌, ◌++◌, int_lt, Bool, true, MatchOption, IfSome}
-use Rattle.std.specs.List.{All}
+use Rattle.std.specs.Prelude.{◌≡◌, ℕ, ◌<◌, ℤ, pos, neg_ℤ, ◌≤ℤ◌, ◌<ℤ◌, Option, None, Some, List, [], ◌∷◌, ◌++◌, int_lt, Bool, true, MatchOption, IfSome}
+use Rattle.std.specs.List.{All, Contains}
 use Rattle.std.specs.List.Sorted.{IsStrictlyIncreasing}
 use Rattle.network.specs.declared.parts.Pair.{Pair}
 use Rattle.network.specs.Schedule.{IsForbidden, IsLeastSchedule, IsFeasible, makespan}
@@ -78,6 +78,11 @@ IsUnder ceiling bound = IfSome ceiling (λ c. bound <ℤ c)
 abbrev pub Reaches : Option ℤ → ℤ → Type 0
 Reaches None bound = ⊥
 Reaches (Some c) bound = c ≤ℤ bound
+
+-- the least of the numbers, none where there is none
+abbrev pub IsLeast : List ℤ → Option ℤ → Type 0
+IsLeast numbers None = numbers ≡ []
+IsLeast numbers (Some least) = Contains numbers least × All (λ number. least ≤ℤ number) numbers
 
 -- whether the number is below the ceiling, if there is one
 abbrev pub is_below : Option ℤ → ℤ → Bool

@@ -1,8 +1,8 @@
 //! Ceilings: a makespan that is known, if one is. Only what is below it is looked for.
 
-ghost use Rattle.std.specs.Prelude.{◌≡◌};
+ghost use Rattle.std.specs.Prelude.{◌≡◌, ◌++◌, List, ℤ};
 ghost use Rattle.std.specs.Bool.{OnTrue, OnFalse};
-ghost use Rattle.branching.specs.Right.{is_below, IsUnder, Reaches, IsInTime};
+ghost use Rattle.branching.specs.Right.{is_below, IsUnder, Reaches, IsInTime, IsLeast};
 ghost use Rattle.branching.specs.Fair.{ceiling_of};
 
 use network::Schedule;
@@ -26,6 +26,17 @@ pub fn is_below(number: i64, ceiling: Option<i64>) -> bool
     match ceiling {
         None => true,
         Some(ceiling) => number < ceiling,
+    }
+}
+
+/// The lesser of two numbers that may be missing.
+pub fn lesser(a: Option<i64>, b: Option<i64>) -> Option<i64>
+    ensures { (xs ys : List ℤ) → IsLeast xs a → IsLeast ys b → IsLeast (xs ++ ys) result }
+{
+    match (a, b) {
+        (Some(left), Some(right)) => Some(left.min(right)),
+        (None, b) => b,
+        (a, None) => a,
     }
 }
 

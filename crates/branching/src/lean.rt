@@ -1,6 +1,6 @@
 //! A node as it waits: its pairs and its bound, without a matrix.
 
-ghost use Rattle.std.specs.Prelude.{◌≡◌, ◌↔◌, ◌∷◌, IsTrue, IfOk, IfSome};
+ghost use Rattle.std.specs.Prelude.{◌≡◌, ◌↔◌, IsTrue, IfOk, IfSome};
 ghost use Rattle.std.specs.Arc.{arc_value};
 ghost use Rattle.network.specs.Problem.{IsProject};
 ghost use Rattle.branching.specs.Subproblem.{IsNode, kid_of, root_node};
@@ -43,23 +43,15 @@ pub(crate) fn parent_of(
     Ok(parent)
 }
 
-/// A pair and then those that it forced.
-fn last_of(alloc: Global, first: Pair, forced: Vec<Pair>) -> Result<Vec<Pair>, AllocError>
-    ensures { IfOk result (λ last. last.items ≡ first ∷ forced.items) }
-{
-    let mut last = Vec::with_capacity(alloc, 1 + forced.len())?;
-    last.push(first)?;
-    last.extend_from_slice(forced.as_slice())?;
-    Ok(last)
-}
-
 /// A node while it waits: a project, the pairs added to its rules, and a lower bound. It stands for the feasible
 /// schedules that keep its pairs.
 #[derive(Drop, Debug)]
 pub struct Lean {
     parent: Arc<Parent>,
-    /// The pairs after those of the parent.
-    last: Vec<Pair>,
+    /// The pair that the node has more than its parent. The root has none.
+    added: Option<Pair>,
+    /// The pairs that this one forced.
+    forced: Vec<Pair>,
     bound: i64,
 }
 
@@ -80,15 +72,17 @@ impl Lean {
     fn shared(
         alloc: Global,
         parent: Arc<Parent>,
-        last: Vec<Pair>,
+        added: Option<Pair>,
+        forced: Vec<Pair>,
         bound: i64,
     ) -> Result<Arc<Lean>, AllocError>
-        requires { IsNode (node_under (arc_value parent) last.items bound) }
-        ensures { IfOk result (λ node. arc_value node ≡ node_under (arc_value parent) last.items bound) }
+        requires { IsNode (node_under (arc_value parent) added forced.items bound) }
+        ensures { IfOk result (λ node. arc_value node ≡ node_under (arc_value parent) added forced.items bound) }
     {
         let node = Lean {
             parent,
-            last,
+            added,
+            forced,
             bound,
         };
         Ok(Arc::new(alloc, node)?)
@@ -101,7 +95,7 @@ impl Lean {
     {
         let pairs = Vec::new(alloc);
         let parent = Arc::new(alloc, Parent { base, pairs })?;
-        Lean::shared(alloc, parent, Vec::new(alloc), bound)
+        Lean::shared(alloc, parent, None, Vec::new(alloc), bound)
     }
 
     /// The project.
@@ -124,7 +118,7 @@ impl Lean {
         ensures pairs { result ≡ self.now.pairs }
         ensures is_node { IsNode self.now }
     {
-        PairList::of(self.parent.pairs.as_slice(), self.last.as_slice())
+        PairList::of(self.parent.pairs.as_slice(), self.added, self.forced.as_slice())
     }
 
     /// A lower bound of the makespans of the schedules that the node stands for, in periods.
@@ -156,7 +150,6 @@ impl Lean {
         requires node { IsNode (kid_of self.now first forced.items bound) }
         ensures { IfOk result (λ kid. arc_value kid ≡ kid_of self.now first forced.items bound) }
     {
-        let last = last_of(alloc, first, forced)?;
-        Lean::shared(alloc, parent, last, bound)
+        Lean::shared(alloc, parent, Some(first), forced, bound)
     }
 }

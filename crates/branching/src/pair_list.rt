@@ -1,16 +1,18 @@
-//! The pairs of a node: those of its parent, and its own.
+//! The pairs of a node: those of its parent, the one that it has more, and those that this one forced.
 
 ghost use Rattle.std.specs.Prelude.{◌≡◌, ◌↔◌, ◌++◌, IfOk, IsTrue, length, slice_get};
+ghost use Rattle.std.specs.Option.{option_to_list};
 
 use network::Pair;
 use std::alloc::{AllocError, Global};
 use std::marker::Model;
 
-/// Pairs in the order in which they were added, in two lists one after the other.
+/// Pairs in the order in which they were added.
 #[derive(Drop, Debug)]
 pub struct PairList<'a> {
     before: &'a [Pair],
-    last: &'a [Pair],
+    added: Option<Pair>,
+    forced: &'a [Pair],
 }
 
 impl<'a> Model for PairList<'a> {
@@ -19,24 +21,38 @@ impl<'a> Model for PairList<'a> {
 
     ghost Value = { List Pair };
 
-    ghost view = { λ s. s.before.now ++ s.last.now };
+    ghost use Rattle.std.specs.Option.{option_to_list};
+
+    ghost view = { λ s. s.before.now ++ (option_to_list s.added ++ s.forced.now) };
 }
 
 impl<'a> PairList<'a> {
-    /// The pairs of both lists.
-    pub(crate) fn of(before: &'a [Pair], last: &'a [Pair]) -> PairList<'a>
-        ensures { result ≡ before.now ++ last.now }
+    /// The pairs of all three, one after the other.
+    pub(crate) fn of(
+        before: &'a [Pair],
+        added: Option<Pair>,
+        forced: &'a [Pair],
+    ) -> PairList<'a>
+        ensures { result ≡ before.now ++ (option_to_list added ++ forced.now) }
     {
-        PairList { before, last }
+        PairList {
+            before,
+            added,
+            forced,
+        }
     }
 
     /// The pair at a place, if there is one.
     pub fn get(&self, place: usize) -> Option<Pair>
         ensures { result ≡ slice_get self.now place }
     {
-        match place.checked_sub(self.before.len()) {
-            Some(later) => self.last.get(later).copied(),
-            None => self.before.get(place).copied(),
+        let Some(later) = place.checked_sub(self.before.len()) else {
+            return self.before.get(place).copied();
+        };
+        match (self.added, later.checked_sub(1)) {
+            (Some(_), Some(rest)) => self.forced.get(rest).copied(),
+            (Some(added), None) => Some(added),
+            (None, _) => self.forced.get(later).copied(),
         }
     }
 
@@ -44,7 +60,8 @@ impl<'a> PairList<'a> {
     pub fn len(&self) -> usize
         ensures { result ≡ length self.now }
     {
-        self.before.len() + self.last.len()
+        let added = usize::from(self.added.is_some());
+        self.before.len() + added + self.forced.len()
     }
 
     /// Whether both are the same pairs in the same order.
@@ -66,9 +83,12 @@ impl<'a> PairList<'a> {
     pub fn to_vec(&self, alloc: Global) -> Result<Vec<Pair>, AllocError>
         ensures { IfOk result (λ pairs. pairs.items ≡ self.now) }
     {
-        let mut pairs = Vec::with_capacity(alloc, self.before.len() + self.last.len())?;
+        let mut pairs = Vec::with_capacity(alloc, self.len())?;
         pairs.extend_from_slice(self.before)?;
-        pairs.extend_from_slice(self.last)?;
+        if let Some(added) = self.added {
+            pairs.push(added)?;
+        }
+        pairs.extend_from_slice(self.forced)?;
         Ok(pairs)
     }
 }

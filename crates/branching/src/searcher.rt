@@ -1,21 +1,21 @@
 //! One matrix that moves from node to node.
 
-ghost use Rattle.std.specs.Prelude.{◌≡◌, ◌↔◌, IsTrue, ◌<◌, ◌≤◌, [], ◌∷◌, ◌++◌, length, take, slice_get, Some, IfOk, IfErr, OnOk, OnErr};
+ghost use Rattle.std.specs.Prelude.{◌≡◌, ◌↔◌, IsTrue, [], slice_get, Some, IfOk, OnOk};
 ghost use Rattle.std.specs.Arc.{arc_value};
 ghost use Rattle.std.specs.Bool.{OnTrue};
 ghost use Rattle.network.specs.Problem.{arcs_of, NameActivities};
-ghost use Rattle.network.specs.Walk.{HasNoPositiveCycle, IsProjectMatrix};
+ghost use Rattle.network.specs.Walk.{HasNoPositiveCycle};
 ghost use Rattle.branching.specs.Fair.{IsReportOn, FindsNothingOver};
-ghost use Rattle.branching.specs.Path.{front, IsAt, IsFrontOf, IsPairFault, IsShared};
+ghost use Rattle.branching.specs.Path.{IsAt, IsFrontOf, IsShared};
 
 use crate::branches::Branches;
 use crate::expansion::expand_by;
 use crate::lean::Lean;
 use crate::node::Node;
 use crate::pair_list::PairList;
+use crate::pair_matrix::PairMatrix;
 use crate::report::Report;
 use crate::workspace::Workspace;
-use longest_path::{MarkedMatrix, Matrix, PathFault};
 use network::{Pair, Project};
 use std::alloc::{AllocError, Global};
 use std::marker::Model;
@@ -48,9 +48,7 @@ fn shared_count(left: &[Pair], right: &PairList) -> usize
 #[derive(Drop, Debug)]
 pub struct Searcher {
     project: Arc<Project>,
-    pairs: Vec<Pair>,
-    /// With a mark for each pair.
-    matrix: MarkedMatrix,
+    at: PairMatrix,
     workspace: Workspace,
 }
 
@@ -61,33 +59,25 @@ impl Model for Searcher {
 
     ghost use Rattle.std.specs.Arc.{arc_value};
 
-    ghost view = { λ s. record { project = arc_value s.project; pairs = s.pairs.items } };
+    ghost view = { λ s. record { project = arc_value s.project; pairs = s.at.pairs } };
 
-    ghost invariant = { λ s. IsSearcher (arc_value s.project) s.pairs.items s.matrix s.workspace };
+    ghost invariant = { λ s. IsSearcher (arc_value s.project) s.at s.workspace };
 }
 
 impl Searcher {
-    /// A searcher at the root, which has no pairs and this matrix.
-    pub fn new(alloc: Global, project: Arc<Project>, matrix: Matrix) -> Result<Searcher, AllocError>
-        requires { IsProjectMatrix (arc_value project) [] matrix }
-        ensures { IfOk result (λ searcher. searcher ≡ record { project = arc_value project; pairs = [] }) }
-    {
-        let workspace = Workspace::new(alloc, &project)?;
-        Ok(Searcher {
-            project,
-            pairs: Vec::new(alloc),
-            matrix: MarkedMatrix::new(alloc, matrix),
-            workspace,
-        })
-    }
-
     /// A searcher at the root of a node's project.
     pub fn for_node(alloc: Global, node: &Lean) -> Result<Searcher, AllocError>
         ensures { IfOk result (λ searcher. searcher ≡ record { project = node.now.project; pairs = [] }) }
     {
         let base = node.base();
         let matrix = base.matrix().try_copy(alloc)?;
-        Searcher::new(alloc, Arc::try_clone(base.project())?, matrix)
+        let project = Arc::try_clone(base.project())?;
+        let workspace = Workspace::new(alloc, &project)?;
+        Ok(Searcher {
+            project,
+            at: PairMatrix::new(alloc, matrix),
+            workspace,
+        })
     }
 
     /// Whether it can move to this node, which is so where both are of the same project.
@@ -95,63 +85,6 @@ impl Searcher {
         ensures { IsTrue result ↔ (node.now.project ≡ self.now.project) }
     {
         node.is_of(&self.project)
-    }
-
-    /// Adds a pair. A fault leaves all as it was.
-    fn add(&mut self, pair: Pair) -> Result<(), PathFault>
-        requires { NameActivities self.old.project (pair ∷ []) }
-        ensures project { self.new.project ≡ self.old.project }
-        ensures pairs { OnOk result (self.new.pairs ≡ self.old.pairs ++ pair ∷ []) }
-        ensures fault { IfErr result (IsPairFault self.old.project (self.old.pairs ++ pair ∷ [])) }
-        ensures unchanged { OnErr result (self.new ≡ self.old) }
-    {
-        self.pairs.reserve(1)?;
-        let arc = self.project.pair_arc(pair);
-        if let Err(fault) = self.matrix.insert_under_mark(arc) {
-            return Err(fault);
-        }
-        self.pairs.push_reserved(pair);
-        Ok(())
-    }
-
-    /// Takes the last pair away.
-    fn drop_last(&mut self)
-        requires { 0 < length self.old.pairs }
-        ensures project { self.new.project ≡ self.old.project }
-        ensures pairs { self.new.pairs ≡ front self.old.pairs }
-    {
-        self.pairs.truncate(self.pairs.len() - 1);
-        self.matrix.go_back();
-    }
-
-    /// Keeps the first so many pairs.
-    fn keep(&mut self, count: usize)
-        requires { count ≤ length self.old.pairs }
-        ensures project { self.new.project ≡ self.old.project }
-        ensures pairs { self.new.pairs ≡ take count self.old.pairs }
-    {
-        while count < self.pairs.len() {
-            self.drop_last();
-        }
-    }
-
-    /// Adds those of the pairs that are still missing.
-    fn go_on(&mut self, pairs: &PairList) -> Result<(), AllocError>
-        requires begun { self.old.pairs ≡ take (length self.old.pairs) pairs.now }
-        requires named { NameActivities self.old.project pairs.now }
-        requires live { HasNoPositiveCycle (arcs_of self.old.project pairs.now) }
-        ensures project { self.new.project ≡ self.old.project }
-        ensures pairs { OnOk result (self.new.pairs ≡ pairs.now) }
-        ensures front { IsFrontOf self.new.pairs pairs.now }
-    {
-        while let Some(pair) = pairs.get(self.pairs.len()) {
-            match self.add(pair) {
-                Ok(()) => {}
-                Err(PathFault::Memory) => return Err(AllocError),
-                Err(PathFault::PositiveCycle { .. }) => unreachable!(),
-            }
-        }
-        Ok(())
     }
 
     /// Moves to the node of these pairs. Where memory runs out, the searcher has the first so many of them.
@@ -162,9 +95,9 @@ impl Searcher {
         ensures pairs { OnOk result (self.new.pairs ≡ pairs.now) }
         ensures front { IsFrontOf self.new.pairs pairs.now }
     {
-        let shared = shared_count(self.pairs.as_slice(), pairs);
-        self.keep(shared);
-        self.go_on(pairs)
+        let shared = shared_count(self.at.pairs(), pairs);
+        self.at.keep(shared);
+        self.at.go_on(&self.project, pairs)
     }
 
     /// Drops what a report's lists hold, and keeps their memory for the next expansion.
@@ -180,7 +113,7 @@ impl Searcher {
         ensures { IfOk result (λ node. arc_value node ≡ arc_value lean.now) }
     {
         let _is_node = lean.pairs();
-        let matrix = self.matrix.matrix().try_copy(alloc)?;
+        let matrix = self.at.matrix().try_copy(alloc)?;
         Node::shared(alloc, Arc::try_clone(lean)?, matrix)
     }
 
@@ -197,7 +130,8 @@ impl Searcher {
         ensures over { IfOk result (FindsNothingOver (arc_value node.now) ceiling) }
     {
         let _is_node = node.pairs();
-        expand_by(alloc, node, &mut self.matrix, &mut self.workspace, ceiling)
+        let matrix = &mut self.at.matrix;
+        expand_by(alloc, node, matrix, &mut self.workspace, ceiling)
     }
 
     /// Moves to a node and expands it there. Where memory runs out, the searcher is at the node or on the way.

@@ -6,26 +6,27 @@ use Rattle.std.proofs.lemmas.List.Elements.{All-nil, All-contains, All-weaker}
 use Rattle.network.specs.Problem.{Problem}
 use Rattle.network.specs.Schedule.{ScheduleOf, IsFeasible, makespan}
 use Rattle.branching.specs.Subproblem.{Subproblem, NodeStandsFor}
-use Rattle.branching.specs.Right.{IsUnder}
+use Rattle.branching.specs.Right.{IsUnder, IsLeast}
 use Rattle.branching.specs.Fair.{IsShorterThan, IsNodeOf, IsRootOf, IsScheduleFor, ceiling_of}
-use Rattle.plain_search.specs.Takes.{IsLeastBound, SearchState, IsSoundState, IsTake, Takes, no_take, one_more, IsLeft, IsOutcomeOf, StopsOnlyAfter, first_state}
+use Rattle.plain_search.specs.Takes.{bounds_of, SearchState, IsSoundState, IsTake, Takes, no_take, one_more, IsLeft, IsOutcomeOf, StopsOnlyAfter, first_state}
 use Rattle.plain_search.specs.Verdicts.{IsStoppedAt, IsTrueOf, StopsBelowBest}
 use Rattle.plain_search.specs.declared.search.Outcome.{Outcome}
 use Rattle.plain_search.specs.declared.search.Outcome.TheVariants.{Optimal, NoSchedule, Stopped}
 use Rattle.branching.proofs.Covers.{none_stands}
+use Rattle.branching.proofs.OrderedPairs.{contains_map}
 
 none_shorter : (state : SearchState) → IsSoundState state → All (λ node. ¬ IsUnder (ceiling_of state.best) node.bound) state.nodes → (s : List ℤ) → IsFeasible state.project s → IsShorterThan state.best s → ⊥
 none_shorter state sound over s feasible shorter = none_stands state.project state.best state.nodes sound.of_nodes over s shorter (sound.covers s feasible shorter)
 
 -- the least bound holds of each schedule that is shorter than the best
-bound_holds : (state : SearchState) (bound : ℤ) → IsSoundState state → IsLeastBound state.nodes bound → (s : List ℤ) → IsFeasible state.project s → IsShorterThan state.best s → bound ≤ℤ makespan s
+bound_holds : (state : SearchState) (bound : ℤ) → IsSoundState state → IsLeast (bounds_of state.nodes) (Some bound) → (s : List ℤ) → IsFeasible state.project s → IsShorterThan state.best s → bound ≤ℤ makespan s
 bound_holds state bound sound low s feasible shorter = by_node (sound.covers s feasible shorter)
   where
     by_node : Any (λ n. NodeStandsFor n s) state.nodes → bound ≤ℤ makespan s
     by_node (k, node, l, e, stands) =
         let known : IsNodeOf state.project node = All-contains (IsNodeOf state.project) state.nodes node sound.of_nodes (k, l, e) in
         let above : node.bound ≤ℤ makespan s = known.is_node.true_bound s stands in
-        let below : bound ≤ℤ node.bound = All-contains (λ (n : Subproblem). bound ≤ℤ n.bound) state.nodes node low.least (k, l, e) in
+        let below : bound ≤ℤ node.bound = All-contains (λ (b : ℤ). bound ≤ℤ b) (bounds_of state.nodes) node.bound low.1 (contains_map (λ (n : Subproblem). n.bound) state.nodes node (k, l, e)) in
         omega (arith, ints)
 
 -- and of each other, where it is below the best
@@ -72,14 +73,17 @@ lower : (best : Option ScheduleOf) (low high : ℤ) → low ≤ℤ high → IsUn
 lower None low high le under = tt
 lower (Some best) low high le under = omega (arith, ints, under)
 
--- where the least bound is not below the best, no node is
-none_under : (best : Option ScheduleOf) (nodes : List Subproblem) (bound : ℤ) → IsLeastBound nodes bound → ¬ IsUnder (ceiling_of best) bound → All (λ node. ¬ IsUnder (ceiling_of best) node.bound) nodes
-none_under best nodes bound low over = All-weaker (λ (n : Subproblem). bound ≤ℤ n.bound) (λ (n : Subproblem). ¬ IsUnder (ceiling_of best) n.bound) (λ n above under. over (lower best bound n.bound above under)) nodes low.least
+all_of_bounds : (P : ℤ → Type 0) (nodes : List Subproblem) → All P (bounds_of nodes) → All (λ (n : Subproblem). P n.bound) nodes
+all_of_bounds P nodes all = λ k d low. ?
 
-pub stopped : (state : SearchState) (best : Option ScheduleOf) (bound : ℤ) → state.best ≡ best → IsLeastBound state.nodes bound → IsUnder (ceiling_of best) bound → IsOutcomeOf state (Stopped best bound)
+-- where the least bound is not below the best, no node is
+none_under : (best : Option ScheduleOf) (nodes : List Subproblem) (bound : ℤ) → IsLeast (bounds_of nodes) (Some bound) → ¬ IsUnder (ceiling_of best) bound → All (λ node. ¬ IsUnder (ceiling_of best) node.bound) nodes
+none_under best nodes bound low over = all_of_bounds (λ (b : ℤ). ¬ IsUnder (ceiling_of best) b) nodes (All-weaker (λ (b : ℤ). bound ≤ℤ b) (λ (b : ℤ). ¬ IsUnder (ceiling_of best) b) (λ b above under. over (lower best bound b above under)) (bounds_of nodes) low.1)
+
+pub stopped : (state : SearchState) (best : Option ScheduleOf) (bound : ℤ) → state.best ≡ best → IsLeast (bounds_of state.nodes) (Some bound) → IsUnder (ceiling_of best) bound → IsOutcomeOf state (Stopped best bound)
 stopped state best bound best_is low under = (best_is, record { least = low; under = rw best_is under })
 
-pub optimal : (state : SearchState) (best : ScheduleOf) (bound : ℤ) → state.best ≡ Some best → IsLeastBound state.nodes bound → makespan best.starts ≤ℤ bound → IsOutcomeOf state (Optimal best)
+pub optimal : (state : SearchState) (best : ScheduleOf) (bound : ℤ) → state.best ≡ Some best → IsLeast (bounds_of state.nodes) (Some bound) → makespan best.starts ≤ℤ bound → IsOutcomeOf state (Optimal best)
 optimal state best bound best_is low high = (best_is, none_under state.best state.nodes bound low (rw best_is (λ under. omega (arith, ints, under))))
 
 pub stops_below : (state : SearchState) (outcome : Outcome) → IsOutcomeOf state outcome → StopsBelowBest outcome
@@ -123,8 +127,8 @@ one_taken p n old new so_far some project step = record {
 -- a state without nodes is not that of a search that was stopped
 none_stopped : (state : SearchState) (bound : ℤ) → state.nodes ≡ [] → IsLeft state bound → ⊥
 none_stopped state bound none left =
-    let some : Any (λ (n : Subproblem). n.bound ≡ bound) [] = rw none at left.least.of_some in
-    absurd (omega (arith, some.2))
+    let some : IsLeast (bounds_of []) (Some bound) = rw none at left.least in
+    absurd (omega (arith, some.0.1))
 
 pub stops_after : (p : Problem) (n takes : ℕ) (state : SearchState) (outcome : Outcome) → HasTaken p n state → (state.nodes ≡ []) ⊎ (n ≡ takes) → IsOutcomeOf state outcome → StopsOnlyAfter p takes outcome
 stops_after p n takes state (Optimal best) so_far ends of_state = tt

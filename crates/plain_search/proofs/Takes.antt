@@ -11,7 +11,7 @@ use Rattle.branching.specs.Fair.{IsShorterThan, IsNodeOf, IsCovered, ceiling_of}
 use Rattle.branching.specs.Right.{IsBelow, IsUnder}
 use Rattle.branching.proofs.OrderedPairs.{here, any_left}
 use Rattle.branching.proofs.Covers.{all_left, covered_still, expansion_keeps}
-use Rattle.plain_search.specs.Takes.{SearchState, IsSoundState, IsLeastBound, DropsOver, IsTake}
+use Rattle.plain_search.specs.Takes.{SearchState, IsSoundState, bounds_of, DropsOver, IsTake}
 
 -- nodes that are not below the best may be left out
 pub drops_keep : (p : Problem) (best : Option ScheduleOf) (old new : List Subproblem) → DropsOver (ceiling_of best) old new → IsCovered p best old → IsCovered p best new
@@ -55,42 +55,6 @@ take_keeps old new take sound =
     (λ s shorter. below_from_shorter old.best take.report.ceiling s take.expanded.ceiling_is shorter)
     take.best reached)
 
--- ---- the least bound of the nodes
-
-least_of_one : (bound : ℤ) (node : Subproblem) → bound ≡ node.bound → IsLeastBound (node ∷ []) bound
-least_of_one bound node same =
-    let first = here node [] in
-    record {
-      of_some = (first.0, node, first.1, first.2, sym same);
-      least = All-cons (λ (n : Subproblem). bound ≤ℤ n.bound) node [] (omega (arith, ints)) (All-nil (λ (n : Subproblem). bound ≤ℤ n.bound));
-    }
-
--- the lesser of the least so far and the bound of one node more
-least_of_more : (least lower : ℤ) (nodes : List Subproblem) (node : Subproblem) → IsLeastBound nodes least → lower ≤ℤ least → lower ≤ℤ node.bound → (lower ≡ node.bound) ⊎ (lower ≡ least) → IsLeastBound (nodes ++ node ∷ []) lower
-least_of_more least lower nodes node so_far than_least than_bound from = record {
-  of_some =
-      ⊎_elim
-      (λ (new : lower ≡ node.bound). Any-push (λ (n : Subproblem). n.bound ≡ lower) nodes node (sym new))
-      (λ (old : lower ≡ least). any_left (λ (n : Subproblem). n.bound ≡ lower) nodes (node ∷ []) (rw old so_far.of_some))
-      from;
-  least = All-push (λ (n : Subproblem). lower ≤ℤ n.bound) nodes node (All-weaker (λ (n : Subproblem). least ≤ℤ n.bound) (λ (n : Subproblem). lower ≤ℤ n.bound) (λ n h. omega (arith, ints)) nodes so_far.least) than_bound;
-}
-
--- what is known of the least bound so far
-abbrev pub LeastSoFar : List Subproblem → Option ℤ → Type 0
-LeastSoFar nodes None = nodes ≡ []
-LeastSoFar nodes (Some least) = IsLeastBound nodes least
-
-pub lower_all : (least : Option ℤ) (lower bound : ℤ) (nodes : List Subproblem) (node : Subproblem) → LeastSoFar nodes least → IfSome least (λ least. lower ≤ℤ least) → lower ≤ℤ bound → (lower ≡ bound) ⊎ (Some lower ≡ least) → bound ≡ node.bound → IsLeastBound (nodes ++ node ∷ []) lower
-lower_all None lower bound nodes node none than_least than_bound from same =
-    rw none
-    (⊎_elim
-    (λ (new : lower ≡ bound). least_of_one lower node (new ∙ same))
-    (λ (old : Some lower ≡ None). absurd cc)
-    from)
-lower_all (Some least) lower bound nodes node so_far than_least than_bound from same =
-    least_of_more least lower nodes node so_far than_least (rw same at than_bound)
-    (⊎_elim
-    (λ (new : lower ≡ bound). inl (new ∙ same))
-    (λ (old : Some lower ≡ Some least). inr cc)
-    from)
+pub no_nodes : (nodes : List Subproblem) → bounds_of nodes ≡ [] → nodes ≡ []
+no_nodes [] none = refl
+no_nodes (node ∷ nodes) none = absurd cc

@@ -1,11 +1,11 @@
 -- How a search in one thread goes: take by take, depth first.
-use Rattle.std.specs.Prelude.{◌≡◌, ℤ, ◌≤ℤ◌, Option, List, ℕ, suc, None, Some, [], ◌∷◌, ◌++◌, map}
-use Rattle.std.specs.List.{All, Any}
+use Rattle.std.specs.Prelude.{◌≡◌, ℤ, Option, List, ℕ, suc, None, Some, [], ◌∷◌, ◌++◌, map}
+use Rattle.std.specs.List.{All}
 use Rattle.network.specs.Problem.{Problem}
 use Rattle.network.specs.Schedule.{ScheduleOf}
 use Rattle.branching.specs.Subproblem.{Subproblem}
 use Rattle.branching.specs.Fair.{IsCovered, Expansion, IsReport, IsReportOn, IsRootOf, IsShorterOf, ceiling_of}
-use Rattle.branching.specs.Right.{IsUnder}
+use Rattle.branching.specs.Right.{IsUnder, IsLeast}
 use Rattle.plain_search.specs.declared.search.Outcome.{Outcome}
 use Rattle.plain_search.specs.declared.search.Outcome.TheVariants.{Optimal, NoSchedule, Stopped}
 use Rattle.std.specs.Arc.{arc_value}
@@ -23,10 +23,8 @@ pub record SearchState : Type 0 where
 abbrev pub IsSoundState : SearchState → Type 0
 IsSoundState state = IsCovered state.project state.best state.nodes
 
--- the bound is that of some of the nodes, and the least
-pub record IsLeastBound (nodes : List Subproblem) (bound : ℤ) : Type 0 where
-  pub of_some : Any (λ node. node.bound ≡ bound) nodes
-  pub least : All (λ node. bound ≤ℤ node.bound) nodes
+abbrev pub bounds_of : List Subproblem → List ℤ
+bounds_of nodes = map (λ (node : Subproblem). node.bound) nodes
 
 -- nodes were dropped from the end alone, and none of them is below the ceiling
 pub record DropsOver (ceiling : Option ℤ) (old new : List Subproblem) : Type 0 where
@@ -63,7 +61,7 @@ first_state p root = record { project = p; best = None; nodes = root ∷ [] }
 
 -- what is left where a search is stopped: nodes of which some are below the best, with this least bound
 pub record IsLeft (state : SearchState) (bound : ℤ) : Type 0 where
-  pub least : IsLeastBound state.nodes bound
+  pub least : IsLeast (bounds_of state.nodes) (Some bound)
   pub under : IsUnder (ceiling_of state.best) bound
 
 -- the outcome that a state of a search has

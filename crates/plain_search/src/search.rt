@@ -1,12 +1,13 @@
 //! The search by one thread.
 
-ghost use Rattle.std.specs.Prelude.{◌≡◌, ◌<◌, ◌≤◌, ◌≤ℤ◌, ◌⊎◌, [], Some, map, option_map, IfOk, IfSome, IfNone, IsTrue, ◌↔◌};
+ghost use Rattle.std.specs.Prelude.{◌≡◌, ◌<◌, ◌≤◌, ◌⊎◌, [], Some, map, option_map, IfOk, IsTrue, ◌↔◌};
 ghost use Rattle.std.specs.Arc.{arc_value};
 ghost use Rattle.branching.specs.Fair.{IsRootOf, IsShorterOf, ceiling_of};
-ghost use Rattle.plain_search.specs.Takes.{IsLeastBound, PopsUnder, IsTake, IsOutcomeOf, StopsOnlyAfter, first_state};
+ghost use Rattle.branching.specs.Right.{IsLeast};
+ghost use Rattle.plain_search.specs.Takes.{bounds_of, PopsUnder, IsTake, IsOutcomeOf, StopsOnlyAfter, first_state};
 ghost use Rattle.plain_search.specs.Verdicts.{IsTrueOf, StopsBelowBest};
 
-use branching::{Lean, Searcher, is_below, makespan_of, root_and_matrix};
+use branching::{Lean, Searcher, is_below, lean_root, lesser, makespan_of};
 use longest_path::PathFault;
 use network::{Project, Schedule};
 use std::alloc::{AllocError, Global};
@@ -78,26 +79,13 @@ fn next_node(ceiling: Option<i64>, stack: &mut Vec<Arc<Lean>>) -> Option<Arc<Lea
     None
 }
 
-/// The lesser of two bounds, the second where the first isn't there.
-fn lesser(least: Option<i64>, bound: i64) -> i64
-    ensures least { IfSome least (λ least. result ≤ℤ least) }
-    ensures bound { result ≤ℤ bound }
-    ensures from { (result ≡ bound) ⊎ (Some result ≡ least) }
-{
-    match least {
-        Some(least) => least.min(bound),
-        None => bound,
-    }
-}
-
 /// The least bound of the nodes, if there are some.
 fn least_bound(nodes: &[Arc<Lean>]) -> Option<i64>
-    ensures none { IfNone result (map arc_value nodes.now ≡ []) }
-    ensures least { IfSome result (IsLeastBound (map arc_value nodes.now)) }
+    ensures { IsLeast (bounds_of (map arc_value nodes.now)) result }
 {
     let mut least = None;
     for node in nodes {
-        least = Some(lesser(least, node.bound()));
+        least = lesser(least, Some(node.bound()));
     }
     least
 }
@@ -208,12 +196,12 @@ pub fn search_alone(
     ensures below_best { IfOk result StopsBelowBest }
     ensures takes { IfOk result (StopsOnlyAfter (arc_value project.now) takes) }
 {
-    let (root, matrix) = match root_and_matrix(alloc, Arc::try_clone(project)?) {
-        Ok(opened) => opened,
+    let root = match lean_root(alloc, Arc::try_clone(project)?) {
+        Ok(root) => root,
         Err(PathFault::PositiveCycle { .. }) => return Ok(Outcome::NoSchedule),
         Err(PathFault::Memory) => return Err(AllocError),
     };
-    let mut searcher = Searcher::new(alloc, Arc::try_clone(project)?, matrix)?;
+    let mut searcher = Searcher::for_node(alloc, &root)?;
     let mut search = Search::new(alloc, Arc::try_clone(project)?, root)?;
     for _ in 0..takes {
         if search.is_done() {

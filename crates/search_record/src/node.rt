@@ -5,11 +5,12 @@ ghost use Rattle.network.specs.Problem.{NameActivities};
 ghost use Rattle.network.specs.Walk.{IsProjectMatrix};
 ghost use Rattle.branching.specs.Path.{Path};
 ghost use Rattle.branching.specs.Right.{IsDead};
-ghost use Rattle.search_record.specs.Node.{IsAlongSome, IsRootNode, GoesAlong, StaysAlong};
+ghost use Rattle.search_record.specs.Node.{IsRootNode};
 ghost use Rattle.search_record.specs.Right.{IsRightLine};
 
 use crate::judge::is_right_by;
-use longest_path::{MarkedMatrix, Matrix, PathFault, longest};
+use branching::PairMatrix;
+use longest_path::{Matrix, PathFault, longest};
 use network::{Pair, Project};
 use record_text::Line;
 use std::alloc::{AllocError, Global};
@@ -20,56 +21,22 @@ use std::marker::Model;
 #[derive(Drop)]
 pub(crate) struct Node<'a> {
     project: &'a Project,
-    pairs: Vec<Pair>,
-    /// Of the project and the pairs, with a mark for each. Where a pair closes a walk of positive weight,
-    /// of those before it alone.
-    matrix: MarkedMatrix,
+    /// The pairs before the first that closes a walk of positive weight.
+    live: PairMatrix,
+    /// That pair and those after it.
+    dead: Vec<Pair>,
 }
 
 impl<'a> Model for Node<'a> {
+    ghost use Rattle.std.specs.Prelude.{◌++◌};
     ghost use Rattle.branching.specs.Path.{Path};
-    ghost use Rattle.search_record.specs.Node.{IsAlong};
+    ghost use Rattle.search_record.specs.Node.{IsPathTo};
 
     ghost Value = { Path };
 
-    ghost view = { λ s. record { project = s.project.now; pairs = s.pairs.items } };
+    ghost view = { λ s. record { project = s.project.now; pairs = s.live.pairs ++ s.dead.items } };
 
-    ghost invariant = { λ s. IsAlong s.project.now s.pairs.items s.matrix };
-}
-
-/// Adds the arc of one pair more under a mark. The matrix is that of all pairs before it, and the arc closes no walk of
-/// positive weight. Where memory runs out, nothing changes.
-fn go_along(
-    matrix: &mut MarkedMatrix,
-    project: &Project,
-    depth: usize,
-    pair: Pair,
-) -> Result<(), AllocError>
-    requires named { NameActivities project.now (pair ∷ []) }
-    requires along { IsAlongSome project.now matrix.old }
-    ensures along { OnOk result (GoesAlong project.now depth pair matrix.old matrix.new) }
-    ensures unchanged { OnErr result (matrix.new ≡ matrix.old) }
-{
-    if matrix.mark_count() < depth {
-        return Ok(());
-    }
-    let arc = project.pair_arc(pair);
-    match matrix.insert_under_mark(arc) {
-        Ok(()) => Ok(()),
-        Err(PathFault::PositiveCycle { .. }) => Ok(()),
-        Err(PathFault::Memory) => Err(AllocError),
-    }
-}
-
-/// Goes back until there are no more than so many marks.
-fn go_back_to(matrix: &mut MarkedMatrix, count: usize)
-    ensures at_once { length matrix.old.marks ≤ count → matrix.new ≡ matrix.old }
-    ensures back { count ≤ length matrix.old.marks → length matrix.new.marks ≡ count }
-    ensures path { StaysAlong matrix.old matrix.new }
-{
-    while matrix.mark_count() > count {
-        matrix.go_back();
-    }
+    ghost invariant = { λ s. IsPathTo s.project.now s.live s.dead.items };
 }
 
 impl<'a> Node<'a> {
@@ -81,8 +48,8 @@ impl<'a> Node<'a> {
         match longest(alloc, project, &[]) {
             Ok(matrix) => Ok(Some(Node {
                 project,
-                pairs: Vec::new(alloc),
-                matrix: MarkedMatrix::new(alloc, matrix),
+                live: PairMatrix::new(alloc, matrix),
+                dead: Vec::new(alloc),
             })),
             Err(PathFault::PositiveCycle { .. }) => Ok(None),
             Err(PathFault::Memory) => Err(AllocError),
@@ -93,7 +60,7 @@ impl<'a> Node<'a> {
     pub(crate) fn depth(&self) -> usize
         ensures { result ≡ length self.now.pairs }
     {
-        self.pairs.len()
+        self.live.pairs().len() + self.dead.len()
     }
 
     /// The matrix of the project and the pairs; none where these have a closed walk of positive weight.
@@ -102,10 +69,10 @@ impl<'a> Node<'a> {
             (IsDead self.now.project self.now.pairs)
             (λ matrix. IsProjectMatrix self.now.project self.now.pairs matrix.now) }
     {
-        if self.matrix.mark_count() < self.pairs.len() {
-            return None;
+        if self.dead.is_empty() {
+            return Some(self.live.matrix());
         }
-        Some(self.matrix.matrix())
+        None
     }
 
     /// Whether a line is right in this node. No limit stands for a claim that there is no schedule.
@@ -129,10 +96,16 @@ impl<'a> Node<'a> {
         ensures added { OnOk result (self.new ≡ record self.old { pairs = self.old.pairs ++ pair ∷ [] }) }
         ensures unchanged { OnErr result (self.new ≡ self.old) }
     {
-        self.pairs.reserve(1)?;
-        let depth = self.pairs.len();
-        go_along(&mut self.matrix, self.project, depth, pair)?;
-        self.pairs.push_reserved(pair);
+        self.dead.reserve(1)?;
+        if !self.dead.is_empty() {
+            self.dead.push_reserved(pair);
+            return Ok(());
+        }
+        match self.live.add(self.project, pair) {
+            Ok(()) => {}
+            Err(PathFault::PositiveCycle { .. }) => self.dead.push_reserved(pair),
+            Err(PathFault::Memory) => return Err(AllocError),
+        }
         Ok(())
     }
 
@@ -141,7 +114,12 @@ impl<'a> Node<'a> {
         requires { count ≤ length self.old.pairs }
         ensures { self.new ≡ record self.old { pairs = take count self.old.pairs } }
     {
-        go_back_to(&mut self.matrix, count);
-        self.pairs.truncate(count);
+        match count.checked_sub(self.live.pairs().len()) {
+            Some(dead) => self.dead.truncate(dead),
+            None => {
+                self.dead.clear();
+                self.live.keep(count);
+            }
+        }
     }
 }

@@ -6,9 +6,10 @@ use Rattle.branching.specs.Fair.{ceiling_of}
 use Rattle.plain_search.specs.Verdicts.{IsNoLongerThan, IsTrueOf}
 use Rattle.plain_search.specs.declared.search.Outcome.{Outcome}
 use Rattle.plain_search.specs.declared.search.Outcome.TheVariants.{Optimal, NoSchedule, Stopped}
-use Rattle.book.specs.State.{BookState, live}
+use Rattle.branching.specs.Right.{IsLeast}
+use Rattle.book.specs.State.{BookState, live, AddUp}
 use Rattle.trail.specs.Trail.{TrailOf}
-use Rattle.book.specs.Sound.{IsLeast, known_bounds}
+use Rattle.book.specs.Sound.{known_bounds}
 use Rattle.trail.specs.RightTrail.{IsWholeTree}
 use Rattle.worker.specs.declared.solution.Solved.{Solved}
 use Rattle.book.specs.Steps.{AreAllowed}
@@ -44,6 +45,7 @@ IsOutcomeOf s (Stopped best bound) =
 pub record IsSolution (p : Problem) (workers takes : ℕ) (start : Option ScheduleOf) (solved : Solved) : Type 0 where
   pub true_of : IsTrueOf p solved.outcome
   pub from_start : IfSome start (λ s. IsNoLongerThan (makespan s.starts) solved.outcome)
+  pub add_up : AddUp solved.counts
   pub left : IsStopped solved.outcome ↔ (0 < solved.counts.waiting + solved.counts.hand)
   pub taken : IsStopped solved.outcome → solved.counts.taken ≡ takes
   pub each : vec_len solved.per_worker ≡ workers

@@ -123,7 +123,7 @@ fn outcome_of<R: Threads>(rt: &R, book: Book) -> (Outcome, Option<Trail>)
 fn is_over(counts: &Counts, takes: u64) -> bool
     ensures { OnTrue result (0 < counts.now.waiting + counts.now.hand → counts.now.taken ≡ takes) }
 {
-    (counts.waiting() == 0 && counts.hand() == 0) || counts.taken() == takes
+    (counts.waiting == 0 && counts.hand == 0) || counts.taken == takes
 }
 
 /// The outcome of a book whose workers have all ended, and its trail. Its project has to be the given one.

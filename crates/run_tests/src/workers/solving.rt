@@ -14,12 +14,12 @@ use worker::{SolveFault, Solved, solve, solve_recorded};
 /// How many nodes were opened, checked in, cut and taken, and are open and in hand.
 pub(super) fn numbers(counts: &Counts) -> [u64; 6] {
     [
-        counts.opened(),
-        counts.checked(),
-        counts.cut(),
-        counts.taken(),
-        counts.waiting(),
-        counts.hand(),
+        counts.opened,
+        counts.checked,
+        counts.cut,
+        counts.taken,
+        counts.waiting,
+        counts.hand,
     ]
 }
 

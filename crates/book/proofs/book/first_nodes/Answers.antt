@@ -1,4 +1,4 @@
-use Rattle.std.proofs.Common.{◌≡◌, [], ◌∷◌, inl, subst, rules}
+use Rattle.std.proofs.Common.{[], ◌∷◌, inl, subst, rules}
 use Rattle.std.specs.Arc.{arc_value}
 use Rattle.std.specs.List.Sorted.{IsPermutation}
 use Rattle.branching.specs.Subproblem.{Subproblem}
@@ -12,10 +12,8 @@ pub returns : goal.returns
 returns c =
     let root : Subproblem = arc_value c.in-Ok.root in
     let is_root : IsRootOf (arc_value c.args.project.now) root = search rules in
-    let same : arc_value c.lean.result.now ≡ root = search rules in
-    let goes_in : Inserts 0 (arc_value c.lean.result.now) c.new-nodes.result c.insert.new.self = search rules in
+    let goes_in : Inserts 0 root c.new-nodes.result c.insert.new.self = search rules in
     let first : Named = record { name = 0; node = root } in
     let moved : IsPermutation (first ∷ []) c.insert.new.self =
-    subst (λ (n : Subproblem). IsPermutation (record { name = 0; node = n } ∷ []) c.insert.new.self) same
-    (subst (λ ns. IsPermutation (record { name = 0; node = arc_value c.lean.result.now } ∷ ns) c.insert.new.self) c.new-nodes.ensures goes_in.nodes) in
+    subst (λ ns. IsPermutation (first ∷ ns) c.insert.new.self) c.new-nodes.ensures goes_in.nodes in
     inl (root, is_root, only_order first c.insert.new.self moved)

@@ -2,6 +2,7 @@ use Rattle.std.proofs.Common.{◌≡◌, refl, sym, ap, ◌∙◌, ◌⊎◌, in
 use Rattle.std.specs.Arc.{arc_value}
 use Rattle.branching.specs.Fair.{IsRootOf}
 use Rattle.branching.specs.Path.{Path}
+use Rattle.branching.specs.Subproblem.{Subproblem}
 use Rattle.branching.proofs.Covers.{none_on_cycle}
 use Rattle.plain_search.proofs.Outcomes.{none_taken, one_taken, stops_after, stops_below}
 use Rattle.plain_search.proofs.search.search_alone.Goals as goal
@@ -15,10 +16,10 @@ returns-in-Err-PositiveCycle-clause-true_of c =
 
 pub loop-init : goal.loop-init
 loop-init c =
-    let is_root : IsRootOf (arc_value c.args.project.now) (arc_value c.in-Ok.opened.0) = rw c.in_ok-try_clone.ensures at c.in-Ok.ensures.root in
+    let is_root : IsRootOf (arc_value c.args.project.now) (arc_value c.in-Ok.root) = rw c.in_ok-try_clone.ensures at c.in-Ok.ensures.root in
     record {
-      taken = none_taken (arc_value c.args.project.now) (arc_value c.in-Ok.opened.0) c.in_ok-search.search is_root (rw c.in_ok-try_clone-3.ensures at c.in_ok-search.ensures);
-      searcher = ap (λ (path : Path). path.project) c.in_ok-searcher.ensures ∙ c.in_ok-try_clone-2.ensures;
+      taken = none_taken (arc_value c.args.project.now) (arc_value c.in-Ok.root) c.in_ok-search.search is_root (rw c.in_ok-try_clone-2.ensures at c.in_ok-search.ensures);
+      searcher = ap (λ (path : Path). path.project) c.in_ok-searcher.ensures ∙ ap (λ (n : Subproblem). n.project) c.deref.ensures ∙ is_root.of_project.project;
     }
 
 pub take-requires : goal.take-requires

@@ -3,9 +3,9 @@ use Rattle.std.specs.List.{All, Any, Contains}
 use Rattle.std.proofs.lemmas.Int.{ints}
 use Rattle.std.proofs.lemmas.List.Elements.{All-nil, All-cons, All-head, All-tail}
 use Rattle.std.specs.Arc.{arc_value}
-use Rattle.branching.specs.Right.{IsUnder, Reaches}
+use Rattle.branching.specs.Right.{IsUnder, Reaches, IsLeast}
 use Rattle.book.specs.State.{Named, BookState, best_makespan}
-use Rattle.book.specs.Sound.{IsLeast, bounds_of, note_cut}
+use Rattle.book.specs.Sound.{bounds_of, note_cut}
 use Rattle.book.specs.Views.{state_of, IsKept}
 use Rattle.trail.specs.Trail.{Entry, TrailOf}
 use Rattle.book.proofs.Recorded.{entries_in, entries_changed, project_kept, cut_state}

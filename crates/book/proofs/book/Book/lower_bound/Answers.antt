@@ -1,8 +1,9 @@
 use Rattle.std.proofs.Common.{ℤ, List, ◌++◌, Option, subst, sym}
 use Rattle.std.proofs.lemmas.List.{map-append}
 use Rattle.std.specs.Option.{option_to_list}
+use Rattle.branching.specs.Right.{IsLeast}
 use Rattle.book.specs.State.{Named, BookState, in_hand, best_makespan}
-use Rattle.book.specs.Sound.{IsSound, IsLeast, bounds_of, known_bounds}
+use Rattle.book.specs.Sound.{IsSound, bounds_of, known_bounds}
 use Rattle.book.specs.Views.{state_of}
 use Rattle.book.proofs.Names.{least_of_option}
 use Rattle.book.proofs.Verdicts.{least_holds}

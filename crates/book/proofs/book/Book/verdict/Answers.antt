@@ -1,10 +1,11 @@
 use Rattle.std.proofs.Common.{◌≡◌, ◌<◌, ◌+◌, ℤ, [], Some, subst, sym, length, length-append, arith, rules, w64, to_z, of_z}
 use Rattle.std.proofs.lemmas.Int.{ints}
+use Rattle.branching.specs.Right.{IsLeast}
 use Rattle.book.specs.State.{BookState, in_hand, live, best_makespan}
 use Rattle.book.specs.Views.{state_of}
 pub use Rattle.book.specs.declared.book.Book.TheInside.{Inside}
 use Rattle.book.proofs.Names.{nothing_of_length}
-use Rattle.book.specs.Sound.{IsSound, IsLeast, known_bounds}
+use Rattle.book.specs.Sound.{IsSound, known_bounds}
 use Rattle.book.specs.declared.answers.Verdict.TheVariants as verdict
 use Rattle.book.proofs.Verdicts.{nothing_known, bound_is_best, verdict_true}
 use Rattle.book.proofs.book.Book.verdict.Goals as goal

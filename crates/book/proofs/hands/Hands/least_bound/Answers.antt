@@ -1,7 +1,8 @@
 use Rattle.std.proofs.Common.{ℤ, List, Option, [], ◌∷◌, subst, sym, ap, ◌∙◌, take, map, arith}
 use Rattle.std.proofs.lemmas.List.{map-append, take_all}
+use Rattle.branching.specs.Right.{IsLeast}
 use Rattle.book.specs.State.{Named, in_hand, hand_of, Held}
-use Rattle.book.specs.Sound.{IsLeast, bounds_of}
+use Rattle.book.specs.Sound.{bounds_of}
 use Rattle.book.proofs.Filing.{in_hand_more}
 use Rattle.book.proofs.hands.Hands.least_bound.Goals as goal
 

@@ -1,6 +1,7 @@
 use Rattle.std.proofs.Common.{◌≡◌, ℤ, Some, subst, sym, map, arith, w64, to_z, of_z}
 use Rattle.std.proofs.lemmas.Int.{ints}
-use Rattle.book.specs.Sound.{IsLeast, bounds_of}
+use Rattle.branching.specs.Right.{IsLeast}
+use Rattle.book.specs.Sound.{bounds_of}
 use Rattle.book.specs.OpenNodes.{open_node}
 use Rattle.book.proofs.Filing.{first_is_least}
 use Rattle.book.proofs.open_nodes.OpenNodes.least_bound.Goals as goal

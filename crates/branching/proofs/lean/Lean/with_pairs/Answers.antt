@@ -5,4 +5,4 @@ use Rattle.branching.proofs.lean.Lean.with_pairs.Goals as goal
 pub returns : goal.returns
 returns c =
     let fits : SFits w64 c.args.bound = search rules in
-    simp to_z-of_z at (rw (c.in_ok-last.ensures, c.requires.parent.project, c.requires.parent.pairs) at c.shared.ensures)
+    simp to_z-of_z at (rw (c.requires.parent.project, c.requires.parent.pairs) at c.shared.ensures)

@@ -1,11 +1,13 @@
-use Rattle.std.proofs.Common.{◌≤◌, ap, length}
+use Rattle.std.proofs.Common.{◌≡◌, refl, sym, ap, ◌+◌, ◌++◌, length, take, arith}
+use Rattle.std.proofs.Math.Seq.{take-append-add}
 use Rattle.branching.specs.Path.{Path}
-use Rattle.search_record.proofs.Decides.{along_kept}
 use Rattle.search_record.proofs.node.Node.keep.Goals as goal
 
-pub invariant_of-self : goal.invariant_of-self
-invariant_of-self c =
-    let e = c.go_back_to.ensures in
-    let low : c.args.count ≤ length c.self.inside.pairs.items = rw (ap (λ (n : Path). length n.pairs) c.self.view_is) c.requires in
-    let along = along_kept c.self.inside.project.now c.self.inside.pairs.items c.args.count c.self.inside.matrix c.go_back_to.new.matrix c.self.invariant low e.at_once e.back (e.path c.self.inside.project.now c.self.inside.pairs.items c.self.invariant.along) in
-    rw c.truncate.ensures.items along
+pub returns-in-Some : goal.returns-in-Some
+returns-in-Some c =
+    let count : c.args.count ≡ length c.self.inside.live.pairs + c.in-Some.dead = grind arith in
+    let pairs : c.self.inside.live.pairs ++ c.truncate.new.self.items ≡ take c.args.count (c.self.inside.live.pairs ++ c.self.inside.dead.items) =
+    rw (c.truncate.ensures.items, count) (sym (take-append-add c.self.inside.live.pairs c.self.inside.dead.items c.in-Some.dead)) in
+    let old : c.self.inside.live.pairs ++ c.self.inside.dead.items ≡ c.args.self.now.pairs = ap (λ (n : Path). n.pairs) c.self.view_is in
+    let project : c.self.inside.project.now ≡ c.args.self.now.project = ap (λ (n : Path). n.project) c.self.view_is in
+    rw (pairs, old, project) refl

@@ -1,11 +1,20 @@
-use Rattle.std.proofs.Common.{◌<◌, arith, ap, length}
+use Rattle.std.proofs.Common.{◌≡◌, ◌<◌, [], ◌++◌, ap, length, rules}
+use Rattle.std.proofs.lemmas.List.{append-nil}
+use Rattle.network.specs.Walk.{IsProjectMatrix}
 use Rattle.branching.specs.Path.{Path}
 use Rattle.branching.specs.Right.{IsDead}
-use Rattle.search_record.proofs.Decides.{dead_along}
+use Rattle.search_record.proofs.Decides.{dead_all}
 use Rattle.search_record.proofs.node.Node.matrix.Goals as goal
 
-pub returns-then-mark_count-len : goal.returns-then-mark_count-len
-returns-then-mark_count-len c =
-    let less : length c.self.inside.matrix.marks < length c.self.inside.pairs.items = omega (arith, c.if-mark_count-len.true, c.mark_count.ensures, c.len.ensures) in
-    let dead : IsDead c.self.inside.project.now c.self.inside.pairs.items = dead_along c.self.inside.project.now c.self.inside.pairs.items c.self.inside.matrix c.self.invariant less in
+pub returns-then-is_empty : goal.returns-then-is_empty
+returns-then-is_empty c =
+    let none : c.self.inside.dead.items ≡ [] = search rules in
+    let whole : IsProjectMatrix c.self.inside.project.now (c.self.inside.live.pairs ++ c.self.inside.dead.items) c.matrix.result.now =
+    rw (c.matrix.ensures, none, append-nil c.self.inside.live.pairs) c.self.invariant.path.matrix in
+    rw (ap (λ (n : Path). n.project) c.self.view_is, ap (λ (n : Path). n.pairs) c.self.view_is) at whole
+
+pub returns : goal.returns
+returns c =
+    let some : 0 < length c.self.inside.dead.items = search rules in
+    let dead : IsDead c.self.inside.project.now (c.self.inside.live.pairs ++ c.self.inside.dead.items) = dead_all c.self.inside.project.now c.self.inside.live.pairs c.self.inside.dead.items some c.self.invariant.dead in
     rw (ap (λ (n : Path). n.project) c.self.view_is, ap (λ (n : Path). n.pairs) c.self.view_is) at dead
