@@ -27,7 +27,7 @@ mod trails;
 
 use anyhow::{Context, anyhow, bail};
 use book::{Book, BookFault, Event, Take, run_events};
-use branching::{Lean, Report, expand, rebuild, root};
+use branching::{Lean, Report, expand, lean_root, rebuild};
 use earliest::least_starts;
 use longest_path::PathFault;
 use network::{MAX_START, Project, Schedule};
@@ -59,8 +59,8 @@ fn project(alloc: Global, text: &[u8]) -> anyhow::Result<Arc<Project>> {
 
 /// The root of a project; none where a closed walk of its rules has positive weight.
 fn root_of(alloc: Global, project: &Arc<Project>) -> anyhow::Result<Option<Arc<Lean>>> {
-    match root(alloc, Arc::try_clone(project)?) {
-        Ok(root) => Ok(Some(Arc::try_clone(root.lean())?)),
+    match lean_root(alloc, Arc::try_clone(project)?) {
+        Ok(root) => Ok(Some(root)),
         Err(PathFault::PositiveCycle { .. }) => Ok(None),
         Err(PathFault::Memory) => bail!("there is no memory for a root"),
     }
