@@ -1,8 +1,9 @@
 //! A trail, as words: what became of each node, by their names.
 
 use crate::replies::list_text;
+use branching::Fate;
 use std::alloc::{AllocError, Global};
-use trail::{KidFate, NodeEnding, Origin, Trail, TrailEntry};
+use trail::{NodeEnding, Origin, Trail, TrailEntry};
 
 /// Where a node came from.
 fn origin_text(alloc: Global, origin: Option<Origin>) -> Result<String, AllocError> {
@@ -15,11 +16,11 @@ fn origin_text(alloc: Global, origin: Option<Origin>) -> Result<String, AllocErr
 }
 
 /// What became of a pair of a split set.
-fn fate_text(alloc: Global, fate: &KidFate) -> Result<String, AllocError> {
+fn fate_text(alloc: Global, fate: &Fate<u64>) -> Result<String, AllocError> {
     let (word, forced) = match fate {
-        KidFate::Opened { name } => return format!(in alloc; " opened {name}"),
-        KidFate::Dead { forced } => ("dead", forced),
-        KidFate::Cut { forced } => ("cut", forced),
+        Fate::Kid(name) => return format!(in alloc; " opened {name}"),
+        Fate::Dead { forced } => ("dead", forced),
+        Fate::Cut { forced } => ("cut", forced),
     };
     let forced = list_text(alloc, forced)?;
     format!(in alloc; " {word}{forced}")

@@ -11,66 +11,66 @@ use Rattle.network.proofs.Schedules.{no_schedule_on_cycle}
 use Rattle.bounds.proofs.TrueBounds.{IsTrueBoundFor-bound}
 use Rattle.branching.specs.Subproblem.{Subproblem, NodeStandsFor, IsBoundOfPairs}
 use Rattle.branching.specs.Right.{IsCut, IsBelow, IsUnder}
-use Rattle.branching.specs.Fates.{FateOf, is_kid, is_dead, is_cut, IsKidBy, IsDeadBy, IsCutBy, AreFates}
+use Rattle.branching.specs.Fates.{Fates, is_kid, is_dead, is_cut, IsKidBy, IsDeadBy, IsCutBy, AreFates}
 use Rattle.branching.specs.Fair.{IsNewTo, IsKidOf}
 use Rattle.branching.proofs.OrderedPairs.{here, any_right}
 use Rattle.branching.proofs.Forcings.{all_forced_hold}
 
 -- ---- fates of more pairs
 
-pub more_fates : (node : Subproblem) (ceiling : Option ℤ) (ps : List Pair) (fs : List FateOf) (ks : List Subproblem) (qs : List Pair) (gs : List FateOf) (ls : List Subproblem) → AreFates node ceiling ps fs ks → AreFates node ceiling qs gs ls → AreFates node ceiling (ps ++ qs) (fs ++ gs) (ks ++ ls)
+pub more_fates : (node : Subproblem) (ceiling : Option ℤ) (ps : List Pair) (fs : Fates) (ks : List Subproblem) (qs : List Pair) (gs : Fates) (ls : List Subproblem) → AreFates node ceiling ps fs ks → AreFates node ceiling qs gs ls → AreFates node ceiling (ps ++ qs) (fs ++ gs) (ks ++ ls)
 more_fates node ceiling [] [] [] qs gs ls first then = then
 more_fates node ceiling [] [] (k ∷ ks) qs gs ls first then = absurd first
 more_fates node ceiling [] (f ∷ fs) ks qs gs ls first then = absurd first
 more_fates node ceiling (p ∷ ps) [] ks qs gs ls first then = absurd first
-more_fates node ceiling (p ∷ ps) (is_kid ∷ fs) [] qs gs ls first then = absurd first
-more_fates node ceiling (p ∷ ps) (is_kid ∷ fs) (k ∷ ks) qs gs ls first then = (first.0, first.1, more_fates node ceiling ps fs ks qs gs ls first.2 then)
+more_fates node ceiling (p ∷ ps) (is_kid u ∷ fs) [] qs gs ls first then = absurd first
+more_fates node ceiling (p ∷ ps) (is_kid u ∷ fs) (k ∷ ks) qs gs ls first then = (first.0, first.1, more_fates node ceiling ps fs ks qs gs ls first.2 then)
 more_fates node ceiling (p ∷ ps) (is_dead forced ∷ fs) ks qs gs ls first then = (first.0, more_fates node ceiling ps fs ks qs gs ls first.1 then)
 more_fates node ceiling (p ∷ ps) (is_cut forced ∷ fs) ks qs gs ls first then = (first.0, more_fates node ceiling ps fs ks qs gs ls first.1 then)
 
 -- one pair more
-pub fate_kid : (node : Subproblem) (ceiling : Option ℤ) (ps : List Pair) (fs : List FateOf) (ks : List Subproblem) (pair : Pair) (kid : Subproblem) → AreFates node ceiling ps fs ks → IsKidBy node pair kid → IsUnder ceiling kid.bound → AreFates node ceiling (ps ++ pair ∷ []) (fs ++ is_kid ∷ []) (ks ++ kid ∷ [])
-fate_kid node ceiling ps fs ks pair kid so_far by under = more_fates node ceiling ps fs ks (pair ∷ []) (is_kid ∷ []) (kid ∷ []) so_far (by, under, tt)
+pub fate_kid : (node : Subproblem) (ceiling : Option ℤ) (ps : List Pair) (fs : Fates) (ks : List Subproblem) (pair : Pair) (kid : Subproblem) → AreFates node ceiling ps fs ks → IsKidBy node pair kid → IsUnder ceiling kid.bound → AreFates node ceiling (ps ++ pair ∷ []) (fs ++ is_kid tt ∷ []) (ks ++ kid ∷ [])
+fate_kid node ceiling ps fs ks pair kid so_far by under = more_fates node ceiling ps fs ks (pair ∷ []) (is_kid tt ∷ []) (kid ∷ []) so_far (by, under, tt)
 
-pub fate_dead : (node : Subproblem) (ceiling : Option ℤ) (ps : List Pair) (fs : List FateOf) (ks : List Subproblem) (pair : Pair) (forced : List Pair) → AreFates node ceiling ps fs ks → IsDeadBy node pair forced → AreFates node ceiling (ps ++ pair ∷ []) (fs ++ is_dead forced ∷ []) ks
+pub fate_dead : (node : Subproblem) (ceiling : Option ℤ) (ps : List Pair) (fs : Fates) (ks : List Subproblem) (pair : Pair) (forced : List Pair) → AreFates node ceiling ps fs ks → IsDeadBy node pair forced → AreFates node ceiling (ps ++ pair ∷ []) (fs ++ is_dead forced ∷ []) ks
 fate_dead node ceiling ps fs ks pair forced so_far dead =
     let all : AreFates node ceiling (ps ++ pair ∷ []) (fs ++ is_dead forced ∷ []) (ks ++ []) = more_fates node ceiling ps fs ks (pair ∷ []) (is_dead forced ∷ []) [] so_far (dead, tt) in
     rw (append-nil ks) at all
 
-pub fate_cut : (node : Subproblem) (ceiling : Option ℤ) (ps : List Pair) (fs : List FateOf) (ks : List Subproblem) (pair : Pair) (forced : List Pair) → AreFates node ceiling ps fs ks → IsCutBy node ceiling pair forced → AreFates node ceiling (ps ++ pair ∷ []) (fs ++ is_cut forced ∷ []) ks
+pub fate_cut : (node : Subproblem) (ceiling : Option ℤ) (ps : List Pair) (fs : Fates) (ks : List Subproblem) (pair : Pair) (forced : List Pair) → AreFates node ceiling ps fs ks → IsCutBy node ceiling pair forced → AreFates node ceiling (ps ++ pair ∷ []) (fs ++ is_cut forced ∷ []) ks
 fate_cut node ceiling ps fs ks pair forced so_far cut =
     let all : AreFates node ceiling (ps ++ pair ∷ []) (fs ++ is_cut forced ∷ []) (ks ++ []) = more_fates node ceiling ps fs ks (pair ∷ []) (is_cut forced ∷ []) [] so_far (cut, tt) in
     rw (append-nil ks) at all
 
 -- ---- what they give
 
-pub fates_few : (node : Subproblem) (ceiling : Option ℤ) (ps : List Pair) (fs : List FateOf) (ks : List Subproblem) → AreFates node ceiling ps fs ks → length ks ≤ length ps
+pub fates_few : (node : Subproblem) (ceiling : Option ℤ) (ps : List Pair) (fs : Fates) (ks : List Subproblem) → AreFates node ceiling ps fs ks → length ks ≤ length ps
 fates_few node ceiling [] [] [] are = omega arith
 fates_few node ceiling [] [] (k ∷ ks) are = absurd are
 fates_few node ceiling [] (f ∷ fs) ks are = absurd are
 fates_few node ceiling (p ∷ ps) [] ks are = absurd are
-fates_few node ceiling (p ∷ ps) (is_kid ∷ fs) [] are = absurd are
-fates_few node ceiling (p ∷ ps) (is_kid ∷ fs) (k ∷ ks) are = omega (arith, fates_few node ceiling ps fs ks are.2)
+fates_few node ceiling (p ∷ ps) (is_kid u ∷ fs) [] are = absurd are
+fates_few node ceiling (p ∷ ps) (is_kid u ∷ fs) (k ∷ ks) are = omega (arith, fates_few node ceiling ps fs ks are.2)
 fates_few node ceiling (p ∷ ps) (is_dead forced ∷ fs) ks are = omega (arith, fates_few node ceiling ps fs ks are.1)
 fates_few node ceiling (p ∷ ps) (is_cut forced ∷ fs) ks are = omega (arith, fates_few node ceiling ps fs ks are.1)
 
-pub fates_under : (node : Subproblem) (ceiling : Option ℤ) (ps : List Pair) (fs : List FateOf) (ks : List Subproblem) → AreFates node ceiling ps fs ks → All (λ kid. IsUnder ceiling kid.bound) ks
+pub fates_under : (node : Subproblem) (ceiling : Option ℤ) (ps : List Pair) (fs : Fates) (ks : List Subproblem) → AreFates node ceiling ps fs ks → All (λ kid. IsUnder ceiling kid.bound) ks
 fates_under node ceiling [] [] [] are = All-nil (λ (kid : Subproblem). IsUnder ceiling kid.bound)
 fates_under node ceiling [] [] (k ∷ ks) are = absurd are
 fates_under node ceiling [] (f ∷ fs) ks are = absurd are
 fates_under node ceiling (p ∷ ps) [] ks are = absurd are
-fates_under node ceiling (p ∷ ps) (is_kid ∷ fs) [] are = absurd are
-fates_under node ceiling (p ∷ ps) (is_kid ∷ fs) (k ∷ ks) are = All-cons (λ (kid : Subproblem). IsUnder ceiling kid.bound) k ks are.1 (fates_under node ceiling ps fs ks are.2)
+fates_under node ceiling (p ∷ ps) (is_kid u ∷ fs) [] are = absurd are
+fates_under node ceiling (p ∷ ps) (is_kid u ∷ fs) (k ∷ ks) are = All-cons (λ (kid : Subproblem). IsUnder ceiling kid.bound) k ks are.1 (fates_under node ceiling ps fs ks are.2)
 fates_under node ceiling (p ∷ ps) (is_dead forced ∷ fs) ks are = fates_under node ceiling ps fs ks are.1
 fates_under node ceiling (p ∷ ps) (is_cut forced ∷ fs) ks are = fates_under node ceiling ps fs ks are.1
 
-pub fates_kids : (node : Subproblem) (ceiling : Option ℤ) (ps : List Pair) (fs : List FateOf) (ks : List Subproblem) → AreFates node ceiling ps fs ks → All (IsNewTo node) ps → All (IsKidOf node) ks
+pub fates_kids : (node : Subproblem) (ceiling : Option ℤ) (ps : List Pair) (fs : Fates) (ks : List Subproblem) → AreFates node ceiling ps fs ks → All (IsNewTo node) ps → All (IsKidOf node) ks
 fates_kids node ceiling [] [] [] are new = All-nil (IsKidOf node)
 fates_kids node ceiling [] [] (k ∷ ks) are new = absurd are
 fates_kids node ceiling [] (f ∷ fs) ks are new = absurd are
 fates_kids node ceiling (p ∷ ps) [] ks are new = absurd are
-fates_kids node ceiling (p ∷ ps) (is_kid ∷ fs) [] are new = absurd are
-fates_kids node ceiling (p ∷ ps) (is_kid ∷ fs) (k ∷ ks) are new =
+fates_kids node ceiling (p ∷ ps) (is_kid u ∷ fs) [] are new = absurd are
+fates_kids node ceiling (p ∷ ps) (is_kid u ∷ fs) (k ∷ ks) are new =
     All-cons (IsKidOf node) k ks (record { first = p; is_new = All-head (IsNewTo node) p ps new; adds = are.0 }) (fates_kids node ceiling ps fs ks are.2 (All-tail (IsNewTo node) p ps new))
 fates_kids node ceiling (p ∷ ps) (is_dead forced ∷ fs) ks are new = fates_kids node ceiling ps fs ks are.1 (All-tail (IsNewTo node) p ps new)
 fates_kids node ceiling (p ∷ ps) (is_cut forced ∷ fs) ks are new = fates_kids node ceiling ps fs ks are.1 (All-tail (IsNewTo node) p ps new)
@@ -123,14 +123,14 @@ none_any : {X : Type 0} (P : X → Type 0) → Any P [] → ⊥
 none_any P (k, y, l, e, p) = omega arith
 
 -- each schedule below the ceiling that keeps one of the pairs is one that some kid stands for
-pub fates_cover : (node : Subproblem) (ceiling : Option ℤ) (ps : List Pair) (fs : List FateOf) (ks : List Subproblem) → AreFates node ceiling ps fs ks →
+pub fates_cover : (node : Subproblem) (ceiling : Option ℤ) (ps : List Pair) (fs : Fates) (ks : List Subproblem) → AreFates node ceiling ps fs ks →
     (s : List ℤ) → NodeStandsFor node s → IsBelow ceiling s → Any (Keeps node.project s) ps → Any (λ kid. NodeStandsFor kid s) ks
 fates_cover node ceiling [] [] [] are s stands below kept = absurd (none_any (Keeps node.project s) kept)
 fates_cover node ceiling [] [] (k ∷ ks) are s stands below kept = absurd are
 fates_cover node ceiling [] (f ∷ fs) ks are s stands below kept = absurd are
 fates_cover node ceiling (p ∷ ps) [] ks are s stands below kept = absurd are
-fates_cover node ceiling (p ∷ ps) (is_kid ∷ fs) [] are s stands below kept = absurd are
-fates_cover node ceiling (p ∷ ps) (is_kid ∷ fs) (k ∷ ks) are s stands below kept =
+fates_cover node ceiling (p ∷ ps) (is_kid u ∷ fs) [] are s stands below kept = absurd are
+fates_cover node ceiling (p ∷ ps) (is_kid u ∷ fs) (k ∷ ks) are s stands below kept =
     ⊎_elim
     (λ (now : Keeps node.project s p). any_here (λ kid. NodeStandsFor kid s) k ks (kid_stands node k p s are.0 stands now))
     (λ (later : Any (Keeps node.project s) ps). any_right (λ kid. NodeStandsFor kid s) (k ∷ []) ks (fates_cover node ceiling ps fs ks are.2 s stands below later))

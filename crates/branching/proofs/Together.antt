@@ -15,7 +15,7 @@ use Rattle.forbidden_sets.specs.MinimalSet.{MinimalSet}
 use Rattle.branching.specs.Subproblem.{Subproblem, NodeStandsFor, IsNode, ordered_pairs}
 use Rattle.branching.specs.declared.report.TheConstants.{MAX_KIDS}
 use Rattle.branching.specs.Right.{IsRightSet, IsCutUnder, IsBelow, Reaches}
-use Rattle.branching.specs.Fates.{FateOf, AreFates}
+use Rattle.branching.specs.Fates.{Fates, AreFates}
 use Rattle.branching.specs.Fair.{IsNewTo, IsKidOf, IsReport}
 use Rattle.branching.proofs.OrderedPairs.{here, all_pairs, count_pairs}
 use Rattle.rivals.proofs.Apart.{BeginsFrom, rising_length}
@@ -150,7 +150,7 @@ report_found node ceiling found is project least within = record {
 }
 
 -- fates of the ordered pairs of a set make a fair report, since some pair is always kept
-pub report_split : (node : Subproblem) (ceiling : Option ℤ) (set : MinimalSet) (fates : List FateOf) (kids : List Subproblem) → IsNode node → IsRightSet node.project set.resource set.members → All (IsNewTo node) (ordered_pairs set.members) →
+pub report_split : (node : Subproblem) (ceiling : Option ℤ) (set : MinimalSet) (fates : Fates) (kids : List Subproblem) → IsNode node → IsRightSet node.project set.resource set.members → All (IsNewTo node) (ordered_pairs set.members) →
     AreFates node ceiling (ordered_pairs set.members) fates kids →
     IsReport (record { node = node; ceiling = ceiling; found = None; split = Some set; fates = fates; kids = kids })
 report_split node ceiling set fates kids is right new are =

@@ -7,7 +7,7 @@ use Rattle.forbidden_sets.specs.MinimalSet.{MinimalSet}
 use Rattle.branching.specs.declared.report.TheConstants.{MAX_KIDS}
 use Rattle.branching.specs.Subproblem.{Subproblem, NodeStandsFor, IsNode, ordered_pairs}
 use Rattle.branching.specs.Right.{IsRightSet, IsCutUnder, IsBelow, IsUnder}
-use Rattle.branching.specs.Fates.{FateOf, IsKidBy, AreFates, fate_value}
+use Rattle.branching.specs.Fates.{Fates, IsKidBy, AreFates, fate_value}
 use Rattle.std.specs.Arc.{arc_value}
 use Rattle.branching.specs.declared.branches.Branches.{Branches}
 use Rattle.branching.specs.declared.report.Report.TheInside.{Inside}
@@ -20,12 +20,12 @@ pub record Expansion : Type 0 where
   pub ceiling : Option ℤ
   pub found : Option ScheduleOf
   pub split : Option MinimalSet
-  pub fates : List FateOf
+  pub fates : Fates
   pub kids : List Subproblem
 
 -- the report of these parts
 abbrev pub report_of :
-    Subproblem → Option ℤ → Option ScheduleOf → Option MinimalSet → List FateOf → List Subproblem → Expansion
+    Subproblem → Option ℤ → Option ScheduleOf → Option MinimalSet → Fates → List Subproblem → Expansion
 report_of node ceiling found split fates kids =
     record { node = node; ceiling = ceiling; found = found; split = split; fates = fates; kids = kids }
 

@@ -12,6 +12,7 @@ ghost use Rattle.branching.specs.Forcing.{IsForcedMatrix};
 ghost use Rattle.branching.specs.Fates.{IsBranchOf};
 
 use crate::ceiling::is_below;
+use crate::fate::Fate;
 use crate::forcing::{Forcing, force, forces_some};
 use crate::lean::Lean;
 use bounds::Workspace;
@@ -19,14 +20,11 @@ use longest_path::{MarkedMatrix, Matrix, PathFault};
 use network::Pair;
 use std::alloc::{AllocError, Global};
 
-/// What an ordered pair of a forbidden set gives: a kid, or nothing, with the pairs that were forced
-/// by then.
+/// A kid that was found: the pairs that its own pair forced, and its bound.
 #[derive(Drop)]
-pub(crate) enum Branch {
-    /// With the kid's bound.
-    Kid { forced: Vec<Pair>, bound: i64 },
-    Dead(Vec<Pair>),
-    Cut(Vec<Pair>),
+pub(crate) struct FoundKid {
+    pub(crate) forced: Vec<Pair>,
+    pub(crate) bound: i64,
 }
 
 /// Whether the pair closes a walk of positive weight, by one entry of the node's matrix.
@@ -64,7 +62,7 @@ fn bounded(
     ceiling: Option<i64>,
     first: Pair,
     forced: Vec<Pair>,
-) -> Branch
+) -> Fate<FoundKid>
     requires bounds { IsWorkspaceFor node.now.project bounds.old }
     requires named { NameActivities node.now.project (first ∷ []) }
     requires matrix { IsForcedMatrix node.now.project (node.now.pairs ++ first ∷ []) forced.items matrix.now }
@@ -74,9 +72,9 @@ fn bounded(
     // The pair's arc is in the matrix, so that the bound with it is that of the matrix.
     let bound = bounds.bound_under(node.project(), matrix, first, ceiling);
     if !is_below(bound, ceiling) {
-        return Branch::Cut(forced);
+        return Fate::Cut { forced };
     }
-    Branch::Kid { forced, bound }
+    Fate::Kid(FoundKid { forced, bound })
 }
 
 /// What a pair gives by the matrix with its arc. The matrix is left as the last forced pair makes it.
@@ -87,7 +85,7 @@ fn branch_at(
     bounds: &mut Workspace,
     ceiling: Option<i64>,
     first: Pair,
-) -> Result<Branch, AllocError>
+) -> Result<Fate<FoundKid>, AllocError>
     requires bounds { IsWorkspaceFor node.now.project bounds.old }
     requires named { NameActivities node.now.project (first ∷ []) }
     requires matrix { IsProjectMatrix node.now.project (node.now.pairs ++ first ∷ []) matrix.old.rows }
@@ -96,7 +94,7 @@ fn branch_at(
     ensures branch { IfOk result (IsBranchOf node.now ceiling first) }
 {
     match force(alloc, node, first, matrix)? {
-        Forcing::Dead(forced) => Ok(Branch::Dead(forced)),
+        Forcing::Dead(forced) => Ok(Fate::Dead { forced }),
         Forcing::Live(forced) => {
             let matrix = matrix.matrix();
             Ok(bounded(node, matrix, bounds, ceiling, first, forced))
@@ -112,7 +110,7 @@ fn branch_with_forced(
     bounds: &mut Workspace,
     ceiling: Option<i64>,
     first: Pair,
-) -> Result<Branch, AllocError>
+) -> Result<Fate<FoundKid>, AllocError>
     requires tied { IsTiedTo node.now matrix.old.rows }
     requires bounds { IsWorkspaceFor node.now.project bounds.old }
     requires named { NameActivities node.now.project (first ∷ []) }
@@ -122,7 +120,7 @@ fn branch_with_forced(
 {
     match matrix.insert_under_mark(node.project().pair_arc(first)) {
         Ok(()) => {}
-        Err(PathFault::PositiveCycle { .. }) => return Ok(Branch::Dead(Vec::new(alloc))),
+        Err(PathFault::PositiveCycle { .. }) => return Ok(Fate::Dead { forced: Vec::new(alloc) }),
         Err(PathFault::Memory) => return Err(AllocError),
     }
     let branch = branch_at(alloc, node, matrix, bounds, ceiling, first);
@@ -139,7 +137,7 @@ pub(crate) fn branch_of(
     bounds: &mut Workspace,
     ceiling: Option<i64>,
     pair: Pair,
-) -> Result<Branch, AllocError>
+) -> Result<Fate<FoundKid>, AllocError>
     requires tied { IsTiedTo node.now matrix.old.rows }
     requires bounds { IsWorkspaceFor node.now.project bounds.old }
     requires named { NameActivities node.now.project (pair ∷ []) }
@@ -149,10 +147,10 @@ pub(crate) fn branch_of(
 {
     let rows = matrix.matrix();
     if is_dead_with(node, rows, pair) {
-        return Ok(Branch::Dead(Vec::new(alloc)));
+        return Ok(Fate::Dead { forced: Vec::new(alloc) });
     }
     if !is_below(least_with(node, rows, pair), ceiling) {
-        return Ok(Branch::Cut(Vec::new(alloc)));
+        return Ok(Fate::Cut { forced: Vec::new(alloc) });
     }
     if node.pairs().get(0).is_none()
         || forces_some(node.project(), rows, node.base().incompatible(), pair)
@@ -161,8 +159,8 @@ pub(crate) fn branch_of(
     }
     let bound = bounds.bound_under(node.project(), rows, pair, ceiling);
     if !is_below(bound, ceiling) {
-        return Ok(Branch::Cut(Vec::new(alloc)));
+        return Ok(Fate::Cut { forced: Vec::new(alloc) });
     }
     let forced = Vec::new(alloc);
-    Ok(Branch::Kid { forced, bound })
+    Ok(Fate::Kid(FoundKid { forced, bound }))
 }

@@ -6,9 +6,9 @@ ghost use Rattle.bounds.specs.Bound.{IsWorkspaceFor};
 ghost use Rattle.branching.specs.Subproblem.{IsTiedTo};
 ghost use Rattle.branching.specs.Fates.{AreBranches};
 
-use crate::branch::{Branch, branch_of};
+use crate::branch::branch_of;
+use crate::fate::Fate;
 use crate::lean::{Lean, parent_of};
-use crate::report::Fate;
 use bounds::Workspace;
 use longest_path::MarkedMatrix;
 use network::Pair;
@@ -22,7 +22,7 @@ pub struct Branches {
     /// The kids, by rising pairs.
     pub kids: Vec<Arc<Lean>>,
     /// What became of each pair.
-    pub fates: Vec<Fate>,
+    pub fates: Vec<Fate<()>>,
 }
 
 impl Branches {
@@ -76,13 +76,13 @@ pub(crate) fn branches_of(
     let mut made = None;
     for pair in pairs {
         let fate = match branch_of(alloc, node, matrix, bounds, ceiling, *pair)? {
-            Branch::Kid { forced, bound } => {
+            Fate::Kid(kid) => {
                 let parent = parent_of(alloc, node, &mut made)?;
-                kids.push(node.with_pairs(alloc, parent, *pair, forced, bound)?)?;
-                Fate::Kid
+                kids.push(node.with_pairs(alloc, parent, *pair, kid.forced, kid.bound)?)?;
+                Fate::Kid(())
             }
-            Branch::Dead(forced) => Fate::Dead { forced },
-            Branch::Cut(forced) => Fate::Cut { forced },
+            Fate::Dead { forced } => Fate::Dead { forced },
+            Fate::Cut { forced } => Fate::Cut { forced },
         };
         fates.push(fate)?;
     }

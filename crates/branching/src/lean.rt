@@ -1,13 +1,16 @@
 //! A node as it waits: its pairs and its bound, without a matrix.
 
-ghost use Rattle.std.specs.Prelude.{◌≡◌, ◌↔◌, IsTrue, IfOk, IfSome};
+ghost use Rattle.std.specs.Prelude.{◌≡◌, ◌↔◌, [], IsTrue, IfOk, IfErr, IfSome};
 ghost use Rattle.std.specs.Arc.{arc_value};
-ghost use Rattle.network.specs.Problem.{IsProject};
+ghost use Rattle.network.specs.Problem.{IsProject, arcs_of};
+ghost use Rattle.longest_path.specs.Insert.{Explains};
 ghost use Rattle.branching.specs.Subproblem.{IsNode, kid_of, root_node};
 ghost use Rattle.branching.specs.Parent.{IsParent, node_under};
+ghost use Rattle.branching.specs.Fair.{IsRootOf};
 
 use crate::base::Base;
 use crate::pair_list::PairList;
+use longest_path::{PathFault, longest};
 use network::{Pair, Project};
 use std::alloc::{AllocError, Global};
 use std::marker::Model;
@@ -152,4 +155,20 @@ impl Lean {
     {
         Lean::shared(alloc, parent, Some(first), forced, bound)
     }
+}
+
+/// The root of a project, which has no pairs and stands for all feasible schedules.
+///
+/// [`PathFault::PositiveCycle`] comes exactly where the project's rules have a closed walk of
+/// positive weight, so that there is no schedule.
+pub fn lean_root(alloc: Global, project: Arc<Project>) -> Result<Arc<Lean>, PathFault>
+    ensures root { IfOk result (λ root. IsRootOf (arc_value project) (arc_value root)) }
+    ensures fault { IfErr result (λ fault. Explains (arcs_of (arc_value project) []) fault) }
+{
+    prove!(project.activity_count() >= 2);
+    let matrix = longest(alloc, &project, &[])?;
+    let bound = bounds::bound(alloc, &project, &matrix)?;
+    let base = Base::shared(alloc, project, matrix)?;
+    let root = Lean::root(alloc, base, bound)?;
+    Ok(root)
 }

@@ -1,17 +1,11 @@
 //! A node with its matrix.
 
-ghost use Rattle.std.specs.Prelude.{◌≡◌, [], IfOk, IfErr};
+ghost use Rattle.std.specs.Prelude.{◌≡◌, IfOk};
 ghost use Rattle.std.specs.Arc.{arc_value};
-ghost use Rattle.network.specs.Problem.{arcs_of};
-ghost use Rattle.longest_path.specs.Insert.{Explains};
 ghost use Rattle.branching.specs.Subproblem.{Subproblem, IsNode, IsTiedTo};
-ghost use Rattle.branching.specs.Fair.{IsRootOf};
 
-use crate::base::Base;
 use crate::lean::Lean;
-use crate::searcher::rebuild;
-use longest_path::{Matrix, PathFault, longest};
-use network::Project;
+use longest_path::Matrix;
 use std::alloc::{AllocError, Global};
 use std::marker::Model;
 use std::sync::Arc;
@@ -61,29 +55,4 @@ impl Node {
     {
         &self.matrix
     }
-}
-
-/// The root of a project, which has no pairs and stands for all feasible schedules.
-///
-/// [`PathFault::PositiveCycle`] comes exactly where the project's rules have a closed walk of
-/// positive weight, so that there is no schedule.
-pub fn lean_root(alloc: Global, project: Arc<Project>) -> Result<Arc<Lean>, PathFault>
-    ensures root { IfOk result (λ root. IsRootOf (arc_value project) (arc_value root)) }
-    ensures fault { IfErr result (λ fault. Explains (arcs_of (arc_value project) []) fault) }
-{
-    prove!(project.activity_count() >= 2);
-    let matrix = longest(alloc, &project, &[])?;
-    let bound = bounds::bound(alloc, &project, &matrix)?;
-    let base = Base::shared(alloc, project, matrix)?;
-    let root = Lean::root(alloc, base, bound)?;
-    Ok(root)
-}
-
-/// The root of a project with its matrix. Faults are those of [`lean_root`].
-pub fn root(alloc: Global, project: Arc<Project>) -> Result<Arc<Node>, PathFault>
-    ensures root { IfOk result (λ node. IsRootOf (arc_value project) (arc_value node)) }
-    ensures fault { IfErr result (λ fault. Explains (arcs_of (arc_value project) []) fault) }
-{
-    let lean = lean_root(alloc, project)?;
-    Ok(rebuild(alloc, &lean)?)
 }

@@ -5,23 +5,12 @@ ghost use Rattle.std.specs.Arc.{arc_value};
 ghost use Rattle.branching.specs.Fates.{fate_value};
 
 use crate::branches::Branches;
+use crate::fate::Fate;
 use crate::lean::Lean;
 use forbidden_sets::ForbiddenSet;
-use network::{Pair, Schedule};
+use network::Schedule;
 use std::marker::Model;
 use std::sync::Arc;
-
-/// What became of an ordered pair of a forbidden set.
-#[derive(Drop, Debug)]
-pub enum Fate {
-    /// It gave a kid.
-    Kid,
-    /// With the pair and these forced pairs some closed walk has positive weight, so that no schedule
-    /// keeps the pair.
-    Dead { forced: Vec<Pair> },
-    /// With the pair and these forced pairs the bound is at least the ceiling.
-    Cut { forced: Vec<Pair> },
-}
 
 /// How many kids a node has at most: an ordered pair of two of 1,000 activities each.
 pub const MAX_KIDS: usize = 999_000;
@@ -38,7 +27,7 @@ pub struct Report {
     ceiling: Option<i64>,
     found: Option<Schedule>,
     split: Option<ForbiddenSet>,
-    fates: Vec<Fate>,
+    fates: Vec<Fate<()>>,
     kids: Vec<Arc<Lean>>,
 }
 
@@ -63,7 +52,7 @@ impl Report {
         ceiling: Option<i64>,
         found: Option<Schedule>,
         split: Option<ForbiddenSet>,
-        fates: Vec<Fate>,
+        fates: Vec<Fate<()>>,
         kids: Vec<Arc<Lean>>,
     ) -> Report
         requires { IsReport (report_of (arc_value node) ceiling found split
@@ -116,7 +105,7 @@ impl Report {
 
     /// What became of each ordered pair of the split set's members, by rising pairs; empty where no set was
     /// split. Those that are [`Fate::Kid`] are the kids in their order.
-    pub fn fates(&self) -> &[Fate]
+    pub fn fates(&self) -> &[Fate<()>]
         ensures fates { map fate_value result.now ≡ self.now.fates }
         ensures report { IsReport self.now }
     {

@@ -1,21 +1,23 @@
 //! One matrix that moves from node to node.
 
-ghost use Rattle.std.specs.Prelude.{◌≡◌, ◌↔◌, IsTrue, [], slice_get, Some, IfOk, OnOk};
+ghost use Rattle.std.specs.Prelude.{◌≡◌, ◌↔◌, IsTrue, [], slice_get, Some, IfOk, IfErr, OnOk};
 ghost use Rattle.std.specs.Arc.{arc_value};
 ghost use Rattle.std.specs.Bool.{OnTrue};
 ghost use Rattle.network.specs.Problem.{arcs_of, NameActivities};
 ghost use Rattle.network.specs.Walk.{HasNoPositiveCycle};
-ghost use Rattle.branching.specs.Fair.{IsReportOn, FindsNothingOver};
+ghost use Rattle.longest_path.specs.Insert.{Explains};
+ghost use Rattle.branching.specs.Fair.{IsReportOn, FindsNothingOver, IsRootOf};
 ghost use Rattle.branching.specs.Path.{IsAt, IsFrontOf, IsShared};
 
 use crate::branches::Branches;
 use crate::expansion::expand_by;
-use crate::lean::Lean;
+use crate::lean::{Lean, lean_root};
 use crate::node::Node;
 use crate::pair_list::PairList;
 use crate::pair_matrix::PairMatrix;
 use crate::report::Report;
 use crate::workspace::Workspace;
+use longest_path::PathFault;
 use network::{Pair, Project};
 use std::alloc::{AllocError, Global};
 use std::marker::Model;
@@ -160,4 +162,13 @@ pub fn rebuild(alloc: Global, lean: &Arc<Lean>) -> Result<Arc<Node>, AllocError>
     let mut searcher = Searcher::for_node(alloc, lean)?;
     searcher.move_to(&lean.pairs())?;
     searcher.node(alloc, lean)
+}
+
+/// The root of a project with its matrix. Faults are those of [`lean_root`].
+pub fn root(alloc: Global, project: Arc<Project>) -> Result<Arc<Node>, PathFault>
+    ensures root { IfOk result (λ node. IsRootOf (arc_value project) (arc_value node)) }
+    ensures fault { IfErr result (λ fault. Explains (arcs_of (arc_value project) []) fault) }
+{
+    let lean = lean_root(alloc, project)?;
+    Ok(rebuild(alloc, &lean)?)
 }

@@ -77,7 +77,7 @@ fn report_text(alloc: Global, report: &Report) -> Result<String, AllocError> {
         let told = match fate {
             Fate::Dead { forced } => format!(in alloc; "dead{}", pairs_text(alloc, forced)?)?,
             Fate::Cut { forced } => format!(in alloc; "cut{}", pairs_text(alloc, forced)?)?,
-            Fate::Kid => match kids.next() {
+            Fate::Kid(()) => match kids.next() {
                 Some(kid) => format!(in alloc; "kid{}", node_text(alloc, kid)?)?,
                 None => String::from_str(alloc, "kid that is not there")?,
             },

@@ -6,7 +6,8 @@ use Rattle.std.proofs.lemmas.List.Elements.{All-nil, All-cons, All-head, All-tai
 use Rattle.network.specs.Problem.{Problem}
 use Rattle.network.specs.declared.parts.Pair.{Pair}
 use Rattle.branching.specs.Subproblem.{ordered_pairs}
-use Rattle.trail.specs.Trail.{PairFate, was_named, was_dead, was_not_opened, Ending, not_ended, was_cut, was_solved, was_split, Entry, entry_at}
+use Rattle.branching.specs.Fates.{FateOf, is_kid, is_dead, is_cut}
+use Rattle.trail.specs.Trail.{Ending, not_ended, was_cut, was_solved, was_split, Entry, entry_at}
 use Rattle.trail.specs.RightTrail.{IsRightFate, IsRightEnding, IsRightTrail}
 use Rattle.record_text.specs.declared.line.Line.{Line}
 use Rattle.record_text.specs.declared.line.Line.TheVariants as kind
@@ -15,14 +16,14 @@ use Rattle.search_record.specs.TrailTree.{with_forced, fate_tree, fate_trees, en
 
 -- ---- kids have later names
 
-pub lead_on : (p : Problem) (limit : Option ℤ) (entries : List Entry) (name : ℕ) (added : List Pair) (fates : List PairFate) → AllZip (IsRightFate p limit entries name) added fates → LeadOn (length entries) name fates
+pub lead_on : (p : Problem) (limit : Option ℤ) (entries : List Entry) (name : ℕ) (added : List Pair) (fates : List (FateOf ℕ)) → AllZip (IsRightFate p limit entries name) added fates → LeadOn (length entries) name fates
 lead_on p limit entries name [] [] h = tt
 lead_on p limit entries name [] (fate ∷ fates) h = absurd h
 lead_on p limit entries name (pair ∷ added) [] h = absurd h
 lead_on p limit entries name (pair ∷ added) (fate ∷ fates) h = (leads fate h.0, lead_on p limit entries name added fates h.1)
   where
-    leads : (fate : PairFate) → IsRightFate p limit entries name pair fate → LeadsOn (length entries) name fate
-    leads (was_named later) under = (under.is_later, under.named)
+    leads : (fate : FateOf ℕ) → IsRightFate p limit entries name pair fate → LeadsOn (length entries) name fate
+    leads (is_kid later) under = (under.is_later, under.named)
     leads fate under = tt
 
 pub kids_are_later : (p : Problem) (limit : Option ℤ) (entries : List Entry) → IsRightTrail p limit entries → KidsAreLater entries
@@ -34,11 +35,11 @@ kids_are_later p limit entries right name known = of (entry_at entries name).end
 
 -- ---- a deeper look changes nothing
 
-pub fates_agree : (count name : ℕ) (f g : ℕ → Tree) → ((later : ℕ) → name < later → later < count → f later ≡ g later) → (fates : List PairFate) → LeadOn count name fates → fate_trees f fates ≡ fate_trees g fates
+pub fates_agree : (count name : ℕ) (f g : ℕ → Tree) → ((later : ℕ) → name < later → later < count → f later ≡ g later) → (fates : List (FateOf ℕ)) → LeadOn count name fates → fate_trees f fates ≡ fate_trees g fates
 fates_agree count name f g same [] h = refl
-fates_agree count name f g same (was_named later ∷ fates) h = ap (λ (t : Tree). tree t (fate_trees f fates)) (same later h.0.0 h.0.1) ∙ ap (tree (g later)) (fates_agree count name f g same fates h.1)
-fates_agree count name f g same (was_dead forced ∷ fates) h = ap (tree (with_forced forced dead)) (fates_agree count name f g same fates h.1)
-fates_agree count name f g same (was_not_opened forced ∷ fates) h = ap (tree (with_forced forced cut)) (fates_agree count name f g same fates h.1)
+fates_agree count name f g same (is_kid later ∷ fates) h = ap (λ (t : Tree). tree t (fate_trees f fates)) (same later h.0.0 h.0.1) ∙ ap (tree (g later)) (fates_agree count name f g same fates h.1)
+fates_agree count name f g same (is_dead forced ∷ fates) h = ap (tree (with_forced forced dead)) (fates_agree count name f g same fates h.1)
+fates_agree count name f g same (is_cut forced ∷ fates) h = ap (tree (with_forced forced cut)) (fates_agree count name f g same fates h.1)
 
 pub endings_agree : (count name : ℕ) (f g : ℕ → Tree) → ((later : ℕ) → name < later → later < count → f later ≡ g later) → (ending : Ending) → LeadOn count name (ending_fates ending) → ending_tree f ending ≡ ending_tree g ending
 endings_agree count name f g same (was_split resource members fates) h = ap (split resource members) (fates_agree count name f g same fates h)
@@ -71,44 +72,44 @@ lines_ending named (was_split resource members fates) = refl
 lines_node : (forced : List Pair) (last : Line) (t : Tree) (rest : List Line) → lines_of t ≡ last ∷ rest → lines_of (with_forced forced t) ≡ node_lines forced last ++ rest
 lines_node forced last t rest same = lines_forced forced t ∙ ap (λ (lines : List Line). map kind.Force forced ++ lines) same ∙ sym (append_assoc (map kind.Force forced) (last ∷ []) rest)
 
-pub are_named : (count name : ℕ) (fates : List PairFate) → LeadOn count name fates → All (IsNamed count) fates
+pub are_named : (count name : ℕ) (fates : List (FateOf ℕ)) → LeadOn count name fates → All (IsNamed count) fates
 are_named count name [] h = All-nil (IsNamed count)
-are_named count name (was_named later ∷ fates) h = All-cons (IsNamed count) (was_named later) fates h.0.1 (are_named count name fates h.1)
-are_named count name (was_dead forced ∷ fates) h = All-cons (IsNamed count) (was_dead forced) fates tt (are_named count name fates h.1)
-are_named count name (was_not_opened forced ∷ fates) h = All-cons (IsNamed count) (was_not_opened forced) fates tt (are_named count name fates h.1)
+are_named count name (is_kid later ∷ fates) h = All-cons (IsNamed count) (is_kid later) fates h.0.1 (are_named count name fates h.1)
+are_named count name (is_dead forced ∷ fates) h = All-cons (IsNamed count) (is_dead forced) fates tt (are_named count name fates h.1)
+are_named count name (is_cut forced ∷ fates) h = All-cons (IsNamed count) (is_cut forced) fates tt (are_named count name fates h.1)
 
 -- a kid's own lines, and then those of its kids
-pub lines_fate : (entries : List Entry) → KidsAreLater entries → (fate : PairFate) → IsNamed (length entries) fate → lines_of (fate_tree (tree_under entries) fate) ≡ fate_lines entries fate ++ lines_of_all (fate_trees (tree_under entries) (fates_behind entries fate))
-lines_fate entries later (was_named name) known =
+pub lines_fate : (entries : List Entry) → KidsAreLater entries → (fate : FateOf ℕ) → IsNamed (length entries) fate → lines_of (fate_tree (tree_under entries) fate) ≡ fate_lines entries fate ++ lines_of_all (fate_trees (tree_under entries) (fates_behind entries fate))
+lines_fate entries later (is_kid name) known =
     ap lines_of (tree_opens entries later name known)
     ∙ lines_node (entry_at entries name).forced (ending_line (entry_at entries name).ending) (ending_tree (tree_under entries) (entry_at entries name).ending) (lines_of_all (fate_trees (tree_under entries) (ending_fates (entry_at entries name).ending)))
     (lines_ending (tree_under entries) (entry_at entries name).ending)
-lines_fate entries later (was_dead forced) known = lines_node forced kind.Dead dead [] refl
-lines_fate entries later (was_not_opened forced) known = lines_node forced kind.Cut cut [] refl
+lines_fate entries later (is_dead forced) known = lines_node forced kind.Dead dead [] refl
+lines_fate entries later (is_cut forced) known = lines_node forced kind.Cut cut [] refl
 
-pub behind_named : (entries : List Entry) → KidsAreLater entries → (fate : PairFate) → IsNamed (length entries) fate → All (IsNamed (length entries)) (fates_behind entries fate)
-behind_named entries later (was_named name) known = are_named (length entries) name (ending_fates (entry_at entries name).ending) (later name known)
+pub behind_named : (entries : List Entry) → KidsAreLater entries → (fate : FateOf ℕ) → IsNamed (length entries) fate → All (IsNamed (length entries)) (fates_behind entries fate)
+behind_named entries later (is_kid name) known = are_named (length entries) name (ending_fates (entry_at entries name).ending) (later name known)
 behind_named entries later _ known = All-nil (IsNamed (length entries))
 
 -- ---- the walk
 
 -- the lines of the kids that are left of each split, the innermost first
-abbrev pub lines_left : List Entry → List (List PairFate) → List Line
+abbrev pub lines_left : List Entry → List (List (FateOf ℕ)) → List Line
 lines_left entries [] = []
 lines_left entries (fates ∷ splits) = lines_of_all (fate_trees (tree_under entries) fates) ++ lines_left entries splits
 
-pub record Walked (entries : List Entry) (written : List Line) (splits : List (List PairFate)) : Type 0 where
+pub record Walked (entries : List Entry) (written : List Line) (splits : List (List (FateOf ℕ))) : Type 0 where
   pub whole : written ++ lines_left entries splits ≡ lines_of (tree_under entries 0)
   pub named : All (All (IsNamed (length entries))) splits
 
 -- a number that falls
-abbrev pub left : List Entry → List (List PairFate) → ℕ
+abbrev pub left : List Entry → List (List (FateOf ℕ)) → ℕ
 left entries splits = 2 * length (lines_left entries splits) + length splits
 
-pub walked_past : (entries : List Entry) (written : List Line) (splits : List (List PairFate)) → Walked entries written ([] ∷ splits) → Walked entries written splits
+pub walked_past : (entries : List Entry) (written : List Line) (splits : List (List (FateOf ℕ))) → Walked entries written ([] ∷ splits) → Walked entries written splits
 walked_past entries written splits w = record { whole = w.whole; named = All-tail (All (IsNamed (length entries))) [] splits w.named }
 
-left_step : (entries : List Entry) → KidsAreLater entries → (fate : PairFate) (fates : List PairFate) (splits : List (List PairFate)) → IsNamed (length entries) fate
+left_step : (entries : List Entry) → KidsAreLater entries → (fate : FateOf ℕ) (fates : List (FateOf ℕ)) (splits : List (List (FateOf ℕ))) → IsNamed (length entries) fate
     → lines_left entries ((fate ∷ fates) ∷ splits) ≡ fate_lines entries fate ++ lines_left entries (fates_behind entries fate ∷ fates ∷ splits)
 left_step entries later fate fates splits known =
     let behind = lines_of_all (fate_trees (tree_under entries) (fates_behind entries fate)) in
@@ -117,7 +118,7 @@ left_step entries later fate fates splits known =
     ∙ ap (λ (lines : List Line). lines ++ (others ++ lines_left entries splits)) (lines_fate entries later fate known)
     ∙ append_assoc (fate_lines entries fate) behind (others ++ lines_left entries splits)
 
-pub walked_more : (entries : List Entry) (written : List Line) (fate : PairFate) (fates : List PairFate) (splits : List (List PairFate)) → KidsAreLater entries → Walked entries written ((fate ∷ fates) ∷ splits)
+pub walked_more : (entries : List Entry) (written : List Line) (fate : FateOf ℕ) (fates : List (FateOf ℕ)) (splits : List (List (FateOf ℕ))) → KidsAreLater entries → Walked entries written ((fate ∷ fates) ∷ splits)
     → Walked entries (written ++ fate_lines entries fate) (fates_behind entries fate ∷ fates ∷ splits)
 walked_more entries written fate fates splits later w =
     let Named = All (IsNamed (length entries)) in
@@ -130,12 +131,12 @@ walked_more entries written fate fates splits later w =
           (All-cons Named fates splits (All-tail (IsNamed (length entries)) fate fates top) (All-tail Named (fate ∷ fates) splits w.named));
     }
 
-some_line : (entries : List Entry) (fate : PairFate) → 0 < length (fate_lines entries fate)
-some_line entries (was_named name) = omega (arith, length-append (map kind.Force (entry_at entries name).forced) (ending_line (entry_at entries name).ending ∷ []))
-some_line entries (was_dead forced) = omega (arith, length-append (map kind.Force forced) (kind.Dead ∷ []))
-some_line entries (was_not_opened forced) = omega (arith, length-append (map kind.Force forced) (kind.Cut ∷ []))
+some_line : (entries : List Entry) (fate : FateOf ℕ) → 0 < length (fate_lines entries fate)
+some_line entries (is_kid name) = omega (arith, length-append (map kind.Force (entry_at entries name).forced) (ending_line (entry_at entries name).ending ∷ []))
+some_line entries (is_dead forced) = omega (arith, length-append (map kind.Force forced) (kind.Dead ∷ []))
+some_line entries (is_cut forced) = omega (arith, length-append (map kind.Force forced) (kind.Cut ∷ []))
 
-pub left_falls : (entries : List Entry) (fate : PairFate) (fates : List PairFate) (splits : List (List PairFate)) → KidsAreLater entries → IsNamed (length entries) fate → left entries (fates_behind entries fate ∷ fates ∷ splits) < left entries ((fate ∷ fates) ∷ splits)
+pub left_falls : (entries : List Entry) (fate : FateOf ℕ) (fates : List (FateOf ℕ)) (splits : List (List (FateOf ℕ))) → KidsAreLater entries → IsNamed (length entries) fate → left entries (fates_behind entries fate ∷ fates ∷ splits) < left entries ((fate ∷ fates) ∷ splits)
 left_falls entries fate fates splits later known =
     omega (arith, some_line entries fate, ap length (left_step entries later fate fates splits known), length-append (fate_lines entries fate) (lines_left entries (fates_behind entries fate ∷ fates ∷ splits)))
 
@@ -144,21 +145,21 @@ pub last_first : {X Y : Type 0} (f : X → Y) (xs : List X) (x : X) → map f (r
 last_first f xs x = ap (map f) (reverse-append xs (x ∷ []))
 
 -- the same, of a stack whose top is last, where each element shows the fates that are left of a split
-pub stack_past : {X : Type 0} (shown : X → List PairFate) (entries : List Entry) (written : List Line) (old popped : List X) (top : X) → old ≡ popped ++ top ∷ [] → shown top ≡ []
+pub stack_past : {X : Type 0} (shown : X → List (FateOf ℕ)) (entries : List Entry) (written : List Line) (old popped : List X) (top : X) → old ≡ popped ++ top ∷ [] → shown top ≡ []
     → Walked entries written (map shown (reverse old)) → Walked entries written (map shown (reverse popped))
 stack_past shown entries written old popped top is empty w =
     walked_past entries written (map shown (reverse popped))
     (subst (Walked entries written) (ap (λ xs. map shown (reverse xs)) is ∙ last_first shown popped top ∙ ap (λ fates. fates ∷ map shown (reverse popped)) empty) w)
 
-stack_top : {X : Type 0} (shown : X → List PairFate) (old popped : List X) (top : X) (fates : List PairFate) → old ≡ popped ++ top ∷ [] → shown top ≡ fates → map shown (reverse old) ≡ fates ∷ map shown (reverse popped)
+stack_top : {X : Type 0} (shown : X → List (FateOf ℕ)) (old popped : List X) (top : X) (fates : List (FateOf ℕ)) → old ≡ popped ++ top ∷ [] → shown top ≡ fates → map shown (reverse old) ≡ fates ∷ map shown (reverse popped)
 stack_top shown old popped top fates is shows = ap (λ xs. map shown (reverse xs)) is ∙ last_first shown popped top ∙ ap (λ fates. fates ∷ map shown (reverse popped)) shows
 
-pub stack_known : {X : Type 0} (shown : X → List PairFate) (entries : List Entry) (written : List Line) (old popped : List X) (top : X) (fate : PairFate) (others : List PairFate) → old ≡ popped ++ top ∷ [] → shown top ≡ fate ∷ others
+pub stack_known : {X : Type 0} (shown : X → List (FateOf ℕ)) (entries : List Entry) (written : List Line) (old popped : List X) (top : X) (fate : FateOf ℕ) (others : List (FateOf ℕ)) → old ≡ popped ++ top ∷ [] → shown top ≡ fate ∷ others
     → Walked entries written (map shown (reverse old)) → IsNamed (length entries) fate
 stack_known shown entries written old popped top fate others is shows w =
     All-head (IsNamed (length entries)) fate others (All-head (All (IsNamed (length entries))) (fate ∷ others) (map shown (reverse popped)) (subst (All (All (IsNamed (length entries)))) (stack_top shown old popped top (fate ∷ others) is shows) w.named))
 
-pub stack_more : {X : Type 0} (shown : X → List PairFate) (entries : List Entry) (written after : List Line) (old popped pushed new : List X) (top others behind : X) (fate : PairFate) → KidsAreLater entries
+pub stack_more : {X : Type 0} (shown : X → List (FateOf ℕ)) (entries : List Entry) (written after : List Line) (old popped pushed new : List X) (top others behind : X) (fate : FateOf ℕ) → KidsAreLater entries
     → old ≡ popped ++ top ∷ [] → shown top ≡ fate ∷ shown others → pushed ≡ popped ++ others ∷ [] → new ≡ pushed ++ behind ∷ [] → shown behind ≡ fates_behind entries fate → after ≡ written ++ fate_lines entries fate
     → Walked entries written (map shown (reverse old)) → Walked entries after (map shown (reverse new)) × (left entries (map shown (reverse new)) < left entries (map shown (reverse old)))
 stack_more shown entries written after old popped pushed new top others behind fate later is shows pushes pushes_more shows_behind writes w =

@@ -9,7 +9,8 @@ use Rattle.branching.specs.Subproblem.{ordered_pairs}
 use Rattle.branching.specs.Right.{AllForced}
 use Rattle.branching.proofs.OrderedPairs.{count_pairs}
 use Rattle.trail.specs.declared.trail.Origin.{Origin}
-use Rattle.trail.specs.Trail.{PairFate, was_named, was_dead, was_not_opened, Ending, not_ended, was_cut, was_solved, was_split, Entry, entry_at, path_after, paths_after, path_to}
+use Rattle.branching.specs.Fates.{FateOf, is_kid, is_dead, is_cut}
+use Rattle.trail.specs.Trail.{Ending, not_ended, was_cut, was_solved, was_split, Entry, entry_at, path_after, paths_after, path_to}
 use Rattle.trail.specs.RightTrail.{IsKidUnder, IsRightFate, IsRightEnding, has_ended, IsWholeTree}
 use Rattle.record_text.specs.declared.line.Line.{Line}
 use Rattle.record_text.specs.declared.line.Line.TheVariants as kind
@@ -45,13 +46,13 @@ forced_right p limit pairs (pair ∷ forced) t all below =
 abbrev NamedAreRight : Problem → Option ℤ → List Entry → ℕ → (ℕ → Tree) → Type 0
 NamedAreRight p limit entries name named = (pair : Pair) (later : ℕ) → IsKidUnder p entries name pair later → IsRightTree p limit (path_to entries name ++ pair ∷ []) (named later)
 
-fate_right : (p : Problem) (limit : Option ℤ) (entries : List Entry) (name : ℕ) (named : ℕ → Tree) → NamedAreRight p limit entries name named → (pair : Pair) (fate : PairFate) → IsRightFate p limit entries name pair fate
+fate_right : (p : Problem) (limit : Option ℤ) (entries : List Entry) (name : ℕ) (named : ℕ → Tree) → NamedAreRight p limit entries name named → (pair : Pair) (fate : FateOf ℕ) → IsRightFate p limit entries name pair fate
     → IsRightTree p limit (path_to entries name ++ pair ∷ []) (fate_tree named fate)
-fate_right p limit entries name named later_right pair (was_named later) h = later_right pair later h
-fate_right p limit entries name named later_right pair (was_dead forced) h =
+fate_right p limit entries name named later_right pair (is_kid later) h = later_right pair later h
+fate_right p limit entries name named later_right pair (is_dead forced) h =
     let pairs = path_to entries name ++ pair ∷ [] in
     forced_right p limit pairs forced dead h.all_forced (leaf_right p limit (pairs ++ forced) dead kind.Dead tt refl h.dead)
-fate_right p limit entries name named later_right pair (was_not_opened forced) h =
+fate_right p limit entries name named later_right pair (is_cut forced) h =
     let pairs = path_to entries name ++ pair ∷ [] in
     forced_right p limit pairs forced cut h.all_forced (leaf_right p limit (pairs ++ forced) cut kind.Cut tt refl h.cut)
 
@@ -60,7 +61,7 @@ record AreRightKids (p : Problem) (limit : Option ℤ) (pairs added : List Pair)
   shapes : AreTrees kids
   right : All (IsRightPlace p limit) (kid_places pairs added kids)
 
-fates_right : (p : Problem) (limit : Option ℤ) (entries : List Entry) (name : ℕ) (named : ℕ → Tree) → NamedAreRight p limit entries name named → (added : List Pair) (fates : List PairFate) → AllZip (IsRightFate p limit entries name) added fates
+fates_right : (p : Problem) (limit : Option ℤ) (entries : List Entry) (name : ℕ) (named : ℕ → Tree) → NamedAreRight p limit entries name named → (added : List Pair) (fates : List (FateOf ℕ)) → AllZip (IsRightFate p limit entries name) added fates
     → AreRightKids p limit (path_to entries name) added (fate_trees named fates)
 fates_right p limit entries name named later_right [] [] h = record { count = refl; shapes = tt; right = All-nil (IsRightPlace p limit) }
 fates_right p limit entries name named later_right (pair ∷ added) (fate ∷ fates) h =

@@ -1,7 +1,8 @@
 -- The tree that a trail tells of, and how its lines come one after another.
 use Rattle.std.specs.Prelude.{ℕ, zero, suc, ◌<◌, List, [], ◌∷◌, ◌++◌, map, length}
 use Rattle.network.specs.declared.parts.Pair.{Pair}
-use Rattle.trail.specs.Trail.{PairFate, was_named, was_dead, was_not_opened, Ending, not_ended, was_cut, was_solved, was_split, Entry, entry_at}
+use Rattle.branching.specs.Fates.{FateOf, is_kid, is_dead, is_cut}
+use Rattle.trail.specs.Trail.{Ending, not_ended, was_cut, was_solved, was_split, Entry, entry_at}
 use Rattle.record_text.specs.declared.line.Line.{Line}
 use Rattle.record_text.specs.declared.line.Line.TheVariants as kind
 use Rattle.record_text.specs.Tree.{Tree, force, solved, cut, dead, split, Trees, no_trees, tree}
@@ -12,12 +13,12 @@ with_forced [] t = t
 with_forced (pair ∷ forced) t = force pair (with_forced forced t)
 
 -- the tree of a pair, where those under the names are known
-abbrev pub fate_tree : (ℕ → Tree) → PairFate → Tree
-fate_tree named (was_named name) = named name
-fate_tree named (was_dead forced) = with_forced forced dead
-fate_tree named (was_not_opened forced) = with_forced forced cut
+abbrev pub fate_tree : (ℕ → Tree) → FateOf ℕ → Tree
+fate_tree named (is_kid name) = named name
+fate_tree named (is_dead forced) = with_forced forced dead
+fate_tree named (is_cut forced) = with_forced forced cut
 
-abbrev pub fate_trees : (ℕ → Tree) → List PairFate → Trees
+abbrev pub fate_trees : (ℕ → Tree) → List (FateOf ℕ) → Trees
 fate_trees named [] = no_trees
 fate_trees named (fate ∷ fates) = tree (fate_tree named fate) (fate_trees named fates)
 
@@ -48,7 +49,7 @@ ending_line was_cut = kind.Cut
 ending_line was_solved = kind.Solved
 ending_line (was_split resource members fates) = kind.Split resource members
 
-abbrev pub ending_fates : Ending → List PairFate
+abbrev pub ending_fates : Ending → List (FateOf ℕ)
 ending_fates not_ended = []
 ending_fates was_cut = []
 ending_fates was_solved = []
@@ -59,33 +60,33 @@ abbrev pub node_lines : List Pair → Line → List Line
 node_lines forced last = map kind.Force forced ++ last ∷ []
 
 -- the lines of a pair's own node
-abbrev pub fate_lines : List Entry → PairFate → List Line
-fate_lines entries (was_named name) =
+abbrev pub fate_lines : List Entry → FateOf ℕ → List Line
+fate_lines entries (is_kid name) =
     node_lines (entry_at entries name).forced (ending_line (entry_at entries name).ending)
-fate_lines entries (was_dead forced) = node_lines forced kind.Dead
-fate_lines entries (was_not_opened forced) = node_lines forced kind.Cut
+fate_lines entries (is_dead forced) = node_lines forced kind.Dead
+fate_lines entries (is_cut forced) = node_lines forced kind.Cut
 
 -- the fates of the nodes below it
-abbrev pub fates_behind : List Entry → PairFate → List PairFate
-fates_behind entries (was_named name) = ending_fates (entry_at entries name).ending
-fates_behind entries (was_dead forced) = []
-fates_behind entries (was_not_opened forced) = []
+abbrev pub fates_behind : List Entry → FateOf ℕ → List (FateOf ℕ)
+fates_behind entries (is_kid name) = ending_fates (entry_at entries name).ending
+fates_behind entries (is_dead forced) = []
+fates_behind entries (is_cut forced) = []
 
 -- ---- names
 
 -- a name in the fate is one of so many
-abbrev pub IsNamed : ℕ → PairFate → Type 0
-IsNamed count (was_named later) = later < count
-IsNamed count (was_dead forced) = Unit {0}
-IsNamed count (was_not_opened forced) = Unit {0}
+abbrev pub IsNamed : ℕ → FateOf ℕ → Type 0
+IsNamed count (is_kid later) = later < count
+IsNamed count (is_dead forced) = Unit {0}
+IsNamed count (is_cut forced) = Unit {0}
 
 -- and later than this one
-abbrev pub LeadsOn : ℕ → ℕ → PairFate → Type 0
-LeadsOn count name (was_named later) = (name < later) × (later < count)
-LeadsOn count name (was_dead forced) = Unit {0}
-LeadsOn count name (was_not_opened forced) = Unit {0}
+abbrev pub LeadsOn : ℕ → ℕ → FateOf ℕ → Type 0
+LeadsOn count name (is_kid later) = (name < later) × (later < count)
+LeadsOn count name (is_dead forced) = Unit {0}
+LeadsOn count name (is_cut forced) = Unit {0}
 
-abbrev pub LeadOn : ℕ → ℕ → List PairFate → Type 0
+abbrev pub LeadOn : ℕ → ℕ → List (FateOf ℕ) → Type 0
 LeadOn count name [] = Unit {0}
 LeadOn count name (fate ∷ fates) = LeadsOn count name fate × LeadOn count name fates
 

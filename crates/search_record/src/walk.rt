@@ -1,15 +1,17 @@
 //! Writes the nodes of a trail in the order of a record.
 
 ghost use Rattle.std.specs.Prelude.{◌≡◌, ◌<◌, ◌++◌, map, length, IfOk, OnOk};
-ghost use Rattle.trail.specs.Trail.{pair_fate, node_ending, trail_entry};
+ghost use Rattle.branching.specs.Fates.{fate_value};
+ghost use Rattle.trail.specs.Trail.{node_ending, trail_entry};
 ghost use Rattle.record_text.specs.Tree.{lines_of};
 ghost use Rattle.record_text.specs.declared.line.Line.TheVariants as kind;
 ghost use Rattle.search_record.specs.TrailTree.{tree_under, ending_line, ending_fates, node_lines, fate_lines, fates_behind, IsNamed, KidsAreLater};
 
+use branching::Fate;
 use network::Pair;
 use record_text::{Line, Members};
 use std::alloc::{AllocError, Global};
-use trail::{KidFate, NodeEnding, TrailEntry};
+use trail::{NodeEnding, TrailEntry};
 
 /// Adds a line for each forced pair.
 fn write_forced(lines: &mut Vec<Line>, forced: &[Pair]) -> Result<(), AllocError>
@@ -44,8 +46,8 @@ fn line_of(alloc: Global, ending: &NodeEnding) -> Result<Line, AllocError>
 }
 
 /// The fates of a split's pairs, none of a leaf.
-fn fates_of(ending: &NodeEnding) -> &[KidFate]
-    ensures { map pair_fate result.now ≡ ending_fates (node_ending ending.now) }
+fn fates_of(ending: &NodeEnding) -> &[Fate<u64>]
+    ensures { map fate_value result.now ≡ ending_fates (node_ending ending.now) }
 {
     match ending {
         NodeEnding::Split { fates, .. } => fates,
@@ -67,26 +69,26 @@ fn write_kid<'a>(
     alloc: Global,
     lines: &mut Vec<Line>,
     entries: &'a [TrailEntry],
-    kid: &KidFate,
-) -> Result<&'a [KidFate], AllocError>
-    requires { IsNamed (length entries.now) (pair_fate kid.now) }
+    kid: &Fate<u64>,
+) -> Result<&'a [Fate<u64>], AllocError>
+    requires { IsNamed (length entries.now) (fate_value kid.now) }
     ensures lines { OnOk result (lines.new.items
-        ≡ lines.old.items ++ fate_lines (map trail_entry entries.now) (pair_fate kid.now)) }
-    ensures behind { IfOk result (λ fates. map pair_fate fates.now
-        ≡ fates_behind (map trail_entry entries.now) (pair_fate kid.now)) }
+        ≡ lines.old.items ++ fate_lines (map trail_entry entries.now) (fate_value kid.now)) }
+    ensures behind { IfOk result (λ fates. map fate_value fates.now
+        ≡ fates_behind (map trail_entry entries.now) (fate_value kid.now)) }
 {
     match kid {
-        KidFate::Opened { name } => {
+        Fate::Kid(name) => {
             let entry = &entries[*name as usize];
             let last = line_of(alloc, &entry.ending)?;
             write_node(lines, &entry.forced, last)?;
             Ok(fates_of(&entry.ending))
         }
-        KidFate::Dead { forced } => {
+        Fate::Dead { forced } => {
             write_node(lines, forced, Line::Dead)?;
             Ok(&[])
         }
-        KidFate::Cut { forced } => {
+        Fate::Cut { forced } => {
             write_node(lines, forced, Line::Cut)?;
             Ok(&[])
         }
@@ -100,7 +102,7 @@ fn tree_lines(alloc: Global, entries: &[TrailEntry]) -> Result<Vec<Line>, AllocE
     requires later { KidsAreLater (map trail_entry entries.now) }
     ensures { IfOk result (λ lines. lines.items ≡ lines_of (tree_under (map trail_entry entries.now) 0)) }
 {
-    let root = [KidFate::Opened { name: 0 }];
+    let root = [Fate::Kid(0)];
     let mut splits = Vec::new(alloc);
     splits.push(root.as_slice())?;
     let mut lines = Vec::new(alloc);

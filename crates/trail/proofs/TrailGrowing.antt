@@ -6,11 +6,11 @@ use Rattle.network.specs.Problem.{Problem}
 use Rattle.network.specs.declared.parts.Pair.{Pair}
 use Rattle.branching.specs.Subproblem.{ordered_pairs, Subproblem}
 use Rattle.branching.specs.Right.{IsCutUnder, IsSolvedUnder, IsInTime, AllForced, IsDead, Reaches, is_below}
-use Rattle.trail.specs.Trail.{PairFate, was_named, was_dead, was_not_opened, Ending, not_ended, was_cut, was_solved, was_split, Entry, entry_at, path_to, paths_after, path_after, no_entry, Origin}
+use Rattle.trail.specs.Trail.{Ending, not_ended, was_cut, was_solved, was_split, Entry, entry_at, path_to, paths_after, path_after, no_entry, Origin}
 use Rattle.trail.specs.RightTrail.{IsRightFate, IsRightEnding, IsRightTrail, kids_below, IsNotOpenedUnder}
 use Rattle.std.proofs.lemmas.List.{get_or_append_left}
 use Rattle.std.proofs.Math.Seq.{get_or-append_seam}
-use Rattle.branching.specs.Fates.{FateOf, is_kid, is_dead, is_cut, IsKidBy, AreFates}
+use Rattle.branching.specs.Fates.{FateOf, Fates, is_kid, is_dead, is_cut, IsKidBy, AreFates}
 use Rattle.branching.proofs.Together.{node_cut}
 use Rattle.trail.specs.Recording.{kid_entry, opened_or_cut, fates_under}
 
@@ -27,16 +27,16 @@ solved_falls p None new pairs less right = absurd right
 solved_falls p (Some old) None pairs less right = absurd less
 solved_falls p (Some old) (Some new) pairs less right = record { is_live = right.is_live; starts = right.starts; least = right.least; feasible = right.feasible; reaches = omega (arith, ints, right.reaches, less) }
 
-fates_fall : (p : Problem) (old new : Option ℤ) (entries : List Entry) (name : ℕ) (added : List Pair) (fates : List PairFate) → IsInTime old new → AllZip (IsRightFate p old entries name) added fates → AllZip (IsRightFate p new entries name) added fates
+fates_fall : (p : Problem) (old new : Option ℤ) (entries : List Entry) (name : ℕ) (added : List Pair) (fates : List (FateOf ℕ)) → IsInTime old new → AllZip (IsRightFate p old entries name) added fates → AllZip (IsRightFate p new entries name) added fates
 fates_fall p old new entries name [] [] less h = tt
 fates_fall p old new entries name [] (fate ∷ fates) less h = absurd h
 fates_fall p old new entries name (pair ∷ added) [] less h = absurd h
 fates_fall p old new entries name (pair ∷ added) (fate ∷ fates) less h = (one fate h.0, fates_fall p old new entries name added fates less h.1)
   where
-    one : (fate : PairFate) → IsRightFate p old entries name pair fate → IsRightFate p new entries name pair fate
-    one (was_named later) u = u
-    one (was_dead forced) u = u
-    one (was_not_opened forced) u = record { all_forced = u.all_forced; cut = cut_falls p old new ((path_to entries name ++ pair ∷ []) ++ forced) less u.cut }
+    one : (fate : FateOf ℕ) → IsRightFate p old entries name pair fate → IsRightFate p new entries name pair fate
+    one (is_kid later) u = u
+    one (is_dead forced) u = u
+    one (is_cut forced) u = record { all_forced = u.all_forced; cut = cut_falls p old new ((path_to entries name ++ pair ∷ []) ++ forced) less u.cut }
 
 pub ending_falls : (p : Problem) (old new : Option ℤ) (entries : List Entry) (name : ℕ) (ending : Ending) → IsInTime old new → IsRightEnding p old entries name ending → IsRightEnding p new entries name ending
 ending_falls p old new entries name not_ended less h = tt
@@ -95,21 +95,21 @@ pub record Extends (old new : List Entry) : Type 0 where
   pub path : (name : ℕ) → name < length old → path_to new name ≡ path_to old name
   pub forced : (name : ℕ) → name < length old → (entry_at new name).forced ≡ (entry_at old name).forced
 
-fates_extend : (p : Problem) (limit : Option ℤ) (old new : List Entry) (name : ℕ) → Extends old new → name < length old → (added : List Pair) (fates : List PairFate) → AllZip (IsRightFate p limit old name) added fates → AllZip (IsRightFate p limit new name) added fates
+fates_extend : (p : Problem) (limit : Option ℤ) (old new : List Entry) (name : ℕ) → Extends old new → name < length old → (added : List Pair) (fates : List (FateOf ℕ)) → AllZip (IsRightFate p limit old name) added fates → AllZip (IsRightFate p limit new name) added fates
 fates_extend p limit old new name more known [] [] h = tt
 fates_extend p limit old new name more known [] (fate ∷ fates) h = absurd h
 fates_extend p limit old new name more known (pair ∷ added) [] h = absurd h
 fates_extend p limit old new name more known (pair ∷ added) (fate ∷ fates) h = (one fate h.0, fates_extend p limit old new name more known added fates h.1)
   where
-    one : (fate : PairFate) → IsRightFate p limit old name pair fate → IsRightFate p limit new name pair fate
-    one (was_named later) u = record {
+    one : (fate : FateOf ℕ) → IsRightFate p limit old name pair fate → IsRightFate p limit new name pair fate
+    one (is_kid later) u = record {
       is_later = u.is_later;
       named = omega (arith, u.named, more.longer);
       path = more.path later u.named ∙ u.path ∙ rw (more.path name known, more.forced later u.named) refl;
       all_forced = rw (more.path name known, more.forced later u.named) u.all_forced;
     }
-    one (was_dead forced) u = rw (more.path name known) u
-    one (was_not_opened forced) u = rw (more.path name known) u
+    one (is_dead forced) u = rw (more.path name known) u
+    one (is_cut forced) u = rw (more.path name known) u
 
 pub ending_extends : (p : Problem) (limit : Option ℤ) (old new : List Entry) (name : ℕ) (ending : Ending) → Extends old new → name < length old → IsRightEnding p limit old name ending → IsRightEnding p limit new name ending
 ending_extends p limit old new name not_ended more known h = tt
@@ -161,7 +161,7 @@ not_opened p limit node kid pair same by over =
 
 -- a kid that lives: it is opened under the next name, or cut
 living : (p : Problem) (limit : Option ℤ) (node kid : Subproblem) (name : ℕ) → node.project ≡ p → (before : List Entry) → name < length before → path_to before name ≡ node.pairs
-    → (pair : Pair) (added : List Pair) (fates : List FateOf) (kids : List Subproblem) → IsKidBy node pair kid
+    → (pair : Pair) (added : List Pair) (fates : Fates) (kids : List Subproblem) → IsKidBy node pair kid
     → AllZip (IsRightFate p limit (before ++ map (kid_entry name (length node.pairs)) (kids_below limit kids)) name) added (fates_under limit (length node.pairs) (length before) fates kids)
     → AllZip (IsRightFate p limit ((before ++ kid_entry name (length node.pairs) kid ∷ []) ++ map (kid_entry name (length node.pairs)) (kids_below limit kids)) name) added (fates_under limit (length node.pairs) (length (before ++ kid_entry name (length node.pairs) kid ∷ [])) fates kids)
     → (b : Bool) → is_below limit kid.bound ≡ b
@@ -201,14 +201,14 @@ living p limit node kid name same before known path pair added fates kids by if_
 
 -- the fates of a split's pairs, where the kids that are opened come next
 pub split_fates : (p : Problem) (limit ceiling : Option ℤ) (node : Subproblem) (name : ℕ) → node.project ≡ p → IsInTime ceiling limit → (before : List Entry) → name < length before → path_to before name ≡ node.pairs
-    → (added : List Pair) (fates : List FateOf) (kids : List Subproblem) → AreFates node ceiling added fates kids
+    → (added : List Pair) (fates : Fates) (kids : List Subproblem) → AreFates node ceiling added fates kids
     → AllZip (IsRightFate p limit (before ++ map (kid_entry name (length node.pairs)) (kids_below limit kids)) name) added (fates_under limit (length node.pairs) (length before) fates kids)
 split_fates p limit ceiling node name same less before known path [] [] [] h = tt
 split_fates p limit ceiling node name same less before known path [] [] (kid ∷ kids) h = absurd h
 split_fates p limit ceiling node name same less before known path [] (fate ∷ fates) kids h = absurd h
 split_fates p limit ceiling node name same less before known path (pair ∷ added) [] kids h = absurd h
-split_fates p limit ceiling node name same less before known path (pair ∷ added) (is_kid ∷ fates) [] h = absurd h
-split_fates p limit ceiling node name same less before known path (pair ∷ added) (is_kid ∷ fates) (kid ∷ kids) h =
+split_fates p limit ceiling node name same less before known path (pair ∷ added) (is_kid k ∷ fates) [] h = absurd h
+split_fates p limit ceiling node name same less before known path (pair ∷ added) (is_kid k ∷ fates) (kid ∷ kids) h =
     let entry = kid_entry name (length node.pairs) kid in
     living p limit node kid name same before known path pair added fates kids h.0
     (split_fates p limit ceiling node name same less before known path added fates kids h.2)

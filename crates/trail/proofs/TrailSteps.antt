@@ -8,7 +8,8 @@ use Rattle.std.proofs.lemmas.List.Sums.{sum_by-cons}
 use Rattle.std.proofs.Math.ListN.{length-set}
 use Rattle.network.specs.Problem.{Problem}
 use Rattle.branching.specs.Subproblem.{Subproblem, IsLive, ordered_pairs}
-use Rattle.trail.specs.Trail.{Ending, not_ended, Entry, entry_at, no_entry, PairFate, path_to}
+use Rattle.branching.specs.Fates.{FateOf}
+use Rattle.trail.specs.Trail.{Ending, not_ended, Entry, entry_at, no_entry, path_to}
 use Rattle.trail.specs.RightTrail.{IsRightEnding, IsRightTrail, IsRooted, has_ended, kids_below}
 use Rattle.trail.specs.Recording.{ended_as, kid_entry, fates_under, ending_by, ending_of}
 use Rattle.trail.proofs.TrailGrowing.{path_kept, ended_paths, Extends, ending_extends, cut_falls, split_fates}
@@ -129,7 +130,7 @@ all_ended (x ∷ es) e name known = parts (all_ended es) (has_ended x.ending) re
 
 -- ---- How the node of a report ends is right.
 
-unsplit_right : (p : Problem) (limit : Option ℤ) (report : Expansion) (name : ℕ) (entries : List Entry) (fates : List PairFate) → IsReport report → report.node.project ≡ p → IsInTime report.ceiling limit → path_to entries name ≡ report.node.pairs
+unsplit_right : (p : Problem) (limit : Option ℤ) (report : Expansion) (name : ℕ) (entries : List Entry) (fates : List (FateOf ℕ)) → IsReport report → report.node.project ≡ p → IsInTime report.ceiling limit → path_to entries name ≡ report.node.pairs
     → (found : Option ScheduleOf) → IfSome found (IsFoundFor report.node) → MatchOption found (IsCutUnder report.node.project report.node.pairs report.ceiling) (λ f. IsLeastSchedule report.node.project report.node.pairs f.starts)
     → IfSome found (λ f. Reaches limit (makespan f.starts)) → IsRightEnding p limit entries name (ending_by None found fates)
 unsplit_right p limit report name entries fates told same less path None of_found is reach =
@@ -149,7 +150,7 @@ ending_right p limit report name before told same less known path reach = parts 
     entries : List Entry
     entries = before ++ map (kid_entry name (length report.node.pairs)) (kids_below limit report.kids)
 
-    fates : List PairFate
+    fates : List (FateOf ℕ)
     fates = fates_under limit (length report.node.pairs) (length before) report.fates report.kids
 
     whole_path : path_to entries name ≡ report.node.pairs
@@ -163,7 +164,7 @@ ending_right p limit report name before told same less known path reach = parts 
       split_fates p limit report.ceiling report.node name same less before known path (ordered_pairs set.members) report.fates report.kids is.fates,
     )
 
-pub ending_ends : (split : Option MinimalSet) (found : Option ScheduleOf) (fates : List PairFate) → has_ended (ending_by split found fates) ≡ true
+pub ending_ends : (split : Option MinimalSet) (found : Option ScheduleOf) (fates : List (FateOf ℕ)) → has_ended (ending_by split found fates) ≡ true
 ending_ends None None fates = refl
 ending_ends None (Some f) fates = refl
 ending_ends (Some set) found fates = refl

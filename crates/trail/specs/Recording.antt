@@ -4,11 +4,11 @@ use Rattle.network.specs.declared.parts.Pair.{Pair}
 use Rattle.network.specs.Schedule.{ScheduleOf}
 use Rattle.forbidden_sets.specs.MinimalSet.{MinimalSet}
 use Rattle.branching.specs.Subproblem.{Subproblem}
-use Rattle.branching.specs.Fates.{FateOf, is_kid, is_dead, is_cut}
+use Rattle.branching.specs.Fates.{FateOf, Fates, is_kid, is_dead, is_cut}
 use Rattle.branching.specs.Fair.{Expansion}
 use Rattle.branching.specs.Right.{is_below}
 use Rattle.trail.specs.RightTrail.{kids_below}
-use Rattle.trail.specs.Trail.{PairFate, was_named, was_dead, was_not_opened, Ending, not_ended, was_cut, was_solved, was_split, Entry, TrailOf, entry_at, Origin}
+use Rattle.trail.specs.Trail.{Ending, not_ended, was_cut, was_solved, was_split, Entry, TrailOf, entry_at, Origin}
 
 -- the node under a name ends so
 abbrev pub ended_as : List Entry → ℕ → Ending → List Entry
@@ -28,12 +28,12 @@ kid_entry parent depth kid =
     }
 
 -- what a pair that gave a kid gave the search: a node under the next name where the kid is opened
-abbrev pub opened_or_cut : Bool → ℕ → List Pair → PairFate
-opened_or_cut true next forced = was_named next
-opened_or_cut false next forced = was_not_opened forced
+abbrev pub opened_or_cut : Bool → ℕ → List Pair → FateOf ℕ
+opened_or_cut true next forced = is_kid next
+opened_or_cut false next forced = is_cut forced
 
 -- the fate of a kid's pair: the kid is opened where it is below the limit
-abbrev pub kid_fate : Option ℤ → ℕ → ℕ → Subproblem → PairFate
+abbrev pub kid_fate : Option ℤ → ℕ → ℕ → Subproblem → FateOf ℕ
 kid_fate limit depth next kid = opened_or_cut (is_below limit kid.bound) next (drop (depth + 1) kid.pairs)
 
 -- the name that comes next after the kid
@@ -41,18 +41,18 @@ abbrev pub next_name : Option ℤ → ℕ → Subproblem → ℕ
 next_name limit next kid = if is_below limit kid.bound then next + 1 else next
 
 -- the fates of a split's pairs, where the kids below the limit are opened under the names from the next on
-abbrev pub fates_under : Option ℤ → ℕ → ℕ → List FateOf → List Subproblem → List PairFate
+abbrev pub fates_under : Option ℤ → ℕ → ℕ → Fates → List Subproblem → List (FateOf ℕ)
 fates_under limit depth next [] kids = []
-fates_under limit depth next (is_dead forced ∷ fates) kids = was_dead forced ∷ fates_under limit depth next fates kids
+fates_under limit depth next (is_dead forced ∷ fates) kids = is_dead forced ∷ fates_under limit depth next fates kids
 fates_under limit depth next (is_cut forced ∷ fates) kids =
-    was_not_opened forced ∷ fates_under limit depth next fates kids
-fates_under limit depth next (is_kid ∷ fates) (kid ∷ kids) =
+    is_cut forced ∷ fates_under limit depth next fates kids
+fates_under limit depth next (is_kid k ∷ fates) (kid ∷ kids) =
     kid_fate limit depth next kid ∷ fates_under limit depth (next_name limit next kid) fates kids
 -- there is a kid for each such fate
-fates_under limit depth next (is_kid ∷ fates) [] = []
+fates_under limit depth next (is_kid k ∷ fates) [] = []
 
 -- how a node ended, by the set that was split, or by what was found where none was
-abbrev pub ending_by : Option MinimalSet → Option ScheduleOf → List PairFate → Ending
+abbrev pub ending_by : Option MinimalSet → Option ScheduleOf → List (FateOf ℕ) → Ending
 ending_by None None fates = was_cut
 ending_by None (Some found) fates = was_solved
 ending_by (Some set) found fates = was_split set.resource set.members fates

@@ -5,7 +5,8 @@ use Rattle.network.specs.declared.parts.Pair.{Pair}
 use Rattle.network.specs.Problem.{Problem}
 use Rattle.branching.specs.Subproblem.{ordered_pairs, IsLive, Subproblem}
 use Rattle.branching.specs.Right.{AllForced, IsRightSet, IsDead, IsCutUnder, IsSolvedUnder, is_below}
-use Rattle.trail.specs.Trail.{PairFate, was_named, was_dead, was_not_opened, Ending, not_ended, was_cut, was_solved, was_split, Entry, entry_at, path_to}
+use Rattle.branching.specs.Fates.{FateOf, is_kid, is_dead, is_cut}
+use Rattle.trail.specs.Trail.{Ending, not_ended, was_cut, was_solved, was_split, Entry, entry_at, path_to}
 
 -- the pair gave the node of this later name, whose pairs are its parent's, the pair, and what that forces
 pub record IsKidUnder (p : Problem) (entries : List Entry) (name : ℕ) (pair : Pair) (later : ℕ) : Type 0 where
@@ -24,10 +25,10 @@ pub record IsNotOpenedUnder (p : Problem) (limit : Option ℤ) (pairs forced : L
   pub all_forced : AllForced p pairs forced
   pub cut : IsCutUnder p (pairs ++ forced) limit
 
-abbrev pub IsRightFate : Problem → Option ℤ → List Entry → ℕ → Pair → PairFate → Type 0
-IsRightFate p limit entries name pair (was_named later) = IsKidUnder p entries name pair later
-IsRightFate p limit entries name pair (was_dead forced) = IsDeadUnder p (path_to entries name ++ pair ∷ []) forced
-IsRightFate p limit entries name pair (was_not_opened forced) =
+abbrev pub IsRightFate : Problem → Option ℤ → List Entry → ℕ → Pair → FateOf ℕ → Type 0
+IsRightFate p limit entries name pair (is_kid later) = IsKidUnder p entries name pair later
+IsRightFate p limit entries name pair (is_dead forced) = IsDeadUnder p (path_to entries name ++ pair ∷ []) forced
+IsRightFate p limit entries name pair (is_cut forced) =
     IsNotOpenedUnder p limit (path_to entries name ++ pair ∷ []) forced
 
 -- the node under a name could end so: without a limit none is cut, and none is solved, and none is split that is dead

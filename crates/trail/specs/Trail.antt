@@ -5,25 +5,18 @@ use Rattle.network.specs.declared.parts.Pair.{Pair}
 use Rattle.network.specs.Problem.{Problem}
 pub use Rattle.trail.specs.declared.trail.Origin.{Origin}
 use Rattle.std.specs.Arc.{arc_value}
-use Rattle.trail.specs.declared.trail.KidFate.{KidFate}
-use Rattle.trail.specs.declared.trail.KidFate.TheVariants as fate
+use Rattle.branching.specs.Fates.{FateOf, fate_value}
 use Rattle.trail.specs.declared.trail.NodeEnding.{NodeEnding}
 use Rattle.trail.specs.declared.trail.NodeEnding.TheVariants as ending
 pub use Rattle.trail.specs.declared.trail.TrailEntry.{TrailEntry}
 use Rattle.trail.specs.declared.trail.Trail.TheInside.{Inside}
-
--- what a pair of a split set gave: a node under a name, or none, with the pairs that were forced until then
-pub data PairFate : Type 0 where
-  was_named : ℕ → PairFate
-  was_dead : List Pair → PairFate
-  was_not_opened : List Pair → PairFate
 
 -- how a node ended: split by a set of activities that need too much of a resource, if it has ended at all
 pub data Ending : Type 0 where
   not_ended : Ending
   was_cut : Ending
   was_solved : Ending
-  was_split : ℕ → List ℕ → List PairFate → Ending
+  was_split : ℕ → List ℕ → List (FateOf ℕ) → Ending
 
 pub record Entry : Type 0 where
   pub origin : Option Origin
@@ -58,16 +51,11 @@ path_to entries name = slice_index_or (paths_after [] entries) name []
 
 -- ---- A trail's parts, as contracts see them.
 
-abbrev pub pair_fate : KidFate → PairFate
-pair_fate (fate.Opened name) = was_named name
-pair_fate (fate.Dead forced) = was_dead forced.items
-pair_fate (fate.Cut forced) = was_not_opened forced.items
-
 abbrev pub node_ending : NodeEnding → Ending
 node_ending ending.Open = not_ended
 node_ending ending.Cut = was_cut
 node_ending ending.Solved = was_solved
-node_ending (ending.Split resource members fates) = was_split resource members.items (map pair_fate fates.items)
+node_ending (ending.Split resource members fates) = was_split resource members.items (map fate_value fates.items)
 
 abbrev pub trail_entry : TrailEntry → Entry
 trail_entry e = record { origin = e.origin; forced = e.forced.items; ending = node_ending e.ending }

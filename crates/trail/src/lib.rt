@@ -6,4 +6,4 @@
 
 mod trail;
 
-pub use trail::{KidFate, NodeEnding, Origin, Trail, TrailEntry};
+pub use trail::{NodeEnding, Origin, Trail, TrailEntry};

@@ -4,7 +4,7 @@ ghost use Rattle.std.specs.Prelude.{◌≡◌, ◌+◌, ◌^◌, ◌<◌, ◌≤
 ghost use Rattle.std.specs.Arc.{arc_value};
 ghost use Rattle.branching.specs.Fates.{fate_value};
 ghost use Rattle.trail.specs.RightTrail.{kids_below};
-ghost use Rattle.trail.specs.Trail.{no_entry, pair_fate, node_ending, trail_entry, trail_for, with_entries};
+ghost use Rattle.trail.specs.Trail.{no_entry, node_ending, trail_entry, trail_for, with_entries};
 ghost use Rattle.trail.specs.Recording.{ended_as, kid_entry, kid_fate, next_name, fates_under, ending_of, checked_in};
 
 use branching::{Fate, Lean, PairList, Report, is_below};
@@ -20,17 +20,6 @@ pub struct Origin {
     pub pair: Pair,
 }
 
-/// What became of an ordered pair of a split set.
-#[derive(Drop, Debug)]
-pub enum KidFate {
-    /// It gave a node, which was opened under this name.
-    Opened { name: u64 },
-    /// With the pair and these forced pairs some closed walk has positive weight.
-    Dead { forced: Vec<Pair> },
-    /// With the pair and these forced pairs the bound is at least the best makespan.
-    Cut { forced: Vec<Pair> },
-}
-
 /// How a node ended.
 #[derive(Drop, Debug)]
 pub enum NodeEnding {
@@ -41,11 +30,12 @@ pub enum NodeEnding {
     /// Its least schedule is feasible.
     Solved,
     /// These members of a forbidden set can't all run together. Each ordered pair of them has its fate, by the place of
-    /// the first and then by that of the second.
+    /// the first and then by that of the second. A kid has the name that it was opened under. One that isn't below the
+    /// best makespan was cut.
     Split {
         resource: usize,
         members: Vec<usize>,
-        fates: Vec<KidFate>,
+        fates: Vec<Fate<u64>>,
     },
 }
 
@@ -116,14 +106,14 @@ fn fate_of_kid(
     depth: usize,
     next: u64,
     kid: &Lean,
-) -> Result<KidFate, AllocError>
-    ensures { IfOk result (λ it. pair_fate it ≡ kid_fate limit depth next kid.now) }
+) -> Result<Fate<u64>, AllocError>
+    ensures { IfOk result (λ it. fate_value it ≡ kid_fate limit depth next kid.now) }
 {
     if is_below(kid.bound(), limit) {
-        return Ok(KidFate::Opened { name: next });
+        return Ok(Fate::Kid(next));
     }
     let forced = pairs_after(alloc, &kid.pairs(), depth)?;
-    Ok(KidFate::Cut { forced })
+    Ok(Fate::Cut { forced })
 }
 
 /// The name after a kid that is opened under the next name where its bound is below the limit.
@@ -144,11 +134,11 @@ fn fates_of_pairs(
     limit: Option<i64>,
     depth: usize,
     first: u64,
-    fates: &[Fate],
+    fates: &[Fate<()>],
     kids: &[Arc<Lean>],
-) -> Result<Vec<KidFate>, AllocError>
+) -> Result<Vec<Fate<u64>>, AllocError>
     requires { first + length kids.now < 2 ^ 64 }
-    ensures { IfOk result (λ all. map pair_fate all.items
+    ensures { IfOk result (λ all. map fate_value all.items
         ≡ fates_under limit depth first (map fate_value fates.now) (map arc_value kids.now)) }
 {
     let mut all = Vec::with_capacity(alloc, fates.len())?;
@@ -158,15 +148,15 @@ fn fates_of_pairs(
         match fate {
             Fate::Dead { forced } => {
                 let forced = Vec::from_slice(alloc, forced.as_slice())?;
-                all.push(KidFate::Dead { forced })?;
+                all.push(Fate::Dead { forced })?;
                 continue;
             }
             Fate::Cut { forced } => {
                 let forced = Vec::from_slice(alloc, forced.as_slice())?;
-                all.push(KidFate::Cut { forced })?;
+                all.push(Fate::Cut { forced })?;
                 continue;
             }
-            Fate::Kid => {}
+            Fate::Kid(()) => {}
         }
         let Some((kid, others)) = left.split_first() else {
             return Ok(all);

@@ -30,15 +30,15 @@ loop-pair-preserved c =
       ];
       fates = elim c.match-branch-2.branch [
         | in-Kid+in_ok-parent-in-Kid+in_ok-with_pairs-in-Kid+in_ok-push-in-Kid w ↦
-            let made = rw w.in-Kid.is at c.in_ok-forced.ensures.branch in
-            let fits : SFits w64 w.in-Kid.bound = search rules in
+            let made = rw w.in-Kid.is at c.in_ok-kid.ensures.branch in
+            let fits : SFits w64 w.in-Kid.kid.bound = search rules in
             let is = simp to_z-of_z at w.in_ok-with_pairs-in-Kid.ensures in
             rw (more, pushed, w.fate-is, w.kids-is, w.in_ok-push-in-Kid.ensures.items, map-append fate_value c.loop-pair.fates.items, map-append arc_value c.loop-pair.kids.items, is) (fate_kid _ _ _ _ _ _ _ c.loop-pair.invariant.fates made.0 made.1)
         | in-Dead w ↦
-            let made = rw w.in-Dead.is at c.in_ok-forced.ensures.branch in
+            let made = rw w.in-Dead.is at c.in_ok-kid.ensures.branch in
             rw (more, pushed, w.fate-is, w.kids-is, map-append fate_value c.loop-pair.fates.items) (fate_dead _ _ _ _ _ _ _ c.loop-pair.invariant.fates made)
         | in-Cut w ↦
-            let made = rw w.in-Cut.is at c.in_ok-forced.ensures.branch in
+            let made = rw w.in-Cut.is at c.in_ok-kid.ensures.branch in
             rw (more, pushed, w.fate-is, w.kids-is, map-append fate_value c.loop-pair.fates.items) (fate_cut _ _ _ _ _ _ _ c.loop-pair.invariant.fates made)
       ];
     }

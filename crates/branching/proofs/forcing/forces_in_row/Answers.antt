@@ -11,10 +11,10 @@ use Rattle.branching.specs.Forcing.{IsForcedWith}
 use Rattle.rivals.specs.Incompatible.{pairs_before}
 use Rattle.branching.proofs.Forcings.{unless, when, forced_over, no_way, none_before, none_over, none_from, none_of_all, pair_more, some_of_row, row_at, both_named}
 use Rattle.branching.proofs.forcing.forces_in_row.Goals as goal
-use Rattle.branching.proofs.forcing.forces_in_row.Goals.{in-Some-get+else-is_forced_at, in_default-get}
+use Rattle.branching.proofs.forcing.forces_in_row.Goals.{in-Some-get+else-is_forced_at, in_default-get, After-then_arc}
 
 -- the first part of the ways over the added pair's arc
-first_part : (c : goal.After-then_arc) → c.then_arc.result ≡ joined (entry c.args.matrix.now c.args.row.now.activity c.args.added.before) (Some (duration c.args.project.now c.args.added.before))
+first_part : (c : After-then_arc) → c.then_arc.result ≡ joined (entry c.args.matrix.now c.args.row.now.activity c.args.added.before) (Some (duration c.args.project.now c.args.added.before))
 first_part c =
     let arc : c.pair_arc-arc.result ≡ pair_arc c.args.project.now c.args.added = c.pair_arc-arc.ensures.arc in
     let fits : SFits w64 c.pair_arc-arc.result.weight = search rules in

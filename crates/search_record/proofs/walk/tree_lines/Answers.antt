@@ -1,38 +1,39 @@
 use Rattle.std.proofs.Common.{◌≡◌, ◌∷◌, [], List, length, map, ap, refl, arith}
 use Rattle.std.proofs.lemmas.List.{length-map}
-use Rattle.trail.specs.Trail.{pair_fate, trail_entry}
-pub use Rattle.trail.specs.declared.trail.KidFate.{KidFate}
+use Rattle.branching.specs.Fates.{fate_value}
+use Rattle.trail.specs.Trail.{trail_entry}
+pub use Rattle.branching.specs.declared.fate.Fate.{Fate}
 use Rattle.search_record.specs.TrailTree.{IsNamed}
 use Rattle.search_record.proofs.TrailLines.{stack_past, stack_known, stack_more}
 use Rattle.search_record.proofs.walk.tree_lines.Goals as goal
 
-none_shown : (fates : List KidFate) → length fates ≡ 0 → map pair_fate fates ≡ []
+none_shown : (fates : List (Fate ℕ)) → length fates ≡ 0 → map fate_value fates ≡ []
 none_shown [] none = refl
 none_shown (fate ∷ fates) none = absurd (omega arith)
 
 pub loop-fates-preserved : goal.loop-fates-preserved
 loop-fates-preserved c =
-    stack_past (λ fates. map pair_fate fates.now) (map trail_entry c.args.entries.now) c.loop-fates.lines.items c.loop-fates.splits.items c.pop.new.self.items c.in-Some.fates
+    stack_past (λ fates. map fate_value fates.now) (map trail_entry c.args.entries.now) c.loop-fates.lines.items c.loop-fates.splits.items c.pop.new.self.items c.in-Some.fates
     c.in-Some.ensures.items (none_shown c.in-Some.fates.now c.in_default-split_first.ensures.cases) c.loop-fates.invariant
 
 pub write_kid-requires : goal.write_kid-requires
 write_kid-requires c =
-    let known : IsNamed (length (map trail_entry c.args.entries.now)) (pair_fate c.in-Some-split_first.kid.now) =
-    stack_known (λ fates. map pair_fate fates.now) (map trail_entry c.args.entries.now) c.loop-fates.lines.items c.loop-fates.splits.items c.pop.new.self.items c.in-Some.fates
-    (pair_fate c.in-Some-split_first.kid.now) (map pair_fate c.in-Some-split_first.others.now)
-    c.in-Some.ensures.items (ap (λ (fates : List KidFate). map pair_fate fates) c.in-Some-split_first.ensures.cases.0) c.loop-fates.invariant in
+    let known : IsNamed (length (map trail_entry c.args.entries.now)) (fate_value c.in-Some-split_first.kid.now) =
+    stack_known (λ fates. map fate_value fates.now) (map trail_entry c.args.entries.now) c.loop-fates.lines.items c.loop-fates.splits.items c.pop.new.self.items c.in-Some.fates
+    (fate_value c.in-Some-split_first.kid.now) (map fate_value c.in-Some-split_first.others.now)
+    c.in-Some.ensures.items (ap (λ (fates : List (Fate ℕ)). map fate_value fates) c.in-Some-split_first.ensures.cases.0) c.loop-fates.invariant in
     rw (length-map c.args.entries.now trail_entry) at known
 
 pub loop-fates-preserved-in-Continue-branch-4 : goal.loop-fates-preserved-in-Continue-branch-4
 loop-fates-preserved-in-Continue-branch-4 c =
-    (stack_more (λ fates. map pair_fate fates.now) (map trail_entry c.args.entries.now) c.loop-fates.lines.items c.write_kid.new.lines.items c.loop-fates.splits.items c.pop.new.self.items
-    c.push-in-Some-split_first.new.self.items c.push-in-Some-split_first-2.new.self.items c.in-Some.fates c.in-Some-split_first.others c.in_ok-behind.behind (pair_fate c.in-Some-split_first.kid.now) c.requires.later
-    c.in-Some.ensures.items (ap (λ (fates : List KidFate). map pair_fate fates) c.in-Some-split_first.ensures.cases.0) c.in_ok-push-2.ensures.items c.in_ok-push-3.ensures.items c.in_ok-behind.ensures.behind c.in_ok-behind.ensures.lines
+    (stack_more (λ fates. map fate_value fates.now) (map trail_entry c.args.entries.now) c.loop-fates.lines.items c.write_kid.new.lines.items c.loop-fates.splits.items c.pop.new.self.items
+    c.push-in-Some-split_first.new.self.items c.push-in-Some-split_first-2.new.self.items c.in-Some.fates c.in-Some-split_first.others c.in_ok-behind.behind (fate_value c.in-Some-split_first.kid.now) c.requires.later
+    c.in-Some.ensures.items (ap (λ (fates : List (Fate ℕ)). map fate_value fates) c.in-Some-split_first.ensures.cases.0) c.in_ok-push-2.ensures.items c.in_ok-push-3.ensures.items c.in_ok-behind.ensures.behind c.in_ok-behind.ensures.lines
     c.loop-fates.invariant).0
 
 pub loop-fates-smaller-in-Continue-branch-4 : goal.loop-fates-smaller-in-Continue-branch-4
 loop-fates-smaller-in-Continue-branch-4 c =
-    (stack_more (λ fates. map pair_fate fates.now) (map trail_entry c.args.entries.now) c.loop-fates.lines.items c.write_kid.new.lines.items c.loop-fates.splits.items c.pop.new.self.items
-    c.push-in-Some-split_first.new.self.items c.push-in-Some-split_first-2.new.self.items c.in-Some.fates c.in-Some-split_first.others c.in_ok-behind.behind (pair_fate c.in-Some-split_first.kid.now) c.requires.later
-    c.in-Some.ensures.items (ap (λ (fates : List KidFate). map pair_fate fates) c.in-Some-split_first.ensures.cases.0) c.in_ok-push-2.ensures.items c.in_ok-push-3.ensures.items c.in_ok-behind.ensures.behind c.in_ok-behind.ensures.lines
+    (stack_more (λ fates. map fate_value fates.now) (map trail_entry c.args.entries.now) c.loop-fates.lines.items c.write_kid.new.lines.items c.loop-fates.splits.items c.pop.new.self.items
+    c.push-in-Some-split_first.new.self.items c.push-in-Some-split_first-2.new.self.items c.in-Some.fates c.in-Some-split_first.others c.in_ok-behind.behind (fate_value c.in-Some-split_first.kid.now) c.requires.later
+    c.in-Some.ensures.items (ap (λ (fates : List (Fate ℕ)). map fate_value fates) c.in-Some-split_first.ensures.cases.0) c.in_ok-push-2.ensures.items c.in_ok-push-3.ensures.items c.in_ok-behind.ensures.behind c.in_ok-behind.ensures.lines
     c.loop-fates.invariant).1

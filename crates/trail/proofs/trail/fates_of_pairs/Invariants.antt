@@ -1,12 +1,11 @@
 use Rattle.std.proofs.Common.{◌≡◌, ◌++◌, ◌+◌, ◌≤◌, map, drop, length}
 use Rattle.std.specs.Arc.{arc_value}
 use Rattle.branching.specs.Fates.{fate_value}
-use Rattle.trail.specs.Trail.{pair_fate}
 use Rattle.trail.specs.Recording.{fates_under}
 use Rattle.trail.proofs.trail.fates_of_pairs.Given as goal
 
 abbrev pub invariant-loop-fate : goal.invariant-loop-fate
 invariant-loop-fate l = record {
-  told : map pair_fate l.all.items ++ fates_under l.limit l.depth l.next (map fate_value (drop l.fate-index l.fates)) (map arc_value l.left) ≡ fates_under l.limit l.depth l.first (map fate_value l.fates) (map arc_value l.kids);
+  told : map fate_value l.all.items ++ fates_under l.limit l.depth l.next (map fate_value (drop l.fate-index l.fates)) (map arc_value l.left) ≡ fates_under l.limit l.depth l.first (map fate_value l.fates) (map arc_value l.kids);
   few : l.next + length l.left ≤ l.first + length l.kids;
 }

@@ -5,7 +5,7 @@ use Rattle.network.specs.Problem.{IsProject, Problem, activity_count, arcs_of}
 use Rattle.network.specs.Walk.{IsMatrixOf}
 use Rattle.bounds.specs.Bound.{IsMatrixFor, IsBoundOf, IsTrueBoundFor}
 use Rattle.branching.proofs.Nodes.{no_pairs, root_is_node, root_of}
-use Rattle.branching.proofs.node.lean_root.Goals as goal
+use Rattle.branching.proofs.lean.lean_root.Goals as goal
 
 pub bound-requires : goal.bound-requires
 bound-requires c =

@@ -1,0 +1,15 @@
+//! What becomes of an ordered pair of a forbidden set.
+
+use network::Pair;
+
+/// What became of an ordered pair of a forbidden set. `K` is what is told of its kid.
+#[derive(Drop, Debug)]
+pub enum Fate<K> {
+    /// It gave a kid.
+    Kid(K),
+    /// With the pair and these forced pairs some closed walk has positive weight, so that no schedule
+    /// keeps the pair.
+    Dead { forced: Vec<Pair> },
+    /// With the pair and these forced pairs the bound is at least the ceiling.
+    Cut { forced: Vec<Pair> },
+}
