@@ -1,9 +1,11 @@
 -- Ranks along an order of all tasks are those of their tails, and loads along one are those of the tasks.
-use Rattle.std.proofs.Common.{◌≡◌, sym, ap, ◌∙◌, ℕ, ◌+◌, ◌<◌, inl, inr, set, List, ◌++◌, append-nil, take, drop, map, length, get_or, arith, refl, subst, ◌-◌, ◌≤◌, ⊎_elim, ℤ, pos, unsigned_abs, nat_le, reverse}
+use Rattle.std.proofs.Common.{◌≡◌, sym, ap, ◌∙◌, ℕ, ◌+◌, ◌<◌, inl, inr, set, Vec, List, take, map, length, get_or, arith, refl, subst, ◌-◌, ◌≤◌, ⊎_elim, ℤ, pos, unsigned_abs, nat_le, reverse}
 use Rattle.std.specs.List.{range_with_len, All, Contains}
+use Rattle.std.specs.Vec.{with_items}
+use Rattle.std.specs.declared.alloc.Global.{Global}
 use Rattle.std.proofs.lemmas.Bool.{cases_eq, cases_lt, le-leb, lt-leb}
 use Rattle.std.proofs.lemmas.List.FromFn.{get_or-map-range_with_len, length-map-range_with_len, length-range_with_len}
-use Rattle.std.proofs.lemmas.List.{drop_all, take_all, ext_get_or, get_or-map, length-map, get_or-set_same, get_or-set_other, get_or-take, length-take-le, get_or_default, length-reverse, get_or-reverse}
+use Rattle.std.proofs.lemmas.List.{with_items_is, ext_get_or, get_or-map, length-map, get_or-set_same, get_or-set_other, get_or-take, length-take-le, get_or_default, length-reverse, get_or-reverse}
 use Rattle.std.specs.List.Sorted.{IsPermutation}
 use Rattle.std.proofs.lemmas.Grind.{get_or_default_zero}
 use Rattle.std.proofs.lemmas.List.Elements.{All-map, Contains-get_or}
@@ -43,10 +45,9 @@ made_by d f n xs long each =
     let lt : k < n = rw long at short in
     each k lt ∙ sym (get_or-map-range_with_len f 0 n k k d lt (omega arith)))
 
--- a buffer that is written whole
-pub written_back : {X : Type 0} (len : ℕ) (new items : List X) → len ≡ length items → length new ≡ length items → take len (new ++ drop (length new) items) ≡ new
-written_back {X} len new items e f =
-    ap (λ (xs : List X). take len (new ++ xs)) (drop_all (length new) items (omega arith)) ∙ ap (take len) (append-nil new) ∙ take_all len new (omega arith)
+-- a list that is written whole
+pub refilled : {X : Type 0} (v : Vec X Global) (new : List X) → length new ≡ length v.items → (with_items v new).items ≡ new
+refilled v new same = with_items_is v new (same ∙ sym v.ok.0)
 
 -- ---- orders
 

@@ -9,7 +9,7 @@ use crate::limits::{FAR_MARK, MAX_CAPACITY, MAX_END, MAX_SHARE};
 use crate::load::Load;
 
 /// Replaces the marks by the capacity times each tail, and a last mark that no work reaches.
-fn take_line(line: &mut [u64], capacity: u64, tails: &[u64])
+fn list_marks(line: &mut [u64], capacity: u64, tails: &[u64])
     requires long { length line.old ≡ length tails.now + 1 }
     requires capacity { capacity ≤ MAX_CAPACITY }
     requires tails { All (λ b. b ≤ MAX_END) tails.now }
@@ -22,7 +22,7 @@ fn take_line(line: &mut [u64], capacity: u64, tails: &[u64])
 }
 
 /// Puts the room between each two marks in place of other rooms.
-fn take_rooms(rooms: &mut [u64], line: &[u64])
+fn list_rooms(rooms: &mut [u64], line: &[u64])
     requires long { length rooms.old + 1 ≡ length line.now }
     requires rising { IsNonDecreasing line.now }
     ensures { AreRoomsOf line.now rooms.new }
@@ -71,8 +71,8 @@ pub(crate) fn greatest_share(
     ensures greatest { IsGreatestShare capacity tails.now loads.now result }
     ensures limit { result ≤ MAX_SHARE }
 {
-    take_line(line, capacity, tails);
-    take_rooms(rooms, line);
+    list_marks(line, capacity, tails);
+    list_rooms(rooms, line);
     let mut filled = 0;
     let mut greatest = 0;
     for load in loads {

@@ -2,7 +2,7 @@ use Rattle.std.proofs.Common.{◌∙◌, sym, ap, arith, reverse}
 use Rattle.std.proofs.lemmas.List.{length-reverse, get_or-reverse}
 use Rattle.bounds.specs.Loads.{keyed_load}
 use Rattle.bounds.proofs.Ranked.{map_written}
-use Rattle.bounds.proofs.load.put_loads.Goals as goal
+use Rattle.bounds.proofs.load.list_loads.Goals as goal
 
 pub returns : goal.returns
 returns c =

@@ -1,6 +1,6 @@
 use Rattle.std.proofs.Common.{◌≤◌, ℕ, ◌+◌, get_or, arith}
 use Rattle.bounds.proofs.Rooms.{rooms_more}
-use Rattle.bounds.proofs.slots.take_rooms.Goals as goal
+use Rattle.bounds.proofs.slots.list_rooms.Goals as goal
 
 pub loop-place-preserved : goal.loop-place-preserved
 loop-place-preserved c =

@@ -4,7 +4,7 @@ use Rattle.std.proofs.lemmas.Int.{to_z-of_z}
 use Rattle.longest_path.specs.Insert.{entry_over}
 use Rattle.bounds.proofs.Ranked.{set_more}
 use Rattle.bounds.proofs.WithLaws.{heads_over}
-use Rattle.bounds.proofs.with_pair.take_heads_with.Goals as goal
+use Rattle.bounds.proofs.with_pair.list_heads_with.Goals as goal
 
 pub loop-i-preserved : goal.loop-i-preserved
 loop-i-preserved c =
