@@ -10,7 +10,6 @@ ghost use Rattle.forbidden_sets.specs.declared.shrinking.Load.{Load};
 
 use crate::set::ForbiddenSet;
 use network::{MAX_ACTIVITIES, MAX_AMOUNT, Project};
-use profile::Overload;
 use smallvec::SmallVec;
 use std::alloc::{AllocError, Global};
 
@@ -155,24 +154,4 @@ pub fn shrink_activities(
     let members = least_needed(alloc, project, resource, activities)?;
     let demands = demands_of(alloc, project, resource, members.as_slice())?;
     Ok(ForbiddenSet::new(resource, project.capacity(resource), members, demands))
-}
-
-/// A minimal forbidden set of the activities that run at an overload, as [`shrink_activities`] makes it.
-pub fn shrink(
-    alloc: Global,
-    project: &Project,
-    overload: &Overload,
-) -> Result<ForbiddenSet, AllocError>
-    requires resource { overload.now.resource < resource_count project.now }
-    requires running { All (λ i. i < activity_count project.now) overload.now.running.items }
-    requires rising { IsStrictlyIncreasing overload.now.running.items }
-    requires forbidden { IsForbidden project.now overload.now.resource overload.now.running.items }
-    ensures resource { IfOk result (λ set. set.resource ≡ overload.now.resource) }
-    ensures capacity { IfOk result (λ set. set.capacity ≡ capacity project.now overload.now.resource) }
-    ensures demands { IfOk result (λ set. set.demands ≡ map (demand project.now overload.now.resource) set.members) }
-    ensures running { IfOk result (λ set. All (Contains overload.now.running.items) set.members) }
-    ensures few { IfOk result (λ set. length set.members ≤ activity_count project.now) }
-    ensures minimal { IfOk result (λ set. IsMinimalForbidden project.now overload.now.resource set.members) }
-{
-    shrink_activities(alloc, project, overload.resource, &overload.running)
 }
