@@ -3,11 +3,11 @@ use Rattle.std.proofs.Common.{◌≡◌, refl, ℕ, ◌+◌, ◌<◌, ◌≤◌,
 use Rattle.std.proofs.lemmas.Int.{ints}
 use Rattle.std.specs.List.{Contains, range_with_len, All}
 use Rattle.std.proofs.lemmas.Bool.{cases_eq}
-use Rattle.std.proofs.lemmas.List.Elements.{Contains-append_left, Contains-append_right, All-from_get_or, All-weaker, All-get_or}
+use Rattle.std.proofs.lemmas.List.Elements.{Contains-append_right, All-from_get_or, All-weaker, All-get_or}
 use Rattle.std.proofs.lemmas.List.FromFn.{get_or-map-range_with_len, length-map-range_with_len}
 use Rattle.network.specs.declared.parts.Lag.{Lag}
 use Rattle.network.specs.declared.parts.Pair.{Pair}
-use Rattle.network.specs.Problem.{Problem, activity_count, end_of, duration, start_arc, end_arc, pair_arc, implied_arcs, rules, arcs_of, IsProject, IsWithin, IsBetween, IsTime, IsAmount}
+use Rattle.network.specs.Problem.{Problem, activity_count, end_of, duration, start_arc, end_arc, implied_arcs, arcs_of, IsProject, IsWithin, IsBetween, IsTime, IsAmount}
 use Rattle.network.specs.Walk.{IsProjectMatrix, IsWalk, weight, entry, IsGreatestWeight, Rows, weights_from}
 use Rattle.network.proofs.FaultLaws.{AreLight-arcs_of}
 use Rattle.longest_path.proofs.Bound.{IsMatrixOf-within}
@@ -15,21 +15,12 @@ use Rattle.longest_path.specs.declared.insert.TheConstants.{MAX_WAY_WITH}
 use Rattle.network.specs.declared.limits.TheConstants.{MAX_ACTIVITIES, MAX_WALK_WEIGHT}
 use Rattle.network.proofs.Walks.{most_weight}
 use Rattle.std.specs.Option.{unwrap_or}
-use Rattle.network.proofs.Schedules.{IsLeastSchedule-weights, walk_holds, arcs_met}
+use Rattle.network.proofs.Schedules.{IsLeastSchedule-weights, walk_holds, arcs_met, rule_contains, start_rule}
 use Rattle.earliest.specs.Ends.{AreEarliest, tail, tail_weight, tail_weights, AreTails}
 use Rattle.std.specs.Int.{w64}
 use Rattle.network.specs.Schedule.{start, makespan, IsSchedule, KeepsAll}
 
 -- ---- The entries of a matrix of a project and pairs, from the start and to the end.
-
--- a function's value at a place of a range
-Contains-map-range : (f : ℕ → Lag) (a n i : ℕ) → i < n → Contains (map f (range_with_len a n)) (f (a + i))
-Contains-map-range f a n i lt =
-    let len = length-map-range_with_len f a n in
-    (i, rw len lt, get_or-map-range_with_len f a n i (a + i) (f (a + i)) lt refl)
-
-rule_there : (p : Problem) (pairs : List Pair) (e : Lag) → Contains (implied_arcs p) e → Contains (arcs_of p pairs) e
-rule_there p pairs e c = Contains-append_left (rules p) (map (pair_arc p) pairs) e (Contains-append_right p.lags (implied_arcs p) e c)
 
 -- a walk of at least the weight w
 pub record Spans (arcs : List Lag) (a b : ℕ) (w : ℤ) : Type 0 where
@@ -40,13 +31,7 @@ pub record Spans (arcs : List Lag) (a b : ℕ) (w : ℤ) : Type 0 where
 -- the start reaches each activity
 pub from_start : (p : Problem) (pairs : List Pair) (i : ℕ) → i < activity_count p → Spans (arcs_of p pairs) 0 i (pos 0)
 from_start p pairs zero lt = record { walk = []; goes = refl; weighs = omega (arith, ints) }
-from_start p pairs (suc i) lt =
-    let low : i < end_of p = omega arith in
-    let at : Contains (map start_arc (range_with_len 1 (end_of p))) (start_arc (1 + i)) = Contains-map-range start_arc 1 (end_of p) i low in
-    let is : 1 + i ≡ suc i = omega arith in
-    let here : Contains (map start_arc (range_with_len 1 (end_of p))) (start_arc (suc i)) = rw is at at in
-    let there = rule_there p pairs (start_arc (suc i)) (Contains-append_left (map start_arc (range_with_len 1 (end_of p))) (map (end_arc p) (range_with_len 0 (end_of p))) (start_arc (suc i)) here) in
-    record { walk = start_arc (suc i) ∷ []; goes = (there, refl, refl); weighs = omega (arith, ints) }
+from_start p pairs (suc i) lt = record { walk = start_arc (suc i) ∷ []; goes = (rule_contains p pairs (start_arc (suc i)) (start_rule p i lt), refl, refl); weighs = omega (arith, ints) }
 
 -- each activity reaches the end, no sooner than it ends
 pub to_end : (p : Problem) (pairs : List Pair) (i : ℕ) → IsProject p → i < activity_count p → Spans (arcs_of p pairs) i (end_of p) (duration p i)
@@ -58,10 +43,10 @@ to_end p pairs i is lt =
           record { walk = []; goes = e; weighs = rw same (omega (arith, ints)) }
       | inr ne ↦
           let low : i < end_of p = omega arith in
-          let at : Contains (map (end_arc p) (range_with_len 0 (end_of p))) (end_arc p (0 + i)) = Contains-map-range (end_arc p) 0 (end_of p) i low in
-          let zero_is : 0 + i ≡ i = omega arith in
-          let here : Contains (map (end_arc p) (range_with_len 0 (end_of p))) (end_arc p i) = rw zero_is at at in
-          let there = rule_there p pairs (end_arc p i) (Contains-append_right (map start_arc (range_with_len 1 (end_of p))) (map (end_arc p) (range_with_len 0 (end_of p))) (end_arc p i) here) in
+          let len = length-map-range_with_len (end_arc p) 0 (end_of p) in
+          let here : Contains (map (end_arc p) (range_with_len 0 (end_of p))) (end_arc p i) =
+          (i, rw len low, get_or-map-range_with_len (end_arc p) 0 (end_of p) i i (end_arc p i) low (omega arith)) in
+          let there = rule_contains p pairs (end_arc p i) (Contains-append_right p.lags (implied_arcs p) (end_arc p i) (Contains-append_right (map start_arc (range_with_len 1 (end_of p))) (map (end_arc p) (range_with_len 0 (end_of p))) (end_arc p i) here)) in
           record { walk = end_arc p i ∷ []; goes = (there, refl, refl); weighs = omega (arith, ints) }
     ]
 
