@@ -5,7 +5,7 @@ ghost use Rattle.std.specs.List.{All, AllPairs, Contains};
 ghost use Rattle.std.specs.List.Sorted.{IsStrictlyIncreasing, IsNonDecreasing, IsPermutation};
 ghost use Rattle.network.specs.Schedule.{IsForbidden, IsMinimalForbidden};
 ghost use Rattle.network.specs.Problem.{activity_count, resource_count, demand, capacity};
-ghost use Rattle.forbidden_sets.specs.MinimalSet.{AreLoads, AreShrunk, ComesBefore, total_of};
+ghost use Rattle.forbidden_sets.specs.MinimalSet.{AreLoads, ComesBefore, total_of};
 ghost use Rattle.forbidden_sets.specs.declared.shrinking.Load.{Load};
 
 use crate::set::ForbiddenSet;
@@ -93,26 +93,6 @@ fn in_order(alloc: Global, loads: &[Load]) -> Result<SmallVec<usize, 8>, AllocEr
     Ok(members)
 }
 
-/// The activities that are left when none of them can be spared, by rising number.
-fn least_needed(
-    alloc: Global,
-    project: &Project,
-    resource: usize,
-    activities: &[usize],
-) -> Result<SmallVec<usize, 8>, AllocError>
-    requires resource { resource < resource_count project.now }
-    requires activities { All (λ i. i < activity_count project.now) activities.now }
-    requires rising { IsStrictlyIncreasing activities.now }
-    requires forbidden { IsForbidden project.now resource activities.now }
-    ensures { IfOk result (λ members.
-        AreShrunk (demand project.now resource) (capacity project.now resource) activities.now members.items) }
-{
-    let loads = by_demand(alloc, project, resource, activities)?;
-    let loads = loads.as_slice();
-    let count = spared(loads, project.capacity(resource));
-    in_order(alloc, &loads[count..])
-}
-
 /// What each of the members needs.
 fn demands_of(
     alloc: Global,
@@ -151,7 +131,11 @@ pub fn shrink_activities(
     ensures few { IfOk result (λ set. length set.members ≤ activity_count project.now) }
     ensures minimal { IfOk result (λ set. IsMinimalForbidden project.now resource set.members) }
 {
-    let members = least_needed(alloc, project, resource, activities)?;
+    let capacity = project.capacity(resource);
+    let loads = by_demand(alloc, project, resource, activities)?;
+    let loads = loads.as_slice();
+    let count = spared(loads, capacity);
+    let members = in_order(alloc, &loads[count..])?;
     let demands = demands_of(alloc, project, resource, members.as_slice())?;
-    Ok(ForbiddenSet::new(resource, project.capacity(resource), members, demands))
+    Ok(ForbiddenSet::new(resource, capacity, members, demands))
 }

@@ -8,7 +8,7 @@ ghost use Rattle.profile.specs.Overloads.{IsFirstOverload, TellsUse, start_times
 use crate::counting::Count;
 use crate::overload::Overload;
 use crate::sweep::{all_along, first_along, prepare};
-use crate::usage::take_running;
+use crate::usage::list_running;
 use network::Project;
 use std::alloc::{AllocError, Global};
 use std::marker::Model;
@@ -67,7 +67,7 @@ impl OverloadSweep {
         prepare(project, starts, &mut self.started, &mut self.ended);
         let found = first_along(project, &mut self.started, &mut self.ended);
         if let Some(overload) = found {
-            take_running(project, starts, overload.time, &mut self.running);
+            list_running(project, starts, overload.time, &mut self.running);
         }
         found
     }

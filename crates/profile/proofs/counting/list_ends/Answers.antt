@@ -3,7 +3,7 @@ use Rattle.std.proofs.lemmas.Int.{ints}
 use Rattle.std.proofs.lemmas.Bool.{cases_eq}
 use Rattle.network.specs.Problem.{duration}
 use Rattle.profile.specs.Counts.{end_time}
-use Rattle.profile.proofs.counting.take_ends.Goals as goal
+use Rattle.profile.proofs.counting.list_ends.Goals as goal
 
 set_more : (f : ℕ → ℤ) (xs : List ℤ) (i : ℕ) (v : ℤ) → i < length xs → ((k : ℕ) → k < i → get_or xs k (pos 0) ≡ f k) → v ≡ f i → (k : ℕ) → k < i + 1 → get_or (set xs i v) k (pos 0) ≡ f k
 set_more f xs i v lt done is k less =

@@ -2,8 +2,8 @@ use Rattle.std.proofs.Common.{w64, to_z, of_z, sym, ◌∙◌, refl, arith}
 use Rattle.std.proofs.lemmas.Grind.{common_steps}
 use Rattle.network.specs.Schedule.{is_running}
 use Rattle.profile.proofs.Uses.{filter_range_yes, filter_range_no}
-use Rattle.profile.proofs.usage.take_running.Goals as goal
-use Rattle.profile.proofs.usage.take_running.Goals.{then-is_running, else-is_running}
+use Rattle.profile.proofs.usage.list_running.Goals as goal
+use Rattle.profile.proofs.usage.list_running.Goals.{then-is_running, else-is_running}
 
 pub loop-activity-preserved : goal.loop-activity-preserved
 loop-activity-preserved c =

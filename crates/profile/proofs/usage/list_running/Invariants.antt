@@ -1,7 +1,7 @@
 use Rattle.std.proofs.Common.{◌≡◌, ◌≤◌, length, vec_capacity}
 use Rattle.std.specs.List.{filter, range_with_len}
 use Rattle.network.specs.Schedule.{is_running}
-use Rattle.profile.proofs.usage.take_running.Given as goal
+use Rattle.profile.proofs.usage.list_running.Given as goal
 
 abbrev pub invariant-loop-activity : goal.invariant-loop-activity
 invariant-loop-activity l = record {
