@@ -101,8 +101,8 @@ keys_long ends tasks keys are = ap length are ∙ length-map tasks (λ (t : Task
 -- ---- ranks
 
 ranked_tails : (tails : List ℤ) (tasks : List Task) (keys : List ℤ) (order rising ranks : List ℕ) (count : ℕ) → AreKeysOf tails tasks keys → IsOrder (length tasks) order → IsRanked keys order (length order) count rising ranks → count ≤ length rising → AreTailsOf tails tasks (take count rising)
-ranked_tails tails tasks keys order rising ranks count are is s room =
-    let long : length (take count rising) ≡ count = length-take-le count rising room in
+ranked_tails tails tasks keys order rising ranks count are is s spare =
+    let long : length (take count rising) ≡ count = length-take-le count rising spare in
     record {
       up = λ i j d early late.
           let short : j < count = omega arith in
@@ -117,7 +117,7 @@ ranked_tails tails tasks keys order rising ranks count are is s room =
   where
     there : (b : ℕ) → Contains (take count rising) b → Contains (map (tail_of tails) tasks) b
     there b (q, lt, at) =
-        let long : length (take count rising) ≡ count = length-take-le count rising room in
+        let long : length (take count rising) ≡ count = length-take-le count rising spare in
         let short : q < count = omega arith in
         let k = s.keys_are q short in
         let e : ℕ = get_or order k.at 0 in
@@ -128,7 +128,7 @@ ranked_tails tails tasks keys order rising ranks count are is s room =
 
     back : (b : ℕ) → Contains (map (tail_of tails) tasks) b → Contains (take count rising) b
     back b (e, lt, at) =
-        let long : length (take count rising) ≡ count = length-take-le count rising room in
+        let long : length (take count rising) ≡ count = length-take-le count rising spare in
         let inside : e < length tasks = rw (length-map tasks (tail_of tails)) at lt in
         let f = found_in (length tasks) order e is inside in
         let r = s.ranked f.at f.short in
@@ -144,8 +144,8 @@ ranked_tails tails tasks keys order rising ranks count are is s room =
 
 -- a rank that is written is the rank
 rank_is : (rising : List ℕ) (count b r : ℕ) → ((i j : ℕ) → i < j → j < count → get_or rising i 0 < get_or rising j 0) → count ≤ length rising → IsRank rising count b r → r ≡ rank_of (take count rising) b
-rank_is rising count b r up room rank =
-    let long : length (take count rising) ≡ count = length-take-le count rising room in
+rank_is rising count b r up spare rank =
+    let long : length (take count rising) ≡ count = length-take-le count rising spare in
     let some : 0 < r = rank.some in
     let among : r ≤ count = rank.among in
     let is : get_or rising (r - 1) 0 ≡ b = rank.is in
@@ -164,14 +164,14 @@ rank_is rising count b r up room rank =
     lt-leb (get_or (take count rising) r 0) b (omega (arith, at, rises))))
 
 pub ranked_tasks : (tails : List ℤ) (tasks : List Task) (keys : List ℤ) (order rising ranks : List ℕ) (count : ℕ) → AreKeysOf tails tasks keys → IsOrder (length tasks) order → IsRanked keys order (length order) count rising ranks → count ≤ length rising → AreRanked tails tasks rising ranks count
-ranked_tasks tails tasks keys order rising ranks count are is s room = record {
-  of_tails = ranked_tails tails tasks keys order rising ranks count are is s room;
+ranked_tasks tails tasks keys order rising ranks count are is s spare = record {
+  of_tails = ranked_tails tails tasks keys order rising ranks count are is s spare;
   ranks_are = λ i lt.
       let f = found_in (length tasks) order i is lt in
       let b : ℕ = tail_of tails (task_at tasks i) in
       let amount : unsigned_abs (key_at keys order f.at) ≡ tail_of tails (task_at tasks i) = ap (λ (m : ℕ). unsigned_abs (get_or keys m (pos 0))) f.is ∙ ap unsigned_abs (key_is tails tasks keys i are lt) in
       sym (ap (λ (m : ℕ). get_or ranks m 0) f.is)
-      ∙ rank_is rising count (unsigned_abs (key_at keys order f.at)) (get_or ranks (get_or order f.at 0) 0) s.up room (s.ranked f.at f.short)
+      ∙ rank_is rising count (unsigned_abs (key_at keys order f.at)) (get_or ranks (get_or order f.at 0) 0) s.up spare (s.ranked f.at f.short)
       ∙ ap (rank_of (take count rising)) amount;
 }
 

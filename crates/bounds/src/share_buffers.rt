@@ -23,7 +23,7 @@ pub(crate) struct ShareBuffers {
     pub(crate) loads: Vec<Load>,
     /// One mark more than there are tasks.
     pub(crate) line: Vec<u64>,
-    pub(crate) rooms: Vec<u64>,
+    pub(crate) widths: Vec<u64>,
 }
 
 impl ShareBuffers {
@@ -44,7 +44,7 @@ impl ShareBuffers {
             rising: vec![in alloc; 0; tasks.len()]?,
             loads: vec![in alloc; load; tasks.len()]?,
             line: vec![in alloc; 0; tasks.len() + 1]?,
-            rooms: vec![in alloc; 0; tasks.len()]?,
+            widths: vec![in alloc; 0; tasks.len()]?,
         })
     }
 

@@ -96,7 +96,7 @@ impl TaskBuffers {
             self.buffers.rising.as_slice(),
             count,
             self.buffers.line.as_mut_slice(),
-            self.buffers.rooms.as_mut_slice(),
+            self.buffers.widths.as_mut_slice(),
         )
     }
 }
@@ -108,11 +108,11 @@ fn share_under(
     rising: &[u64],
     count: usize,
     line: &mut [u64],
-    rooms: &mut [u64],
+    widths: &mut [u64],
 ) -> u64
     requires count { count ≤ length rising.now }
     requires line { length line.old ≡ length rising.now + 1 }
-    requires rooms { length rooms.old ≡ length rising.now }
+    requires widths { length widths.old ≡ length rising.now }
     requires loads { AreLoads (take count rising.now) loads.now }
     requires capacity { capacity ≤ MAX_CAPACITY }
     requires tails { All (λ b. b ≤ MAX_END) (take count rising.now) }
@@ -122,5 +122,5 @@ fn share_under(
 {
     let tails = &rising[..count];
     let line = &mut line[..count + 1];
-    greatest_share(loads, capacity, tails, line, &mut rooms[..count])
+    greatest_share(loads, capacity, tails, line, &mut widths[..count])
 }

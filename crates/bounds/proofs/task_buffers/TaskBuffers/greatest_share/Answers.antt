@@ -26,7 +26,7 @@ share_under-requires c =
     record {
       count = search rules;
       line = search rules;
-      rooms = search rules;
+      widths = search rules;
       loads = rw (c.as_slice-3.ensures.value, c.as_slice-4.ensures.value) (loads_limited (length c.args.heads.now) c.args.heads.now c.args.tails.now rising c.args.self.now c.list_loads.new.self.loads.items c.requires.heads c.requires.tasks are.of_tails are.of_loads);
       capacity = search rules;
       tails = rw c.as_slice-4.ensures.value (tails_limited (length c.args.heads.now) c.args.tails.now rising c.args.self.now c.requires.tails c.requires.tasks are.of_tails);
