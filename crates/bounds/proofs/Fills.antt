@@ -7,8 +7,8 @@ use Rattle.std.proofs.lemmas.List.{get_or_default}
 use Rattle.std.proofs.lemmas.List.Sums.{sum_by-cons, sum_by-take-le, sum_by-le-sum_by}
 use Rattle.std.proofs.Math.Nat.{mul-le-mul_left}
 use Rattle.bounds.specs.declared.limits.TheConstants.{MAX_CAPACITY, MAX_END, MAX_WORK}
-use Rattle.bounds.specs.Loads.{IsSmall, AreLoads, work_after, share, IsReached, IsAbove, line_of, room_before, IsFilled, Load}
-use Rattle.bounds.proofs.Rooms.{room_more}
+use Rattle.bounds.specs.Loads.{IsSmall, AreLoads, work_after, share, IsReached, IsAbove, line_of, width_before, IsFilled, Load}
+use Rattle.bounds.proofs.Widths.{width_more}
 use Rattle.bounds.proofs.LateWork.{line_marks, line_far, sum_small, product_small, late_work, late_work-late, late_work-early, late_work-le, work_after-low, work_after-early, work_after-le, IsTop, sum_more, passed, work_reaches}
 
 -- ---- tops that are raised by a fill, over plain numbers
@@ -86,9 +86,9 @@ raised s e w m f g t u r tops q lt =
 abbrev pub end_from : List ℕ → List Load → ℕ → ℕ → ℕ
 end_from line loads i j = get_or line j 0 + sum_by (late_work j) (take i loads)
 
--- the greatest of these up to slot q, as the rooms tell
+-- the greatest of these up to slot q, as the widths tell
 abbrev pub top_at : List ℕ → List Load → ℕ → List ℕ → ℕ → ℕ
-top_at line loads i rooms q = sum_by (λ x. x.work) (take i loads) + (get_or line 0 0 + room_before rooms q)
+top_at line loads i widths q = sum_by (λ x. x.work) (take i loads) + (get_or line 0 0 + width_before widths q)
 
 -- the fill ends where a load that was passed, and those before it, make it end
 pub record IsHeld (line : List ℕ) (loads : List Load) (i n : ℕ) : Type 0 where
@@ -101,9 +101,9 @@ pub record IsHeld (line : List ℕ) (loads : List Load) (i n : ℕ) : Type 0 whe
   pub within : n ≤ end_from line loads (index + 1) place
 
 -- the greatest end of the fill from a slot on, up to each slot; where the fill ends; the greatest share that was met
-pub record Filled (c : ℕ) (tails : List ℕ) (loads : List Load) (line : List ℕ) (i : ℕ) (rooms : List ℕ) (filled n : ℕ) : Type 0 where
-  pub count : length rooms ≡ length tails
-  pub tops : (q : ℕ) → q ≤ length tails → IsTop (end_from line loads i) q (top_at line loads i rooms q)
+pub record Filled (c : ℕ) (tails : List ℕ) (loads : List Load) (line : List ℕ) (i : ℕ) (widths : List ℕ) (filled n : ℕ) : Type 0 where
+  pub count : length widths ≡ length tails
+  pub tops : (q : ℕ) → q ≤ length tails → IsTop (end_from line loads i) q (top_at line loads i widths q)
   pub held : (filled ≡ 0) ⊎ IsHeld line loads i filled
   pub over : (q : ℕ) (y : Load) → Contains (take i loads) y → q < y.rank → end_from line loads i q ≤ filled
   pub reached : (n ≡ 0) ⊎ IsReached c tails loads n
@@ -117,9 +117,9 @@ pub record AreOnLine (c : ℕ) (tails : List ℕ) (loads : List Load) (line : Li
   pub rising : IsNonDecreasing tails
   pub is : line ≡ line_of c tails
 
-pub filled_start : (c : ℕ) (tails : List ℕ) (loads : List Load) (line rooms : List ℕ) → IsNonDecreasing line → length line ≡ length tails + 1 → length rooms + 1 ≡ length line →
-    ((q : ℕ) → q < length line → get_or line 0 0 + room_before rooms q ≡ get_or line q 0) → Filled c tails loads line 0 rooms 0 0
-filled_start c tails loads line rooms rising long count marks = record {
+pub filled_start : (c : ℕ) (tails : List ℕ) (loads : List Load) (line widths : List ℕ) → IsNonDecreasing line → length line ≡ length tails + 1 → length widths + 1 ≡ length line →
+    ((q : ℕ) → q < length line → get_or line 0 0 + width_before widths q ≡ get_or line q 0) → Filled c tails loads line 0 widths 0 0
+filled_start c tails loads line widths rising long count marks = record {
   count = omega arith;
   tops = λ q l. record {
     place = q;
@@ -281,10 +281,10 @@ own_is c tails loads line i old new filled n x e s =
     let inside : e < length old = s.fills.inside in
     let next = new_tops c tails loads line i old new filled n x e s (e + 1) (omega arith) in
     let here = new_tops c tails loads line i old new filled n x e s e (omega arith) in
-    let more : room_before new (e + 1) ≡ room_before new e + get_or new e 0 = room_more new e (omega arith) in
-    let full : room_before new e ≡ room_before old (x.rank - 1) = s.fills.full e late (omega arith) in
-    let own : room_before new (x.rank - 1) ≡ room_before old (x.rank - 1) = s.fills.before (x.rank - 1) (omega arith) in
-    let beyond : room_before old (x.rank - 1) < room_before new (e + 1) = s.fills.beyond (e + 1) (omega arith) (omega arith) in
+    let more : width_before new (e + 1) ≡ width_before new e + get_or new e 0 = width_more new e (omega arith) in
+    let full : width_before new e ≡ width_before old (x.rank - 1) = s.fills.full e late (omega arith) in
+    let own : width_before new (x.rank - 1) ≡ width_before old (x.rank - 1) = s.fills.before (x.rank - 1) (omega arith) in
+    let beyond : width_before old (x.rank - 1) < width_before new (e + 1) = s.fills.beyond (e + 1) (omega arith) (omega arith) in
     let place : next.place ≡ e + 1 =
     ⊎_elim
     (λ (low : next.place < e + 1). absurd (omega (arith, here.above next.place (omega arith), next.reached)))
@@ -292,7 +292,7 @@ own_is c tails loads line i old new filled n x e s =
     (cases_lt next.place (e + 1)) in
     ap (end_from line loads (i + 1)) (sym place) ∙ omega (arith, next.reached)
 
--- the mark after the last slot is beyond the room that it has left
+-- the mark after the last slot is beyond the width that it has left
 pub own_small : (c : ℕ) (tails : List ℕ) (loads : List Load) (line : List ℕ) (i : ℕ) (old new : List ℕ) (filled n : ℕ) (x : Load) (e : ℕ) → IsStep c tails loads line i old new filled n x e → get_or new e 0 ≤ get_or line (e + 1) 0
 own_small c tails loads line i old new filled n x e s =
     omega (arith, own_is c tails loads line i old new filled n x e s, sum_by-le-sum_by (late_work (e + 1)) (λ (y : Load). y.work) (take (i + 1) loads) (late_work-le (e + 1)))
@@ -351,8 +351,8 @@ end_small : (c : ℕ) (tails : List ℕ) (loads : List Load) (line : List ℕ) (
 end_small c tails loads line i q on short =
     omega (arith, line_marks c tails line on.is q short, product_small c (get_or tails q 0) on.few (on.low q 0 short), sum_by-take-le (late_work q) loads i, sum_small (late_work q) tails loads on.are (late_work-le q))
 
-pub filled_small : (c : ℕ) (tails : List ℕ) (loads : List Load) (line : List ℕ) (i : ℕ) (rooms : List ℕ) (filled n : ℕ) → AreOnLine c tails loads line → i ≤ length loads → Filled c tails loads line i rooms filled n → filled ≤ 2005000000000000
-filled_small c tails loads line i rooms filled n on inside s =
+pub filled_small : (c : ℕ) (tails : List ℕ) (loads : List Load) (line : List ℕ) (i : ℕ) (widths : List ℕ) (filled n : ℕ) → AreOnLine c tails loads line → i ≤ length loads → Filled c tails loads line i widths filled n → filled ≤ 2005000000000000
+filled_small c tails loads line i widths filled n on inside s =
     ⊎_elim
     (λ (none : filled ≡ 0). omega arith)
     (λ (h : IsHeld line loads i filled).
@@ -363,13 +363,13 @@ filled_small c tails loads line i rooms filled n on inside s =
     s.held
 
 -- no work reaches the end
-pub room_enough : (c : ℕ) (tails : List ℕ) (loads : List Load) (line : List ℕ) (i : ℕ) (rooms : List ℕ) (filled n : ℕ) (x : Load) → AreOnLine c tails loads line → IsSmall tails x →
-    Filled c tails loads line i rooms filled n → room_before rooms (x.rank - 1) + x.work < room_before rooms (length rooms)
-room_enough c tails loads line i rooms filled n x on small s =
+pub width_enough : (c : ℕ) (tails : List ℕ) (loads : List Load) (line : List ℕ) (i : ℕ) (widths : List ℕ) (filled n : ℕ) (x : Load) → AreOnLine c tails loads line → IsSmall tails x →
+    Filled c tails loads line i widths filled n → width_before widths (x.rank - 1) + x.work < width_before widths (length widths)
+width_enough c tails loads line i widths filled n x on small s =
     let some : 0 < x.rank = small.some_tail in
     let rank : x.rank ≤ length tails = small.rank_limit in
     let work : x.work ≤ MAX_WORK = small.work_limit in
     let own = s.tops (x.rank - 1) (omega arith) in
     let last = s.tops (length tails) (omega arith) in
-    let at : room_before rooms (length rooms) ≡ room_before rooms (length tails) = ap (room_before rooms) s.count in
+    let at : width_before widths (length widths) ≡ width_before widths (length tails) = ap (width_before widths) s.count in
     omega (arith, own.reached, own.early, end_small c tails loads line i own.place on (omega (arith, own.early)), last.above (length tails) (omega arith), line_far c tails line on.is)

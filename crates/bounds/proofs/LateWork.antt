@@ -1,5 +1,5 @@
 -- The work of loads with at least some tail, of those that were passed by falling head.
-use Rattle.std.proofs.Common.{◌≡◌, sym, ap, ◌∙◌, subst, ℕ, ◌+◌, ◌<◌, ◌≤◌, max, ◌⊎◌, List, [], ◌∷◌, ◌++◌, length, get_or, take, arith, ℤ, pos, ◌≤ℤ◌, map, ◌*◌, ⊎_elim, refl, ◌≢◌, set, length-append, nat_lt, if◌then◌else◌, unsigned_abs}
+use Rattle.std.proofs.Common.{◌≡◌, sym, ap, ◌∙◌, subst, ℕ, ◌+◌, ◌<◌, ◌≤◌, max, ◌⊎◌, List, [], ◌∷◌, ◌++◌, length, get_or, take, arith, ℤ, pos, map, ◌*◌, ⊎_elim, refl, ◌≢◌, set, length-append, nat_lt, if◌then◌else◌, unsigned_abs}
 use Rattle.std.specs.List.{All, Contains, sum_by}
 use Rattle.std.specs.Ordering.{ord_max, nat_cmp}
 use Rattle.std.proofs.lemmas.Bool.Decides.{nat_tests}
@@ -83,8 +83,6 @@ work_reaches tails loads j i x are lt at =
 
 abs_limit : (z : ℤ) → IsBetween (pos 0) MAX_WALK_WEIGHT z → unsigned_abs z ≤ MAX_END
 abs_limit z between =
-    let low : pos 0 ≤ℤ z = between.at_least in
-    let high : z ≤ℤ MAX_WALK_WEIGHT = between.at_most in
     omega (arith, ints)
 
 -- a head or tail is within the limits

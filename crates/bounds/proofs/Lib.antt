@@ -3,7 +3,7 @@ pub mod Tasks
 pub mod Greatest
 pub mod WithLaws
 pub mod LateWork
-pub mod Rooms
+pub mod Widths
 pub mod Fills
 pub mod Ranking
 pub mod Ranked

@@ -1,9 +1,11 @@
 -- Ranks along an order of all tasks are those of their tails, and loads along one are those of the tasks.
-use Rattle.std.proofs.Common.{◌≡◌, sym, ap, ◌∙◌, ℕ, ◌+◌, ◌<◌, inl, inr, set, List, ◌++◌, append-nil, take, drop, map, length, get_or, arith, refl, subst, ◌-◌, ◌≤◌, ⊎_elim, ℤ, pos, unsigned_abs, nat_le, reverse}
+use Rattle.std.proofs.Common.{◌≡◌, sym, ap, ◌∙◌, ℕ, ◌+◌, ◌<◌, inl, inr, set, Vec, List, take, map, length, get_or, arith, refl, subst, ◌-◌, ◌≤◌, ⊎_elim, ℤ, pos, unsigned_abs, nat_le, reverse}
 use Rattle.std.specs.List.{range_with_len, All, Contains}
+use Rattle.std.specs.Vec.{with_items}
+use Rattle.std.specs.declared.alloc.Global.{Global}
 use Rattle.std.proofs.lemmas.Bool.{cases_eq, cases_lt, le-leb, lt-leb}
 use Rattle.std.proofs.lemmas.List.FromFn.{get_or-map-range_with_len, length-map-range_with_len, length-range_with_len}
-use Rattle.std.proofs.lemmas.List.{drop_all, take_all, ext_get_or, get_or-map, length-map, get_or-set_same, get_or-set_other, get_or-take, length-take-le, get_or_default, length-reverse, get_or-reverse}
+use Rattle.std.proofs.lemmas.List.{with_items_is, ext_get_or, get_or-map, length-map, get_or-set_same, get_or-set_other, get_or-take, length-take-le, get_or_default, length-reverse, get_or-reverse}
 use Rattle.std.specs.List.Sorted.{IsPermutation}
 use Rattle.std.proofs.lemmas.Grind.{get_or_default_zero}
 use Rattle.std.proofs.lemmas.List.Elements.{All-map, Contains-get_or}
@@ -43,10 +45,9 @@ made_by d f n xs long each =
     let lt : k < n = rw long at short in
     each k lt ∙ sym (get_or-map-range_with_len f 0 n k k d lt (omega arith)))
 
--- a buffer that is written whole
-pub written_back : {X : Type 0} (len : ℕ) (new items : List X) → len ≡ length items → length new ≡ length items → take len (new ++ drop (length new) items) ≡ new
-written_back {X} len new items e f =
-    ap (λ (xs : List X). take len (new ++ xs)) (drop_all (length new) items (omega arith)) ∙ ap (take len) (append-nil new) ∙ take_all len new (omega arith)
+-- a list that is written whole
+pub refilled : {X : Type 0} (v : Vec X Global) (new : List X) → length new ≡ length v.items → (with_items v new).items ≡ new
+refilled v new same = with_items_is v new (same ∙ sym v.ok.0)
 
 -- ---- orders
 
@@ -100,8 +101,8 @@ keys_long ends tasks keys are = ap length are ∙ length-map tasks (λ (t : Task
 -- ---- ranks
 
 ranked_tails : (tails : List ℤ) (tasks : List Task) (keys : List ℤ) (order rising ranks : List ℕ) (count : ℕ) → AreKeysOf tails tasks keys → IsOrder (length tasks) order → IsRanked keys order (length order) count rising ranks → count ≤ length rising → AreTailsOf tails tasks (take count rising)
-ranked_tails tails tasks keys order rising ranks count are is s room =
-    let long : length (take count rising) ≡ count = length-take-le count rising room in
+ranked_tails tails tasks keys order rising ranks count are is s spare =
+    let long : length (take count rising) ≡ count = length-take-le count rising spare in
     record {
       up = λ i j d early late.
           let short : j < count = omega arith in
@@ -116,7 +117,7 @@ ranked_tails tails tasks keys order rising ranks count are is s room =
   where
     there : (b : ℕ) → Contains (take count rising) b → Contains (map (tail_of tails) tasks) b
     there b (q, lt, at) =
-        let long : length (take count rising) ≡ count = length-take-le count rising room in
+        let long : length (take count rising) ≡ count = length-take-le count rising spare in
         let short : q < count = omega arith in
         let k = s.keys_are q short in
         let e : ℕ = get_or order k.at 0 in
@@ -127,7 +128,7 @@ ranked_tails tails tasks keys order rising ranks count are is s room =
 
     back : (b : ℕ) → Contains (map (tail_of tails) tasks) b → Contains (take count rising) b
     back b (e, lt, at) =
-        let long : length (take count rising) ≡ count = length-take-le count rising room in
+        let long : length (take count rising) ≡ count = length-take-le count rising spare in
         let inside : e < length tasks = rw (length-map tasks (tail_of tails)) at lt in
         let f = found_in (length tasks) order e is inside in
         let r = s.ranked f.at f.short in
@@ -143,8 +144,8 @@ ranked_tails tails tasks keys order rising ranks count are is s room =
 
 -- a rank that is written is the rank
 rank_is : (rising : List ℕ) (count b r : ℕ) → ((i j : ℕ) → i < j → j < count → get_or rising i 0 < get_or rising j 0) → count ≤ length rising → IsRank rising count b r → r ≡ rank_of (take count rising) b
-rank_is rising count b r up room rank =
-    let long : length (take count rising) ≡ count = length-take-le count rising room in
+rank_is rising count b r up spare rank =
+    let long : length (take count rising) ≡ count = length-take-le count rising spare in
     let some : 0 < r = rank.some in
     let among : r ≤ count = rank.among in
     let is : get_or rising (r - 1) 0 ≡ b = rank.is in
@@ -163,14 +164,14 @@ rank_is rising count b r up room rank =
     lt-leb (get_or (take count rising) r 0) b (omega (arith, at, rises))))
 
 pub ranked_tasks : (tails : List ℤ) (tasks : List Task) (keys : List ℤ) (order rising ranks : List ℕ) (count : ℕ) → AreKeysOf tails tasks keys → IsOrder (length tasks) order → IsRanked keys order (length order) count rising ranks → count ≤ length rising → AreRanked tails tasks rising ranks count
-ranked_tasks tails tasks keys order rising ranks count are is s room = record {
-  of_tails = ranked_tails tails tasks keys order rising ranks count are is s room;
+ranked_tasks tails tasks keys order rising ranks count are is s spare = record {
+  of_tails = ranked_tails tails tasks keys order rising ranks count are is s spare;
   ranks_are = λ i lt.
       let f = found_in (length tasks) order i is lt in
       let b : ℕ = tail_of tails (task_at tasks i) in
       let amount : unsigned_abs (key_at keys order f.at) ≡ tail_of tails (task_at tasks i) = ap (λ (m : ℕ). unsigned_abs (get_or keys m (pos 0))) f.is ∙ ap unsigned_abs (key_is tails tasks keys i are lt) in
       sym (ap (λ (m : ℕ). get_or ranks m 0) f.is)
-      ∙ rank_is rising count (unsigned_abs (key_at keys order f.at)) (get_or ranks (get_or order f.at 0) 0) s.up room (s.ranked f.at f.short)
+      ∙ rank_is rising count (unsigned_abs (key_at keys order f.at)) (get_or ranks (get_or order f.at 0) 0) s.up spare (s.ranked f.at f.short)
       ∙ ap (rank_of (take count rising)) amount;
 }
 

@@ -51,10 +51,10 @@ ranked_with keys order n count more place rising new ranks s at short less few k
 pub ranked_new : (keys : List ℤ) (order : List ℕ) (n count place : ℕ) (rising ranks : List ℕ) → IsRanked keys order n count rising ranks → place ≡ get_or order n 0 → place < length ranks → count < length rising →
     (0 < count → get_or rising (count - 1) 0 < unsigned_abs (get_or keys place (pos 0))) →
     IsRanked keys order (n + 1) (count + 1) (set rising count (unsigned_abs (get_or keys place (pos 0)))) (set ranks place (count + 1))
-ranked_new keys order n count place rising ranks s at short room greater =
+ranked_new keys order n count place rising ranks s at short spare greater =
     let few : count ≤ n = s.few in
     let key : ℕ = unsigned_abs (get_or keys place (pos 0)) in
-    let here : get_or (set rising count (unsigned_abs (get_or keys place (pos 0)))) count 0 ≡ unsigned_abs (get_or keys place (pos 0)) = get_or-set_same rising count (unsigned_abs (get_or keys place (pos 0))) 0 room in
+    let here : get_or (set rising count (unsigned_abs (get_or keys place (pos 0)))) count 0 ≡ unsigned_abs (get_or keys place (pos 0)) = get_or-set_same rising count (unsigned_abs (get_or keys place (pos 0))) 0 spare in
     let kept : (q : ℕ) → q < count → get_or (set rising count (unsigned_abs (get_or keys place (pos 0)))) q 0 ≡ get_or rising q 0 = λ q lt. get_or-set_other rising count q (unsigned_abs (get_or keys place (pos 0))) 0 (omega arith) in
     ranked_with keys order n count (count + 1) place rising (set rising count (unsigned_abs (get_or keys place (pos 0)))) ranks s at short (omega arith) (omega arith) kept
     (λ i j before late.

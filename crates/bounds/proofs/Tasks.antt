@@ -126,8 +126,6 @@ task_there p k i busy =
 
 abs_amount : (z : ℤ) → IsAmount z → unsigned_abs z ≤ unsigned_abs MAX_AMOUNT
 abs_amount z amount =
-    let low : pos 0 ≤ℤ z = amount.at_least in
-    let high : z ≤ℤ MAX_AMOUNT = amount.at_most in
     omega (arith, ints)
 
 -- the work of an activity is within the limits

@@ -1,16 +1,14 @@
 -- The heads and tails of a matrix with one arc more, and its bound.
-use Rattle.std.proofs.Common.{◌≡◌, refl, sym, ap, ◌∙◌, subst, ℕ, ◌-◌, ◌<◌, ◌≤◌, arith, neg_ℤ, ℤ, pos, ◌+ℤ◌, ◌-ℤ◌, ◌≤ℤ◌, List, [], ◌∷◌, ◌++◌, length, get_or, Option, None, Some, ⊎_elim, ◌<ℤ◌, IfSome, FitsSigned, unsigned_abs}
+use Rattle.std.proofs.Common.{◌≡◌, refl, sym, ap, ◌∙◌, subst, ℕ, ◌-◌, ◌<◌, ◌≤◌, arith, ℤ, pos, ◌+ℤ◌, ◌-ℤ◌, ◌≤ℤ◌, List, [], ◌∷◌, ◌++◌, length, get_or, Option, None, Some, ⊎_elim, ◌<ℤ◌, IfSome, unsigned_abs}
 use Rattle.std.specs.Option.{unwrap_or}
-use Rattle.std.specs.Int.{int_max, w64}
+use Rattle.std.specs.Int.{int_max}
 use Rattle.std.proofs.lemmas.Int.{ints, int_max_is}
 use Rattle.std.proofs.lemmas.List.Elements.{All-head, All-push}
 use Rattle.std.proofs.lemmas.List.FromFn.{get_or-map-range_with_len}
 use Rattle.network.specs.declared.parts.Lag.{Lag}
 use Rattle.network.specs.declared.parts.Pair.{Pair}
-use Rattle.network.specs.Problem.{Problem, activity_count, end_of, duration, pair_arc, arcs_of, NameActivities, IsAmount, IsWithin}
+use Rattle.network.specs.Problem.{Problem, activity_count, end_of, duration, pair_arc, arcs_of, NameActivities}
 use Rattle.network.specs.Walk.{IsProjectMatrix, Rows, entry, IsMatrixOf, weights_from}
-use Rattle.network.specs.declared.limits.TheConstants.{MAX_AMOUNT}
-use Rattle.longest_path.specs.declared.insert.TheConstants.{MAX_WAY_WITH}
 use Rattle.network.proofs.Schedules.{arcs_of-push}
 use Rattle.longest_path.specs.Matrix.{joined}
 use Rattle.longest_path.specs.Insert.{entry_over, rows_over, ClosesNone, AddsArc}
@@ -44,18 +42,6 @@ pub joined_late : (x y : Option ℤ) (w : ℤ) → joined x (joined y (Some w)) 
 joined_late None y w = refl
 joined_late (Some x) None w = refl
 joined_late (Some x) (Some y) w = let same : (x +ℤ (y +ℤ w)) ≡ ((x +ℤ w) +ℤ y) = omega (arith, ints) in ap Some same
-
-pub difference_small : (o : Option ℤ) (d : ℤ) → IfSome o (λ w. IsWithin MAX_WAY_WITH w) → IsAmount d → FitsSigned w64 (unwrap_or o (pos 0) -ℤ d)
-difference_small None d within amount =
-    let low : pos 0 ≤ℤ d = amount.at_least in
-    let high : d ≤ℤ MAX_AMOUNT = amount.at_most in
-    omega (arith, ints)
-difference_small (Some w) d within amount =
-    let low : pos 0 ≤ℤ d = amount.at_least in
-    let high : d ≤ℤ MAX_AMOUNT = amount.at_most in
-    let up : w ≤ℤ MAX_WAY_WITH = within.at_most in
-    let down : neg_ℤ MAX_WAY_WITH ≤ℤ w = within.at_least in
-    omega (arith, ints)
 
 -- ---- the bound with a pair
 

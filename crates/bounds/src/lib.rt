@@ -13,6 +13,7 @@ ghost use Rattle.bounds.specs.Bound.{critical_weight, IsMatrixFor, IsTrueBoundFo
 mod limits;
 mod load;
 mod resource_buffers;
+mod share_buffers;
 mod slots;
 mod task_buffers;
 mod with_pair;

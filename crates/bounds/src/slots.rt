@@ -3,13 +3,13 @@
 ghost use Rattle.std.specs.Prelude.{◌≡◌, ◌+◌, ◌<◌, ◌≤◌, length};
 ghost use Rattle.std.specs.List.{All};
 ghost use Rattle.std.specs.List.Sorted.{IsNonDecreasing};
-ghost use Rattle.bounds.specs.Loads.{AreLoads, IsGreatestShare, line_of, room_before, AreRoomsOf, IsFilled};
+ghost use Rattle.bounds.specs.Loads.{AreLoads, IsGreatestShare, line_of, width_before, AreWidthsOf, IsFilled};
 
 use crate::limits::{FAR_MARK, MAX_CAPACITY, MAX_END, MAX_SHARE};
 use crate::load::Load;
 
 /// Replaces the marks by the capacity times each tail, and a last mark that no work reaches.
-fn take_line(line: &mut [u64], capacity: u64, tails: &[u64])
+fn list_marks(line: &mut [u64], capacity: u64, tails: &[u64])
     requires long { length line.old ≡ length tails.now + 1 }
     requires capacity { capacity ≤ MAX_CAPACITY }
     requires tails { All (λ b. b ≤ MAX_END) tails.now }
@@ -21,31 +21,31 @@ fn take_line(line: &mut [u64], capacity: u64, tails: &[u64])
     line[tails.len()] = FAR_MARK;
 }
 
-/// Puts the room between each two marks in place of other rooms.
-fn take_rooms(rooms: &mut [u64], line: &[u64])
-    requires long { length rooms.old + 1 ≡ length line.now }
+/// Puts the width between each two marks in place of other widths.
+fn list_widths(widths: &mut [u64], line: &[u64])
+    requires long { length widths.old + 1 ≡ length line.now }
     requires rising { IsNonDecreasing line.now }
-    ensures { AreRoomsOf line.now rooms.new }
+    ensures { AreWidthsOf line.now widths.new }
 {
-    for place in 0..rooms.len() {
-        rooms[place] = line[place + 1] - line[place];
+    for place in 0..widths.len() {
+        widths[place] = line[place + 1] - line[place];
     }
 }
 
 /// Fills the slots from `start` on with the work. The last slot that it reaches, which isn't full.
-fn fill(rooms: &mut [u64], start: usize, work: u64) -> usize
-    requires start { start < length rooms.old }
-    requires enough { room_before rooms.old start + work < room_before rooms.old (length rooms.old) }
-    ensures { IsFilled start work result rooms.old rooms.new }
+fn fill(widths: &mut [u64], start: usize, work: u64) -> usize
+    requires start { start < length widths.old }
+    requires enough { width_before widths.old start + work < width_before widths.old (length widths.old) }
+    ensures { IsFilled start work result widths.old widths.new }
 {
     let mut place = start;
     let mut left = work;
-    while rooms[place] <= left {
-        left -= rooms[place];
-        rooms[place] = 0;
+    while widths[place] <= left {
+        left -= widths[place];
+        widths[place] = 0;
         place += 1;
     }
-    rooms[place] -= left;
+    widths[place] -= left;
     place
 }
 
@@ -60,10 +60,10 @@ pub(crate) fn greatest_share(
     capacity: u64,
     tails: &[u64],
     line: &mut [u64],
-    rooms: &mut [u64],
+    widths: &mut [u64],
 ) -> u64
     requires line { length line.old ≡ length tails.now + 1 }
-    requires rooms { length rooms.old ≡ length tails.now }
+    requires widths { length widths.old ≡ length tails.now }
     requires loads { AreLoads tails.now loads.now }
     requires capacity { capacity ≤ MAX_CAPACITY }
     requires tails { All (λ b. b ≤ MAX_END) tails.now }
@@ -71,13 +71,13 @@ pub(crate) fn greatest_share(
     ensures greatest { IsGreatestShare capacity tails.now loads.now result }
     ensures limit { result ≤ MAX_SHARE }
 {
-    take_line(line, capacity, tails);
-    take_rooms(rooms, line);
+    list_marks(line, capacity, tails);
+    list_widths(widths, line);
     let mut filled = 0;
     let mut greatest = 0;
     for load in loads {
-        let last = fill(rooms, load.rank - 1, load.work);
-        let end = line[last + 1] - rooms[last];
+        let last = fill(widths, load.rank - 1, load.work);
+        let end = line[last + 1] - widths[last];
         filled = filled.max(end);
         greatest = greatest.max(capacity * load.head + filled);
     }

@@ -8,10 +8,10 @@ ghost use Rattle.std.specs.List.Sorted.{IsNonDecreasing};
 ghost use Rattle.bounds.specs.Loads.{AreLoads, IsGreatestShare, IsGreatestShareOf};
 
 use crate::limits::{MAX_CAPACITY, MAX_END, MAX_SHARE};
-use crate::load::{Load, rank_tasks, take_loads};
+use crate::load::Load;
+use crate::share_buffers::ShareBuffers;
 use crate::slots::greatest_share;
 use network::Project;
-use orders::first_order;
 use std::alloc::{AllocError, Global};
 use std::marker::Model;
 
@@ -47,21 +47,11 @@ pub(crate) fn tasks_of(
 #[derive(Drop, Debug)]
 pub(crate) struct TaskBuffers {
     tasks: Vec<Task>,
-    /// The places of the tasks, by rising heads of the last call.
-    by_head: Vec<usize>,
-    /// The same, by rising tails.
-    by_tail: Vec<usize>,
-    keys: Vec<i64>,
-    ranks: Vec<usize>,
-    rising: Vec<u64>,
-    loads: Vec<Load>,
-    /// One mark more than there are tasks.
-    line: Vec<u64>,
-    rooms: Vec<u64>,
+    buffers: ShareBuffers,
 }
 
 impl Model for TaskBuffers {
-    ghost use Rattle.std.specs.Prelude.{List};
+    ghost use Rattle.std.specs.Prelude.{List, length};
     ghost use Rattle.bounds.specs.declared.task_buffers.Task.{Task};
 
     ghost Value = { List Task };
@@ -70,7 +60,7 @@ impl Model for TaskBuffers {
 
     ghost view = { λ s. s.tasks.items };
 
-    ghost invariant = { λ s. AreBuffers s };
+    ghost invariant = { λ s. AreBuffers (length s.tasks.items) s.buffers };
 }
 
 impl TaskBuffers {
@@ -84,30 +74,8 @@ impl TaskBuffers {
         ensures { IfOk result (λ buffers. buffers ≡ tasks_of project.now resource) }
     {
         let tasks = tasks_of(alloc, project, resource)?;
-        let load = Load {
-            head: 0,
-            rank: 0,
-            work: 0,
-        };
-        let by_head = first_order(alloc, tasks.len())?;
-        let by_tail = first_order(alloc, tasks.len())?;
-        let keys = vec![in alloc; 0; tasks.len()]?;
-        let ranks = vec![in alloc; 0; tasks.len()]?;
-        let rising = vec![in alloc; 0; tasks.len()]?;
-        let loads = vec![in alloc; load; tasks.len()]?;
-        let line = vec![in alloc; 0; tasks.len() + 1]?;
-        let rooms = vec![in alloc; 0; tasks.len()]?;
-        Ok(TaskBuffers {
-            tasks,
-            by_head,
-            by_tail,
-            keys,
-            ranks,
-            rising,
-            loads,
-            line,
-            rooms,
-        })
+        let buffers = ShareBuffers::new(alloc, tasks.as_slice())?;
+        Ok(TaskBuffers { tasks, buffers })
     }
 
     /// The greatest share of the tasks between heads and tails.
@@ -120,29 +88,15 @@ impl TaskBuffers {
         ensures greatest { IsGreatestShareOf capacity heads.now tails.now self.old result }
         ensures limit { result ≤ MAX_SHARE }
     {
-        let count = rank_tasks(
-            self.tasks.as_slice(),
-            tails,
-            self.by_tail.as_mut_slice(),
-            self.keys.as_mut_slice(),
-            self.ranks.as_mut_slice(),
-            self.rising.as_mut_slice(),
-        );
-        take_loads(
-            self.tasks.as_slice(),
-            heads,
-            self.by_head.as_mut_slice(),
-            self.keys.as_mut_slice(),
-            self.ranks.as_slice(),
-            self.loads.as_mut_slice(),
-        );
+        let count = self.buffers.rank_tails(self.tasks.as_slice(), tails);
+        self.buffers.list_loads(self.tasks.as_slice(), heads);
         share_under(
-            self.loads.as_slice(),
+            self.buffers.loads.as_slice(),
             capacity,
-            self.rising.as_slice(),
+            self.buffers.rising.as_slice(),
             count,
-            self.line.as_mut_slice(),
-            self.rooms.as_mut_slice(),
+            self.buffers.line.as_mut_slice(),
+            self.buffers.widths.as_mut_slice(),
         )
     }
 }
@@ -154,11 +108,11 @@ fn share_under(
     rising: &[u64],
     count: usize,
     line: &mut [u64],
-    rooms: &mut [u64],
+    widths: &mut [u64],
 ) -> u64
     requires count { count ≤ length rising.now }
     requires line { length line.old ≡ length rising.now + 1 }
-    requires rooms { length rooms.old ≡ length rising.now }
+    requires widths { length widths.old ≡ length rising.now }
     requires loads { AreLoads (take count rising.now) loads.now }
     requires capacity { capacity ≤ MAX_CAPACITY }
     requires tails { All (λ b. b ≤ MAX_END) (take count rising.now) }
@@ -168,5 +122,5 @@ fn share_under(
 {
     let tails = &rising[..count];
     let line = &mut line[..count + 1];
-    greatest_share(loads, capacity, tails, line, &mut rooms[..count])
+    greatest_share(loads, capacity, tails, line, &mut widths[..count])
 }

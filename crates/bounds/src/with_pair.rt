@@ -16,7 +16,7 @@ use network::{Lag, Pair, Project};
 use std::alloc::{AllocError, Global};
 
 /// Puts the heads that the matrix would give with the arc in place of others.
-fn take_heads_with(matrix: &Matrix, arc: Lag, heads: &mut [i64])
+fn list_heads_with(matrix: &Matrix, arc: Lag, heads: &mut [i64])
     requires from_activity { arc.from < length matrix.now }
     requires to_activity { arc.to < length matrix.now }
     requires light { IsWithin MAX_LAG_WEIGHT arc.weight }
@@ -30,7 +30,7 @@ fn take_heads_with(matrix: &Matrix, arc: Lag, heads: &mut [i64])
 }
 
 /// Puts the tails that the matrix would give with the arc in place of others.
-fn take_tails_with(project: &Project, matrix: &Matrix, arc: Lag, tails: &mut [i64])
+fn list_tails_with(project: &Project, matrix: &Matrix, arc: Lag, tails: &mut [i64])
     requires project { length matrix.now ≡ activity_count project.now }
     requires from_activity { arc.from < length matrix.now }
     requires to_activity { arc.to < length matrix.now }
@@ -69,9 +69,9 @@ pub(crate) fn bound_over(
     prove!(matrix.activity_count() == project.activity_count());
     let ceiling = ceiling.unwrap_or(i64::MAX);
     let arc = project.pair_arc(pair);
-    take_heads_with(matrix, arc, heads);
+    list_heads_with(matrix, arc, heads);
     let critical = heads[project.activity_count() - 1];
-    take_tails_with(project, matrix, arc, tails);
+    list_tails_with(project, matrix, arc, tails);
     let energy = buffers.energy_under(project, heads, tails, ceiling.unsigned_abs());
     critical.max(energy as i64)
 }

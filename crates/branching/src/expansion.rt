@@ -20,7 +20,7 @@ use earliest::least_starts_in;
 use forbidden_sets::shrink_activities;
 use longest_path::MarkedMatrix;
 use network::Schedule;
-use profile::Excess;
+use profile::Overload;
 use std::alloc::{AllocError, Global};
 use std::mem;
 use std::sync::Arc;
@@ -53,7 +53,7 @@ fn report_split(
     workspace: &mut Workspace,
     ceiling: Option<i64>,
     starts: &[i64],
-    overload: Excess,
+    overload: Overload,
 ) -> Result<Report, AllocError>
     requires tied { IsTiedTo (arc_value node.now) matrix.old.rows }
     requires room { HasRoomFor (arc_value node.now).project workspace.old }

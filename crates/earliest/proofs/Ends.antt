@@ -1,34 +1,26 @@
 -- What the entries of a matrix from the start and to the end say: earliest starts and tails.
-use Rattle.std.proofs.Common.{◌≡◌, refl, ℕ, ◌+◌, ◌<◌, ◌≤◌, zero, suc, inl, inr, arith, ℤ, pos, ◌≤ℤ◌, List, [], ◌∷◌, map, Option, None, Some, length, sym, ap, ◌-◌, ◌+ℤ◌, ◌-ℤ◌, neg_ℤ, IfSome, FitsSigned}
+use Rattle.std.proofs.Common.{◌≡◌, refl, ℕ, ◌+◌, ◌<◌, ◌≤◌, zero, suc, inl, inr, arith, ℤ, pos, ◌≤ℤ◌, List, [], ◌∷◌, map, Option, None, Some, length, sym, ap, ◌-◌, ◌+ℤ◌, ◌-ℤ◌, IfSome, FitsSigned}
 use Rattle.std.proofs.lemmas.Int.{ints}
 use Rattle.std.specs.List.{Contains, range_with_len, All}
 use Rattle.std.proofs.lemmas.Bool.{cases_eq}
-use Rattle.std.proofs.lemmas.List.Elements.{Contains-append_left, Contains-append_right, All-from_get_or, All-weaker, All-get_or}
+use Rattle.std.proofs.lemmas.List.Elements.{Contains-append_right, All-from_get_or, All-weaker, All-get_or}
 use Rattle.std.proofs.lemmas.List.FromFn.{get_or-map-range_with_len, length-map-range_with_len}
 use Rattle.network.specs.declared.parts.Lag.{Lag}
 use Rattle.network.specs.declared.parts.Pair.{Pair}
-use Rattle.network.specs.Problem.{Problem, activity_count, end_of, duration, start_arc, end_arc, pair_arc, implied_arcs, rules, arcs_of, IsProject, IsWithin, IsBetween, IsTime, IsAmount}
+use Rattle.network.specs.Problem.{Problem, activity_count, end_of, duration, start_arc, end_arc, implied_arcs, arcs_of, IsProject, IsWithin, IsBetween, IsTime, IsAmount}
 use Rattle.network.specs.Walk.{IsProjectMatrix, IsWalk, weight, entry, IsGreatestWeight, Rows, weights_from}
 use Rattle.network.proofs.FaultLaws.{AreLight-arcs_of}
 use Rattle.longest_path.proofs.Bound.{IsMatrixOf-within}
-use Rattle.network.specs.declared.limits.TheConstants.{MAX_ACTIVITIES, MAX_WALK_WEIGHT, MAX_AMOUNT}
+use Rattle.longest_path.specs.declared.insert.TheConstants.{MAX_WAY_WITH}
+use Rattle.network.specs.declared.limits.TheConstants.{MAX_ACTIVITIES, MAX_WALK_WEIGHT}
 use Rattle.network.proofs.Walks.{most_weight}
 use Rattle.std.specs.Option.{unwrap_or}
-use Rattle.network.proofs.Schedules.{IsLeastSchedule-weights, walk_holds, arcs_met}
+use Rattle.network.proofs.Schedules.{IsLeastSchedule-weights, walk_holds, arcs_met, rule_contains, start_rule}
 use Rattle.earliest.specs.Ends.{AreEarliest, tail, tail_weight, tail_weights, AreTails}
 use Rattle.std.specs.Int.{w64}
 use Rattle.network.specs.Schedule.{start, makespan, IsSchedule, KeepsAll}
 
 -- ---- The entries of a matrix of a project and pairs, from the start and to the end.
-
--- a function's value at a place of a range
-Contains-map-range : (f : ℕ → Lag) (a n i : ℕ) → i < n → Contains (map f (range_with_len a n)) (f (a + i))
-Contains-map-range f a n i lt =
-    let len = length-map-range_with_len f a n in
-    (i, rw len lt, get_or-map-range_with_len f a n i (a + i) (f (a + i)) lt refl)
-
-rule_there : (p : Problem) (pairs : List Pair) (e : Lag) → Contains (implied_arcs p) e → Contains (arcs_of p pairs) e
-rule_there p pairs e c = Contains-append_left (rules p) (map (pair_arc p) pairs) e (Contains-append_right p.lags (implied_arcs p) e c)
 
 -- a walk of at least the weight w
 pub record Spans (arcs : List Lag) (a b : ℕ) (w : ℤ) : Type 0 where
@@ -39,13 +31,7 @@ pub record Spans (arcs : List Lag) (a b : ℕ) (w : ℤ) : Type 0 where
 -- the start reaches each activity
 pub from_start : (p : Problem) (pairs : List Pair) (i : ℕ) → i < activity_count p → Spans (arcs_of p pairs) 0 i (pos 0)
 from_start p pairs zero lt = record { walk = []; goes = refl; weighs = omega (arith, ints) }
-from_start p pairs (suc i) lt =
-    let low : i < end_of p = omega arith in
-    let at : Contains (map start_arc (range_with_len 1 (end_of p))) (start_arc (1 + i)) = Contains-map-range start_arc 1 (end_of p) i low in
-    let is : 1 + i ≡ suc i = omega arith in
-    let here : Contains (map start_arc (range_with_len 1 (end_of p))) (start_arc (suc i)) = rw is at at in
-    let there = rule_there p pairs (start_arc (suc i)) (Contains-append_left (map start_arc (range_with_len 1 (end_of p))) (map (end_arc p) (range_with_len 0 (end_of p))) (start_arc (suc i)) here) in
-    record { walk = start_arc (suc i) ∷ []; goes = (there, refl, refl); weighs = omega (arith, ints) }
+from_start p pairs (suc i) lt = record { walk = start_arc (suc i) ∷ []; goes = (rule_contains p pairs (start_arc (suc i)) (start_rule p i lt), refl, refl); weighs = omega (arith, ints) }
 
 -- each activity reaches the end, no sooner than it ends
 pub to_end : (p : Problem) (pairs : List Pair) (i : ℕ) → IsProject p → i < activity_count p → Spans (arcs_of p pairs) i (end_of p) (duration p i)
@@ -57,10 +43,10 @@ to_end p pairs i is lt =
           record { walk = []; goes = e; weighs = rw same (omega (arith, ints)) }
       | inr ne ↦
           let low : i < end_of p = omega arith in
-          let at : Contains (map (end_arc p) (range_with_len 0 (end_of p))) (end_arc p (0 + i)) = Contains-map-range (end_arc p) 0 (end_of p) i low in
-          let zero_is : 0 + i ≡ i = omega arith in
-          let here : Contains (map (end_arc p) (range_with_len 0 (end_of p))) (end_arc p i) = rw zero_is at at in
-          let there = rule_there p pairs (end_arc p i) (Contains-append_right (map start_arc (range_with_len 1 (end_of p))) (map (end_arc p) (range_with_len 0 (end_of p))) (end_arc p i) here) in
+          let len = length-map-range_with_len (end_arc p) 0 (end_of p) in
+          let here : Contains (map (end_arc p) (range_with_len 0 (end_of p))) (end_arc p i) =
+          (i, rw len low, get_or-map-range_with_len (end_arc p) 0 (end_of p) i i (end_arc p i) low (omega arith)) in
+          let there = rule_contains p pairs (end_arc p i) (Contains-append_right p.lags (implied_arcs p) (end_arc p i) (Contains-append_right (map start_arc (range_with_len 1 (end_of p))) (map (end_arc p) (range_with_len 0 (end_of p))) (end_arc p i) here)) in
           record { walk = end_arc p i ∷ []; goes = (there, refl, refl); weighs = omega (arith, ints) }
     ]
 
@@ -85,17 +71,13 @@ pub entry_limit : (p : Problem) (pairs : List Pair) (rows : Rows) → IsProjectM
     (a b : ℕ) (w : ℤ) → a < activity_count p → b < activity_count p → entry rows a b ≡ Some w → w ≤ℤ MAX_WALK_WEIGHT
 entry_limit p pairs rows m a b w la lb e =
     let within : IsWithin (most_weight (activity_count p + 1)) w = IsMatrixOf-within (arcs_of p pairs) (activity_count p) rows (AreLight-arcs_of p pairs m.limits m.named) m.matrix a b w la lb e in
-    let above : w ≤ℤ most_weight (activity_count p + 1) = within.at_most in
     let few : activity_count p ≤ MAX_ACTIVITIES = m.limits.activity_limit in
     omega (arith, ints)
 
 -- ---- The greatest weights from the start are the earliest starts.
 
 time_of : (z : ℤ) → IsBetween (pos 0) MAX_WALK_WEIGHT z → IsTime z
-time_of z is =
-    let low : pos 0 ≤ℤ z = is.at_least in
-    let high : z ≤ℤ MAX_WALK_WEIGHT = is.at_most in
-    record { at_most = omega (arith, ints); at_least = omega (arith, ints) }
+time_of z is = record { at_most = omega (arith, ints); at_least = omega (arith, ints) }
 
 weight_range : (p : Problem) (pairs : List Pair) (rows : Rows) → IsProjectMatrix p pairs rows →
     (i : ℕ) → i < activity_count p → IsBetween (pos 0) MAX_WALK_WEIGHT (unwrap_or (entry rows 0 i) (pos 0))
@@ -126,17 +108,9 @@ AreEarliest-weights p pairs rows m =
 
 -- ---- The greatest weights to the end, less the durations, are tails.
 
-pub difference_fits : (o : Option ℤ) (d : ℤ) → IfSome o (λ w. IsWithin MAX_WALK_WEIGHT w) → IsAmount d → FitsSigned w64 (unwrap_or o (pos 0) -ℤ d)
-difference_fits None d within amount =
-    let low : pos 0 ≤ℤ d = amount.at_least in
-    let high : d ≤ℤ MAX_AMOUNT = amount.at_most in
-    omega (arith, ints)
-difference_fits (Some w) d within amount =
-    let low : pos 0 ≤ℤ d = amount.at_least in
-    let high : d ≤ℤ MAX_AMOUNT = amount.at_most in
-    let up : w ≤ℤ MAX_WALK_WEIGHT = within.at_most in
-    let down : neg_ℤ MAX_WALK_WEIGHT ≤ℤ w = within.at_least in
-    omega (arith, ints)
+pub difference_fits : (m : ℤ) (o : Option ℤ) (d : ℤ) → m ≤ℤ MAX_WAY_WITH → IfSome o (λ w. IsWithin m w) → IsAmount d → FitsSigned w64 (unwrap_or o (pos 0) -ℤ d)
+difference_fits m None d low within amount = omega (arith, ints)
+difference_fits m (Some w) d low within amount = omega (arith, ints)
 
 weight_to_end : (p : Problem) (pairs : List Pair) (rows : Rows) → IsProjectMatrix p pairs rows → (i : ℕ) → i < activity_count p →
     IsReachedBy (arcs_of p pairs) i (end_of p) (entry rows i (end_of p)) (duration p i)
@@ -152,7 +126,6 @@ tail_range p pairs rows m i lt =
     let high : at.value ≤ℤ MAX_WALK_WEIGHT = entry_limit p pairs rows m i (end_of p) at.value lt last at.is in
     let low : duration p i ≤ℤ at.value = at.at_least in
     let amount : IsAmount (duration p i) = All-get_or IsAmount p.durations i (pos 0) lt m.limits.durations_fit in
-    let long : pos 0 ≤ℤ duration p i = amount.at_least in
     rw at.is (record { at_most = omega (arith, ints); at_least = omega (arith, ints) })
 
 tail_at : (p : Problem) (rows : Rows) (i : ℕ) → i < activity_count p → tail (tail_weights p rows) i ≡ tail_weight p rows i

@@ -6,4 +6,4 @@ mod set;
 mod shrinking;
 
 pub use set::ForbiddenSet;
-pub use shrinking::{shrink, shrink_activities};
+pub use shrinking::shrink_activities;

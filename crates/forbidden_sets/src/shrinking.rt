@@ -5,12 +5,11 @@ ghost use Rattle.std.specs.List.{All, AllPairs, Contains};
 ghost use Rattle.std.specs.List.Sorted.{IsStrictlyIncreasing, IsNonDecreasing, IsPermutation};
 ghost use Rattle.network.specs.Schedule.{IsForbidden, IsMinimalForbidden};
 ghost use Rattle.network.specs.Problem.{activity_count, resource_count, demand, capacity};
-ghost use Rattle.forbidden_sets.specs.MinimalSet.{AreLoads, AreShrunk, ComesBefore, total_of};
+ghost use Rattle.forbidden_sets.specs.MinimalSet.{AreLoads, ComesBefore, total_of};
 ghost use Rattle.forbidden_sets.specs.declared.shrinking.Load.{Load};
 
 use crate::set::ForbiddenSet;
 use network::{MAX_ACTIVITIES, MAX_AMOUNT, Project};
-use profile::Overload;
 use smallvec::SmallVec;
 use std::alloc::{AllocError, Global};
 
@@ -94,26 +93,6 @@ fn in_order(alloc: Global, loads: &[Load]) -> Result<SmallVec<usize, 8>, AllocEr
     Ok(members)
 }
 
-/// The activities that are left when none of them can be spared, by rising number.
-fn least_needed(
-    alloc: Global,
-    project: &Project,
-    resource: usize,
-    activities: &[usize],
-) -> Result<SmallVec<usize, 8>, AllocError>
-    requires resource { resource < resource_count project.now }
-    requires activities { All (λ i. i < activity_count project.now) activities.now }
-    requires rising { IsStrictlyIncreasing activities.now }
-    requires forbidden { IsForbidden project.now resource activities.now }
-    ensures { IfOk result (λ members.
-        AreShrunk (demand project.now resource) (capacity project.now resource) activities.now members.items) }
-{
-    let loads = by_demand(alloc, project, resource, activities)?;
-    let loads = loads.as_slice();
-    let count = spared(loads, project.capacity(resource));
-    in_order(alloc, &loads[count..])
-}
-
 /// What each of the members needs.
 fn demands_of(
     alloc: Global,
@@ -152,27 +131,11 @@ pub fn shrink_activities(
     ensures few { IfOk result (λ set. length set.members ≤ activity_count project.now) }
     ensures minimal { IfOk result (λ set. IsMinimalForbidden project.now resource set.members) }
 {
-    let members = least_needed(alloc, project, resource, activities)?;
+    let capacity = project.capacity(resource);
+    let loads = by_demand(alloc, project, resource, activities)?;
+    let loads = loads.as_slice();
+    let count = spared(loads, capacity);
+    let members = in_order(alloc, &loads[count..])?;
     let demands = demands_of(alloc, project, resource, members.as_slice())?;
-    Ok(ForbiddenSet::new(resource, project.capacity(resource), members, demands))
-}
-
-/// A minimal forbidden set of the activities that run at an overload, as [`shrink_activities`] makes it.
-pub fn shrink(
-    alloc: Global,
-    project: &Project,
-    overload: &Overload,
-) -> Result<ForbiddenSet, AllocError>
-    requires resource { overload.now.resource < resource_count project.now }
-    requires running { All (λ i. i < activity_count project.now) overload.now.running.items }
-    requires rising { IsStrictlyIncreasing overload.now.running.items }
-    requires forbidden { IsForbidden project.now overload.now.resource overload.now.running.items }
-    ensures resource { IfOk result (λ set. set.resource ≡ overload.now.resource) }
-    ensures capacity { IfOk result (λ set. set.capacity ≡ capacity project.now overload.now.resource) }
-    ensures demands { IfOk result (λ set. set.demands ≡ map (demand project.now overload.now.resource) set.members) }
-    ensures running { IfOk result (λ set. All (Contains overload.now.running.items) set.members) }
-    ensures few { IfOk result (λ set. length set.members ≤ activity_count project.now) }
-    ensures minimal { IfOk result (λ set. IsMinimalForbidden project.now overload.now.resource set.members) }
-{
-    shrink_activities(alloc, project, overload.resource, &overload.running)
+    Ok(ForbiddenSet::new(resource, capacity, members, demands))
 }

@@ -324,13 +324,7 @@ pub record IsPartlyWithoutArcs (n a : ℕ) (rows : Rows) : Type 0 where
   pub apart : (j k : ℕ) → j ≢ k → entry rows j k ≡ None
 
 pub light_fits : (w : ℤ) → IsWithin MAX_LAG_WEIGHT w → FitsSigned w32 w
-light_fits w light =
-    let up : w ≤ℤ MAX_LAG_WEIGHT = light.at_most in
-    let down : neg_ℤ MAX_LAG_WEIGHT ≤ℤ w = light.at_least in
-    omega (arith, ints)
+light_fits w light = omega (arith, ints)
 
 pub small_fits : (w : ℤ) → IsWithin MAX_FIRST_WEIGHT w → FitsSigned w32 w
-small_fits w small =
-    let up : w ≤ℤ MAX_FIRST_WEIGHT = small.at_most in
-    let down : neg_ℤ (MAX_FIRST_WEIGHT) ≤ℤ w = small.at_least in
-    omega (arith, ints)
+small_fits w small = omega (arith, ints)

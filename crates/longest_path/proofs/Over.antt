@@ -1,10 +1,11 @@
 -- A row that takes the way over one arc, entry by entry.
-use Rattle.std.proofs.Common.{◌≡◌, ◌≢◌, refl, sym, ◌∙◌, ap, subst, ℕ, ◌+◌, ◌<◌, ◌≤◌, Option, None, Some, ◌⊎◌, inl, inr, arith, ℤ, ◌+ℤ◌, List, ◌++◌, length, neg_ℤ, ◌-◌, Bool, true, false, ◌≤ℤ◌, ◌<ℤ◌, take, drop, length-drop, FitsSigned, IfSome, Vec, int_lt, if◌then◌else◌}
-use Rattle.std.proofs.lemmas.Bool.{cases_eq}
+use Rattle.std.proofs.Common.{◌≡◌, ◌≢◌, refl, sym, ◌∙◌, ap, subst, ℕ, ◌+◌, ◌<◌, ◌≤◌, Option, None, Some, ◌⊎◌, inl, inr, arith, ℤ, ◌+ℤ◌, List, [], ◌++◌, length, ◌-◌, Bool, true, false, ◌≤ℤ◌, ◌<ℤ◌, take, drop, length-drop, FitsSigned, IfSome, Vec, int_lt, if◌then◌else◌}
+use Rattle.std.proofs.lemmas.Bool.{cases_eq, cases_lt}
+use Rattle.std.proofs.Math.ListN.{get_or-eq_default}
 use Rattle.network.specs.declared.parts.Lag.{Lag}
 use Rattle.network.specs.Walk.{entry, IsMatrixOf, weight, Rows}
 use Rattle.longest_path.specs.Matrix.{greater, joined, Reaches, IsSquare, IsRow, IsRelaxed, HasSmallSums, weight_at, placed_at, IsRowOver, HasEntriesWithin, GainsNothingAt, nothing, weight_of}
-use Rattle.longest_path.specs.Insert.{entry_over, IsOver, IsTransitive, IsReadyRow, IsReady, StartGainsNothing}
+use Rattle.longest_path.specs.Insert.{entry_over, IsEntryOver, IsTransitive, IsReadyRow, IsReady, StartGainsNothing}
 use Rattle.network.proofs.Walks.{IsWalk-append, weight-append}
 use Rattle.longest_path.proofs.OneArc.{IsGreatest-matrix}
 use Rattle.std.proofs.lemmas.Int.{ints}
@@ -19,7 +20,7 @@ use Rattle.network.specs.declared.limits.TheConstants.{MAX_LAG_WEIGHT, MAX_WALK_
 use Rattle.network.specs.Problem.{IsWithin}
 use Rattle.longest_path.specs.declared.grid.TheConstants.{MAX_FIRST_WEIGHT}
 use Rattle.std.specs.Bool.{MatchBool}
-use Rattle.longest_path.specs.declared.insert.TheConstants.{MAX_FIRST_WITH, MAX_WAY_WITH}
+use Rattle.longest_path.specs.declared.insert.TheConstants.{MAX_WAY_WITH}
 
 pub kept_by : (w : ℤ) (o p : Option ℤ) → ((y : ℤ) → p ≡ Some y → Reaches (w +ℤ y) o) → o ≡ greater o (joined (Some w) p)
 kept_by w o None h = sym (greater_none o)
@@ -52,7 +53,7 @@ nothing_over a to (Some w) via rows h closed = no_gain a to w via rows (h w refl
 -- the rows below a went over the arc, and the others are as they were
 pub record IsHalfOver (n : ℕ) (e : Lag) (a : ℕ) (old rows : Rows) : Type 0 where
   pub square : IsSquare n rows
-  pub done : (x b : ℕ) → x < a → IsOver e old x b (entry rows x b)
+  pub done : (x b : ℕ) → x < a → IsEntryOver e old x b (entry rows x b)
   pub rest : (x b : ℕ) → a ≤ x → entry rows x b ≡ entry old x b
 
 -- the cells are those of the arc's end, but that there may be nothing in a column that gains nothing in the row
@@ -88,6 +89,13 @@ half_more n e a via old rows new h transitive holds square r = record {
   rest = λ x b more. let ne : x ≢ a = omega arith in let le : a ≤ x = omega arith in r.others x b ne ∙ h.rest x b le;
 }
 
+-- there is no entry below the last row
+pub all_over : (n : ℕ) (e : Lag) (a : ℕ) (old rows : Rows) → IsHalfOver n e a old rows → length old ≡ n → n ≤ a → (x b : ℕ) → IsEntryOver e old x b (entry rows x b)
+all_over n e a old rows h long whole x b = elim (cases_lt x a) [
+  | inl lt ↦ h.done x b lt
+  | inr ge ↦ let far : length old ≤ x = omega arith in h.rest x b ge ∙ rw (get_or-eq_default old [] far) refl
+]
+
 -- the rows below a went through m, and the others are as they were
 pub record IsHalfThrough (n m a : ℕ) (old rows : Rows) : Type 0 where
   pub square : IsSquare n rows
@@ -111,26 +119,15 @@ pub small_over : (first : ℤ) (via : List ℤ) (old : Rows) → ((k : ℕ) (y :
 small_over first via old is p within = λ k y e.
     let at = is k y e in
     let q : IsWithin MAX_WALK_WEIGHT y = within at.0 at.1 y at.2 in
-    let a : first ≤ℤ MAX_FIRST_WEIGHT = p.at_most in
-    let b : neg_ℤ MAX_FIRST_WEIGHT ≤ℤ first = p.at_least in
-    let f : y ≤ℤ MAX_WALK_WEIGHT = q.at_most in
-    let g : neg_ℤ MAX_WALK_WEIGHT ≤ℤ y = q.at_least in
     record { at_most = omega (arith, ints); at_least = omega (arith, ints) }
 
 pub small_through : (m a : ℕ) (first : ℤ) (via : List ℤ) (old : Rows) → IsRow m old via → entry old a m ≡ Some first → HasEntriesWithin MAX_WALK_WEIGHT old → HasSmallSums first via
 small_through m a first via old is at within =
     let p : IsWithin MAX_WALK_WEIGHT first = within a m first at in
-    let a : first ≤ℤ MAX_WALK_WEIGHT = p.at_most in
-    let b : neg_ℤ MAX_WALK_WEIGHT ≤ℤ first = p.at_least in
     small_over first via old (λ k y e. (m, k, sym (is.says k) ∙ e)) (record { at_most = omega (arith, ints); at_least = omega (arith, ints) }) within
 
 pub one_sum_fits : (x w : ℤ) → IsWithin MAX_WALK_WEIGHT x → IsWithin MAX_LAG_WEIGHT w → FitsSigned w64 (x +ℤ w)
-one_sum_fits x w p light =
-    let a : x ≤ℤ MAX_WALK_WEIGHT = p.at_most in
-    let b : neg_ℤ MAX_WALK_WEIGHT ≤ℤ x = p.at_least in
-    let c : w ≤ℤ MAX_LAG_WEIGHT = light.at_most in
-    let d : neg_ℤ MAX_LAG_WEIGHT ≤ℤ w = light.at_least in
-    omega (arith, ints)
+one_sum_fits x w p light = omega (arith, ints)
 
 pub transitive : (n : ℕ) (arcs : List Lag) (rows : Rows) → IsMatrixOf n arcs rows → IsTransitive rows
 transitive n arcs rows m a v b x y p q =
@@ -147,24 +144,17 @@ pub some_small : (o : Option ℤ) (via : List ℤ) → ((x : ℤ) → o ≡ Some
 some_small None via h = tt
 some_small (Some x) via h = h x refl
 
-pub room_kept : (v : Vec ℤ Global) (cells : List ℤ) (rows : Rows) → length cells ≡ v.len → length cells ≡ length rows → length (with_items v cells).items ≡ length rows
-room_kept v cells rows same room = ap length (with_items_is v cells same) ∙ room
+pub wide_kept : (v : Vec ℤ Global) (cells : List ℤ) (rows : Rows) → length cells ≡ v.len → length cells ≡ length rows → length (with_items v cells).items ≡ length rows
+wide_kept v cells rows same wide = ap length (with_items_is v cells same) ∙ wide
 
 pub some_within : (o : Option ℤ) → ((x : ℤ) → o ≡ Some x → IsWithin MAX_WALK_WEIGHT x) → IfSome o (λ x. IsWithin MAX_FIRST_WEIGHT x)
 some_within None h = tt
 some_within (Some x) h =
-    let k = h x refl in
-    let up : x ≤ℤ MAX_WALK_WEIGHT = k.at_most in
-    let down : neg_ℤ MAX_WALK_WEIGHT ≤ℤ x = k.at_least in
+    let k : IsWithin MAX_WALK_WEIGHT x = h x refl in
     record { at_most = omega (arith, ints); at_least = omega (arith, ints) }
 
 pub sum_within : (x w : ℤ) → IsWithin MAX_WALK_WEIGHT x → IsWithin MAX_LAG_WEIGHT w → IsWithin MAX_FIRST_WEIGHT (x +ℤ w)
-sum_within x w p light =
-    let a : x ≤ℤ MAX_WALK_WEIGHT = p.at_most in
-    let b : neg_ℤ MAX_WALK_WEIGHT ≤ℤ x = p.at_least in
-    let c : w ≤ℤ MAX_LAG_WEIGHT = light.at_most in
-    let d : neg_ℤ MAX_LAG_WEIGHT ≤ℤ w = light.at_least in
-    record { at_most = omega (arith, ints); at_least = omega (arith, ints) }
+sum_within x w p light = record { at_most = omega (arith, ints); at_least = omega (arith, ints) }
 
 pub some_sum_fits : (o : Option ℤ) (w : ℤ) → ((x : ℤ) → o ≡ Some x → IsWithin MAX_WALK_WEIGHT x) → IsWithin MAX_LAG_WEIGHT w → IfSome o (λ x. IfSome (Some w) (λ y. FitsSigned w64 (x +ℤ y)))
 some_sum_fits None w h light = tt
@@ -255,8 +245,7 @@ one_less end first via row some after here k le = elim (cases_eq k (end - 1)) [ 
 
 pub small_arc : (e : Lag) (via : List ℤ) (rows : Rows) → IsReady e rows → IsRow e.to rows via → HasSmallSums e.weight via
 small_arc e via rows ready is =
-    let up : e.weight ≤ℤ MAX_LAG_WEIGHT = ready.light.at_most in
-    let down : neg_ℤ MAX_LAG_WEIGHT ≤ℤ e.weight = ready.light.at_least in
+    let light : IsWithin MAX_LAG_WEIGHT e.weight = ready.light in
     small_over e.weight via rows (λ k y h. (e.to, k, sym (is.says k) ∙ h)) (record { at_most = omega (arith, ints); at_least = omega (arith, ints) }) ready.fits
 
 pub start_gains_nothing : (e : Lag) (row via : List ℤ) (rows : Rows) (b : ℕ) → IsRow e.from rows row → IsRow e.to rows via → GainsNothingAt e.weight via row b → StartGainsNothing e rows b
@@ -280,18 +269,8 @@ holds_gains e from end via rows is low inside before after b =
 
 -- ---- A way over one arc more fits.
 
-pub way_small : (x y : ℤ) → IsWithin MAX_FIRST_WITH x → IsWithin MAX_FIRST_WITH y → IsWithin MAX_WAY_WITH (x +ℤ y)
-way_small x y p q =
-    let a : x ≤ℤ MAX_FIRST_WITH = p.at_most in
-    let b : neg_ℤ MAX_FIRST_WITH ≤ℤ x = p.at_least in
-    let c : y ≤ℤ MAX_FIRST_WITH = q.at_most in
-    let d : neg_ℤ MAX_FIRST_WITH ≤ℤ y = q.at_least in
-    record { at_most = omega (arith, ints); at_least = omega (arith, ints) }
+pub way_small : (x y : ℤ) → IsWithin MAX_FIRST_WEIGHT x → IsWithin MAX_FIRST_WEIGHT y → IsWithin MAX_WAY_WITH (x +ℤ y)
+way_small x y p q = record { at_most = omega (arith, ints); at_least = omega (arith, ints) }
 
-pub way_fits : (x y : ℤ) → IsWithin MAX_FIRST_WITH x → IsWithin MAX_FIRST_WITH y → FitsSigned w64 (x +ℤ y)
-way_fits x y p q =
-    let a : x ≤ℤ MAX_FIRST_WITH = p.at_most in
-    let b : neg_ℤ MAX_FIRST_WITH ≤ℤ x = p.at_least in
-    let c : y ≤ℤ MAX_FIRST_WITH = q.at_most in
-    let d : neg_ℤ MAX_FIRST_WITH ≤ℤ y = q.at_least in
-    omega (arith, ints)
+pub way_fits : (z : ℤ) → IsWithin MAX_WAY_WITH z → FitsSigned w64 z
+way_fits z p = omega (arith, ints)

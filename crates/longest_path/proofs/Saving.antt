@@ -1,6 +1,7 @@
 -- What saved parts are when one more is saved, and when the last is taken.
-use Rattle.std.proofs.Common.{◌≡◌, ◌≢◌, refl, sym, ◌∙◌, ap, subst, ℕ, ◌+◌, ◌*◌, ◌<◌, ◌≤◌, Option, None, ◌⊎◌, inl, inr, arith, ℤ, List, [], ◌++◌, map, length, get_or, set, take, drop, get_or-set_same, get_or-set_other, length-append, length-drop, Bool, true, false, ◌-◌, Some, ◌∷◌, suc, append_assoc, not, reverse, ◌==◌}
+use Rattle.std.proofs.Common.{◌≡◌, ◌≢◌, refl, sym, ◌∙◌, ap, subst, ℕ, ◌+◌, ◌*◌, ◌<◌, ◌≤◌, Option, None, ◌⊎◌, inl, inr, arith, ℤ, List, [], ◌++◌, map, length, get_or, set, take, drop, get_or-set_same, get_or-set_other, length-append, length-drop, Bool, true, false, ◌-◌, Some, ◌∷◌, suc, append_assoc, not, reverse, ◌==◌, IsTrue, append-nil}
 use Rattle.std.proofs.Math.ListN.{get_or-map}
+use Rattle.std.proofs.Math.Seq.{take-append_seam, drop-append_seam}
 use Rattle.std.proofs.lemmas.List.{length-set, length-map, length-take-le, take-append-le, drop-append-le, take-append-drop, take_all, get_or-take, get_or-drop, reverse-append}
 use Rattle.std.proofs.lemmas.List.Elements.{All-set, All-get_or, All-push, All-pop, All-head, All-tail, All-same}
 use Rattle.std.proofs.lemmas.Bool.{cases_eq, eqb-true}
@@ -170,6 +171,19 @@ leads_on first second third old rows new p q = record {
 pub kept_on : (keeps : Bool) (first second third : SavedParts) (old rows new : Rows) → IsKept keeps first second old rows → IsKept keeps second third rows new → IsKept keeps first third old new
 kept_on true first second third old rows new p q = leads_on first.saves second.saves third.saves old rows new p q
 kept_on false first second third old rows new p q = q ∙ p
+
+-- all is as it was once the parts that were kept since are put back
+pub put_back_all : (keeps : Bool) (first second third : SavedParts) (old rows new : Rows) → IsTrue keeps → IsKept keeps first second old rows →
+    third.width ≡ first.width → third.saves ≡ take (length first.saves) second.saves → new ≡ undone (drop (length first.saves) second.saves) rows → (third ≡ first) × (new ≡ old)
+put_back_all true first second third old rows new h p width saves back =
+    let same : third.saves ≡ first.saves = rw (p.added, take-append_seam first.saves p.more) at saves in
+    let parts : ℕ → List SavedPart → SavedParts = λ w l. record { width = w; saves = l } in
+    (ap (λ w. parts w third.saves) width ∙ ap (parts first.width) same, (rw (p.added, drop-append_seam first.saves p.more) at back) ∙ p.back)
+put_back_all false first second third old rows new h p width saves back = cc
+
+pub kept_same : (keeps : Bool) (old new : SavedParts) (rows after : Rows) → new ≡ old → after ≡ rows → IsKept keeps old new rows after
+kept_same true old new rows after e f = record { more = []; added = ap (λ (s : SavedParts). s.saves) e ∙ sym (append-nil old.saves); back = f }
+kept_same false old new rows after e f = e
 
 -- some parts are put back already
 pub record IsPartlyUndone (count : ℕ) (old saves : List SavedPart) (rows new : Rows) : Type 0 where

@@ -21,10 +21,10 @@ pub record IsMatrix (rows : Rows) : Type 0 where
   pub matrix : IsMatrixOf (length rows) arcs rows
   pub within : HasEntriesWithin MAX_WALK_WEIGHT rows
 
--- a matrix, and room for one row
-pub record IsMatrixWithRoom (rows : Rows) (cells : List ℤ) : Type 0 where
+-- a matrix, and a workspace for one row
+pub record IsMatrixWithWorkspace (rows : Rows) (cells : List ℤ) : Type 0 where
   pub matrix : IsMatrix rows
-  pub room : length cells ≡ length rows
+  pub wide : length cells ≡ length rows
 
 -- ---- One step of the recurrence on a single entry (Floyd 1962, Warshall 1962).
 

@@ -54,10 +54,10 @@ abbrev pub undone : List SavedPart → Rows → Rows
 undone [] rows = rows
 undone (save ∷ saves) rows = put_back save (undone saves rows)
 
--- all rows may take the way over the arc, with room for a row, and parts of them may be saved
+-- all rows may take the way over the arc, with a workspace for a row, and parts of them may be saved
 pub record MayGoOver (e : Lag) (rows : Rows) (via : List ℤ) (saved : SavedParts) : Type 0 where
   pub ready : IsReady e rows
-  pub room : length via ≡ length rows
+  pub wide : length via ≡ length rows
   pub width : saved.width ≡ length rows
 
 -- what was saved in between leads back to the old rows

@@ -15,7 +15,7 @@ use std::marker::Model;
 const NOTHING: i32 = i32::MIN;
 
 /// What the first part of a way weighs at most, which is a walk, or a walk and an arc.
-pub(crate) const MAX_FIRST_WEIGHT: i64 = MAX_WALK_WEIGHT + MAX_LAG_WEIGHT;
+pub const MAX_FIRST_WEIGHT: i64 = MAX_WALK_WEIGHT + MAX_LAG_WEIGHT;
 
 /// What a way weighs at most, which is its first part and a walk.
 pub(crate) const MAX_WAY_WEIGHT: i64 = MAX_FIRST_WEIGHT + MAX_WALK_WEIGHT;

@@ -2,32 +2,30 @@
 
 ghost use Rattle.std.specs.Prelude.{◌≡◌, Some, IfSome, ◌<◌, ℕ, ℤ, pos, ◌+ℤ◌, ◌≤ℤ◌, length, FitsSigned, IsTrue, OnOk, OnErr};
 ghost use Rattle.network.specs.declared.limits.TheConstants.{MAX_LAG_WEIGHT, MAX_WALK_WEIGHT};
+ghost use Rattle.longest_path.specs.declared.grid.TheConstants.{MAX_FIRST_WEIGHT};
 ghost use Rattle.network.specs.Problem.{IsWithin};
 ghost use Rattle.longest_path.specs.Matrix.{greater, joined, Reaches, IfSomeAbove, IsSquare, placed_at, IsRowOver};
 ghost use Rattle.std.specs.Int.{w64};
 ghost use Rattle.std.specs.Bool.{MatchBool};
 ghost use Rattle.network.specs.Walk.{entry};
-ghost use Rattle.longest_path.specs.Insert.{weight_over, IsFirstOver, IsOver, IsReadyRow};
+ghost use Rattle.longest_path.specs.Insert.{weight_over, IsFirstOver, IsEntryOver, IsReadyRow};
 ghost use Rattle.longest_path.specs.Saved.{IsKept, MayGoOver};
 
 use crate::columns::gaining_columns;
-use crate::grid::Grid;
+use crate::grid::{Grid, MAX_FIRST_WEIGHT};
 use crate::saves::Saves;
 use network::{Lag, MAX_LAG_WEIGHT, MAX_WALK_WEIGHT};
 use std::alloc::AllocError;
 
-/// What a walk and an arc weigh at most.
-pub const MAX_FIRST_WITH: i64 = MAX_WALK_WEIGHT + MAX_LAG_WEIGHT;
-
 /// What a way over an arc weighs at most: two walks, and an arc counted twice.
-pub const MAX_WAY_WITH: i64 = MAX_FIRST_WITH + MAX_FIRST_WITH;
+pub const MAX_WAY_WITH: i64 = MAX_FIRST_WEIGHT + MAX_FIRST_WEIGHT;
 
 /// The weight of a walk and then an arc.
 pub fn then_arc(weight: Option<i64>, arc: i64) -> Option<i64>
     requires weight { IfSome weight (λ x. IsWithin MAX_WALK_WEIGHT x) }
     requires arc { IsWithin MAX_LAG_WEIGHT arc }
     ensures sum { result ≡ joined weight (Some arc) }
-    ensures small { IfSome result (λ x. IsWithin MAX_FIRST_WITH x) }
+    ensures small { IfSome result (λ x. IsWithin MAX_FIRST_WEIGHT x) }
 {
     match weight {
         Some(weight) => Some(weight + arc),
@@ -38,8 +36,8 @@ pub fn then_arc(weight: Option<i64>, arc: i64) -> Option<i64>
 /// The weight of a walk, or of the way that has these two parts where that is greater.
 pub fn or_way(weight: Option<i64>, first: Option<i64>, last: Option<i64>) -> Option<i64>
     requires weight { IfSome weight (λ x. IsWithin MAX_WALK_WEIGHT x) }
-    requires first { IfSome first (λ x. IsWithin MAX_FIRST_WITH x) }
-    requires last { IfSome last (λ x. IsWithin MAX_FIRST_WITH x) }
+    requires first { IfSome first (λ x. IsWithin MAX_FIRST_WEIGHT x) }
+    requires last { IfSome last (λ x. IsWithin MAX_FIRST_WEIGHT x) }
     ensures value { result ≡ greater weight (joined first last) }
     ensures small { IfSome result (λ x. IsWithin MAX_WAY_WITH x) }
 {
@@ -131,32 +129,9 @@ fn go_over_row(
     Ok(())
 }
 
-/// Each row takes the way over an arc, where that is greater. `via` is room for a row. Where there is no memory for
-/// what is saved, some rows may have gained.
-fn go_over(
-    grid: &mut Grid,
-    via: &mut [i32],
-    arc: Lag,
-    saves: &mut Saves,
-    keeps: bool,
-) -> Result<(), AllocError>
-    requires { MayGoOver arc grid.old via.old saves.old }
-    ensures square { IsSquare (length grid.old) grid.new }
-    ensures width { saves.new.width ≡ saves.old.width }
-    ensures over { OnOk result ((a b : ℕ) → IsOver arc grid.old a b (entry grid.new a b)) }
-    ensures kept { IsKept keeps saves.old saves.new grid.old grid.new }
-    ensures memory { OnErr result (IsTrue keeps) }
-{
-    grid.copy_row(arc.to, via);
-    let (from, end) = gaining_columns(grid, arc, via);
-    for a in 0..grid.size() {
-        go_over_row(grid, a, arc, from, &via[from..end], saves, keeps)?;
-    }
-    Ok(())
-}
-
-/// As `go_over`, but where there is no memory for what is saved, nothing changes.
-pub(crate) fn go_over_or_stay(
+/// Each row takes the way over an arc, where that is greater. `via` is a workspace for a row. Where there is no memory for
+/// what is saved, nothing changes.
+pub(crate) fn go_over(
     grid: &mut Grid,
     via: &mut [i32],
     arc: Lag,
@@ -167,16 +142,20 @@ pub(crate) fn go_over_or_stay(
     ensures size { length grid.new ≡ length grid.old }
     ensures width { saves.new.width ≡ saves.old.width }
     ensures square { OnOk result (IsSquare (length grid.old) grid.new) }
-    ensures over { OnOk result ((a b : ℕ) → IsOver arc grid.old a b (entry grid.new a b)) }
+    ensures over { OnOk result ((a b : ℕ) → IsEntryOver arc grid.old a b (entry grid.new a b)) }
     ensures kept { IsKept keeps saves.old saves.new grid.old grid.new }
     ensures memory { OnErr result (IsTrue keeps) }
     ensures same_grid { OnErr result (grid.new ≡ grid.old) }
     ensures same_saves { OnErr result (saves.new ≡ saves.old) }
 {
     let count = saves.len();
-    if go_over(grid, via, arc, saves, keeps).is_err() {
-        saves.undo(count, grid);
-        return Err(AllocError);
+    grid.copy_row(arc.to, via);
+    let (from, end) = gaining_columns(grid, arc, via);
+    for a in 0..grid.size() {
+        if let Err(error) = go_over_row(grid, a, arc, from, &via[from..end], saves, keeps) {
+            saves.undo(count, grid);
+            return Err(error);
+        }
     }
     Ok(())
 }

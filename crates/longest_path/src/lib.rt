@@ -14,7 +14,8 @@ mod recurrence;
 mod saves;
 
 pub use fault::PathFault;
-pub use insert::{MAX_FIRST_WITH, MAX_WAY_WITH, or_way, then_arc};
+pub use grid::MAX_FIRST_WEIGHT;
+pub use insert::{MAX_WAY_WITH, or_way, then_arc};
 pub use marked::MarkedMatrix;
 pub use matrix::Matrix;
 pub use recurrence::longest;

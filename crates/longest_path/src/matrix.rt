@@ -11,7 +11,7 @@ ghost use Rattle.longest_path.specs.Matrix.{IsMatrix};
 
 use crate::fault::PathFault;
 use crate::grid::Grid;
-use crate::insert::{go_over_or_stay, is_positive, sum};
+use crate::insert::{go_over, is_positive, sum};
 use crate::saves::Saves;
 use network::Lag;
 use std::alloc::{AllocError, Global};
@@ -22,19 +22,19 @@ use std::marker::Model;
 #[derive(Drop, Debug)]
 pub struct Matrix {
     pub(crate) grid: Grid,
-    /// Room for a row.
+    /// A workspace for a row.
     pub(crate) via: Vec<i32>,
 }
 
 impl Model for Matrix {
     ghost use Rattle.network.specs.Walk.{Rows};
-    ghost use Rattle.longest_path.specs.Matrix.{IsMatrixWithRoom};
+    ghost use Rattle.longest_path.specs.Matrix.{IsMatrixWithWorkspace};
 
     ghost Value = { Rows };
 
     ghost view = { λ s. s.grid };
 
-    ghost invariant = { λ s. IsMatrixWithRoom s.grid s.via.items };
+    ghost invariant = { λ s. IsMatrixWithWorkspace s.grid s.via.items };
 }
 
 impl Matrix {
@@ -110,7 +110,7 @@ impl Matrix {
         if self.closes_cycle(arc) {
             return Err(PathFault::PositiveCycle { at: i });
         }
-        go_over_or_stay(&mut self.grid, self.via.as_mut_slice(), arc, saves, keeps)?;
+        go_over(&mut self.grid, self.via.as_mut_slice(), arc, saves, keeps)?;
         Ok(())
     }
 

@@ -71,7 +71,7 @@ fn greatest_weights(
     requires inside { AreInside n arcs.now }
     requires light { AreLight arcs.now }
     requires few { n ≤ MAX_ACTIVITIES }
-    requires room { length via.old ≡ n }
+    requires wide { length via.old ≡ n }
     ensures matrix { IfOk result (λ rows. IsMatrixOf n arcs.now rows) }
     ensures fits { IfOk result (λ rows. HasEntriesWithin MAX_WALK_WEIGHT rows) }
     ensures fault { IfErr result (λ fault. Explains arcs.now fault) }

@@ -57,21 +57,22 @@ attained_by : (arcs : List Lag) (a b : ℕ) (o : Option ℤ) → IsGreatestWeigh
 attained_by arcs a b None none es w = absurd (none es w)
 attained_by arcs a b (Some g) h es w = record { walk = h.0.0; goes = h.0.1; weighs = h.0.2; greatest = h.1 }
 
-rule_contains : (p : Problem) (pairs : List Pair) (e : Lag) → Contains (rules p) e → Contains (arcs_of p pairs) e
+pub rule_contains : (p : Problem) (pairs : List Pair) (e : Lag) → Contains (rules p) e → Contains (arcs_of p pairs) e
 rule_contains p pairs e c = Contains-append_left (rules p) (map (pair_arc p) pairs) e c
 
--- the start reaches each activity
-from_start : (p : Problem) (pairs : List Pair) (i : ℕ) → i < activity_count p → (es : List Lag) × IsWalk (arcs_of p pairs) 0 es i
-from_start p pairs zero lt = ([], refl)
-from_start p pairs (suc i) lt =
-    let starts = map start_arc (range_with_len 1 (end_of p)) in
+-- that an activity starts no sooner than the start is a rule
+pub start_rule : (p : Problem) (i : ℕ) → suc i < activity_count p → Contains (rules p) (start_arc (suc i))
+start_rule p i lt =
     let len = length-map-range_with_len start_arc 1 (end_of p) in
     let low : i < end_of p = omega arith in
     let here : Contains (map start_arc (range_with_len 1 (end_of p))) (start_arc (suc i)) =
     (i, rw len low, get_or-map-range_with_len start_arc 1 (end_of p) i (suc i) (start_arc (suc i)) low (omega arith)) in
-    let rule : Contains (rules p) (start_arc (suc i)) =
-    Contains-append_right p.lags (implied_arcs p) (start_arc (suc i)) (Contains-append_left (map start_arc (range_with_len 1 (end_of p))) (map (end_arc p) (range_with_len 0 (end_of p))) (start_arc (suc i)) here) in
-    (start_arc (suc i) ∷ [], (rule_contains p pairs (start_arc (suc i)) rule, refl, refl))
+    Contains-append_right p.lags (implied_arcs p) (start_arc (suc i)) (Contains-append_left (map start_arc (range_with_len 1 (end_of p))) (map (end_arc p) (range_with_len 0 (end_of p))) (start_arc (suc i)) here)
+
+-- the start reaches each activity
+from_start : (p : Problem) (pairs : List Pair) (i : ℕ) → i < activity_count p → (es : List Lag) × IsWalk (arcs_of p pairs) 0 es i
+from_start p pairs zero lt = ([], refl)
+from_start p pairs (suc i) lt = (start_arc (suc i) ∷ [], (rule_contains p pairs (start_arc (suc i)) (start_rule p i lt), refl, refl))
 
 entry_attained : (p : Problem) (pairs : List Pair) (rows : Rows) → IsMatrixOf (activity_count p) (arcs_of p pairs) rows → (i : ℕ) → i < activity_count p →
     IsAttained (arcs_of p pairs) 0 i (start (weights_from 0 rows) i)

@@ -2,7 +2,7 @@
 -- B has two activities of 3 and 4 periods that need the same machine. G has three activities of 2, 3
 -- and 2 periods with demands 2, 2 and 1 on three units; activity 3 starts at least 1 and at most 3
 -- periods after activity 1.
-use Rattle.std.proofs.Common.{◌≡◌, refl, ℕ, ℤ, pos, negsuc, ◌≤ℤ◌, ◌+ℤ◌, List, [], ◌∷◌, ◌++◌, true, false, lit<, arith, int_le, Bool, Some, None}
+use Rattle.std.proofs.Common.{◌≡◌, refl, ℕ, ℤ, pos, negsuc, ◌≤ℤ◌, ◌+ℤ◌, List, [], ◌∷◌, ◌++◌, true, false, lit<, arith, int_le, Bool, Some}
 use Rattle.std.proofs.lemmas.Int.{ints}
 use Rattle.std.proofs.lemmas.List.Elements.{All-weaker}
 use Rattle.std.proofs.lemmas.List.Sums.{AllPass-from_list_all}

@@ -3,7 +3,7 @@
 ghost use Rattle.profile.specs.Overloads.{IsSweepFor};
 
 use network::Project;
-use profile::{Excess, Overload, OverloadSweep, first_overload, overloads, use_at};
+use profile::{Overload, OverloadSweep, first_overload, overloads, use_at};
 use std::alloc::{AllocError, Global};
 use std::process::Abort;
 use std::test::Fail;
@@ -36,7 +36,7 @@ fn all(
     alloc: Global,
     project: &Project,
     starts: &[i64],
-) -> Result<Vec<Excess>, AllocError> {
+) -> Result<Vec<Overload>, AllocError> {
     assert!(rt; are_starts(project, starts));
     overloads(alloc, project, starts)
 }
@@ -64,14 +64,14 @@ fn an_overload_between_two_starts(rt: HostRuntime) -> Result<(), Fail> {
     let overload = found.ok_or("no overload")?;
     assert_eq!(rt; overload.time, 2);
     assert_eq!(rt; overload.resource, 0);
-    assert_eq!(rt; overload.running.as_slice(), [1, 2].as_slice());
-    let excesses = all(&rt, rt.alloc(), &project, &[0, 0, 2, 6])?;
-    let expected = [Excess {
+    assert_eq!(rt; overload.used, 2);
+    let overloads = all(&rt, rt.alloc(), &project, &[0, 0, 2, 6])?;
+    let expected = [Overload {
         time: 2,
         resource: 0,
         used: 2,
     }];
-    assert_eq!(rt; excesses.as_slice(), expected.as_slice());
+    assert_eq!(rt; overloads.as_slice(), expected.as_slice());
     Ok(())
 }
 
@@ -90,7 +90,7 @@ fn the_second_resource_alone_is_overloaded(rt: HostRuntime) -> Result<(), Fail> 
     let overload = found.ok_or("no overload")?;
     assert_eq!(rt; overload.time, 4);
     assert_eq!(rt; overload.resource, 1);
-    assert_eq!(rt; overload.running.as_slice(), [1, 2, 3].as_slice());
+    assert_eq!(rt; overload.used, 3);
     Ok(())
 }
 
@@ -101,7 +101,7 @@ fn next(
     sweep: &mut OverloadSweep,
     project: &Project,
     starts: &[i64],
-) -> Option<Excess>
+) -> Option<Overload>
     requires { IsSweepFor project.now sweep.old }
     ensures { IsSweepFor project.now sweep.new }
 {
@@ -120,12 +120,12 @@ fn check_three(
     requires { IsSweepFor project.now sweep.old }
     ensures { IsSweepFor project.now sweep.new }
 {
-    let excess = Excess {
+    let overload = Overload {
         time,
         resource: 1,
         used: 3,
     };
-    assert_eq!(rt; next(rt, sweep, project, starts), Some(excess));
+    assert_eq!(rt; next(rt, sweep, project, starts), Some(overload));
     assert_eq!(rt; sweep.running(), [1, 2, 3].as_slice());
 }
 

@@ -2,9 +2,9 @@
 
 ghost use Rattle.network.specs.Problem.{AreStarts};
 
-use forbidden_sets::{ForbiddenSet, shrink, shrink_activities};
+use forbidden_sets::{ForbiddenSet, shrink_activities};
 use network::Project;
-use profile::{OverloadSweep, first_overload};
+use profile::OverloadSweep;
 use std::alloc::{AllocError, Global};
 use std::test::Fail;
 use test_projects::with_one_resource;
@@ -17,25 +17,11 @@ fn set_of(
 ) -> Result<Option<ForbiddenSet>, AllocError>
     requires { AreStarts project.now starts.now }
 {
-    match first_overload(alloc, project, starts)? {
-        Some(overload) => Ok(Some(shrink(alloc, project, &overload)?)),
-        None => Ok(None),
-    }
-}
-
-/// The same, by a sweep.
-fn swept_set_of(
-    alloc: Global,
-    project: &Project,
-    starts: &[i64],
-) -> Result<Option<ForbiddenSet>, AllocError>
-    requires { AreStarts project.now starts.now }
-{
     let mut sweep = OverloadSweep::new(alloc, project)?;
-    let Some(excess) = sweep.first(project, starts) else {
+    let Some(overload) = sweep.first(project, starts) else {
         return Ok(None);
     };
-    let set = shrink_activities(alloc, project, excess.resource, sweep.running())?;
+    let set = shrink_activities(alloc, project, overload.resource, sweep.running())?;
     Ok(Some(set))
 }
 
@@ -85,7 +71,7 @@ fn the_least_number_is_dropped_first_of_equal_demands(rt: HostRuntime) -> Result
     let alloc = rt.alloc();
     let project = with_one_resource(alloc, &[0, 1, 1, 1, 1, 0], &[0, 3, 2, 2, 2, 0], 5, &[])?;
     assert_eq!(rt; project.activity_count(), 6);
-    let Some(set) = swept_set_of(alloc, &project, &[0, 0, 0, 0, 0, 1])? else {
+    let Some(set) = set_of(alloc, &project, &[0, 0, 0, 0, 0, 1])? else {
         return Err("no overload".into());
     };
     assert_eq!(rt; set.members(), [1, 3, 4].as_slice());

@@ -9,7 +9,7 @@ use Rattle.std.proofs.lemmas.List.Elements.{recursion_from_All, All-from_recursi
 use Rattle.std.proofs.lemmas.List.FromFn.{length-range_with_len, get_or-range_with_len}
 use Rattle.network.specs.Problem.{Problem, activity_count, resource_count, capacity, demand, AreStarts, IsTime}
 use Rattle.network.specs.Schedule.{start, running, use_at, IsWithinCapacitiesAt, IsWithinCapacities}
-use Rattle.profile.specs.Overloads.{IsFirstOverload, start_times, excess_of, excesses_at, excesses, excesses_of, Excess}
+use Rattle.profile.specs.Overloads.{IsFirstOverload, start_times, overload_of, overloads_at, all_overloads, overloads_of, Overload}
 use Rattle.profile.proofs.Uses.{rises_at_starts, RisesAt, filter_none, filter_range_yes, filter_range_no}
 use Rattle.profile.proofs.RisingTimes.{Contains-start_times, start_times-rise, All-start_times}
 use Rattle.orders.proofs.OrderLaws.{place_in}
@@ -71,6 +71,12 @@ time_moves s n t at = let e : n + 1 ≡ suc n = omega arith in at ∙ ap (time_a
 pub item_is : (items times : List ℤ) (n : ℕ) → SFits w64 (get_or items n (pos 0)) → items ≡ times → to_z w64 (of_z w64 (get_or items n (pos 0))) ≡ get_or times n (pos 0)
 item_is items times n fits is = to_z-of_z w64 (get_or items n (pos 0)) fits ∙ ap (λ (xs : List ℤ). get_or xs n (pos 0)) is
 
+-- what is past at the last start time is past at the next one
+pub still_past : (p : Problem) (s items : List ℤ) (n : ℕ) (x : ℤ) → AreStarts p s → items ≡ start_times s → n < length items → SFits w64 (get_or items n (pos 0)) → x ≤ℤ time_after (start_times s) n → x ≤ℤ to_z w64 (of_z w64 (get_or items n (pos 0)))
+still_past p s items n x are is lt fits past =
+    let later = next_later p s n (pos 0) are (rw is at lt) in
+    rw (item_is items (start_times s) n fits is) (omega (arith, ints))
+
 -- ---- no overload at start times, and at any time
 
 -- if no start up to u has an overload, u has none
@@ -118,32 +124,32 @@ none_at_all p s n are all none = λ t. none_before p s n t are none (λ k above 
 
 -- ---- the list of overloads is empty where there is none
 
-none_listed : (p : Problem) (s : List ℤ) (t : ℤ) → excesses_at p s t ≡ [] → IsWithinCapacitiesAt p s t
+none_listed : (p : Problem) (s : List ℤ) (t : ℤ) → overloads_at p s t ≡ [] → IsWithinCapacitiesAt p s t
 none_listed p s t h k in_range =
     let over : ℕ → Bool = λ j. nat_lt (capacity p j) (use_at p s j t) in
-    let fails = filter_nil over (range_with_len 0 (resource_count p)) (map_nil (excess_of t (λ j. use_at p s j t)) (filter over (range_with_len 0 (resource_count p))) h) in
+    let fails = filter_nil over (range_with_len 0 (resource_count p)) (map_nil (overload_of t (λ j. use_at p s j t)) (filter over (range_with_len 0 (resource_count p))) h) in
     let at = All-from_recursion (λ j. over j ≡ false) (range_with_len 0 (resource_count p)) fails k 0 (omega (arith, length-range_with_len 0 (resource_count p))) in
     let place = get_or-range_with_len 0 (resource_count p) k 0 in_range in
     let index : get_or (range_with_len 0 (resource_count p)) k 0 ≡ k = omega (arith, place) in
     ltb-false (capacity p k) (use_at p s k t) (rw index at at)
 
-none_to_list : (p : Problem) (s : List ℤ) (t : ℤ) → IsWithinCapacitiesAt p s t → excesses_at p s t ≡ []
+none_to_list : (p : Problem) (s : List ℤ) (t : ℤ) → IsWithinCapacitiesAt p s t → overloads_at p s t ≡ []
 none_to_list p s t h =
-    ap (map (excess_of t (λ j. use_at p s j t))) (filter_none (λ j. nat_lt (capacity p j) (use_at p s j t)) 0 (resource_count p) (λ j lt. le-ltb (capacity p j) (use_at p s j t) (h j (omega arith))))
+    ap (map (overload_of t (λ j. use_at p s j t))) (filter_none (λ j. nat_lt (capacity p j) (use_at p s j t)) 0 (resource_count p) (λ j lt. le-ltb (capacity p j) (use_at p s j t) (h j (omega arith))))
 
-pub excesses_none : (p : Problem) (s : List ℤ) → AreStarts p s → (excesses p s ≡ []) ↔ IsWithinCapacities p s
-excesses_none p s are = (
+pub overloads_none : (p : Problem) (s : List ℤ) → AreStarts p s → (all_overloads p s ≡ []) ↔ IsWithinCapacities p s
+overloads_none p s are = (
   λ h. none_at_all p s (length (start_times s)) are (omega arith) (λ j below.
-      none_listed p s (get_or (start_times s) j (pos 0)) (All-from_recursion (λ t. excesses_at p s t ≡ []) (start_times s) (flat_map_nil (excesses_at p s) (start_times s) h) j (pos 0) below)),
-  λ h. nil_flat_map (excesses_at p s) (start_times s) (recursion_from_All (λ t. excesses_at p s t ≡ []) (start_times s) (λ j d lt. none_to_list p s (get_or (start_times s) j d) (h (get_or (start_times s) j d)))),
+      none_listed p s (get_or (start_times s) j (pos 0)) (All-from_recursion (λ t. overloads_at p s t ≡ []) (start_times s) (flat_map_nil (overloads_at p s) (start_times s) h) j (pos 0) below)),
+  λ h. nil_flat_map (overloads_at p s) (start_times s) (recursion_from_All (λ t. overloads_at p s t ≡ []) (start_times s) (λ j d lt. none_to_list p s (get_or (start_times s) j d) (h (get_or (start_times s) j d)))),
 )
 
 -- the overloads at one more start time
-pub excesses_more : (p : Problem) (s : List ℤ) (n : ℕ) (t : ℤ) (es fs : List Excess) → n < length (start_times s) → t ≡ get_or (start_times s) n (pos 0) → es ≡ flat_map (excesses_at p s) (take n (start_times s)) → fs ≡ es ++ excesses_at p s t →
-    fs ≡ flat_map (excesses_at p s) (take (n + 1) (start_times s))
-excesses_more p s n t es fs lt at is more =
-    rw (take_more (start_times s) n (pos 0) lt, flat_map-append (excesses_at p s) (take n (start_times s)) (get_or (start_times s) n (pos 0) ∷ []), more, is, at)
-    (ap (λ (xs : List Excess). flat_map (excesses_at p s) (take n (start_times s)) ++ xs) (sym (append-nil (excesses_at p s (get_or (start_times s) n (pos 0))))))
+pub overloads_more : (p : Problem) (s : List ℤ) (n : ℕ) (t : ℤ) (es fs : List Overload) → n < length (start_times s) → t ≡ get_or (start_times s) n (pos 0) → es ≡ flat_map (overloads_at p s) (take n (start_times s)) → fs ≡ es ++ overloads_at p s t →
+    fs ≡ flat_map (overloads_at p s) (take (n + 1) (start_times s))
+overloads_more p s n t es fs lt at is more =
+    rw (take_more (start_times s) n (pos 0) lt, flat_map-append (overloads_at p s) (take n (start_times s)) (get_or (start_times s) n (pos 0) ∷ []), more, is, at)
+    (ap (λ (xs : List Overload). flat_map (overloads_at p s) (take n (start_times s)) ++ xs) (sym (append-nil (overloads_at p s (get_or (start_times s) n (pos 0))))))
 
 -- no start time that was counted has an overload
 pub record IsSwept (p : Problem) (started ended : Count) : Type 0 where
@@ -229,33 +235,33 @@ swept_first p t before was started ended k on least = record {
 -- ---- The list of overloads, as it grows.
 
 -- of the first resources
-abbrev pub first_excesses : Problem → ℤ → (ℕ → ℕ) → ℕ → List Excess
-first_excesses p t use_of n = map (excess_of t use_of) (filter (λ k. nat_lt (capacity p k) (use_of k)) (range_with_len 0 n))
+abbrev pub first_overloads : Problem → ℤ → (ℕ → ℕ) → ℕ → List Overload
+first_overloads p t use_of n = map (overload_of t use_of) (filter (λ k. nat_lt (capacity p k) (use_of k)) (range_with_len 0 n))
 
-pub excess_more : (p : Problem) (t u : ℤ) (use_of : ℕ → ℕ) (k used limit : ℕ) (before es fs : List Excess) → es ≡ before ++ first_excesses p t use_of k → fs ≡ es ++ (record { time = u; resource = k; used = used }) ∷ [] → u ≡ t → used ≡ use_of k → limit ≡ capacity p k → limit < used →
-    fs ≡ before ++ first_excesses p t use_of (k + 1)
-excess_more p t u use_of k used limit before es fs is more same_time same_use same_limit over =
+pub overload_more : (p : Problem) (t u : ℤ) (use_of : ℕ → ℕ) (k used limit : ℕ) (before es fs : List Overload) → es ≡ before ++ first_overloads p t use_of k → fs ≡ es ++ (record { time = u; resource = k; used = used }) ∷ [] → u ≡ t → used ≡ use_of k → limit ≡ capacity p k → limit < used →
+    fs ≡ before ++ first_overloads p t use_of (k + 1)
+overload_more p t u use_of k used limit before es fs is more same_time same_use same_limit over =
     let test = λ (j : ℕ). nat_lt (capacity p j) (use_of j) in
     let yes : test k ≡ true = lt-ltb (capacity p k) (use_of k) (omega arith) in
-    let grown = ap (map (excess_of t use_of)) (filter_range_yes test k yes) ∙ map-append (excess_of t use_of) (filter test (range_with_len 0 k)) (k ∷ []) in
-    rw (grown, more, is, same_time, same_use) (append_assoc before (first_excesses p t use_of k) (excess_of t use_of k ∷ []))
+    let grown = ap (map (overload_of t use_of)) (filter_range_yes test k yes) ∙ map-append (overload_of t use_of) (filter test (range_with_len 0 k)) (k ∷ []) in
+    rw (grown, more, is, same_time, same_use) (append_assoc before (first_overloads p t use_of k) (overload_of t use_of k ∷ []))
 
-pub excess_none : (p : Problem) (t : ℤ) (use_of : ℕ → ℕ) (k used limit : ℕ) (before es : List Excess) → es ≡ before ++ first_excesses p t use_of k → used ≡ use_of k → limit ≡ capacity p k → used ≤ limit →
-    es ≡ before ++ first_excesses p t use_of (k + 1)
-excess_none p t use_of k used limit before es is same_use same_limit within =
+pub overload_none : (p : Problem) (t : ℤ) (use_of : ℕ → ℕ) (k used limit : ℕ) (before es : List Overload) → es ≡ before ++ first_overloads p t use_of k → used ≡ use_of k → limit ≡ capacity p k → used ≤ limit →
+    es ≡ before ++ first_overloads p t use_of (k + 1)
+overload_none p t use_of k used limit before es is same_use same_limit within =
     let test = λ (j : ℕ). nat_lt (capacity p j) (use_of j) in
     let no : test k ≡ false = le-ltb (capacity p k) (use_of k) (omega arith) in
     rw (filter_range_no test k no) is
 
 -- uses that agree give the same list
-pub excesses_same : (p : Problem) (t : ℤ) (f g : ℕ → ℕ) → ((k : ℕ) → k < resource_count p → f k ≡ g k) → excesses_of p t f ≡ excesses_of p t g
-excesses_same p t f g same = from 0 (resource_count p) (λ k lt. same k (omega arith))
+pub overloads_same : (p : Problem) (t : ℤ) (f g : ℕ → ℕ) → ((k : ℕ) → k < resource_count p → f k ≡ g k) → overloads_of p t f ≡ overloads_of p t g
+overloads_same p t f g same = from 0 (resource_count p) (λ k lt. same k (omega arith))
   where
-    one : (b : Bool) (k : ℕ) (xs ys : List ℕ) → f k ≡ g k → map (excess_of t f) xs ≡ map (excess_of t g) ys → map (excess_of t f) (cond b (k ∷ xs) xs) ≡ map (excess_of t g) (cond b (k ∷ ys) ys)
+    one : (b : Bool) (k : ℕ) (xs ys : List ℕ) → f k ≡ g k → map (overload_of t f) xs ≡ map (overload_of t g) ys → map (overload_of t f) (cond b (k ∷ xs) xs) ≡ map (overload_of t g) (cond b (k ∷ ys) ys)
     one true k xs ys here rest = rw (here, rest) refl
     one false k xs ys here rest = rest
 
-    from : (a n : ℕ) → ((k : ℕ) → k < a + n → f k ≡ g k) → map (excess_of t f) (filter (λ k. nat_lt (capacity p k) (f k)) (range_with_len a n)) ≡ map (excess_of t g) (filter (λ k. nat_lt (capacity p k) (g k)) (range_with_len a n))
+    from : (a n : ℕ) → ((k : ℕ) → k < a + n → f k ≡ g k) → map (overload_of t f) (filter (λ k. nat_lt (capacity p k) (f k)) (range_with_len a n)) ≡ map (overload_of t g) (filter (λ k. nat_lt (capacity p k) (g k)) (range_with_len a n))
     from a zero agree = refl
     from a (suc n) agree =
         let here : f a ≡ g a = agree a (omega arith) in

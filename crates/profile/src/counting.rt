@@ -28,7 +28,7 @@ pub(crate) struct Count {
 fn add_demands(project: &Project, totals: &mut [u64], activity: usize)
     requires activity { activity < activity_count project.now }
     requires columns { length totals.old ≡ resource_count project.now }
-    requires room { All (λ total. total ≤ 2000000000) totals.old }
+    requires small { All (λ total. total ≤ 2000000000) totals.old }
     ensures { AddsDemands project.now activity totals.old totals.new }
 {
     let demands = project.demands(activity);
@@ -108,9 +108,9 @@ impl Count {
 }
 
 /// Puts the ends of all activities in place of other times.
-pub(crate) fn take_ends(project: &Project, starts: &[i64], ends: &mut [i64])
+pub(crate) fn list_ends(project: &Project, starts: &[i64], ends: &mut [i64])
     requires starts { AreStarts project.now starts.now }
-    requires room { length ends.old ≡ activity_count project.now }
+    requires long { length ends.old ≡ activity_count project.now }
     ensures { AreEnds project.now starts.now ends.new }
 {
     let durations = project.durations();

@@ -3,12 +3,12 @@
 ghost use Rattle.std.specs.Prelude.{◌≡◌, IfOk, IfSome, IfNone};
 ghost use Rattle.network.specs.Problem.{AreStarts};
 ghost use Rattle.network.specs.Schedule.{running, IsWithinCapacities};
-ghost use Rattle.profile.specs.Overloads.{IsFirstOverload, TellsUse, start_times, excesses, IsSweepFor};
+ghost use Rattle.profile.specs.Overloads.{IsFirstOverload, TellsUse, start_times, all_overloads, IsSweepFor};
 
 use crate::counting::Count;
-use crate::overload::Excess;
+use crate::overload::Overload;
 use crate::sweep::{all_along, first_along, prepare};
-use crate::usage::take_running;
+use crate::usage::list_running;
 use network::Project;
 use std::alloc::{AllocError, Global};
 use std::marker::Model;
@@ -55,19 +55,19 @@ impl OverloadSweep {
     ///
     /// A sweep over the starts and ends in their order of time, up to the overload, without memory. With n activities
     /// and K resources it takes of the order of `n K` steps, and the steps that repair both orders.
-    pub fn first(&mut self, project: &Project, starts: &[i64]) -> Option<Excess>
+    pub fn first(&mut self, project: &Project, starts: &[i64]) -> Option<Overload>
         requires sweep { IsSweepFor project.now self.old }
         requires starts { AreStarts project.now starts.now }
         ensures sweep { IsSweepFor project.now self.new }
         ensures none { IfNone result (IsWithinCapacities project.now starts.now) }
-        ensures first { IfSome result (λ excess. IsFirstOverload project.now starts.now excess.time excess.resource) }
+        ensures first { IfSome result (λ overload. IsFirstOverload project.now starts.now overload.time overload.resource) }
         ensures used { IfSome result (TellsUse project.now starts.now) }
-        ensures running { IfSome result (λ excess. self.new.running ≡ running project.now starts.now excess.time) }
+        ensures running { IfSome result (λ overload. self.new.running ≡ running project.now starts.now overload.time) }
     {
         prepare(project, starts, &mut self.started, &mut self.ended);
         let found = first_along(project, &mut self.started, &mut self.ended);
-        if let Some(excess) = found {
-            take_running(project, starts, excess.time, &mut self.running);
+        if let Some(overload) = found {
+            list_running(project, starts, overload.time, &mut self.running);
         }
         found
     }
@@ -86,12 +86,12 @@ impl OverloadSweep {
         project: &Project,
         starts: &[i64],
         times: &[i64],
-    ) -> Result<Vec<Excess>, AllocError>
+    ) -> Result<Vec<Overload>, AllocError>
         requires sweep { IsSweepFor project.now self.old }
         requires starts { AreStarts project.now starts.now }
         requires times { times.now ≡ start_times starts.now }
         ensures sweep { IsSweepFor project.now self.new }
-        ensures excesses { IfOk result (λ v. v.items ≡ excesses project.now starts.now) }
+        ensures overloads { IfOk result (λ v. v.items ≡ all_overloads project.now starts.now) }
     {
         prepare(project, starts, &mut self.started, &mut self.ended);
         all_along(alloc, project, times, &mut self.started, &mut self.ended)

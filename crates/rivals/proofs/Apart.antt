@@ -1,10 +1,10 @@
 -- Two activities that can't run at the same time don't overlap.
-use Rattle.std.proofs.Common.{◌≡◌, ℕ, zero, suc, ◌+◌, ◌<◌, ◌≤◌, Bool, true, false, cond, List, [], ◌∷◌, length, ap, ◌∙◌, ⊎_elim, arith, add-one, ◌&&◌, ℤ, pos, ◌+ℤ◌, ◌≤ℤ◌, ◌<ℤ◌, int_le, int_lt}
-use Rattle.std.specs.List.{All, filter, sum_by, range_with_len}
+use Rattle.std.proofs.Common.{◌≡◌, ℕ, zero, suc, ◌+◌, ◌<◌, ◌≤◌, Bool, true, false, cond, List, [], ◌∷◌, length, get_or, ap, ◌∙◌, ⊎_elim, arith, add-one, ◌&&◌, ℤ, pos, ◌+ℤ◌, ◌≤ℤ◌, ◌<ℤ◌, int_le, int_lt}
+use Rattle.std.specs.List.{All, Contains, filter, sum_by, range_with_len}
 use Rattle.std.specs.List.Sorted.{IsStrictlyIncreasing}
 use Rattle.std.proofs.lemmas.Bool.{cases_lt}
 use Rattle.std.proofs.lemmas.List.Sums.{sum_by-cons}
-use Rattle.std.proofs.lemmas.List.Elements.{All-head, All-tail, All-nil, All-cons}
+use Rattle.std.proofs.lemmas.List.Elements.{All-head, All-tail, All-nil, All-cons, Contains-append_right, Contains-get_or}
 use Rattle.std.proofs.lemmas.Int.{ints, by_lt_z}
 use Rattle.network.specs.declared.parts.Pair.{Pair}
 use Rattle.network.specs.Schedule.{IsForbidden, start, is_running, IsFeasible}
@@ -60,6 +60,37 @@ rising_length a (suc n) (x ∷ xs) from up below =
 pub runs_when : (s u e : ℤ) → s ≤ℤ u → u <ℤ e → (int_le s u && int_lt u e) ≡ true
 runs_when s u e h k = grind (arith, ints)
 
+-- ---- Activities that are forbidden together don't all run at one time.
+
+begins : (xs : List ℕ) → BeginsFrom 0 xs
+begins [] = tt
+begins (x ∷ xs) = omega arith
+
+pub not_all_run : (p : Problem) (s : List ℤ) (k : ℕ) (set : List ℕ) (u : ℤ) → IsFeasible p s → k < resource_count p → IsStrictlyIncreasing set → All (λ i. i < activity_count p) set → IsForbidden p k set →
+    All (λ i. start s i ≤ℤ u) set → All (λ i. u <ℤ (start s i +ℤ duration p i)) set → ⊥
+not_all_run p s k set u feasible in_range rising named forbidden begun last =
+    let run : All (λ i. is_running p s u i ≡ true) set = λ j d l. runs_when (start s (get_or set j d)) u (start s (get_or set j d) +ℤ duration p (get_or set j d)) (begun j d l) (last j d l) in
+    let used = rising_sum (demand p k) (is_running p s u) 0 (activity_count p) set (begins set) rising (λ j d l. omega (arith, named j d l)) run in
+    let fits = feasible.within u k in_range in
+    omega (arith, used, fits, forbidden)
+
+-- m is of the set, and none of the set starts after it
+pub record StartsLast (s : List ℤ) (set : List ℕ) (m : ℕ) : Type 0 where
+  pub member : Contains set m
+  pub last : All (λ i. start s i ≤ℤ start s m) set
+
+pub starts_last : (s : List ℤ) (x : ℕ) (xs : List ℕ) → (m : ℕ) × StartsLast s (x ∷ xs) m
+starts_last s x [] = (x, record { member = Contains-get_or (x ∷ []) 0 x (omega arith); last = All-cons (λ i. start s i ≤ℤ start s x) x [] (omega (arith, ints)) (All-nil (λ i. start s i ≤ℤ start s x)) })
+starts_last s x (y ∷ ys) = longer (starts_last s y ys)
+  where
+    longer : (m : ℕ) × StartsLast s (y ∷ ys) m → (m : ℕ) × StartsLast s (x ∷ y ∷ ys) m
+    longer (m, so_far) =
+        by_lt_z (start s x) (start s m)
+        (λ less. (m, record { member = Contains-append_right (x ∷ []) (y ∷ ys) m so_far.member; last = All-cons (λ i. start s i ≤ℤ start s m) x (y ∷ ys) (omega (arith, ints)) so_far.last }))
+        (λ more. (x, record { member = Contains-get_or (x ∷ y ∷ ys) 0 x (omega arith); last = All-cons (λ i. start s i ≤ℤ start s x) x (y ∷ ys) (omega (arith, ints)) (λ k d l. omega (arith, ints, so_far.last k d l, more)) }))
+
+-- ---- Two of them.
+
 two_rise : (x y : ℕ) → x < y → IsStrictlyIncreasing (x ∷ y ∷ [])
 two_rise x y h zero l = h
 two_rise x y h (suc k) l = absurd (omega arith)
@@ -74,16 +105,12 @@ record Exceed (p : Problem) (k x y : ℕ) : Type 0 where
 -- they don't both run at u
 overlap_at : (p : Problem) (s : List ℤ) (k x y : ℕ) (u : ℤ) → IsFeasible p s → Exceed p k x y → start s x ≤ℤ u → u <ℤ (start s x +ℤ duration p x) → start s y ≤ℤ u → u <ℤ (start s y +ℤ duration p y) → ⊥
 overlap_at p s k x y u feasible too sx ex sy ey =
-    let run : All (λ i. is_running p s u i ≡ true) (x ∷ y ∷ []) =
-    All-cons (λ i. is_running p s u i ≡ true) x (y ∷ []) (runs_when (start s x) u (start s x +ℤ duration p x) sx ex)
-    (All-cons (λ i. is_running p s u i ≡ true) y [] (runs_when (start s y) u (start s y +ℤ duration p y) sy ey) (All-nil (λ i. is_running p s u i ≡ true))) in
     let order : x < y = too.order in
     let named : y < activity_count p = too.named in
-    let below : All (λ i. i < 0 + activity_count p) (x ∷ y ∷ []) = All-cons (λ i. i < 0 + activity_count p) x (y ∷ []) (omega arith) (All-cons (λ i. i < 0 + activity_count p) y [] (omega arith) (All-nil (λ i. i < 0 + activity_count p))) in
-    let used = rising_sum (demand p k) (is_running p s u) 0 (activity_count p) (x ∷ y ∷ []) (omega arith) (two_rise x y order) below run in
-    let fits = feasible.within u k too.in_range in
-    let exceeds = too.exceeds in
-    omega (arith, used, fits, exceeds)
+    not_all_run p s k (x ∷ y ∷ []) u feasible too.in_range (two_rise x y order) (both (λ i. i < activity_count p) (omega arith) named) too.exceeds (both (λ i. start s i ≤ℤ u) sx sy) (both (λ i. u <ℤ (start s i +ℤ duration p i)) ex ey)
+  where
+    both : (P : ℕ → Type 0) → P x → P y → All P (x ∷ y ∷ [])
+    both P a b = All-cons P x (y ∷ []) a (All-cons P y [] b (All-nil P))
 
 overlap : (p : Problem) (s : List ℤ) (k x y : ℕ) → IsFeasible p s → Exceed p k x y → pos 0 <ℤ duration p x → pos 0 <ℤ duration p y → start s x <ℤ (start s y +ℤ duration p y) → start s y <ℤ (start s x +ℤ duration p x) → ⊥
 overlap p s k x y feasible too long_x long_y hx hy =

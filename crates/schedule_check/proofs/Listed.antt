@@ -7,8 +7,8 @@ use Rattle.std.proofs.lemmas.List.Elements.{recursion_from_All, All-from_recursi
 use Rattle.network.specs.declared.parts.Lag.{Lag}
 use Rattle.network.specs.Problem.{Problem, rules, AreStarts}
 use Rattle.network.specs.Schedule.{start, Meets, IsFeasible}
-use Rattle.profile.specs.Overloads.{excesses}
-use Rattle.profile.proofs.Swept.{filter_nil, map_nil, append_nil_left, append_nil_right, excesses_none}
+use Rattle.profile.specs.Overloads.{all_overloads}
+use Rattle.profile.proofs.Swept.{filter_nil, map_nil, append_nil_left, append_nil_right, overloads_none}
 use Rattle.schedule_check.specs.declared.violation.Violation.{Violation}
 use Rattle.schedule_check.specs.declared.violation.Violation.TheVariants as violation
 use Rattle.schedule_check.specs.Violations.{start_violations, breaks, lag_violation, lag_violations, overload_violation, overload_violations, violations}
@@ -42,17 +42,17 @@ violations_none p s are = (feasible, none)
   where
     feasible : violations p s ≡ [] → IsFeasible p s
     feasible h =
-        let others = append_nil_right (start_violations s) (lag_violations s (rules p) ++ overload_violations (excesses p s)) h in
-        let lags = append_nil_left (lag_violations s (rules p)) (overload_violations (excesses p s)) others in
-        let overloads = append_nil_right (lag_violations s (rules p)) (overload_violations (excesses p s)) others in
+        let others = append_nil_right (start_violations s) (lag_violations s (rules p) ++ overload_violations (all_overloads p s)) h in
+        let lags = append_nil_left (lag_violations s (rules p)) (overload_violations (all_overloads p s)) others in
+        let overloads = append_nil_right (lag_violations s (rules p)) (overload_violations (all_overloads p s)) others in
         let met = filter_nil (breaks s) (rules p) (map_nil lag_violation (filter (breaks s) (rules p)) lags) in
         record {
           schedule = record {
             whole = are.count;
-            from_zero = starts_at_zero s (append_nil_left (start_violations s) (lag_violations s (rules p) ++ overload_violations (excesses p s)) h);
+            from_zero = starts_at_zero s (append_nil_left (start_violations s) (lag_violations s (rules p) ++ overload_violations (all_overloads p s)) h);
             rules_met = All-weaker (λ rule. breaks s rule ≡ false) (Meets s) (λ rule kept. met_rule (start s rule.from +ℤ rule.weight) (start s rule.to) kept) (rules p) (All-from_recursion (λ rule. breaks s rule ≡ false) (rules p) met);
           };
-          within = (excesses_none p s are).0 (map_nil overload_violation (excesses p s) overloads);
+          within = (overloads_none p s are).0 (map_nil overload_violation (all_overloads p s) overloads);
         }
 
     none : IsFeasible p s → violations p s ≡ []
@@ -60,11 +60,11 @@ violations_none p s are = (feasible, none)
         let at_zero = zero_is (start s 0) is.schedule.from_zero in
         let met = All-weaker (Meets s) (λ rule. breaks s rule ≡ false) (λ rule kept. unbroken (start s rule.from +ℤ rule.weight) (start s rule.to) kept) (rules p) is.schedule.rules_met in
         let lags = filter_nothing (breaks s) (rules p) (recursion_from_All (λ rule. breaks s rule ≡ false) (rules p) met) in
-        let overloads = (excesses_none p s are).1 is.within in
+        let overloads = (overloads_none p s are).1 is.within in
         rw (at_zero, lags, overloads) refl
 
 -- the three parts of the list, one after the other
-pub joined : (p : Problem) (s : List ℤ) (arcs : List Lag) (empty at_start with_lags all : List Violation) → arcs ≡ rules p → empty ≡ [] → at_start ≡ empty ++ start_violations s → with_lags ≡ at_start ++ lag_violations s arcs → all ≡ with_lags ++ overload_violations (excesses p s) →
+pub joined : (p : Problem) (s : List ℤ) (arcs : List Lag) (empty at_start with_lags all : List Violation) → arcs ≡ rules p → empty ≡ [] → at_start ≡ empty ++ start_violations s → with_lags ≡ at_start ++ lag_violations s arcs → all ≡ with_lags ++ overload_violations (all_overloads p s) →
     all ≡ violations p s
 joined p s arcs empty at_start with_lags all are none first second third =
-    rw (third, second, first, none, are) (append_assoc (start_violations s) (lag_violations s (rules p)) (overload_violations (excesses p s)))
+    rw (third, second, first, none, are) (append_assoc (start_violations s) (lag_violations s (rules p)) (overload_violations (all_overloads p s)))

@@ -5,8 +5,8 @@ use Rattle.std.specs.Ordering.{int_eq}
 use Rattle.network.specs.declared.parts.Lag.{Lag}
 use Rattle.network.specs.Problem.{Problem, rules}
 use Rattle.network.specs.Schedule.{start, IsFeasible}
-use Rattle.profile.specs.declared.overload.Excess.{Excess}
-use Rattle.profile.specs.Overloads.{excesses}
+use Rattle.profile.specs.declared.overload.Overload.{Overload}
+use Rattle.profile.specs.Overloads.{all_overloads}
 use Rattle.schedule_check.specs.declared.violation.Violation.{Violation}
 use Rattle.schedule_check.specs.declared.violation.Violation.TheVariants as violation
 use Rattle.schedule_check.specs.declared.acceptance.AcceptFault.{AcceptFault}
@@ -27,15 +27,15 @@ lag_violation rule = violation.Lag rule.from rule.to rule.weight
 abbrev pub lag_violations : List ℤ → List Lag → List Violation
 lag_violations s rules = map lag_violation (filter (breaks s) rules)
 
-abbrev pub overload_violation : Excess → Violation
+abbrev pub overload_violation : Overload → Violation
 overload_violation e = violation.Overload e.time e.resource e.used
 
-abbrev pub overload_violations : List Excess → List Violation
+abbrev pub overload_violations : List Overload → List Violation
 overload_violations es = map overload_violation es
 
 -- the start, then the rules, then the overloads at start times
 abbrev pub violations : Problem → List ℤ → List Violation
-violations p s = start_violations s ++ (lag_violations s (rules p) ++ overload_violations (excesses p s))
+violations p s = start_violations s ++ (lag_violations s (rules p) ++ overload_violations (all_overloads p s))
 
 -- what a fault of `accept` says
 abbrev pub IsRefusal : Problem → List ℤ → AcceptFault → Type 0

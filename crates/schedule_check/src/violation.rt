@@ -5,7 +5,7 @@ ghost use Rattle.std.specs.List.{All};
 ghost use Rattle.network.specs.Problem.{AreStarts, IsLag, IsTime};
 ghost use Rattle.network.specs.Schedule.{IsFeasible};
 ghost use Rattle.network.specs.Walk.{AreInside, AreLight};
-ghost use Rattle.profile.specs.Overloads.{excesses};
+ghost use Rattle.profile.specs.Overloads.{all_overloads};
 ghost use Rattle.schedule_check.specs.Violations.{breaks, start_violations, lag_violations, overload_violations, violations};
 
 use network::{Lag, Project};
@@ -87,14 +87,14 @@ fn push_overloads(
 ) -> Result<(), AllocError>
     requires { AreStarts project.now starts.now }
     ensures { OnOk result (violations.new.items
-        ≡ violations.old.items ++ overload_violations (excesses project.now starts.now)) }
+        ≡ violations.old.items ++ overload_violations (all_overloads project.now starts.now)) }
 {
-    let excesses = overloads(alloc, project, starts)?;
-    for excess in &excesses {
+    let overloads = overloads(alloc, project, starts)?;
+    for overload in &overloads {
         violations.push(Violation::Overload {
-            time: excess.time,
-            resource: excess.resource,
-            used: excess.used,
+            time: overload.time,
+            resource: overload.resource,
+            used: overload.used,
         })?;
     }
     Ok(())

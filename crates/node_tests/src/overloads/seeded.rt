@@ -6,7 +6,7 @@ ghost use Rattle.profile.specs.Overloads.{IsSweepFor};
 
 use super::next;
 use network::Project;
-use profile::{Excess, OverloadSweep};
+use profile::{Overload, OverloadSweep};
 use std::alloc::{AllocError, Global};
 use std::process::Abort;
 use std::test::Fail;
@@ -82,11 +82,11 @@ fn used_by(project: &Project, resource: usize, running: &[usize]) -> u64
 }
 
 /// The first resource that these activities overload at a time.
-fn plain_excess(project: &Project, running: &[usize], time: i64) -> Option<Excess> {
+fn plain_overload(project: &Project, running: &[usize], time: i64) -> Option<Overload> {
     for resource in 0..project.resource_count() {
         let used = used_by(project, resource, running);
         if used > project.capacity(resource) {
-            return Some(Excess {
+            return Some(Overload {
                 time,
                 resource,
                 used,
@@ -110,8 +110,8 @@ pub(super) fn assert_first(
     let found = next(rt, sweep, project, starts);
     for time in 0..20 {
         let running = running_at(alloc, project, starts, time)?;
-        if let Some(excess) = plain_excess(project, &running, time) {
-            assert_eq!(rt; found, Some(excess));
+        if let Some(overload) = plain_overload(project, &running, time) {
+            assert_eq!(rt; found, Some(overload));
             assert_eq!(rt; sweep.running(), running.as_slice());
             return Ok(());
         }

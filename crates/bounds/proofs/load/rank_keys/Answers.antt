@@ -17,7 +17,7 @@ loop-i-preserved c =
     let short : i < length c.args.order.now = omega arith in
     let inside : get_or c.args.order.now i 0 < length c.args.keys.now = c.requires.places i 0 short in
     let in_ranks : get_or c.args.order.now i 0 < length c.loop-i.ranks = omega (arith, inside, c.loop-i.auto.ranks, c.requires.ranks) in
-    let room : c.loop-i.count < length c.loop-i.rising = omega (arith, c.loop-i.auto.rising, c.requires.rising) in
+    let spare : c.loop-i.count < length c.loop-i.rising = omega (arith, c.loop-i.auto.rising, c.requires.rising) in
     let fits : FitsSigned w64 (get_or c.args.keys.now place (pos 0)) = search rules in
     let key_is : c.unsigned_abs-key.result ≡ unsigned_abs (get_or c.args.keys.now place (pos 0)) = c.unsigned_abs-key.ensures.value ∙ ap unsigned_abs (to_z-of_z w64 (get_or c.args.keys.now place (pos 0)) fits) in
     elim c.if-count-eq0.branch [
@@ -27,7 +27,7 @@ loop-i-preserved c =
             | then-count-eq0-via-then-count-eq0 v ↦ absurd (omega (arith, v.if-count-eq0.true))
             | then-count-eq0-via-else-count-eq0+then-rising-count v ↦ omega (arith, v.if-rising-count.true, key_is)
           ] in
-          rw (w.rising-is, w.count-is, key_is) (ranked_new c.args.keys.now c.args.order.now i c.loop-i.count place c.loop-i.rising c.loop-i.ranks c.loop-i.invariant refl in_ranks room greater)
+          rw (w.rising-is, w.count-is, key_is) (ranked_new c.args.keys.now c.args.order.now i c.loop-i.count place c.loop-i.rising c.loop-i.ranks c.loop-i.invariant refl in_ranks spare greater)
       | else-count-eq0+else-rising-count w ↦
           let some : 0 < c.loop-i.count = omega (arith, w.if-count-eq0.false) in
           let least : get_or c.loop-i.rising (c.loop-i.count - 1) 0 ≤ unsigned_abs (key_at c.args.keys.now c.args.order.now i) =

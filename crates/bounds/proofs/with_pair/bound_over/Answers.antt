@@ -17,26 +17,26 @@ use Rattle.bounds.proofs.Greatest.{end_above}
 use Rattle.bounds.proofs.WithLaws.{ends_there, matrix_more, heads_are_ends, tails_are_ends, last_head, greater_under}
 use Rattle.bounds.proofs.with_pair.bound_over.Goals as goal
 
-pub take_heads_with-requires-clause-from_activity : goal.take_heads_with-requires-clause-from_activity
-take_heads_with-requires-clause-from_activity c = rw (c.requires.matrix.matrix.matrix.square.0, c.pair_arc-arc.ensures.arc) (ends_there c.args.project.now c.args.pair c.requires.named).0
+pub list_heads_with-requires-clause-from_activity : goal.list_heads_with-requires-clause-from_activity
+list_heads_with-requires-clause-from_activity c = rw (c.requires.matrix.matrix.matrix.square.0, c.pair_arc-arc.ensures.arc) (ends_there c.args.project.now c.args.pair c.requires.named).0
 
-pub take_heads_with-requires-clause-to_activity : goal.take_heads_with-requires-clause-to_activity
-take_heads_with-requires-clause-to_activity c = rw (c.requires.matrix.matrix.matrix.square.0, c.pair_arc-arc.ensures.arc) (ends_there c.args.project.now c.args.pair c.requires.named).1
+pub list_heads_with-requires-clause-to_activity : goal.list_heads_with-requires-clause-to_activity
+list_heads_with-requires-clause-to_activity c = rw (c.requires.matrix.matrix.matrix.square.0, c.pair_arc-arc.ensures.arc) (ends_there c.args.project.now c.args.pair c.requires.named).1
 
-pub take_tails_with-requires-clause-from_activity : goal.take_tails_with-requires-clause-from_activity
-take_tails_with-requires-clause-from_activity c = rw (c.requires.matrix.matrix.matrix.square.0, c.pair_arc-arc.ensures.arc) (ends_there c.args.project.now c.args.pair c.requires.named).0
+pub list_tails_with-requires-clause-from_activity : goal.list_tails_with-requires-clause-from_activity
+list_tails_with-requires-clause-from_activity c = rw (c.requires.matrix.matrix.matrix.square.0, c.pair_arc-arc.ensures.arc) (ends_there c.args.project.now c.args.pair c.requires.named).0
 
-pub take_tails_with-requires-clause-to_activity : goal.take_tails_with-requires-clause-to_activity
-take_tails_with-requires-clause-to_activity c = rw (c.requires.matrix.matrix.matrix.square.0, c.pair_arc-arc.ensures.arc) (ends_there c.args.project.now c.args.pair c.requires.named).1
+pub list_tails_with-requires-clause-to_activity : goal.list_tails_with-requires-clause-to_activity
+list_tails_with-requires-clause-to_activity c = rw (c.requires.matrix.matrix.matrix.square.0, c.pair_arc-arc.ensures.arc) (ends_there c.args.project.now c.args.pair c.requires.named).1
 
 pub energy_under-energy-requires-clause-heads : goal.energy_under-energy-requires-clause-heads
 energy_under-energy-requires-clause-heads c =
-    let heads_are : c.take_heads_with.new.heads ≡ weights_from 0 (rows_over (pair_arc c.args.project.now c.args.pair) c.args.matrix.now) = c.take_heads_with.ensures ∙ ap (λ (e : Lag). weights_from 0 (rows_over e c.args.matrix.now)) c.pair_arc-arc.ensures.arc in
+    let heads_are : c.list_heads_with.new.heads ≡ weights_from 0 (rows_over (pair_arc c.args.project.now c.args.pair) c.args.matrix.now) = c.list_heads_with.ensures ∙ ap (λ (e : Lag). weights_from 0 (rows_over e c.args.matrix.now)) c.pair_arc-arc.ensures.arc in
     subst (AreEnds (activity_count c.args.project.now)) (sym heads_are) (heads_are_ends c.args.project.now _ _ (matrix_more c.args.project.now c.requires.matrix.pairs c.args.pair c.args.matrix.now c.requires.named c.requires.lives c.requires.matrix.matrix))
 
 pub energy_under-energy-requires-clause-tails : goal.energy_under-energy-requires-clause-tails
 energy_under-energy-requires-clause-tails c =
-    let tails_are : c.take_tails_with.new.tails ≡ tail_weights c.args.project.now (rows_over (pair_arc c.args.project.now c.args.pair) c.args.matrix.now) = c.take_tails_with.ensures ∙ ap (λ (e : Lag). tail_weights c.args.project.now (rows_over e c.args.matrix.now)) c.pair_arc-arc.ensures.arc in
+    let tails_are : c.list_tails_with.new.tails ≡ tail_weights c.args.project.now (rows_over (pair_arc c.args.project.now c.args.pair) c.args.matrix.now) = c.list_tails_with.ensures ∙ ap (λ (e : Lag). tail_weights c.args.project.now (rows_over e c.args.matrix.now)) c.pair_arc-arc.ensures.arc in
     subst (AreEnds (activity_count c.args.project.now)) (sym tails_are) (tails_are_ends c.args.project.now _ _ (matrix_more c.args.project.now c.requires.matrix.pairs c.args.pair c.args.matrix.now c.requires.named c.requires.lives c.requires.matrix.matrix))
 
 -- the last head is the critical weight with the pair, and small
@@ -64,9 +64,9 @@ last p pairs pair rows arc heads n m named lives arc_is heads_are n_is =
 pub returns-clause-value : goal.returns-clause-value
 returns-clause-value c =
     let p : Problem = c.args.project.now in
-    let x : ℤ = get_or c.take_heads_with.new.heads (c.activity_count-3.result - 1) (pos 0) in
+    let x : ℤ = get_or c.list_heads_with.new.heads (c.activity_count-3.result - 1) (pos 0) in
     let n : ℕ = c.energy_under-energy.result in
-    let at : IsLast c.args.project.now c.args.pair c.args.matrix.now x = last c.args.project.now c.requires.matrix.pairs c.args.pair c.args.matrix.now c.pair_arc-arc.result c.take_heads_with.new.heads c.activity_count-3.result c.requires.matrix.matrix c.requires.named c.requires.lives c.pair_arc-arc.ensures.arc c.take_heads_with.ensures c.activity_count-3.ensures.value in
+    let at : IsLast c.args.project.now c.args.pair c.args.matrix.now x = last c.args.project.now c.requires.matrix.pairs c.args.pair c.args.matrix.now c.pair_arc-arc.result c.list_heads_with.new.heads c.activity_count-3.result c.requires.matrix.matrix c.requires.named c.requires.lives c.pair_arc-arc.ensures.arc c.list_heads_with.ensures c.activity_count-3.ensures.value in
     let low : pos 0 ≤ℤ x = at.low in
     let high : unsigned_abs x ≤ MAX_END = at.high in
     let fits : FitsSigned w64 x = omega (arith, ints) in
@@ -76,11 +76,11 @@ returns-clause-value c =
     let max_is : c.max.result ≡ int_max x (pos n) = (simp to_z-of_z at c.max.ensures.value) ∙ ap (int_max x) same in
     let ceiling_is : c.unsigned_abs.result ≡ unsigned_abs (unwrap_or c.args.ceiling (pos 9223372036854775807)) = (simp to_z-of_z at c.unsigned_abs.ensures.value) ∙ ap unsigned_abs c.unwrap_or-ceiling.ensures in
     let max_fits : FitsSigned w64 c.max.result = search rules in
-    let first : get_or c.take_heads_with.new.heads (c.activity_count-3.result - 1) (pos 0) ≡ start c.take_heads_with.new.heads (end_of p) = ap (λ (k : ℕ). get_or c.take_heads_with.new.heads (k - 1) (pos 0)) c.activity_count-3.ensures.value in
-    let is : c.max.result ≡ int_max (start c.take_heads_with.new.heads (end_of p)) (pos n) = max_is ∙ ap (λ (z : ℤ). int_max z (pos n)) first in
+    let first : get_or c.list_heads_with.new.heads (c.activity_count-3.result - 1) (pos 0) ≡ start c.list_heads_with.new.heads (end_of p) = ap (λ (k : ℕ). get_or c.list_heads_with.new.heads (k - 1) (pos 0)) c.activity_count-3.ensures.value in
+    let is : c.max.result ≡ int_max (start c.list_heads_with.new.heads (end_of p)) (pos n) = max_is ∙ ap (λ (z : ℤ). int_max z (pos n)) first in
     rw (to_z-of_z w64 c.max.result max_fits)
     (subst (IsBoundUnder p c.args.matrix.now c.args.pair c.args.ceiling) (sym is)
-    (greater_under p c.requires.matrix.pairs c.args.pair c.args.matrix.now c.take_heads_with.new.heads c.take_tails_with.new.tails c.args.ceiling n c.requires.matrix.matrix c.requires.named c.requires.lives
-    (c.take_heads_with.ensures ∙ ap (λ (e : Lag). weights_from 0 (rows_over e c.args.matrix.now)) c.pair_arc-arc.ensures.arc)
-    (c.take_tails_with.ensures ∙ ap (λ (e : Lag). tail_weights p (rows_over e c.args.matrix.now)) c.pair_arc-arc.ensures.arc)
+    (greater_under p c.requires.matrix.pairs c.args.pair c.args.matrix.now c.list_heads_with.new.heads c.list_tails_with.new.tails c.args.ceiling n c.requires.matrix.matrix c.requires.named c.requires.lives
+    (c.list_heads_with.ensures ∙ ap (λ (e : Lag). weights_from 0 (rows_over e c.args.matrix.now)) c.pair_arc-arc.ensures.arc)
+    (c.list_tails_with.ensures ∙ ap (λ (e : Lag). tail_weights p (rows_over e c.args.matrix.now)) c.pair_arc-arc.ensures.arc)
     (sym first ∙ at.is) (rw ceiling_is at c.energy_under-energy.ensures.value) c.energy_under-energy.ensures.limit))

@@ -8,14 +8,14 @@ use Rattle.bounds.proofs.Tasks.{tasks_limited}
 use Rattle.bounds.proofs.Energies.{resource_share, resource_limit}
 use Rattle.bounds.proofs.resource_buffers.ResourceBuffers.resource_energy.Goals as goal
 
-rooms_long : (p : Problem) (buffers : List (List Task)) → buffers ≡ all_tasks p → length buffers ≡ resource_count p
-rooms_long p buffers are = ap length are ∙ length-map-range_with_len (tasks_of p) 0 (resource_count p)
+buffers_long : (p : Problem) (buffers : List (List Task)) → buffers ≡ all_tasks p → length buffers ≡ resource_count p
+buffers_long p buffers are = ap length are ∙ length-map-range_with_len (tasks_of p) 0 (resource_count p)
 
 tasks_at : (p : Problem) (buffers : List (List Task)) (k : ℕ) (d : List Task) → buffers ≡ all_tasks p → k < resource_count p → get_or buffers k d ≡ tasks_of p k
 tasks_at p buffers k d are lt = ap (λ (rs : List (List Task)). get_or rs k d) are ∙ get_or-map-range_with_len (tasks_of p) 0 (resource_count p) k k d lt (omega arith)
 
 pub index_mut-requires : goal.index_mut-requires
-index_mut-requires c = omega (arith, c.requires.resource, rooms_long c.args.project.now c.self.inside.buffers.items (c.self.view_is ∙ c.requires.buffers))
+index_mut-requires c = omega (arith, c.requires.resource, buffers_long c.args.project.now c.self.inside.buffers.items (c.self.view_is ∙ c.requires.buffers))
 
 pub greatest_share-share-requires-clause-tasks : goal.greatest_share-share-requires-clause-tasks
 greatest_share-share-requires-clause-tasks c =

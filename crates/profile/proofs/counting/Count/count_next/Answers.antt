@@ -9,8 +9,8 @@ pub add_demands-requires-clause-activity : goal.add_demands-requires-clause-acti
 add_demands-requires-clause-activity c =
     rw c.as_slice.ensures.value (activity_at c.args.project.now c.args.self.now c.requires.count.sized c.args.self.now.passed c.requires.some)
 
-pub add_demands-requires-clause-room : goal.add_demands-requires-clause-room
-add_demands-requires-clause-room c =
+pub add_demands-requires-clause-small : goal.add_demands-requires-clause-small
+add_demands-requires-clause-small c =
     rw c.as_mut_slice.ensures.value (counts_small c.args.project.now c.args.self.now c.requires.count)
 
 pub returns-clause-count : goal.returns-clause-count
