@@ -15,6 +15,7 @@ mod load;
 mod resource_buffers;
 mod share_buffers;
 mod slots;
+mod task;
 mod task_buffers;
 mod with_pair;
 mod workspace;
@@ -23,8 +24,7 @@ use longest_path::Matrix;
 use network::Project;
 pub use resource_buffers::energy;
 use std::alloc::{AllocError, Global};
-pub use with_pair::bound_with;
-pub use workspace::Workspace;
+pub use workspace::{Workspace, bound_with};
 
 /// The greatest weight from the start to the end in periods: the least makespan without regard to resources. Takes no
 /// memory.

@@ -55,7 +55,7 @@ pub(crate) struct ResourceBuffers {
 
 impl Model for ResourceBuffers {
     ghost use Rattle.std.specs.Prelude.{List};
-    ghost use Rattle.bounds.specs.declared.task_buffers.Task.{Task};
+    ghost use Rattle.bounds.specs.declared.task.Task.{Task};
 
     ghost Value = { List (List Task) };
 

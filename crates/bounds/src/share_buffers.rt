@@ -6,7 +6,7 @@ ghost use Rattle.bounds.specs.Energy.{AreEnds};
 ghost use Rattle.bounds.specs.Loads.{AreBuffers, AreRanked, AreRankedLoads};
 
 use crate::load::{Load, list_loads, rank_keys, sort_tasks};
-use crate::task_buffers::Task;
+use crate::task::Task;
 use orders::first_order;
 use std::alloc::{AllocError, Global};
 

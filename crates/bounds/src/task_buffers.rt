@@ -11,37 +11,10 @@ use crate::limits::{MAX_CAPACITY, MAX_END, MAX_SHARE};
 use crate::load::Load;
 use crate::share_buffers::ShareBuffers;
 use crate::slots::greatest_share;
+use crate::task::{Task, tasks_of};
 use network::Project;
 use std::alloc::{AllocError, Global};
 use std::marker::Model;
-
-/// What an activity asks of one resource.
-#[derive(Clone, Copy, Debug)]
-pub(crate) struct Task {
-    pub(crate) activity: usize,
-    /// Units of the resource, each for a period: a duration times a demand.
-    pub(crate) work: u64,
-}
-
-/// The tasks of a resource: one for each activity that has work for it.
-pub(crate) fn tasks_of(
-    alloc: Global,
-    project: &Project,
-    resource: usize,
-) -> Result<Vec<Task>, AllocError>
-    requires { resource < resource_count project.now }
-    ensures { IfOk result (λ tasks. tasks.items ≡ tasks_of project.now resource) }
-{
-    let mut tasks = Vec::new(alloc);
-    for activity in 0..project.activity_count() {
-        let duration = project.duration(activity).unsigned_abs();
-        let work = duration * project.demand(resource, activity);
-        if work > 0 {
-            tasks.push(Task { activity, work })?;
-        }
-    }
-    Ok(tasks)
-}
 
 /// The tasks of a resource, and the memory that their greatest share takes. Its value is the tasks.
 #[derive(Drop, Debug)]
@@ -52,7 +25,7 @@ pub(crate) struct TaskBuffers {
 
 impl Model for TaskBuffers {
     ghost use Rattle.std.specs.Prelude.{List, length};
-    ghost use Rattle.bounds.specs.declared.task_buffers.Task.{Task};
+    ghost use Rattle.bounds.specs.declared.task.Task.{Task};
 
     ghost Value = { List Task };
 

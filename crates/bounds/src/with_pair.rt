@@ -1,19 +1,17 @@
 //! The bound of a node with one pair more, without its matrix.
 
-ghost use Rattle.std.specs.Prelude.{◌≡◌, [], ◌<◌, ◌∷◌, length, IfOk};
+ghost use Rattle.std.specs.Prelude.{◌≡◌, [], ◌<◌, ◌∷◌, length};
 ghost use Rattle.network.specs.Problem.{activity_count, NameActivities, pair_arc, IsWithin};
 ghost use Rattle.network.specs.declared.limits.TheConstants.{MAX_LAG_WEIGHT};
 ghost use Rattle.network.specs.Walk.{weights_from};
 ghost use Rattle.earliest.specs.Ends.{tail_weights};
 ghost use Rattle.longest_path.specs.Insert.{rows_over, ClosesNone};
-ghost use Rattle.bounds.specs.Bound.{IsMatrixFor, IsBoundWith, IsTrueBoundWith, IsBoundUnder};
+ghost use Rattle.bounds.specs.Bound.{IsMatrixFor, IsBoundUnder};
 ghost use Rattle.bounds.specs.Energy.{all_tasks};
 
 use crate::resource_buffers::ResourceBuffers;
-use crate::workspace::Workspace;
 use longest_path::{Matrix, or_way, then_arc};
 use network::{Lag, Pair, Project};
-use std::alloc::{AllocError, Global};
 
 /// Puts the heads that the matrix would give with the arc in place of others.
 fn list_heads_with(matrix: &Matrix, arc: Lag, heads: &mut [i64])
@@ -74,22 +72,4 @@ pub(crate) fn bound_over(
     list_tails_with(project, matrix, arc, tails);
     let energy = buffers.energy_under(project, heads, tails, ceiling.unsigned_abs());
     critical.max(energy as i64)
-}
-
-/// The bound of the matrix with the pair's arc in periods, by entries of the matrix without it. Where
-/// more than one is asked for, [`Workspace::bound_under`] takes its memory only once.
-pub fn bound_with(
-    alloc: Global,
-    project: &Project,
-    matrix: &Matrix,
-    pair: Pair,
-) -> Result<i64, AllocError>
-    requires matrix { IsMatrixFor project.now matrix.now }
-    requires named { NameActivities project.now (pair ∷ []) }
-    requires lives { ClosesNone (pair_arc project.now pair) matrix.now }
-    ensures value { IfOk result (λ bound. IsBoundWith project.now matrix.now pair bound) }
-    ensures holds { IfOk result (λ bound. IsTrueBoundWith project.now matrix.now pair bound) }
-{
-    let mut workspace = Workspace::new(alloc, project)?;
-    Ok(workspace.bound_under(project, matrix, pair, None))
 }

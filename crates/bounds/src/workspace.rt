@@ -3,7 +3,7 @@
 ghost use Rattle.std.specs.Prelude.{◌≡◌, [], ◌∷◌, IfOk};
 ghost use Rattle.network.specs.Problem.{NameActivities, pair_arc};
 ghost use Rattle.longest_path.specs.Insert.{ClosesNone};
-ghost use Rattle.bounds.specs.Bound.{IsMatrixFor, IsTrueBoundWith, IsBoundUnder, IsWorkspaceFor};
+ghost use Rattle.bounds.specs.Bound.{IsMatrixFor, IsBoundWith, IsTrueBoundWith, IsBoundUnder, IsWorkspaceFor};
 
 use crate::resource_buffers::ResourceBuffers;
 use crate::with_pair::bound_over;
@@ -47,7 +47,7 @@ impl Workspace {
         })
     }
 
-    /// [`bound_with`](crate::bound_with) in periods. If that is at least the ceiling, any true bound between the
+    /// [`bound_with`] in periods. If that is at least the ceiling, any true bound between the
     /// ceiling and it: whoever cuts by it needs no more. Takes no memory.
     pub fn bound_under(
         &mut self,
@@ -74,4 +74,22 @@ impl Workspace {
             &mut self.buffers,
         )
     }
+}
+
+/// The bound of the matrix with the pair's arc in periods, by entries of the matrix without it. Where
+/// more than one is asked for, [`Workspace::bound_under`] takes its memory only once.
+pub fn bound_with(
+    alloc: Global,
+    project: &Project,
+    matrix: &Matrix,
+    pair: Pair,
+) -> Result<i64, AllocError>
+    requires matrix { IsMatrixFor project.now matrix.now }
+    requires named { NameActivities project.now (pair ∷ []) }
+    requires lives { ClosesNone (pair_arc project.now pair) matrix.now }
+    ensures value { IfOk result (λ bound. IsBoundWith project.now matrix.now pair bound) }
+    ensures holds { IfOk result (λ bound. IsTrueBoundWith project.now matrix.now pair bound) }
+{
+    let mut workspace = Workspace::new(alloc, project)?;
+    Ok(workspace.bound_under(project, matrix, pair, None))
 }

@@ -12,6 +12,6 @@ mod sweep;
 mod times;
 mod usage;
 
-pub use overload::{Overload, first_overload, overloads};
-pub use overload_sweep::OverloadSweep;
+pub use overload::Overload;
+pub use overload_sweep::{OverloadSweep, first_overload, overloads};
 pub use usage::use_at;

@@ -1,6 +1,6 @@
-//! The buffers in which overloads are found.
+//! The overloads of a schedule, and the buffers in which they are found.
 
-ghost use Rattle.std.specs.Prelude.{◌≡◌, IfOk, IfSome, IfNone};
+ghost use Rattle.std.specs.Prelude.{◌≡◌, ◌↔◌, [], IfOk, IfSome, IfNone};
 ghost use Rattle.network.specs.Problem.{AreStarts};
 ghost use Rattle.network.specs.Schedule.{running, IsWithinCapacities};
 ghost use Rattle.profile.specs.Overloads.{IsFirstOverload, TellsUse, start_times, all_overloads, IsSweepFor};
@@ -8,6 +8,7 @@ ghost use Rattle.profile.specs.Overloads.{IsFirstOverload, TellsUse, start_times
 use crate::counting::Count;
 use crate::overload::Overload;
 use crate::sweep::{all_along, first_along, prepare};
+use crate::times::start_times;
 use crate::usage::list_running;
 use network::Project;
 use std::alloc::{AllocError, Global};
@@ -96,4 +97,42 @@ impl OverloadSweep {
         prepare(project, starts, &mut self.started, &mut self.ended);
         all_along(alloc, project, times, &mut self.started, &mut self.ended)
     }
+}
+
+/// The first overload of a list of starts, if there is one: at the least unit of time with an overload, of the least
+/// such resource.
+///
+/// It calls [`OverloadSweep::first`] once in a workspace of its own, and sorts the orders by insertion. With n
+/// activities and K resources it takes at most of the order of `n n + n K` steps.
+pub fn first_overload(
+    alloc: Global,
+    project: &Project,
+    starts: &[i64],
+) -> Result<Option<Overload>, AllocError>
+    requires starts { AreStarts project.now starts.now }
+    ensures none { IfOk result (λ found. IfNone found (IsWithinCapacities project.now starts.now)) }
+    ensures first { IfOk result (λ found.
+        IfSome found (λ overload. IsFirstOverload project.now starts.now overload.time overload.resource)) }
+    ensures used { IfOk result (λ found. IfSome found (TellsUse project.now starts.now)) }
+{
+    let mut sweep = OverloadSweep::new(alloc, project)?;
+    Ok(sweep.first(project, starts))
+}
+
+/// The overloads at all start times, by time and then by resource. The use of a resource rises only where an activity
+/// starts. So there is none exactly if no unit of time has an overload.
+///
+/// The same sweep as [`OverloadSweep::first`]'s, up to the last start.
+pub fn overloads(
+    alloc: Global,
+    project: &Project,
+    starts: &[i64],
+) -> Result<Vec<Overload>, AllocError>
+    requires starts { AreStarts project.now starts.now }
+    ensures overloads { IfOk result (λ v. v.items ≡ all_overloads project.now starts.now) }
+    ensures none { IfOk result (λ v. (v.items ≡ []) ↔ IsWithinCapacities project.now starts.now) }
+{
+    let times = start_times(alloc, starts)?;
+    let mut sweep = OverloadSweep::new(alloc, project)?;
+    sweep.all(alloc, project, starts, &times)
 }

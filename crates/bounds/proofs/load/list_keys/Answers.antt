@@ -1,6 +1,6 @@
 use Rattle.std.proofs.Common.{◌∙◌, pos, arith}
 use Rattle.network.specs.Schedule.{start}
-use Rattle.bounds.specs.declared.task_buffers.Task.{Task}
+use Rattle.bounds.specs.declared.task.Task.{Task}
 use Rattle.bounds.proofs.Ranked.{map_written}
 use Rattle.bounds.proofs.load.list_keys.Goals as goal
 

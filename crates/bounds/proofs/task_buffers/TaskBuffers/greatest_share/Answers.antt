@@ -1,5 +1,5 @@
 use Rattle.std.proofs.Common.{rules, ℤ, ℕ, List, length, take}
-use Rattle.bounds.specs.declared.task_buffers.Task.{Task}
+use Rattle.bounds.specs.declared.task.Task.{Task}
 use Rattle.bounds.specs.Loads.{AreTailsOf, AreLoadsOf, AreRanked, AreRankedLoads, Load}
 use Rattle.bounds.proofs.LateWork.{loads_limited, tails_limited}
 use Rattle.bounds.proofs.Ranked.{ranked_loads}

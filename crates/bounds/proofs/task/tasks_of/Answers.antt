@@ -4,8 +4,8 @@ use Rattle.std.proofs.lemmas.Int.{to_z-of_z}
 use Rattle.std.proofs.lemmas.List.FromFn.{filter_of_map_range_with_len_more}
 use Rattle.network.specs.Problem.{Problem, duration}
 use Rattle.bounds.specs.Energy.{work, task, has_work, Task}
-use Rattle.bounds.proofs.task_buffers.tasks_of.Goals as goal
-use Rattle.bounds.proofs.task_buffers.tasks_of.Goals.{then-work-gt0+in_ok-push, else-work-gt0}
+use Rattle.bounds.proofs.task.tasks_of.Goals as goal
+use Rattle.bounds.proofs.task.tasks_of.Goals.{then-work-gt0+in_ok-push, else-work-gt0}
 
 pub loop-activity-preserved : goal.loop-activity-preserved
 loop-activity-preserved c =

@@ -1,6 +1,6 @@
 use Rattle.std.proofs.Common.{rules, w64, FitsSigned}
 use Rattle.std.proofs.lemmas.Int.{to_z-of_z}
-use Rattle.bounds.proofs.with_pair.bound_with.Goals as goal
+use Rattle.bounds.proofs.workspace.bound_with.Goals as goal
 
 pub returns-clause-value : goal.returns-clause-value
 returns-clause-value c =
