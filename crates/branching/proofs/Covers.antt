@@ -1,36 +1,21 @@
 -- A feasible schedule keeps some ordered pair of any forbidden set whose members take time: at the
 -- greatest of their starts they don't all run, so one of them has ended.
-use Rattle.std.proofs.Common.{◌≡◌, ◌≢◌, ℕ, true, List, [], ◌∷◌, get_or, subst, ◌⊎◌, inl, inr, arith, sym, ◌∙◌, ◌++◌, ⊎_elim, Option, Some, None, ℤ, pos, ◌+ℤ◌, ◌≤ℤ◌, ◌<ℤ◌, IfSome}
+use Rattle.std.proofs.Common.{◌≡◌, ◌≢◌, ℕ, List, [], ◌∷◌, get_or, subst, ◌⊎◌, inl, inr, arith, sym, ◌∙◌, ◌++◌, ⊎_elim, Option, Some, None, ℤ, pos, ◌+ℤ◌, ◌≤ℤ◌, ◌<ℤ◌, IfSome}
 use Rattle.std.specs.List.{All, Any, Contains}
 use Rattle.std.proofs.lemmas.Int.{ints, by_lt_z}
 use Rattle.std.proofs.lemmas.List.Elements.{All-nil, All-cons, All-contains, All-append, All-weaker, Contains-append_left, Contains-append_right, Contains-push, Contains-get_or}
 use Rattle.network.specs.declared.parts.Pair.{Pair}
-use Rattle.network.specs.Problem.{Problem, activity_count, duration, demand, pair_of, arcs_of}
-use Rattle.network.specs.Schedule.{start, is_running, Keeps, IsFeasible, ScheduleOf, makespan, HasNoSchedule}
+use Rattle.network.specs.Problem.{Problem, duration, pair_of, arcs_of}
+use Rattle.network.specs.Schedule.{start, Keeps, IsFeasible, ScheduleOf, makespan, HasNoSchedule}
 use Rattle.branching.specs.Subproblem.{ordered_pairs, Subproblem, NodeStandsFor}
 use Rattle.branching.specs.Right.{IsRightSet, IsBelow, IsUnder, Reaches}
 use Rattle.branching.proofs.OrderedPairs.{here, there, contains_pair, any_cases, any_left, any_right}
-use Rattle.rivals.proofs.Apart.{BeginsFrom, rising_sum, runs_when}
+use Rattle.rivals.proofs.Apart.{StartsLast, starts_last, not_all_run}
 use Rattle.network.specs.Walk.{HasPositiveCycle}
 use Rattle.network.proofs.Schedules.{no_schedule_on_cycle}
 use Rattle.branching.specs.Fair.{Expansion, IsFair, IsShorterThan, IsFoundFor, IsKidOf, IsNodeOf, IsRootOf, IsScheduleFor, IsCovered, IsShorterOf, ceiling_of}
 
--- ---- members that start last, and members that end before
-
--- m is of the set, and none of the set starts after it
-record StartsLast (s : List ℤ) (set : List ℕ) (m : ℕ) : Type 0 where
-  member : Contains set m
-  last : All (λ i. start s i ≤ℤ start s m) set
-
-starts_last : (s : List ℤ) (x : ℕ) (xs : List ℕ) → (m : ℕ) × StartsLast s (x ∷ xs) m
-starts_last s x [] = (x, record { member = here x []; last = All-cons (λ i. start s i ≤ℤ start s x) x [] (omega (arith, ints)) (All-nil (λ i. start s i ≤ℤ start s x)) })
-starts_last s x (y ∷ ys) = longer (starts_last s y ys)
-  where
-    longer : (m : ℕ) × StartsLast s (y ∷ ys) m → (m : ℕ) × StartsLast s (x ∷ y ∷ ys) m
-    longer (m, so_far) =
-        by_lt_z (start s x) (start s m)
-        (λ less. (m, record { member = there x (y ∷ ys) m so_far.member; last = All-cons (λ i. start s i ≤ℤ start s m) x (y ∷ ys) (omega (arith, ints)) so_far.last }))
-        (λ more. (x, record { member = here x (y ∷ ys); last = All-cons (λ i. start s i ≤ℤ start s x) x (y ∷ ys) (omega (arith, ints)) (λ k d l. omega (arith, ints, so_far.last k d l, more)) }))
+-- ---- members that end before
 
 abbrev EndsBy : Problem → List ℤ → ℤ → ℕ → Type 0
 EndsBy p s u i = (start s i +ℤ duration p i) ≤ℤ u
@@ -50,21 +35,7 @@ some_ends p s u (x ∷ xs) = longer (some_ends p s u xs)
         (λ later. inr (All-cons (EndsAfter p s u) x xs later after))
         (λ done. inl (x, (here x xs, done)))
 
--- they can't all run at the greatest of their starts
-not_all_run : (p : Problem) (s : List ℤ) (k : ℕ) (set : List ℕ) (m : ℕ) → IsFeasible p s → IsRightSet p k set → StartsLast s set m → All (EndsAfter p s (start s m)) set → ⊥
-not_all_run p s k set m feasible together last after =
-    let u : ℤ = start s m in
-    let run : All (λ i. is_running p s u i ≡ true) set = λ j d l. runs_when (start s (get_or set j d)) u (start s (get_or set j d) +ℤ duration p (get_or set j d)) (last.last j d l) (after j d l) in
-    let used = rising_sum (demand p k) (is_running p s u) 0 (activity_count p) set (begins set) together.rising (λ j d l. omega (arith, together.named j d l)) run in
-    let fits = feasible.within u k together.in_range in
-    let exceeds = together.forbidden in
-    omega (arith, used, fits, exceeds)
-  where
-    begins : (xs : List ℕ) → BeginsFrom 0 xs
-    begins [] = tt
-    begins (x ∷ xs) = omega arith
-
--- so two of them are disjoint, and one ordered pair is kept
+-- they can't all run at the greatest of their starts, so two of them are disjoint, and one ordered pair is kept
 pub some_pair_kept : (p : Problem) (s : List ℤ) (k : ℕ) (set : List ℕ) → IsFeasible p s → IsRightSet p k set → (pair : Pair) × (Contains (ordered_pairs set) pair × Keeps p s pair)
 some_pair_kept p s k [] feasible together = absurd (let exceeds = together.forbidden in omega arith)
 some_pair_kept p s k (x ∷ xs) feasible together = by_last (starts_last s x xs)
@@ -79,7 +50,7 @@ some_pair_kept p s k (x ∷ xs) feasible together = by_last (starts_last s x xs)
         by_ends (inl (i, ends)) =
             let other : i ≢ m = λ same. let done : EndsBy p s (start s m) m = subst (EndsBy p s (start s m)) same ends.1 in absurd (omega (arith, ints, done, takes_time)) in
             (pair_of i m, (contains_pair (x ∷ xs) i m ends.0 last.member other, ends.1))
-        by_ends (inr after) = absurd (not_all_run p s k (x ∷ xs) m feasible together last after)
+        by_ends (inr after) = absurd (not_all_run p s k (x ∷ xs) (start s m) feasible together.in_range together.rising together.named together.forbidden last.last after)
 
 -- each feasible schedule keeps one of the ordered pairs
 pub some_kept : (p : Problem) (k : ℕ) (set : List ℕ) → IsRightSet p k set → (s : List ℤ) → IsFeasible p s → Any (Keeps p s) (ordered_pairs set)
