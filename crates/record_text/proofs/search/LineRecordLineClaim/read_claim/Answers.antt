@@ -5,7 +5,7 @@ use Rattle.record_text.specs.TextFaults.{HasFault}
 use Rattle.record_text.specs.Text.{search_kind}
 use Rattle.record_text.proofs.KindLaws.{missing_fault, form_fault, stands_second}
 use Rattle.record_text.proofs.TextLaws.{stands_third, no_second, no_third, claim_read, facts}
-use Rattle.record_text.proofs.read.read_claim.Goals as goal
+use Rattle.record_text.proofs.search.LineRecordLineClaim.read_claim.Goals as goal
 
 pub returns-in_err-row-clause-fault : goal.returns-in_err-row-clause-fault
 returns-in_err-row-clause-fault c =

@@ -7,7 +7,7 @@ use Rattle.record_text.proofs.KindLaws.{missing_fault, form_fault, stands_second
 use Rattle.lemma_text.specs.Text.{lemma_kind}
 use Rattle.lemma_text.specs.Reading.{amount_after}
 use Rattle.lemma_text.proofs.TextLaws.{stands_third, no_second, no_third, bound_read, optimal_read, facts}
-use Rattle.lemma_text.proofs.read.read_claim.Goals as goal
+use Rattle.lemma_text.proofs.record.LineRecordLineClaim.read_claim.Goals as goal
 
 pub returns-in_err-row-clause-fault : goal.returns-in_err-row-clause-fault
 returns-in_err-row-clause-fault c =
