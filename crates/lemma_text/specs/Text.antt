@@ -7,6 +7,8 @@ use Rattle.network.specs.declared.limits.TheConstants.{MAX_LAG_WEIGHT}
 use Rattle.network.specs.Problem.{IsWithin, IsAmount}
 use Rattle.record_text.specs.Kinds.{Kind}
 use Rattle.record_text.specs.Text.{spaced, spaced_times, optimal_rows, IsNumber, IsWritableTime}
+use Rattle.record_text.specs.declared.proved.Proved.{Proved}
+use Rattle.record_text.specs.declared.proved.Proved.TheVariants as proved
 use Rattle.lemma_text.specs.declared.record.Claim.TheVariants as claims
 use Rattle.lemma_text.specs.declared.reason.Reason.TheVariants as reasons
 use Rattle.lemma_text.specs.declared.line.Line.TheVariants as kind
@@ -37,6 +39,12 @@ abbrev pub claim_rows : Claim → List (List ℕ)
 claim_rows (claims.Optimal makespan starts) = optimal_rows makespan starts
 claim_rows (claims.Bound bound) = (codes "bound" ++ spaced_times (bound ∷ [])) ∷ []
 claim_rows claims.NoSchedule = codes "no schedule" ∷ []
+
+-- what a claim says, apart from the starts
+abbrev pub says : Claim → Proved
+says (claims.Optimal makespan starts) = proved.Optimal makespan
+says (claims.Bound bound) = proved.Bound bound
+says claims.NoSchedule = proved.NoSchedule
 
 -- ---- what a text can hold
 
@@ -75,6 +83,7 @@ abbrev pub lemma_kind : Kind Claim Line
 lemma_kind = record {
   title = codes "record 2";
   claim_rows = claim_rows;
+  says = says;
   row_of = row_of;
   IsClaim = IsWritableClaim;
   IsLine = IsWritableLine;

@@ -18,4 +18,4 @@ mod write;
 pub use line::{Lags, Line};
 pub use reason::Reason;
 pub use record::{Claim, LemmaRecord};
-pub use record_text::{MAX_RECORD_BYTES, RecordFault, RecordLine, Why, text_of};
+pub use record_text::{MAX_RECORD_BYTES, Proved, RecordFault, RecordLine, Why, text_of};

@@ -7,7 +7,9 @@ use crate::line::Line;
 use crate::read::{amount_after, may_stand};
 use crate::row::line_of;
 use crate::write::{put_lag, put_lags, put_reason};
-use record_text::{RecordFault, RecordLine, Recorded, Starts, next_row, put_optimal, read_starts};
+use record_text::{
+    Proved, RecordFault, RecordLine, Recorded, Starts, next_row, put_optimal, read_starts,
+};
 use std::alloc::{AllocError, Global};
 
 /// What a record says of a project. Makespans and bounds are in periods.
@@ -50,6 +52,16 @@ impl RecordLine<Claim> for Line {
             return Err(RecordFault::form(3));
         };
         Ok((Claim::Optimal { makespan, starts }, rest))
+    }
+
+    fn says(claim: &Claim) -> Proved {
+        match claim {
+            Claim::Optimal { makespan, .. } => Proved::Optimal {
+                makespan: *makespan,
+            },
+            Claim::Bound { bound } => Proved::Bound { bound: *bound },
+            Claim::NoSchedule => Proved::NoSchedule,
+        }
     }
 
     fn first_line(claim: &Claim) -> usize {

@@ -2,13 +2,12 @@
 use Rattle.std.proofs.Common.{◌≡◌, ◌≢◌, ℕ, ◌≤◌, List, [], ◌∷◌, ◌++◌, map, length, refl, sym, ap, ◌∙◌, subst, arith, append_assoc, append-nil, length-append, ◌⊎◌, inl, inr, ◌+◌, Result, Ok, Err, IfOk, IfErr, MatchResult}
 use Rattle.std.specs.List.{AllByRecursion}
 use Rattle.record_text.specs.declared.fault.RecordFault.{RecordFault}
-use Rattle.record_text.specs.declared.fault.Why.{Why}
 use Rattle.record_text.specs.declared.fault.Why.TheVariants as why
 use Rattle.record_text.specs.Kinds.{RecordOf, Kind, head_rows, rows_of, record_text, IsRecord, Spells, AreRows, MAX_RECORD_BYTES, Rules, Leads, HasNone, Facts}
 use Rattle.record_text.specs.Rows as rows
 use Rattle.record_text.specs.Rows.{line_pieces, RowFault, Begin, HasRowFault, IsNeverLonger, missing}
 use Rattle.record_text.specs.TextFaults.{HasFault, IsFirstTextFault, IsMissing, IsOther, IsTitleFault, RecordIsOne, FirstFaultIsOne, FaultIsNoRecord, why_of, form}
-use Rattle.record_text.proofs.FirstWrong.{fault_at}
+use Rattle.record_text.proofs.FirstWrong.{fault_at, is_memory}
 use Rattle.record_text.proofs.Leads.{Grammar, none_more}
 use Rattle.record_text.proofs.Rows.{text_from, pieces_of, Stands, missing_at, form_at, same_rows, whole_no_fault, one_fault}
 
@@ -21,10 +20,6 @@ tail h = cc
 plain_append : (xs ys : List (List ℕ)) → AllByRecursion HasNone xs → AllByRecursion HasNone ys → AllByRecursion HasNone (xs ++ ys)
 plain_append [] ys hx hy = hy
 plain_append (x ∷ xs) ys hx hy = (hx.0, plain_append xs ys hx.1 hy)
-
-pub is_memory : (w : Why) → (w ≢ why.Memory → ⊥) → w ≡ why.Memory
-is_memory why.Memory h = refl
-is_memory w h = absurd (h (λ e. cc))
 
 -- ---- any rows
 

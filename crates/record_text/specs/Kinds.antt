@@ -2,6 +2,7 @@
 use Rattle.std.specs.Prelude.{◌≡◌, ℕ, ◌+◌, ◌*◌, ◌<◌, ◌≤◌, Option, Some, List, [], ◌∷◌, ◌++◌, map, length, not, true, ◌==◌, refl}
 use Rattle.std.specs.List.{flat_map, list_all, AllByRecursion}
 use Rattle.std.specs.Coded.{Coded, code_by, coded×, coded_list}
+use Rattle.record_text.specs.declared.proved.Proved.{Proved}
 pub use Rattle.record_text.specs.declared.TheConstants.{MAX_RECORD_BYTES}
 
 -- what a record says: a claim, and the lines that show it
@@ -14,11 +15,12 @@ abbrev pub record_code : {Claim Line : Type 0} → Coded Claim → Coded Line �
 record_code {Claim} {Line} claim line =
     code_by (Claim × List Line) (coded× claim (coded_list line)) (λ r. (r.claim, r.lines)) (λ p. record { claim = p.0; lines = p.1 }) (λ _. refl)
 
--- a kind of record: its first row, the rows of a claim, the row of a line, the claims and the lines that a text can
--- hold, and the lists of lines that are whole
+-- a kind of record: its first row, the rows of a claim, what it says of a project apart from the starts, the row of a
+-- line, the claims and the lines that a text can hold, and the lists of lines that are whole
 pub record Kind (Claim Line : Type 0) : Type 1 where
   pub title : List ℕ
   pub claim_rows : Claim → List (List ℕ)
+  pub says : Claim → Proved
   pub row_of : Line → List ℕ
   pub IsClaim : Claim → Type 0
   pub IsLine : Line → Type 0

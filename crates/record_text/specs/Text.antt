@@ -3,6 +3,8 @@ use Rattle.std.specs.Prelude.{ℕ, ◌<◌, ◌^◌, ℤ, pos, negsuc, List, [],
 use Rattle.std.specs.List.{flat_map, AllByRecursion}
 use Rattle.std.specs.Fmt.{decimal, signed_decimal}
 use Rattle.record_text.specs.declared.fields.TheConstants.{MAX_NUMBER_DIGITS}
+use Rattle.record_text.specs.declared.proved.Proved.{Proved}
+use Rattle.record_text.specs.declared.proved.Proved.TheVariants as proved
 use Rattle.record_text.specs.declared.line.Claim.TheVariants as claims
 use Rattle.record_text.specs.declared.line.Line.TheVariants as kind
 use Rattle.record_text.specs.Tree.{Tree, IsTreeOf, Claim, Line}
@@ -32,6 +34,11 @@ abbrev pub claim_rows : Claim → List (List ℕ)
 claim_rows (claims.Optimal makespan starts) = optimal_rows makespan starts
 claim_rows claims.NoSchedule = codes "no schedule" ∷ []
 
+-- what a claim says, apart from the starts
+abbrev pub says : Claim → Proved
+says (claims.Optimal makespan starts) = proved.Optimal makespan
+says claims.NoSchedule = proved.NoSchedule
+
 -- a number that the text can hold
 abbrev pub IsNumber : ℕ → Type 0
 IsNumber n = n < 10 ^ MAX_NUMBER_DIGITS
@@ -55,6 +62,7 @@ abbrev pub search_kind : Kind Claim Line
 search_kind = record {
   title = codes "record 1";
   claim_rows = claim_rows;
+  says = says;
   row_of = row_of;
   IsClaim = IsWritableClaim;
   IsLine = IsWritableLine;

@@ -9,6 +9,7 @@ ghost use Rattle.record_text.specs.declared.fault.Why.TheVariants.{Memory};
 
 use crate::MAX_RECORD_BYTES;
 use crate::fault::RecordFault;
+use crate::proved::Proved;
 use std::alloc::{AllocError, Global};
 
 /// A line of a kind of record, whose claims are these.
@@ -29,6 +30,10 @@ pub trait RecordLine<C>: Drop {
         ensures writable { IfOk result (λ r. kind.IsClaim r.0) }
         ensures shorter { IfOk result (λ r. length r.1.now ≤ length text.now) }
         ensures fault { IfErr result (λ fault. fault.why ≢ Memory → HasFault kind (kind.title ∷ line_pieces text.now) fault) };
+
+    /// What a claim says, apart from the starts.
+    fn says(claim: &C) -> Proved
+        ensures { result ≡ kind.says claim.now };
 
     /// The number of the first row of the lines.
     fn first_line(claim: &C) -> usize

@@ -10,6 +10,7 @@ use crate::fields::numbers_after;
 use crate::kind::RecordLine;
 use crate::line::{Claim, Line};
 use crate::listed::Starts;
+use crate::proved::Proved;
 use crate::record::Recorded;
 use crate::row::line_of;
 use crate::starts::read_starts;
@@ -63,6 +64,15 @@ impl RecordLine<Claim> for Line {
         let (row, rest) = next_row(rest, 3)?;
         let starts = starts(alloc, row)?;
         Ok((Claim::Optimal { makespan, starts }, rest))
+    }
+
+    fn says(claim: &Claim) -> Proved {
+        match claim {
+            Claim::Optimal { makespan, .. } => Proved::Optimal {
+                makespan: *makespan,
+            },
+            Claim::NoSchedule => Proved::NoSchedule,
+        }
     }
 
     fn first_line(claim: &Claim) -> usize {
