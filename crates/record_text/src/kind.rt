@@ -26,8 +26,8 @@ pub trait RecordLine<C>: Drop {
 
     /// The claim of a record, from its second row on, and what follows it.
     fn read_claim(alloc: Global, text: &[u8]) -> Result<(C, &[u8]), RecordFault>
-        ensures rows { IfOk result (λ r. line_pieces text.now ≡ kind.claim_rows r.0 ++ line_pieces r.1.now) }
-        ensures writable { IfOk result (λ r. kind.IsClaim r.0) }
+        ensures claim { IfOk result
+            (λ r. (line_pieces text.now ≡ kind.claim_rows r.0 ++ line_pieces r.1.now) × kind.IsClaim r.0) }
         ensures shorter { IfOk result (λ r. length r.1.now ≤ length text.now) }
         ensures fault { IfErr result (λ fault. fault.why ≢ Memory → HasFault kind (kind.title ∷ line_pieces text.now) fault) };
 

@@ -1,6 +1,6 @@
 //! Checks the starts in a record.
 
-ghost use Rattle.std.specs.Prelude.{◌≢◌, ◌↔◌, IsTrue, IfOk, OnOk, IfErr};
+ghost use Rattle.std.specs.Prelude.{◌≢◌, OnOk, IfErr};
 ghost use Rattle.std.specs.List.{AllByRecursion};
 ghost use Rattle.record_text.specs.Text.{IsWritableTime};
 ghost use Rattle.record_text.specs.FirstWrong.{HasMakespan, HasWrongStarts};
@@ -9,20 +9,13 @@ ghost use Rattle.record_text.specs.declared.fault.Why.TheVariants.{Memory};
 use crate::violation::violations;
 use network::Project;
 use record_text::{RecordFault, Why};
-use std::alloc::{AllocError, Global};
+use std::alloc::Global;
 
-/// Whether the starts are a feasible schedule of this makespan.
-fn has_makespan(alloc: Global, project: &Project, starts: &[i64], makespan: i64) -> Result<bool, AllocError>
-    requires { AllByRecursion IsWritableTime starts.now }
-    ensures { IfOk result (λ yes. IsTrue yes ↔ HasMakespan project.now starts.now makespan) }
-{
-    let count = project.activity_count();
-    if starts.len() != count || starts[count - 1] != makespan {
-        return Ok(false);
-    }
-    let found = violations(alloc, project, starts)?;
-    Ok(found.is_empty())
-}
+/// The starts are wrong.
+const WRONG: RecordFault = RecordFault {
+    line: 3,
+    why: Why::Start,
+};
 
 /// Checks that the starts in a record are a feasible schedule of the makespan that is claimed.
 pub fn check_claimed(
@@ -36,11 +29,13 @@ pub fn check_claimed(
     ensures fault { IfErr result
         (λ fault. fault.why ≢ Memory → HasWrongStarts (HasMakespan project.now starts.now makespan) fault) }
 {
-    if !has_makespan(alloc, project, starts, makespan)? {
-        return Err(RecordFault {
-            line: 3,
-            why: Why::Start,
-        });
+    let count = project.activity_count();
+    if starts.len() != count || starts[count - 1] != makespan {
+        return Err(WRONG);
+    }
+    let found = violations(alloc, project, starts)?;
+    if !found.is_empty() {
+        return Err(WRONG);
     }
     Ok(())
 }

@@ -16,4 +16,4 @@ returns-clause-found g c =
     let same : c.as_bytes.result.now ≡ g.L.RecordLine.kind.title = c.as_bytes.ensures.value ∙ c.title.ensures in
     let first = c.in_ok-rest.ensures.rows ∙ ap (λ (title : List ℕ). title ∷ line_pieces c.in_ok-rest.rest.now) same in
     rw c.new.ensures
-    (text_found g.L.RecordLine.kind c.args.text.now c.in_ok-rest.rest.now c.in_ok-claim.rest.now c.in_ok-claim.claim c.in_ok-lines.lines.items c.in_ok-rest.ensures.size first c.in_ok-claim.ensures.rows c.in_ok-lines.ensures.rows c.in_ok-lines.ensures.record)
+    (text_found g.L.RecordLine.kind c.args.text.now c.in_ok-rest.rest.now c.in_ok-claim.rest.now c.in_ok-claim.claim c.in_ok-lines.lines.items c.in_ok-rest.ensures.size first c.in_ok-claim.ensures.claim.0 c.in_ok-lines.ensures.rows c.in_ok-lines.ensures.record)
