@@ -1,13 +1,15 @@
 -- What a right record claims is true.
-use Rattle.std.proofs.Common.{◌≡◌, ◌-◌, ◌<◌, ◌≤◌, List, [], ◌∷◌, ◌++◌, length, sym, subst, ⊎_elim, arith, Option, Some, None, ℕ, ◌∙◌, ℤ, inl, inr, refl, ap, zero, suc, pos, negsuc, ◌≤ℤ◌, map}
-use Rattle.std.specs.List.{All, Contains, AllByRecursion, range_with_len}
+use Rattle.std.proofs.Common.{◌≡◌, ◌-◌, ◌<◌, ◌≤◌, List, [], ◌∷◌, ◌++◌, length, sym, subst, ⊎_elim, arith, Option, Some, None, ℕ, ◌∙◌, ℤ, inl, inr, refl, ap, zero, suc, pos, negsuc, ◌≤ℤ◌, map, append-nil}
+use Rattle.std.specs.List.{All, Contains, AllByRecursion}
 use Rattle.std.proofs.lemmas.Bool.{cases_lt}
 use Rattle.std.proofs.lemmas.Int.{ints}
-use Rattle.std.proofs.lemmas.List.Elements.{All-nil, All-head, All-tail, All-push, All-contains, Contains-append_left, Contains-append_right}
+use Rattle.std.proofs.lemmas.List.Elements.{All-nil, All-head, All-tail, All-push, All-contains}
 use Rattle.network.specs.declared.parts.Pair.{Pair}
-use Rattle.network.specs.Problem.{Problem, activity_count, IsProject, AreStarts, end_of, start_arc, end_arc, implied_arcs, rules}
+use Rattle.network.specs.Problem.{Problem, activity_count, IsProject, AreStarts, arcs_of, rules}
 use Rattle.network.specs.Schedule.{Keeps, IsSchedule, IsFeasible, IsLeastSchedule, KeepsAll, makespan, StandsFor, start, Meets}
-use Rattle.network.proofs.Schedules.{no_schedule_on_cycle}
+use Rattle.network.specs.declared.parts.Lag.{Lag}
+use Rattle.network.proofs.Schedules.{no_schedule_on_cycle, walk_holds}
+use Rattle.earliest.proofs.Ends.{from_start}
 use Rattle.branching.specs.Subproblem.{ordered_pairs}
 use Rattle.branching.specs.Right.{IsCutUnder, IsSolvedUnder}
 use Rattle.branching.proofs.OrderedPairs.{contains_cases}
@@ -27,7 +29,6 @@ use Rattle.search_record.proofs.Steps.{kid_for_each, flat_whole}
 use Rattle.record_text.specs.declared.fault.RecordFault.{RecordFault}
 use Rattle.record_text.specs.declared.line.Line.{Line}
 use Rattle.std.proofs.lemmas.List.{map-append}
-use Rattle.std.proofs.lemmas.List.FromFn.{get_or-map-range_with_len, length-map-range_with_len}
 use Rattle.network.specs.declared.limits.TheConstants.{MAX_START}
 use Rattle.record_text.specs.Text.{IsNumber, IsWritableTime, IsWritableClaim, IsWritableLine, search_kind, says}
 
@@ -155,17 +156,10 @@ spelled_tree p limit is t shape right = rw (sym (lines_at t [] shape)) (spelled_
 
 -- no activity starts before 0
 after_zero : (p : Problem) (s : List ℤ) → IsSchedule p s → (i : ℕ) → i < activity_count p → pos 0 ≤ℤ start s i
-after_zero p s is zero lt = omega (arith, ints, is.from_zero)
-after_zero p s is (suc i) lt =
-    let starts = map start_arc (range_with_len 1 (end_of p)) in
-    let len = length-map-range_with_len start_arc 1 (end_of p) in
-    let low : i < end_of p = omega arith in
-    let here : Contains (map start_arc (range_with_len 1 (end_of p))) (start_arc (suc i)) =
-    (i, rw len low, get_or-map-range_with_len start_arc 1 (end_of p) i (suc i) (start_arc (suc i)) low (omega arith)) in
-    let rule : Contains (rules p) (start_arc (suc i)) =
-    Contains-append_right p.lags (implied_arcs p) (start_arc (suc i)) (Contains-append_left (map start_arc (range_with_len 1 (end_of p))) (map (end_arc p) (range_with_len 0 (end_of p))) (start_arc (suc i)) here) in
-    let met : Meets s (start_arc (suc i)) = All-contains (Meets s) (rules p) (start_arc (suc i)) is.rules_met rule in
-    omega (arith, ints, met, is.from_zero)
+after_zero p s is i lt =
+    let far = from_start p [] i lt in
+    let met : (e : Lag) → Contains (arcs_of p []) e → Meets s e = λ e c. All-contains (Meets s) (rules p) e is.rules_met (subst (λ (arcs : List Lag). Contains arcs e) (append-nil (rules p)) c) in
+    omega (arith, ints, walk_holds (arcs_of p []) s met 0 i far.walk far.goes, far.weighs, is.from_zero)
 
 spelled_time : (z : ℤ) → pos 0 ≤ℤ z → z ≤ℤ MAX_START → IsWritableTime z
 spelled_time (pos n) low high = omega (arith, ints, high)
