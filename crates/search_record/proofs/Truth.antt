@@ -1,5 +1,5 @@
 -- What a right record claims is true.
-use Rattle.std.proofs.Common.{◌≡◌, ◌-◌, ◌<◌, ◌≤◌, List, [], ◌∷◌, ◌++◌, length, sym, subst, ⊎_elim, arith, Option, Some, None, ℕ, ◌∙◌, ℤ, inl, inr, refl, ap, zero, suc, pos, negsuc, ◌≤ℤ◌, map, append-nil}
+use Rattle.std.proofs.Common.{◌≡◌, ◌-◌, ◌<◌, ◌≤◌, List, [], ◌∷◌, ◌++◌, length, sym, subst, ⊎_elim, arith, Option, Some, None, ℕ, ◌∙◌, ℤ, refl, ap, suc, pos, negsuc, ◌≤ℤ◌, map, append-nil}
 use Rattle.std.specs.List.{All, Contains, AllByRecursion}
 use Rattle.std.proofs.lemmas.Bool.{cases_lt}
 use Rattle.std.proofs.lemmas.Int.{ints}

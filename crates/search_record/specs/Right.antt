@@ -1,5 +1,5 @@
 -- When a record is right for a project.
-use Rattle.std.specs.Prelude.{◌≡◌, ◌↔◌, ℤ, Bool, IsTrue, Option, Some, None, List, [], ◌<◌, ◌∷◌, ℕ}
+use Rattle.std.specs.Prelude.{◌↔◌, ℤ, Bool, IsTrue, Option, Some, None, List, [], ◌<◌, ◌∷◌, ℕ}
 use Rattle.std.specs.List.{All}
 use Rattle.network.specs.declared.parts.Pair.{Pair}
 use Rattle.network.specs.Problem.{Problem, activity_count, NameActivities, AreStarts}
