@@ -12,10 +12,10 @@ use Rattle.sch_reader.specs.Text.{canonical_text}
 use Rattle.schedule_check.specs.declared.violation.Violation.{Violation}
 use Rattle.schedule_check.specs.declared.violation.Violation.TheVariants as violation
 use Rattle.schedule_check.specs.Violations.{violations}
-use Rattle.record_text.specs.Tree.{SearchRecord}
-use Rattle.search_record.specs.Right.{IsRight, proved_of, IsTrueOf}
-use Rattle.search_record.specs.declared.verification.Proved.{Proved}
-use Rattle.search_record.specs.declared.verification.Proved.TheVariants as proved
+use Rattle.record_text.specs.Kinds.{Kind, RecordOf}
+use Rattle.record_text.specs.FirstWrong.{Judge, IsRightBy, IsFactOf}
+use Rattle.record_text.specs.declared.proved.Proved.{Proved}
+use Rattle.record_text.specs.declared.proved.Proved.TheVariants as proved
 
 -- ---- An answer as one line of JSON.
 
@@ -125,14 +125,16 @@ pub record IsTidyText (p : Problem) (exit : ℕ) (written : List ℕ) : Type 0 w
 
 abbrev pub proved_line : Proved → List ℕ
 proved_line (proved.Optimal makespan) = codes "proved optimal " ++ (signed_decimal makespan ++ codes "\n")
+proved_line (proved.Bound bound) = codes "proved bound " ++ (signed_decimal bound ++ codes "\n")
 proved_line proved.NoSchedule = codes "proved no schedule\n"
 
 -- the record is right for the project: what it claims, which is true
-pub record IsProvedText (p : Problem) (shown : SearchRecord) (exit : ℕ) (written : List ℕ) : Type 0 where
-  pub right : IsRight p shown
-  pub true_of : IsTrueOf p (proved_of shown.claim)
-  pub text : written ≡ proved_line (proved_of shown.claim)
-  pub status : exit ≡ 0
+pub record IsProvedText
+    {Claim Line : Type 0} (k : Kind Claim Line) (j : Judge Claim Line) (p : Problem) (shown : RecordOf Claim Line)
+    (written : List ℕ) : Type 0 where
+  pub right : IsRightBy j p shown
+  pub true_of : IsFactOf p (k.says shown.claim)
+  pub text : written ≡ proved_line (k.says shown.claim)
 
 -- ---- what `solve` says
 

@@ -1,6 +1,8 @@
 //! What can go wrong in a run of psmax or psprove, with its line and its exit status.
 
 ghost use Rattle.std.specs.Prelude.{◌≡◌};
+ghost use Rattle.answers.specs.Faults.{exit_of, fault_of, starts_fault_of, record_fault_of};
+ghost use Rattle.answers.specs.declared.fault.Fault.TheVariants as faults;
 
 use record_text::{RecordFault, Why};
 use sch_reader::SchFault;
@@ -75,9 +77,6 @@ pub enum Fault {
 }
 
 impl Fault {
-    ghost use Rattle.std.specs.Prelude.{◌≡◌};
-    ghost use Rattle.answers.specs.Faults.{exit_of};
-
     /// The exit status: 1 for memory, threads and devices, 2 for a text with a fault, 4 for a record that is wrong.
     pub fn exit(self) -> u8
         ensures { result ≡ exit_of self }
@@ -102,9 +101,6 @@ impl Fault {
 }
 
 impl From<AllocError> for Fault {
-    ghost use Rattle.std.specs.Prelude.{◌≡◌};
-    ghost use Rattle.answers.specs.declared.fault.Fault.TheVariants as faults;
-
     ghost from_gives = { λ _ fault. fault ≡ faults.Memory };
 
     fn from(_error: AllocError) -> Fault {
@@ -113,9 +109,6 @@ impl From<AllocError> for Fault {
 }
 
 impl<T: Drop> From<AllocFailed<T>> for Fault {
-    ghost use Rattle.std.specs.Prelude.{◌≡◌};
-    ghost use Rattle.answers.specs.declared.fault.Fault.TheVariants as faults;
-
     ghost from_gives = { λ _ fault. fault ≡ faults.Memory };
 
     fn from(_error: AllocFailed<T>) -> Fault {
@@ -124,9 +117,6 @@ impl<T: Drop> From<AllocFailed<T>> for Fault {
 }
 
 impl From<SchFault> for Fault {
-    ghost use Rattle.std.specs.Prelude.{◌≡◌};
-    ghost use Rattle.answers.specs.Faults.{fault_of};
-
     ghost from_gives = { λ cause fault. fault ≡ fault_of cause };
 
     fn from(cause: SchFault) -> Fault {
@@ -147,9 +137,6 @@ impl From<SchFault> for Fault {
 }
 
 impl From<StartsFault> for Fault {
-    ghost use Rattle.std.specs.Prelude.{◌≡◌};
-    ghost use Rattle.answers.specs.Faults.{starts_fault_of};
-
     ghost from_gives = { λ cause fault. fault ≡ starts_fault_of cause };
 
     fn from(cause: StartsFault) -> Fault {
@@ -165,9 +152,6 @@ impl From<StartsFault> for Fault {
 }
 
 impl From<RecordFault> for Fault {
-    ghost use Rattle.std.specs.Prelude.{◌≡◌};
-    ghost use Rattle.answers.specs.Faults.{record_fault_of};
-
     ghost from_gives = { λ cause fault. fault ≡ record_fault_of cause };
 
     fn from(cause: RecordFault) -> Fault {

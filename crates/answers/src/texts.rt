@@ -5,7 +5,7 @@ ghost use Rattle.std.specs.Fmt.{decimal};
 ghost use Rattle.answers.specs.Answers.{starts_text, cycle_line, feasible_line, proved_line, start_lines, violation_line, violations_text};
 
 use schedule_check::Violation;
-use search_record::Proved;
+use record_text::Proved;
 use std::alloc::{AllocError, Global};
 
 fn put_start(out: &mut String, activity: usize, start: i64) -> Result<(), AllocError>
@@ -89,6 +89,7 @@ pub fn proved_text(alloc: Global, proved: Proved) -> Result<String, AllocError>
     let mut out = String::new(alloc);
     match proved {
         Proved::Optimal { makespan } => writeln!(out, "proved optimal {makespan}")?,
+        Proved::Bound { bound } => writeln!(out, "proved bound {bound}")?,
         Proved::NoSchedule => writeln!(out, "proved no schedule")?,
     }
     Ok(out)

@@ -22,10 +22,13 @@ use Rattle.lemma_text.specs.declared.line.Line.{Line}
 use Rattle.lemma_text.specs.declared.line.Line.TheVariants as kind
 use Rattle.lemma_text.specs.Blocks.{Block, item_lines, lines_of}
 use Rattle.lemma_check.specs.Places.{Opened, Place, arcs_in, arcs_at, with_arc, ended, after, deadline, bound_of, deadlines, first_place, placed}
-use Rattle.lemma_check.specs.Right.{IsForced, IsShown, IsRightAt, IsRightLine, AreRightStarts, reverse_of, proved_of, IsTrueOf, RightIsTrue, first_line, why_wrong_at, IsFirstWrong, FaultIsWrong, FirstFaultIsOne}
+use Rattle.lemma_check.specs.Right.{IsForced, IsShown, IsRightAt, IsRightLine, AreRightStarts, reverse_of, RightIsTrue, why_wrong_at, IsFirstWrong, lemma_judge}
 use Rattle.lemma_check.proofs.Passed.{passed, items_closed}
 use Rattle.record_text.specs.declared.fault.RecordFault.{RecordFault}
-use Rattle.record_text.proofs.FirstWrong.{wrong_place, one_wrong, one_first}
+use Rattle.record_text.proofs.FirstWrong.{wrong_place, one_wrong, fault_is_wrong, other_is_none}
+use Rattle.record_text.specs.FirstWrong.{IsFactOf, FaultIsWrong, OtherFaultIsNone}
+use Rattle.record_text.specs.Kinds.{first_line}
+use Rattle.lemma_text.specs.Text.{lemma_kind, says}
 
 -- ---- A reason that ends a block is true: no feasible schedule meets the arcs of the block.
 
@@ -167,7 +170,7 @@ right_is_true p r record_is right =
     by_claim r.claim right.starts (λ s feasible met.
     none_left p (rules p ++ deadlines p (bound_of r.claim)) record_is.whole.0 s (subst (λ (lines : List Line). All (IsRightLine p) (placed p (first_place p r.claim) lines)) (sym record_is.whole.1) right.lines) feasible met)
   where
-    by_claim : (claim : Claim) → AreRightStarts p claim → ((s : List ℤ) → IsFeasible p s → MeetsAll s (rules p ++ deadlines p (bound_of claim)) → ⊥) → IsTrueOf p (proved_of claim)
+    by_claim : (claim : Claim) → AreRightStarts p claim → ((s : List ℤ) → IsFeasible p s → MeetsAll s (rules p ++ deadlines p (bound_of claim)) → ⊥) → IsFactOf p (says claim)
     by_claim (claims.Optimal length starts) found none = record { witness = (starts, found.0, found.1); bound = λ s feasible. bounded p s length feasible (none s feasible) }
     by_claim (claims.Bound bound) found none = λ s feasible. bounded p s bound feasible (none s feasible)
     by_claim claims.NoSchedule found none = λ s feasible. none s feasible (meets_both s (rules p) [] (rules_met p s feasible) (λ e c. absurd (omega (arith, c.1))))
@@ -177,9 +180,8 @@ right_is_true p r record_is right =
 pub wrong_line : (p : Problem) (at : Place) (first : ℕ) (lines : List Line) (fault : RecordFault) → IsFirstWrong p at first lines fault → ¬ All (IsRightLine p) (placed p at lines)
 wrong_line p at first lines fault found = wrong_place (IsRightLine p) why_wrong_at first (placed p at lines) fault found
 
-pub fault_is_wrong : FaultIsWrong
-fault_is_wrong p r fault (inl starts) right = starts.wrong right.starts
-fault_is_wrong p r fault (inr found) right = wrong_line p (first_place p r.claim) (first_line r.claim) r.lines fault found.first right.lines
+pub faulty_is_wrong : FaultIsWrong lemma_judge
+faulty_is_wrong = fault_is_wrong lemma_judge (λ p claim lines fault found. wrong_line p (first_place p claim) (first_line lemma_kind claim) lines fault found)
 
-pub one_fault : FirstFaultIsOne
-one_fault p r a b = one_first (AreRightStarts p r.claim) (IsFirstWrong p (first_place p r.claim) (first_line r.claim) r.lines) (λ a b f g. one_wrong (IsRightLine p) why_wrong_at (first_line r.claim) _ _ a b refl f g) a b
+pub one_fault : OtherFaultIsNone lemma_judge
+one_fault = other_is_none lemma_judge (λ p claim lines a b f g. one_wrong (IsRightLine p) why_wrong_at (first_line lemma_kind claim) _ _ a b refl f g)

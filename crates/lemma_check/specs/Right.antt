@@ -1,10 +1,9 @@
 -- When a record is right for a project.
-use Rattle.std.specs.Prelude.{◌≡◌, ◌⊎◌, ◌<◌, pos, ◌-ℤ◌, None, List, [], ◌∷◌, ◌++◌, ℕ, ◌+◌, length}
+use Rattle.std.specs.Prelude.{◌≡◌, ◌⊎◌, ◌<◌, pos, ◌-ℤ◌, None, List, [], ◌∷◌, ◌++◌, ℕ}
 use Rattle.std.specs.List.{All}
 use Rattle.network.specs.declared.parts.Lag.{Lag}
 use Rattle.network.specs.declared.parts.Pair.{Pair}
 use Rattle.network.specs.Problem.{Problem, activity_count}
-use Rattle.network.specs.Schedule.{IsFeasible, makespan, IsShortest, IsLowerBound, HasNoSchedule}
 use Rattle.network.specs.Walk.{HasNoPositiveCycle}
 use Rattle.longest_path.specs.Insert.{arc_of}
 use Rattle.rivals.specs.Incompatible.{AreIncompatible}
@@ -19,11 +18,9 @@ use Rattle.lemma_check.specs.Places.{Place, arcs_at, first_place, Placed, placed
 use Rattle.record_text.specs.declared.fault.RecordFault.{RecordFault}
 use Rattle.record_text.specs.declared.fault.Why.{Why}
 use Rattle.record_text.specs.declared.fault.Why.TheVariants as why
-use Rattle.lemma_text.specs.Text.{lemma_kind}
-use Rattle.record_text.specs.FirstWrong.{IsFirstWrongOf, IsFirstFaultOf}
-use Rattle.record_text.specs.Kinds.{head_rows, IsRecord}
-use Rattle.lemma_check.specs.declared.verification.Proved.{Proved}
-use Rattle.lemma_check.specs.declared.verification.Proved.TheVariants.{Optimal, Bound, NoSchedule}
+use Rattle.lemma_text.specs.Text.{lemma_kind, says}
+use Rattle.record_text.specs.FirstWrong.{HasMakespan, IsFactOf, IsFirstWrongOf, Judge, IsRightBy, IsFirstFaultBy}
+use Rattle.record_text.specs.Kinds.{first_line, IsRecord}
 
 -- both ends are activities
 abbrev pub JoinsActivities : Problem → Lag → Type 0
@@ -64,22 +61,14 @@ IsRightLine p here = IsRightAt p here.place here.line
 
 -- the starts are a feasible schedule of the makespan that is claimed
 abbrev pub AreRightStarts : Problem → Claim → Type 0
-AreRightStarts p (claims.Optimal length starts) = IsFeasible p starts × (makespan starts ≡ length)
+AreRightStarts p (claims.Optimal length starts) = HasMakespan p starts length
 AreRightStarts p claim = Unit {0}
 
 -- each line is right at its place, where the first one stands here
 abbrev pub AreRightFrom : Problem → Place → List Line → Type 0
 AreRightFrom p at lines = All (IsRightLine p) (placed p at lines)
 
-pub record IsRight (p : Problem) (r : LemmaRecordOf) : Type 0 where
-  pub starts : AreRightStarts p r.claim
-  pub lines : AreRightFrom p (first_place p r.claim) r.lines
-
 -- ---- The first fault of a record that is not right.
-
--- the number of the first line of the blocks
-abbrev pub first_line : Claim → ℕ
-first_line claim = length (head_rows lemma_kind claim) + 1
 
 -- what is wrong where a line is
 abbrev pub why_wrong : Line → Why
@@ -95,33 +84,21 @@ why_wrong_at here = why_wrong here.line
 abbrev pub IsFirstWrong : Problem → Place → ℕ → List Line → RecordFault → Type 0
 IsFirstWrong p at first lines fault = IsFirstWrongOf (IsRightLine p) why_wrong_at first (placed p at lines) fault
 
--- the starts come first, then the lines in their order
+-- ---- What is right in a record of lemmas.
+
+abbrev pub lemma_judge : Judge Claim Line
+lemma_judge = record {
+  AreRightStarts = AreRightStarts;
+  AreRightLines = λ p claim lines. AreRightFrom p (first_place p claim) lines;
+  IsFirstWrong = λ p claim lines fault. IsFirstWrong p (first_place p claim) (first_line lemma_kind claim) lines fault;
+}
+
+abbrev pub IsRight : Problem → LemmaRecordOf → Type 0
+IsRight p r = IsRightBy lemma_judge p r
+
 abbrev pub IsFirstFault : Problem → LemmaRecordOf → RecordFault → Type 0
-IsFirstFault p r fault =
-    IsFirstFaultOf (AreRightStarts p r.claim) (IsFirstWrong p (first_place p r.claim) (first_line r.claim) r.lines) fault
-
--- a record with a first fault is not right
-abbrev pub FaultIsWrong : Type 0
-FaultIsWrong = (p : Problem) (r : LemmaRecordOf) (fault : RecordFault) → IsFirstFault p r fault → ¬ IsRight p r
-
--- and has no other
-abbrev pub FirstFaultIsOne : Type 0
-FirstFaultIsOne = (p : Problem) (r : LemmaRecordOf) (a b : RecordFault) → IsFirstFault p r a → IsFirstFault p r b → a ≡ b
-
--- ---- What a right record proves.
-
--- what a claim says, apart from the starts
-abbrev pub proved_of : Claim → Proved
-proved_of (claims.Optimal makespan starts) = Optimal makespan
-proved_of (claims.Bound bound) = Bound bound
-proved_of claims.NoSchedule = NoSchedule
-
--- it is true of the project
-abbrev pub IsTrueOf : Problem → Proved → Type 0
-IsTrueOf p (Optimal makespan) = IsShortest p makespan
-IsTrueOf p (Bound bound) = IsLowerBound p bound
-IsTrueOf p NoSchedule = HasNoSchedule p
+IsFirstFault p r fault = IsFirstFaultBy lemma_judge p r fault
 
 -- what a right record claims is true
 abbrev pub RightIsTrue : Type 0
-RightIsTrue = (p : Problem) (r : LemmaRecordOf) → IsRecord lemma_kind r → IsRight p r → IsTrueOf p (proved_of r.claim)
+RightIsTrue = (p : Problem) (r : LemmaRecordOf) → IsRecord lemma_kind r → IsRight p r → IsFactOf p (says r.claim)

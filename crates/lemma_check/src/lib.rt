@@ -12,5 +12,5 @@ mod state;
 mod verification;
 mod weights;
 
-pub use lemma_text::{LemmaRecord, RecordFault, Why};
-pub use verification::{Proved, right_law, verify};
+pub use lemma_text::{LemmaRecord, Proved, RecordFault, Why};
+pub use verification::{right_law, verify};

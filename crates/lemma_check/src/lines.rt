@@ -5,12 +5,14 @@ ghost use Rattle.std.specs.List.{All, AllByRecursion};
 ghost use Rattle.network.specs.Problem.{Problem};
 ghost use Rattle.record_text.specs.declared.fault.Why.TheVariants.{Memory};
 ghost use Rattle.lemma_text.specs.Text.{IsWritableClaim, IsWritableLine};
-ghost use Rattle.lemma_check.specs.Right.{first_line, why_wrong, IsFirstWrong, AreRightFrom};
+ghost use Rattle.record_text.specs.Kinds.{first_line};
+ghost use Rattle.lemma_text.specs.Text.{lemma_kind};
+ghost use Rattle.lemma_check.specs.Right.{why_wrong, IsFirstWrong, AreRightFrom};
 ghost use Rattle.lemma_check.specs.Places.{Place, first_place};
 ghost use Rattle.lemma_check.specs.Standing.{IsDeadAt};
 
 use crate::state::{State, ends_dead};
-use lemma_text::{Claim, Line, RecordFault, Why, first_line};
+use lemma_text::{Claim, Line, RecordFault, RecordLine, Why};
 use network::Project;
 use std::alloc::Global;
 
@@ -55,9 +57,9 @@ pub(crate) fn check_lines(
     requires lines { AllByRecursion IsWritableLine lines.now }
     ensures right { OnOk result (AreRightFrom project.now (first_place project.now claim.now) lines.now) }
     ensures fault { IfErr result (λ fault. fault.why ≢ Memory →
-        IsFirstWrong project.now (first_place project.now claim.now) (first_line claim.now) lines.now fault) }
+        IsFirstWrong project.now (first_place project.now claim.now) (first_line lemma_kind claim.now) lines.now fault) }
 {
-    let first = first_line(claim);
+    let first = Line::first_line(claim);
     let Some(mut state) = State::first(alloc, project, claim)? else {
         return check_dead(first, lines);
     };

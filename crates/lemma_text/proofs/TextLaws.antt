@@ -1,12 +1,12 @@
 -- What the laws of the text of a record of lemmas follow from.
-use Rattle.std.proofs.Common.{◌≡◌, ℕ, ◌≤◌, true, List, [], ◌∷◌, refl, arith, eqb-true, ◌↔◌, ◌<◌, ◌++◌, map, sym, ap, ◌∙◌, subst, append_assoc, suc, length, ℤ, pos, negsuc, ◌≢◌, Some, None, codes}
+use Rattle.std.proofs.Common.{◌≡◌, ℕ, ◌+◌, ◌*◌, ◌≤◌, List, [], ◌∷◌, refl, arith, ◌↔◌, ◌<◌, ◌++◌, map, sym, ap, ◌∙◌, subst, append_assoc, suc, length, ℤ, pos, negsuc, ◌≢◌, Some, None, codes}
 use Rattle.std.specs.List.{AllByRecursion, flat_map}
-use Rattle.record_text.proofs.Leads.{Rules, Leads}
+use Rattle.record_text.specs.declared.TheConstants.{MAX_RECORD_BYTES}
 use Rattle.lemma_text.specs.declared.reason.Reason.TheVariants as reasons
 use Rattle.lemma_text.specs.declared.line.Line.TheVariants as kind
-use Rattle.lemma_text.specs.Blocks.{may_stand, still_due, Completes, Step, force, add, Lemma, Item, step, lemma, Block, step_line, lemma_lines, item_lines, lines_of, Line, Reason, Claim}
+use Rattle.lemma_text.specs.Blocks.{still_due, Completes, Step, force, add, Lemma, Item, step, lemma, Block, step_line, lemma_lines, item_lines, lines_of, Line, Reason, Claim}
 use Rattle.lemma_text.specs.Text.{IsWritableLine, row_of, spaced_lag, reason_text, claim_rows, IsWritableLag, IsWritableReason, IsWritableClaim, lemma_kind}
-use Rattle.lemma_text.specs.Reading.{line_at, amount_after}
+use Rattle.lemma_text.specs.Reading.{amount_after, lemma_rules}
 use Rattle.lemma_text.proofs.LineReads.{at_again, at_takes}
 use Rattle.network.specs.declared.parts.Lag.{Lag}
 use Rattle.std.specs.Fmt.{decimal, signed_decimal}
@@ -14,44 +14,37 @@ use Rattle.std.proofs.lemmas.Int.{ints}
 use Rattle.network.specs.declared.limits.TheConstants.{MAX_LAG_WEIGHT}
 use Rattle.network.specs.Problem.{IsWithin, IsAmount}
 use Rattle.record_text.specs.Text.{spaced, spaced_times}
-use Rattle.record_text.proofs.KindLaws.{Facts, first_is, stands_in, no_claim}
-use Rattle.record_text.proofs.Rows.{HasNone, plain_append, plain_digits, plain_spaced, plain_times, Stands}
+use Rattle.record_text.proofs.KindLaws.{first_is, stands_in, no_claim}
+use Rattle.record_text.proofs.Rows.{plain_append, plain_digits, plain_spaced, plain_times, Stands}
 use Rattle.record_text.proofs.RowReads.{are_digits, starts_again, starts_take}
 use Rattle.lemma_text.specs.declared.record.Claim.TheVariants as claims
 use Rattle.lemma_text.proofs.HeadReads.{claim_injective, amount_row, amount_again, amount_takes, none_no_optimal, bound_no_optimal}
-use Rattle.record_text.specs.Kinds.{AreRows}
+use Rattle.record_text.specs.Kinds.{AreRows, RulesHold, Leads, HasNone, Facts}
 use Rattle.record_text.specs.Rows.{line_pieces, Begin}
 use Rattle.record_text.specs.Reading.{starts_in}
 
 -- ---- The rows of the blocks, read one after another.
 
--- the shortest end of a block
-abbrev dead_end : Line
-dead_end = kind.End reasons.Dead
+near : (due : ℕ) (line : Line) → still_due due line ≤ due + length (row_of line) * MAX_RECORD_BYTES
+near due (kind.Lemma arcs) = omega arith
+near due line = omega arith
 
-abbrev pub rules : Rules row_of
-rules = record {
-  read = line_at;
-  next = still_due;
-  last = dead_end;
-  reads_last = λ due some. at_again due dead_end tt refl;
+hold : RulesHold lemma_rules
+hold = record {
+  reads_last = λ due some. at_again due (kind.End reasons.Dead) tt refl;
   next_last = λ due some. omega (arith, some);
   takes = λ due row line h. (at_takes due row line h).row_is;
+  near = λ due row line h small. omega (arith, near due line, ap length (at_takes due row line h).row_is);
 }
-
-pub few_due : (due : ℕ) (line : Line) → due ≤ 2 → may_stand due line ≡ true → still_due due line ≤ 2
-few_due due (kind.Lemma arcs) few may = omega (arith, eqb-true due 1 may)
-few_due due (kind.End reason) few may = omega (arith, few)
-few_due due line few may = few
 
 abbrev AreWritable : List Line → Type 0
 AreWritable lines = AllByRecursion IsWritableLine lines
 
-pub leads_from : (due : ℕ) (lines : List Line) → Completes due lines → AreWritable lines → Leads rules due lines 0
+pub leads_from : (due : ℕ) (lines : List Line) → Completes due lines → AreWritable lines → Leads lemma_rules due lines 0
 leads_from due [] c w = c
 leads_from due (l ∷ ls) c w = (c.0, at_again due l w.0 c.1, leads_from (still_due due l) ls c.2 w.1)
 
-pub leads_to : (due : ℕ) (lines : List Line) → Leads rules due lines 0 → Completes due lines × AreWritable lines
+pub leads_to : (due : ℕ) (lines : List Line) → Leads lemma_rules due lines 0 → Completes due lines × AreWritable lines
 leads_to due [] h = (h, tt)
 leads_to due (l ∷ ls) h =
     let t = at_takes due (row_of l) l h.1 in
@@ -172,8 +165,9 @@ none_claim claims.NoSchedule w = (refl, tt)
 none_claim (claims.Bound b) w = (none_amount (codes "bound") b refl w, tt)
 none_claim (claims.Optimal m S) w = (none_amount (codes "optimal") m refl w.0, (plain_append (codes "starts") (spaced_times S) refl (plain_times S w.2), tt))
 
-pub facts : Facts lemma_kind rules
+pub facts : Facts lemma_kind lemma_rules
 facts = record {
+  rules = hold;
   leads = λ lines w whole. leads_from 1 lines ((blocks_law lines).1 whole) w;
   whole = λ lines leads. let t = leads_to 1 lines leads in (t.1, (blocks_law lines).0 t.0);
   one_claim = claim_injective;

@@ -7,7 +7,9 @@ use Rattle.network.specs.declared.limits.TheConstants.{MAX_AMOUNT, MAX_LAG_WEIGH
 use Rattle.record_text.specs.Reading.{number, numbers, numbers_after, fields, Parts, parts_of}
 use Rattle.lemma_text.specs.declared.reason.Reason.TheVariants as reasons
 use Rattle.lemma_text.specs.declared.line.Line.TheVariants as kind
-use Rattle.lemma_text.specs.Blocks.{may_stand, Reason, Line}
+use Rattle.record_text.specs.Kinds.{Rules}
+use Rattle.lemma_text.specs.Text.{row_of}
+use Rattle.lemma_text.specs.Blocks.{may_stand, still_due, Reason, Line}
 
 -- ---- whole numbers
 
@@ -148,6 +150,10 @@ standing due None = None
 
 abbrev pub line_at : ℕ → List ℕ → Option Line
 line_at due row = standing due (line_of row)
+
+-- the last line is the shortest end of a block
+abbrev pub lemma_rules : Rules row_of
+lemma_rules = record { read = line_at; next = still_due; last = kind.End reasons.Dead }
 
 -- ---- a claim
 

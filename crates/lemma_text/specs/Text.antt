@@ -5,8 +5,10 @@ use Rattle.std.specs.Fmt.{signed_decimal}
 use Rattle.network.specs.declared.parts.Lag.{Lag}
 use Rattle.network.specs.declared.limits.TheConstants.{MAX_LAG_WEIGHT}
 use Rattle.network.specs.Problem.{IsWithin, IsAmount}
-use Rattle.record_text.specs.Kinds.{Kind, ended}
-use Rattle.record_text.specs.Text.{spaced, spaced_times, IsNumber, IsWritableTime}
+use Rattle.record_text.specs.Kinds.{Kind}
+use Rattle.record_text.specs.Text.{spaced, spaced_times, optimal_rows, IsNumber, IsWritableTime}
+use Rattle.record_text.specs.declared.proved.Proved.{Proved}
+use Rattle.record_text.specs.declared.proved.Proved.TheVariants as proved
 use Rattle.lemma_text.specs.declared.record.Claim.TheVariants as claims
 use Rattle.lemma_text.specs.declared.reason.Reason.TheVariants as reasons
 use Rattle.lemma_text.specs.declared.line.Line.TheVariants as kind
@@ -34,14 +36,15 @@ row_of (kind.End reason) = codes "end" ++ 32 ∷ reason_text reason
 
 -- the rows of a claim
 abbrev pub claim_rows : Claim → List (List ℕ)
-claim_rows (claims.Optimal makespan starts) =
-    (codes "optimal" ++ spaced_times (makespan ∷ [])) ∷ (codes "starts" ++ spaced_times starts) ∷ []
+claim_rows (claims.Optimal makespan starts) = optimal_rows makespan starts
 claim_rows (claims.Bound bound) = (codes "bound" ++ spaced_times (bound ∷ [])) ∷ []
 claim_rows claims.NoSchedule = codes "no schedule" ∷ []
 
--- a line's bytes with its LF
-abbrev pub line_text : Line → List ℕ
-line_text line = ended (row_of line)
+-- what a claim says, apart from the starts
+abbrev pub says : Claim → Proved
+says (claims.Optimal makespan starts) = proved.Optimal makespan
+says (claims.Bound bound) = proved.Bound bound
+says claims.NoSchedule = proved.NoSchedule
 
 -- ---- what a text can hold
 
@@ -80,6 +83,7 @@ abbrev pub lemma_kind : Kind Claim Line
 lemma_kind = record {
   title = codes "record 2";
   claim_rows = claim_rows;
+  says = says;
   row_of = row_of;
   IsClaim = IsWritableClaim;
   IsLine = IsWritableLine;

@@ -1,7 +1,7 @@
 //! The text of a record of lemmas: a claim about a project, and the lines that show it.
 //!
-//! A [`LemmaRecord`] is a claim and the lines of its blocks. It has one text, which [`LemmaRecord::write`] makes and
-//! [`LemmaRecord::read`] takes. This crate does not say whether a record's lines are right, and its claim true of a
+//! A [`LemmaRecord`] is a claim and the lines of its blocks. It has one text, which `LemmaRecord::write` makes and
+//! `LemmaRecord::read` takes. This crate does not say whether a record's lines are right, and its claim true of a
 //! project.
 #![tactic(auto)]
 
@@ -16,7 +16,6 @@ mod weight;
 mod write;
 
 pub use line::{Lags, Line};
-pub use read::first_line;
 pub use reason::Reason;
-pub use record::{Claim, LemmaRecord, text_law, text_of};
-pub use record_text::{MAX_RECORD_BYTES, RecordFault, Why};
+pub use record::{Claim, LemmaRecord};
+pub use record_text::{MAX_RECORD_BYTES, Proved, RecordFault, RecordLine, Why, text_of};

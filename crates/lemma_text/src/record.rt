@@ -1,18 +1,16 @@
-//! A record of lemmas, and its text.
+//! A record of lemmas.
 
 ghost use Rattle.lemma_text.specs.Text.{lemma_kind};
-ghost use Rattle.record_text.specs.TextFaults.{RecordIsOne, FirstFaultIsOne, FaultIsNoRecord, IsFirstTextFault, IsReadAs};
-ghost use Rattle.std.specs.Prelude.{◌≡◌, ◌≢◌, ◌≤◌, length, IfOk, OnOk, IfErr};
-ghost use Rattle.record_text.specs.Kinds.{IsRecord, Spells, record_text};
-ghost use Rattle.record_text.specs.declared.fault.Why.TheVariants.{Memory};
-ghost use Rattle.lemma_text.specs.Blocks.{LemmaRecordOf};
+ghost use Rattle.lemma_text.specs.Reading.{lemma_rules};
 
 use crate::line::Line;
-use crate::read::{read_claim, read_lines};
-use crate::write::{put_claim, put_lines};
-use record_text::{MAX_RECORD_BYTES, RecordFault, Starts, after_title};
+use crate::read::{amount_after, may_stand};
+use crate::row::line_of;
+use crate::write::{put_lag, put_lags, put_reason};
+use record_text::{
+    Proved, RecordFault, RecordLine, Recorded, Starts, next_row, put_optimal, read_starts,
+};
 use std::alloc::{AllocError, Global};
-use std::marker::Model;
 
 /// What a record says of a project. Makespans and bounds are in periods.
 #[derive(Drop, Debug)]
@@ -25,103 +23,98 @@ pub enum Claim {
     NoSchedule,
 }
 
-/// Laws over the definitions. A text is that of one record at most, or has one first fault at most, but not both.
-pub fn text_law()
-    ensures record { RecordIsOne lemma_kind }
-    ensures fault { FirstFaultIsOne lemma_kind }
-    ensures apart { FaultIsNoRecord lemma_kind }
-{}
+/// A record of lemmas: a claim and the lines of its blocks. Numbers are below 10,000,000,000. A makespan and a bound are
+/// at most 1,000,000, weights of arcs within 1,000,000, starts and windows at least 0.
+pub type LemmaRecord = Recorded<Claim, Line>;
 
-/// The text of a claim and of lines, whatever they are. It is read as a record exactly where they are one's.
-pub fn text_of(alloc: Global, claim: &Claim, lines: &[Line]) -> Result<Vec<u8>, AllocError>
-    ensures { IfOk result (λ text. text.items ≡ record_text lemma_kind (record { claim = claim.now; lines = lines.now })) }
-{
-    let mut out = String::new(alloc);
-    put_claim(&mut out, claim)?;
-    put_lines(&mut out, lines)?;
-    Ok(out.into_bytes())
-}
+impl RecordLine<Claim> for Line {
+    ghost kind = { lemma_kind };
 
-/// A claim, and the lines that show it, in order. Numbers are below 10,000,000,000. A makespan and a bound are at most
-/// 1,000,000, weights of arcs within 1,000,000, starts and windows at least 0.
-#[derive(Drop, Debug)]
-pub struct LemmaRecord {
-    claim: Claim,
-    lines: Vec<Line>,
-}
+    ghost rules = { lemma_rules };
 
-impl Model for LemmaRecord {
-    ghost use Rattle.lemma_text.specs.Blocks.{LemmaRecordOf};
-    ghost use Rattle.record_text.specs.Kinds.{IsRecord};
-    ghost use Rattle.lemma_text.specs.Text.{lemma_kind};
-
-    ghost Value = { LemmaRecordOf };
-
-    ghost view = { λ r. record { claim = r.claim; lines = r.lines.items } };
-
-    ghost invariant = { λ r. IsRecord lemma_kind (record { claim = r.claim; lines = r.lines.items }) };
-}
-
-impl LemmaRecord {
-    /// The record of a claim and the lines of its blocks.
-    pub fn new(claim: Claim, lines: Vec<Line>) -> LemmaRecord
-        requires { IsRecord lemma_kind (record { claim = claim; lines = lines.items }) }
-        ensures { result ≡ record { claim = claim; lines = lines.items } }
-    {
-        LemmaRecord { claim, lines }
+    fn title() -> &'static str {
+        "record 2"
     }
 
-    /// What the record says.
-    pub fn claim(&self) -> &Claim
-        ensures claim { result.now ≡ self.now.claim }
-        ensures record { IsRecord lemma_kind self.now }
-    {
-        &self.claim
+    fn read_claim(alloc: Global, text: &[u8]) -> Result<(Claim, &[u8]), RecordFault> {
+        let (row, rest) = next_row(text, 2)?;
+        if row == b"no schedule".as_slice() {
+            return Ok((Claim::NoSchedule, rest));
+        }
+        if let Some(bound) = amount_after(alloc, b"bound".as_slice(), row)? {
+            return Ok((Claim::Bound { bound }, rest));
+        }
+        let Some(makespan) = amount_after(alloc, b"optimal".as_slice(), row)? else {
+            return Err(RecordFault::form(2));
+        };
+        let (row, rest) = next_row(rest, 3)?;
+        let Some(starts) = read_starts(alloc, row)? else {
+            return Err(RecordFault::form(3));
+        };
+        Ok((Claim::Optimal { makespan, starts }, rest))
     }
 
-    /// The lines of the blocks, in order.
-    pub fn lines(&self) -> &[Line]
-        ensures lines { result.now ≡ self.now.lines }
-        ensures record { IsRecord lemma_kind self.now }
-    {
-        &self.lines
+    fn says(claim: &Claim) -> Proved {
+        match claim {
+            Claim::Optimal { makespan, .. } => Proved::Optimal {
+                makespan: *makespan,
+            },
+            Claim::Bound { bound } => Proved::Bound { bound: *bound },
+            Claim::NoSchedule => Proved::NoSchedule,
+        }
     }
 
-    /// The text of the record.
-    pub fn write(&self, alloc: Global) -> Result<Vec<u8>, AllocError>
-        ensures text { IfOk result (λ text. text.items ≡ record_text lemma_kind self.now) }
-        ensures record { OnOk result (IsRecord lemma_kind self.now) }
-    {
-        text_of(alloc, &self.claim, &self.lines)
+    fn first_line(claim: &Claim) -> usize {
+        match claim {
+            Claim::Optimal { .. } => 4,
+            Claim::Bound { .. } | Claim::NoSchedule => 3,
+        }
     }
 
-    /// The record of this text, or its first fault.
-    fn read_text(alloc: Global, text: &[u8]) -> Result<LemmaRecord, RecordFault>
-        ensures found { IfOk result (λ r. Spells lemma_kind text.now r) }
-        ensures fault { IfErr result (λ fault. fault.why ≢ Memory → IsFirstTextFault lemma_kind text.now fault) }
-    {
-        let rest = after_title(text, b"record 2".as_slice())?;
-        let (claim, rest) = read_claim(alloc, rest)?;
-        let lines = read_lines(alloc, &claim, rest)?;
-        Ok(LemmaRecord::new(claim, lines))
+    fn of_row(alloc: Global, row: &[u8], due: usize) -> Result<Option<Line>, AllocError> {
+        let Some(found) = line_of(alloc, row)? else {
+            return Ok(None);
+        };
+        if !may_stand(due, &found) {
+            return Ok(None);
+        }
+        Ok(Some(found))
     }
 
-    /// The record that this text is that of, or the text's first fault.
-    pub fn read(alloc: Global, text: &[u8]) -> Result<LemmaRecord, RecordFault>
-        ensures found { IfOk result (λ r. Spells lemma_kind text.now r) }
-        ensures only { (r : LemmaRecordOf) → Spells lemma_kind text.now r → IsReadAs result r }
-        ensures fault { IfErr result (λ fault. fault.why ≢ Memory → IsFirstTextFault lemma_kind text.now fault) }
-    {
-        LemmaRecord::read_text(alloc, text)
+    fn still_due(&self, due: usize) -> usize {
+        match self {
+            Line::Lemma { .. } => due + 1,
+            Line::End { .. } => due - 1,
+            _ => due,
+        }
     }
 
-    /// What the text of the record is read as: the record itself, where the text is within the limit. This
-    /// is a law, as a function.
-    #[tactic(auto, using(record_text::proofs::KindLaws::spells_written))]
-    pub fn read_written(&self, alloc: Global) -> Result<LemmaRecord, RecordFault>
-        ensures { length (record_text lemma_kind self.now) ≤ MAX_RECORD_BYTES → IsReadAs result self.now }
-    {
-        let text = self.write(alloc)?;
-        LemmaRecord::read(alloc, &text)
+    fn put_claim(out: &mut String, claim: &Claim) -> Result<(), AllocError> {
+        match claim {
+            Claim::Optimal { makespan, starts } => put_optimal(out, *makespan, starts),
+            Claim::Bound { bound } => writeln!(out, "bound {bound}"),
+            Claim::NoSchedule => out.push_str("no schedule\n"),
+        }
     }
+
+    fn put(&self, out: &mut String) -> Result<(), AllocError> {
+        match self {
+            Line::Lemma { arcs } => {
+                out.push_str("lemma")?;
+                put_lags(out, arcs.as_slice())
+            }
+            Line::Force(pair) => write!(out, "force {} {}", pair.before, pair.after),
+            Line::Add { arc, reason } => {
+                out.push_str("add")?;
+                put_lag(out, arc)?;
+                put_reason(out, reason)
+            }
+            Line::End { reason } => {
+                out.push_str("end")?;
+                put_reason(out, reason)
+            }
+        }
+    }
+
+    fn known() {}
 }

@@ -1,10 +1,13 @@
 -- A record with a first fault is not right, and has no other.
-use Rattle.std.proofs.Common.{subst, ◌≡◌, ℕ, ◌+◌, List, [], ◌∷◌, ◌++◌, length, refl, sym, ap, ◌∙◌, arith, inl, inr}
+use Rattle.std.proofs.Common.{subst, ◌≡◌, ℕ, ◌+◌, List, [], ◌∷◌, ◌++◌, length, refl, sym, ap, ◌∙◌, arith, inl, inr, ◌≢◌, Err}
 use Rattle.std.specs.List.{All}
 use Rattle.std.proofs.lemmas.List.Elements.{All-head, All-tail}
 use Rattle.record_text.specs.declared.fault.RecordFault.{RecordFault}
 use Rattle.record_text.specs.declared.fault.Why.{Why}
-use Rattle.record_text.specs.FirstWrong.{IsFirstWrongOf, IsFirstFaultOf}
+use Rattle.network.specs.Problem.{Problem}
+use Rattle.record_text.specs.declared.fault.Why.TheVariants as why
+use Rattle.record_text.specs.Kinds.{RecordOf, Kind}
+use Rattle.record_text.specs.FirstWrong.{IsFirstWrongOf, Judge, IsFirstFaultBy, FaultIsWrong, OtherFaultIsNone, IsVerdict}
 
 pub all_right : {X : Type 0} (P : X → Type 0) (xs ys : List X) → All P (xs ++ ys) → All P ys
 all_right P [] ys h = h
@@ -41,8 +44,27 @@ one_wrong {Place} P why_wrong first xs ys a b is f g =
     let why : a.why ≡ b.why = f.why ∙ ap why_wrong s.heres ∙ sym g.why in
     ap (λ (n : ℕ). fault_at n a.why) line ∙ ap (λ (w : Why). fault_at b.line w) why
 
-pub one_first : (Starts : Type 0) (Wrong : RecordFault → Type 0) → ((a b : RecordFault) → Wrong a → Wrong b → a ≡ b) → (a b : RecordFault) → IsFirstFaultOf Starts Wrong a → IsFirstFaultOf Starts Wrong b → a ≡ b
-one_first Starts Wrong one a b (inl s) (inl t) = s.is ∙ sym t.is
-one_first Starts Wrong one a b (inl s) (inr g) = absurd (s.wrong g.starts)
-one_first Starts Wrong one a b (inr f) (inl t) = absurd (t.wrong f.starts)
-one_first Starts Wrong one a b (inr f) (inr g) = one a b f.first g.first
+pub fault_is_wrong : {Claim Line : Type 0} (j : Judge Claim Line) → ((p : Problem) (claim : Claim) (lines : List Line) (fault : RecordFault) → j.IsFirstWrong p claim lines fault → ¬ j.AreRightLines p claim lines) → FaultIsWrong j
+fault_is_wrong j wrong p r fault (inl starts) right = starts.wrong right.starts
+fault_is_wrong j wrong p r fault (inr found) right = wrong p r.claim r.lines fault found.first right.lines
+
+pub other_is_none : {Claim Line : Type 0} (j : Judge Claim Line) → ((p : Problem) (claim : Claim) (lines : List Line) (a b : RecordFault) → j.IsFirstWrong p claim lines a → j.IsFirstWrong p claim lines b → a ≡ b) → OtherFaultIsNone j
+other_is_none j one p r a b (inl s) (inl t) = s.is ∙ sym t.is
+other_is_none j one p r a b (inl s) (inr g) = absurd (s.wrong g.starts)
+other_is_none j one p r a b (inr f) (inl t) = absurd (t.wrong f.starts)
+other_is_none j one p r a b (inr f) (inr g) = one p r.claim r.lines a b f.first g.first
+
+-- ---- a verdict
+
+pub is_memory : (w : Why) → (w ≢ why.Memory → ⊥) → w ≡ why.Memory
+is_memory why.Memory h = refl
+is_memory w h = absurd (h (λ e. cc))
+
+pub refused : {Claim Line : Type 0} (k : Kind Claim Line) (j : Judge Claim Line) → FaultIsWrong j → (p : Problem) (r : RecordOf Claim Line) (fault : RecordFault) → (fault.why ≢ why.Memory → IsFirstFaultBy j p r fault) → IsVerdict k j p r (Err fault)
+refused k j wrong p r fault found = record {
+  right = tt;
+  proved = tt;
+  holds = tt;
+  fault = found;
+  only = λ right. is_memory fault.why (λ known. wrong p r fault (found known) right);
+}

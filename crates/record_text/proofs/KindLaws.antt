@@ -1,29 +1,15 @@
 -- The text of a record, whatever its kind, has no fault, and is that of no other record; a text has one first fault.
-use Rattle.std.proofs.Common.{◌≡◌, ◌≢◌, ℕ, ◌<◌, ◌≤◌, List, [], ◌∷◌, ◌++◌, map, length, refl, sym, ap, ◌∙◌, subst, arith, append_assoc, append-nil, length-append, ◌⊎◌, inl, inr, ◌+◌, Result, Ok, Err, IfOk, IfErr, MatchResult}
+use Rattle.std.proofs.Common.{◌≡◌, ◌≢◌, ℕ, ◌≤◌, List, [], ◌∷◌, ◌++◌, map, length, refl, sym, ap, ◌∙◌, subst, arith, append_assoc, append-nil, length-append, ◌⊎◌, inl, inr, ◌+◌, Result, Ok, Err, IfOk, IfErr, MatchResult}
 use Rattle.std.specs.List.{AllByRecursion}
 use Rattle.record_text.specs.declared.fault.RecordFault.{RecordFault}
-use Rattle.record_text.specs.declared.fault.Why.{Why}
 use Rattle.record_text.specs.declared.fault.Why.TheVariants as why
-use Rattle.record_text.specs.Kinds.{RecordOf, Kind, head_rows, rows_of, record_text, IsRecord, Spells, AreRows, MAX_RECORD_BYTES}
+use Rattle.record_text.specs.Kinds.{RecordOf, Kind, head_rows, rows_of, record_text, IsRecord, Spells, AreRows, MAX_RECORD_BYTES, Rules, Leads, HasNone, Facts}
 use Rattle.record_text.specs.Rows as rows
 use Rattle.record_text.specs.Rows.{line_pieces, RowFault, Begin, HasRowFault, IsNeverLonger, missing}
 use Rattle.record_text.specs.TextFaults.{HasFault, IsFirstTextFault, IsMissing, IsOther, IsTitleFault, RecordIsOne, FirstFaultIsOne, FaultIsNoRecord, why_of, form}
-use Rattle.record_text.proofs.FirstWrong.{fault_at}
-use Rattle.record_text.proofs.Leads.{Rules, Leads, Grammar, none_more}
-use Rattle.record_text.proofs.Rows.{HasNone, text_from, pieces_of, Stands, missing_at, form_at, same_rows, whole_no_fault, one_fault}
-
--- what is proved of a kind of record by itself: whole lines are read one after another, a claim's rows say one claim, a
--- claim that a text can hold, and no row has an LF
-pub record Facts {Claim Line : Type 0} (k : Kind Claim Line) (m : Rules k.row_of) : Type 0 where
-  pub leads : (lines : List Line) → AllByRecursion k.IsLine lines → k.AreWhole lines → Leads m 1 lines 0
-  pub whole : (lines : List Line) → Leads m 1 lines 0 → AllByRecursion k.IsLine lines × k.AreWhole lines
-  pub one_claim : (a b : Claim) (x y : List (List ℕ)) → k.IsClaim a → k.IsClaim b → k.claim_rows a ++ x ≡ k.claim_rows b ++ y → (a ≡ b) × (x ≡ y)
-  pub some_rows : (claim : Claim) → 0 < length (k.claim_rows claim)
-  pub example : Claim
-  pub example_is : k.IsClaim example
-  pub title_plain : HasNone k.title
-  pub claim_plain : (claim : Claim) → k.IsClaim claim → AllByRecursion HasNone (k.claim_rows claim)
-  pub line_plain : (line : Line) → k.IsLine line → HasNone (k.row_of line)
+use Rattle.record_text.proofs.FirstWrong.{fault_at, is_memory}
+use Rattle.record_text.proofs.Leads.{Grammar, none_more}
+use Rattle.record_text.proofs.Rows.{text_from, pieces_of, Stands, missing_at, form_at, same_rows, whole_no_fault, one_fault}
 
 pub first_is : {xs ys : List (List ℕ)} {x y : List ℕ} → x ∷ xs ≡ y ∷ ys → x ≡ y
 first_is h = cc
@@ -34,10 +20,6 @@ tail h = cc
 plain_append : (xs ys : List (List ℕ)) → AllByRecursion HasNone xs → AllByRecursion HasNone ys → AllByRecursion HasNone (xs ++ ys)
 plain_append [] ys hx hy = hy
 plain_append (x ∷ xs) ys hx hy = (hx.0, plain_append xs ys hx.1 hy)
-
-pub is_memory : (w : Why) → (w ≢ why.Memory → ⊥) → w ≡ why.Memory
-is_memory why.Memory h = refl
-is_memory w h = absurd (h (λ e. cc))
 
 -- ---- any rows
 
@@ -68,6 +50,11 @@ module _ {Claim Line : Type 0} (k : Kind Claim Line) where
   pub no_claim : (rows : List (List ℕ)) → ((claim : Claim) (x rest : List (List ℕ)) → k.IsClaim claim → k.claim_rows claim ++ x ≡ rows ++ rest → ⊥) → ¬ Begin (AreRows k) (k.title ∷ rows)
   no_claim rows none (rest, (r, is, h)) = none r.claim (map k.row_of r.lines) rest is.claim (tail h)
 
+  -- what is spelled is read, unless memory ran out
+  pub only_read : RecordIsOne k → FaultIsNoRecord k → (text : List ℕ) (r : RecordOf Claim Line) (result : Result (RecordOf Claim Line) RecordFault) → IfOk result (λ q. Spells k text q) → IfErr result (λ fault. fault.why ≢ why.Memory → IsFirstTextFault k text fault) → Spells k text r → MatchResult result (λ q. q ≡ r) (λ fault. fault.why ≡ why.Memory)
+  only_read one apart text r (Ok q) found fault s = one text q r found s
+  only_read one apart text r (Err e) found fault s = is_memory e.why (λ other. apart text r e s (fault other))
+
 -- ---- the rows of a kind of which this is proved
 
 module _ {Claim Line : Type 0} {k : Kind Claim Line} {m : Rules k.row_of} (f : Facts k m) where
@@ -80,6 +67,7 @@ module _ {Claim Line : Type 0} {k : Kind Claim Line} {m : Rules k.row_of} (f : F
   -- the records of a claim
   pub grammar : (claim : Claim) → k.IsClaim claim → Grammar (AreRows k) m (head_rows k claim)
   grammar claim w = record {
+    rules = f.rules;
     whole = λ lines leads. (record { claim = claim; lines = lines }, record_from claim lines 0 w leads refl, refl);
     lines = λ more (r, is, h). (r.lines, leads_of r is, (f.one_claim r.claim claim (map k.row_of r.lines) more is.claim w (tail h)).1);
   }
@@ -129,11 +117,6 @@ module _ {Claim Line : Type 0} {k : Kind Claim Line} {m : Rules k.row_of} (f : F
       let whys : a.why ≡ b.why = g.1.why ∙ ap why_of same.1 ∙ sym h.1.why in
       ap (λ (line : ℕ). fault_at line a.why) same.0 ∙ ap (fault_at b.line) whys
 
-  -- what is spelled is read, unless memory ran out
-  pub only_read : (text : List ℕ) (r : RecordOf Claim Line) (result : Result (RecordOf Claim Line) RecordFault) → IfOk result (λ q. Spells k text q) → IfErr result (λ fault. fault.why ≢ why.Memory → IsFirstTextFault k text fault) → Spells k text r → MatchResult result (λ q. q ≡ r) (λ fault. fault.why ≡ why.Memory)
-  only_read text r (Ok q) found fault s = spells_one text q r found s
-  only_read text r (Err e) found fault s = is_memory e.why (λ other. spells_no_fault text r e s (fault other))
-
   -- ---- the rows before the lines
 
   few_open : (front : List (List ℕ)) → length front ≤ 2 → ¬ AreRows k front
@@ -146,7 +129,7 @@ module _ {Claim Line : Type 0} {k : Kind Claim Line} {m : Rules k.row_of} (f : F
   -- two rows or fewer that a claim's text begins with
   pub stands_in : (claim : Claim) (front more : List (List ℕ)) → k.IsClaim claim → head_rows k claim ≡ front ++ more → length front ≤ 2 → Stands (AreRows k) front
   stands_in claim front more w h few =
-      let leads : Leads m 1 (m.last ∷ []) 0 = (omega arith, m.reads_last 1 (omega arith), omega (arith, m.next_last 1 (omega arith))) in
+      let leads : Leads m 1 (m.last ∷ []) 0 = (omega arith, f.rules.reads_last 1 (omega arith), omega (arith, f.rules.next_last 1 (omega arith))) in
       let same : rows_of k (record { claim = claim; lines = m.last ∷ [] }) ≡ front ++ (more ++ k.row_of m.last ∷ []) = ap (λ (rows : List (List ℕ)). rows ++ k.row_of m.last ∷ []) h ∙ append_assoc front more (k.row_of m.last ∷ []) in
       record { begins = (_, (record { claim = claim; lines = m.last ∷ [] }, record_from claim (m.last ∷ []) 0 w leads refl, same)); unfinished = few_open front few }
 

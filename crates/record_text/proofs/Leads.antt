@@ -1,22 +1,9 @@
 -- Rows that are read one after another, each as a line, until none is due: the text of a tree, or of blocks.
-use Rattle.std.proofs.Common.{◌≡◌, ◌≢◌, ℕ, zero, suc, ◌+◌, ◌<◌, Option, Some, None, List, [], ◌∷◌, ◌++◌, map, length, refl, sym, ap, ◌∙◌, subst, arith, append_assoc, append-nil, length-append}
+use Rattle.std.proofs.Common.{◌≡◌, ◌≢◌, ℕ, zero, suc, ◌+◌, ◌<◌, Some, None, List, [], ◌∷◌, ◌++◌, map, length, refl, sym, ap, ◌∙◌, subst, arith, append_assoc, append-nil, length-append}
 use Rattle.std.proofs.lemmas.List.{length-map, map-append}
+use Rattle.record_text.specs.Kinds.{Rules, RulesHold, Leads}
 use Rattle.record_text.specs.Rows.{line_pieces, form, trailing, Begin, HasRowFault, missing}
 use Rattle.record_text.proofs.Rows.{Stands, missing_at, form_at, trailing_at}
-
--- which line a row is where so much is due, how much is due after it, and a line that takes one of that
-pub record Rules {Line : Type 0} (row_of : Line → List ℕ) : Type 0 where
-  pub read : ℕ → List ℕ → Option Line
-  pub next : ℕ → Line → ℕ
-  pub last : Line
-  pub reads_last : (due : ℕ) → 0 < due → read due (row_of last) ≡ Some last
-  pub next_last : (due : ℕ) → 0 < due → next due last + 1 ≡ due
-  pub takes : (due : ℕ) (row : List ℕ) (line : Line) → read due row ≡ Some line → row_of line ≡ row
-
--- the lines lead from what is due before them to what is due after
-abbrev pub Leads : {Line : Type 0} {row_of : Line → List ℕ} → Rules row_of → ℕ → List Line → ℕ → Type 0
-Leads {Line} {row_of} m due [] after = due ≡ after
-Leads {Line} {row_of} m due (line ∷ lines) after = (0 < due) × (m.read due (row_of line) ≡ Some line) × Leads m (m.next due line) lines after
 
 pub leads_append : {Line : Type 0} {row_of : Line → List ℕ} (m : Rules row_of) (due : ℕ) (xs ys : List Line) (mid after : ℕ) → Leads m due xs mid → Leads m mid ys after → Leads m due (xs ++ ys) after
 leads_append m due [] ys mid after e h = subst (λ (n : ℕ). Leads m n ys after) (sym e) h
@@ -26,12 +13,12 @@ lasts : {Line : Type 0} {row_of : Line → List ℕ} → Rules row_of → ℕ �
 lasts m zero = []
 lasts m (suc n) = m.last ∷ lasts m n
 
-leads_lasts : {Line : Type 0} {row_of : Line → List ℕ} (m : Rules row_of) (n : ℕ) → Leads m n (lasts m n) 0
+leads_lasts : {Line : Type 0} {row_of : Line → List ℕ} (m : Rules row_of) → RulesHold m → (n : ℕ) → Leads m n (lasts m n) 0
 unfolding lasts
-leads_lasts m zero = refl
-leads_lasts m (suc n) =
-    let less : n ≡ m.next (suc n) m.last = omega (arith, m.next_last (suc n) (omega arith)) in
-    (omega arith, m.reads_last (suc n) (omega arith), subst (λ (k : ℕ). Leads m k (lasts m n) 0) less (leads_lasts m n))
+leads_lasts m h zero = refl
+leads_lasts m h (suc n) =
+    let less : n ≡ m.next (suc n) m.last = omega (arith, h.next_last (suc n) (omega arith)) in
+    (omega arith, h.reads_last (suc n) (omega arith), subst (λ (k : ℕ). Leads m k (lasts m n) 0) less (leads_lasts m h n))
 
 -- ---- what goes on from rows that lead somewhere
 
@@ -63,6 +50,7 @@ none_more {Line} {row_of} m xs ys more lx ly h = let o = others_of m 1 xs ys mor
 -- ---- wholes that begin with some rows, and go on with lines
 
 pub record Grammar (IsWhole : List (List ℕ) → Type 0) {Line : Type 0} {row_of : Line → List ℕ} (m : Rules row_of) (head : List (List ℕ)) : Type 0 where
+  pub rules : RulesHold m
   pub whole : (lines : List Line) → Leads m 1 lines 0 → IsWhole (head ++ map row_of lines)
   pub lines : (more : List (List ℕ)) → IsWhole (head ++ more) → (lines : List Line) × Leads m 1 lines 0 × (map row_of lines ≡ more)
 
@@ -70,7 +58,7 @@ lines_begin : (W : List (List ℕ) → Type 0) {Line : Type 0} {row_of : Line �
 lines_begin W {Line} {row_of} m head g xs due leads =
     let back = lasts m due in
     let same : head ++ map row_of (xs ++ back) ≡ (head ++ map row_of xs) ++ map row_of back = ap (λ (rows : List (List ℕ)). head ++ rows) (map-append row_of xs back) ∙ sym (append_assoc head (map row_of xs) (map row_of back)) in
-    (map row_of back, subst W same (g.whole (xs ++ back) (leads_append m 1 xs back due 0 leads (leads_lasts m due))))
+    (map row_of back, subst W same (g.whole (xs ++ back) (leads_append m 1 xs back due 0 leads (leads_lasts m g.rules due))))
 
 lines_open : (W : List (List ℕ) → Type 0) {Line : Type 0} {row_of : Line → List ℕ} (m : Rules row_of) (head : List (List ℕ)) → Grammar W m head → (xs : List Line) (due : ℕ) → Leads m 1 xs due → 0 < due → ¬ W (head ++ map row_of xs)
 lines_open W {Line} {row_of} m head g xs due leads some whole =
@@ -103,10 +91,10 @@ pub record Reached {Line : Type 0} {row_of : Line → List ℕ} (m : Rules row_o
   pub parts : line_pieces text ≡ map row_of lines ++ line_pieces rest
   pub at : line ≡ length head + length lines + 1
 
-pub reached_more : {Line : Type 0} {row_of : Line → List ℕ} (m : Rules row_of) (head : List (List ℕ)) (lines : List Line) (due line : ℕ) (text rest row more : List ℕ) (found : Line) → Reached m head lines due line text rest → 0 < due → line_pieces rest ≡ row ∷ line_pieces more → m.read due row ≡ Some found →
+pub reached_more : {Line : Type 0} {row_of : Line → List ℕ} (m : Rules row_of) → RulesHold m → (head : List (List ℕ)) (lines : List Line) (due line : ℕ) (text rest row more : List ℕ) (found : Line) → Reached m head lines due line text rest → 0 < due → line_pieces rest ≡ row ∷ line_pieces more → m.read due row ≡ Some found →
     Reached m head (lines ++ found ∷ []) (m.next due found) (line + 1) text more
-reached_more {Line} {row_of} m head lines due line text rest row more found r some h is =
-    let row_is : row_of found ≡ row = m.takes due row found is in
+reached_more {Line} {row_of} m hold head lines due line text rest row more found r some h is =
+    let row_is : row_of found ≡ row = hold.takes due row found is in
     record {
       leads = leads_append m 1 lines (found ∷ []) due (m.next due found) r.leads (some, subst (λ (text : List ℕ). m.read due text ≡ Some found) (sym row_is) is, refl);
       parts =

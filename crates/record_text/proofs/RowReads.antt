@@ -1,5 +1,5 @@
 -- Reading rows: what is read is spelled so, and what is spelled is read.
-use Rattle.std.proofs.Common.{◌≡◌, ℕ, zero, suc, ◌<◌, ◌≤◌, ◌^◌, List, [], ◌∷◌, ◌++◌, map, length, get_or, Option, Some, None, Bool, true, false, cond, ◌&&◌, eqb, refl, sym, ap, ◌∙◌, subst, arith, rules, length-append, not, append-nil, ◌≢◌, ℤ, pos, negsuc, codes}
+use Rattle.std.proofs.Common.{◌≡◌, ℕ, zero, suc, ◌<◌, ◌≤◌, ◌^◌, List, [], ◌∷◌, ◌++◌, map, length, get_or, Option, Some, None, Bool, true, false, cond, eqb, refl, sym, ap, ◌∙◌, subst, arith, rules, length-append, not, append-nil, ◌≢◌, ℤ, pos, negsuc, codes}
 use Rattle.std.specs.List.{slice_index, list_all, join_with_byte, All, AllByRecursion}
 use Rattle.std.specs.Char.{is_ascii_digit}
 use Rattle.std.specs.Fmt.{decimal}
@@ -217,7 +217,7 @@ line_takes row line h = by_parts (parts_of (fields row)) refl h
     by_parts None e h = absurd cc
     by_parts (Some p) e h = let t = parts_take row p e in let s = line_said p.word p.numbers line t.1 h in (s.row ∙ sym t.0, s.small, s.some)
 
-few_members : (line : Line) → count_members line ≤ length (row_of line)
+pub few_members : (line : Line) → count_members line ≤ length (row_of line)
 few_members (kind.Split resource members) = omega (arith, spaced_long (resource ∷ members), length-append (codes "split") (spaced (resource ∷ members)))
 few_members line = omega arith
 

@@ -7,7 +7,7 @@ use Rattle.std.proofs.lemmas.Bool.{true≢false, and_parts, and_from, not-true, 
 use Rattle.std.proofs.lemmas.List.Concat.{flat_map-append}
 use Rattle.std.proofs.lemmas.List.Elements.{All-nil, All-cons}
 use Rattle.std.proofs.lemmas.List.Splits.{join_with_byte-slice_split, slice_split_at}
-use Rattle.record_text.specs.Kinds.{ended}
+use Rattle.record_text.specs.Kinds.{ended, HasNone}
 use Rattle.record_text.specs.Text.{IsNumber, IsWritableTime, spaced, spaced_times}
 use Rattle.record_text.specs.Rows.{line_pieces, RowFault, form, short, trailing, Begin, IsBroken, IsWrong, HasRowFault, missing, IsNeverLonger}
 use Rattle.record_text.proofs.RowReads.{are_digits, numbers_of, spaced_as_times}
@@ -16,10 +16,6 @@ use Rattle.record_text.proofs.RowReads.{are_digits, numbers_of, spaced_as_times}
 
 abbrev pub is_newline : ℕ → Bool
 is_newline b = eqb b 10
-
--- a row without an LF
-abbrev pub HasNone : List ℕ → Type 0
-HasNone row = list_all (λ b. not (is_newline b)) row ≡ true
 
 -- ---- the pieces of a text
 
@@ -88,10 +84,9 @@ lines_text row_of [] = refl
 lines_text row_of (l ∷ ls) = ap (λ (rest : List ℕ). ended (row_of l) ++ rest) (lines_text row_of ls)
 
 -- rows and then lines, written one after the other, are the text of all
-pub written : {Line : Type 0} (row_of : Line → List ℕ) (rows : List (List ℕ)) (lines : List Line) (empty head all items : List ℕ) → empty ≡ [] → head ≡ empty ++ flat_map ended rows → all ≡ head ++ flat_map (λ l. ended (row_of l)) lines → items ≡ all → items ≡ flat_map ended (rows ++ map row_of lines)
-written row_of rows lines empty head all items none h a i =
-    i ∙ a ∙ ap (λ (t : List ℕ). t ++ flat_map (λ l. ended (row_of l)) lines) (h ∙ ap (λ (t : List ℕ). t ++ flat_map ended rows) none)
-    ∙ ap (λ (t : List ℕ). flat_map ended rows ++ t) (lines_text row_of lines) ∙ sym (flat_map-append ended rows (map row_of lines))
+pub written : {Line : Type 0} (row_of : Line → List ℕ) (rows : List (List ℕ)) (lines : List Line) (head all items : List ℕ) → head ≡ flat_map ended rows → all ≡ head ++ flat_map (λ l. ended (row_of l)) lines → items ≡ all → items ≡ flat_map ended (rows ++ map row_of lines)
+written row_of rows lines head all items h a i =
+    i ∙ a ∙ ap (λ (t : List ℕ). t ++ flat_map (λ l. ended (row_of l)) lines) h ∙ ap (λ (t : List ℕ). flat_map ended rows ++ t) (lines_text row_of lines) ∙ sym (flat_map-append ended rows (map row_of lines))
 
 pub snoc : (front : List (List ℕ)) (here : List ℕ) (back : List (List ℕ)) → (front ++ here ∷ []) ++ back ≡ front ++ here ∷ back
 snoc front here back = append_assoc front (here ∷ []) back

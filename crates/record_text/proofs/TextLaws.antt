@@ -6,13 +6,12 @@ use Rattle.record_text.specs.declared.line.Line.TheVariants as kind
 use Rattle.std.proofs.Math.Nat.{mul-le-mul_left}
 use Rattle.std.specs.List.{AllByRecursion}
 use Rattle.record_text.specs.Text.{IsWritableLine, row_of, IsWritableClaim, claim_rows, spaced, spaced_times, search_kind}
-use Rattle.record_text.specs.Reading.{line_of, makespan_in, starts_in}
+use Rattle.record_text.specs.Reading.{makespan_in, starts_in, search_rules}
 use Rattle.record_text.proofs.RowReads.{line_again, line_takes, members_fit, claim_injective, makespan_again, makespan_takes, starts_again, starts_take, other_word}
-use Rattle.record_text.proofs.Leads.{Rules, Leads}
 use Rattle.record_text.specs.declared.line.Claim.TheVariants as claims
-use Rattle.record_text.proofs.KindLaws.{Facts, stands_in, no_claim}
-use Rattle.record_text.proofs.Rows.{HasNone, plain_append, plain_spaced, plain_times, Stands}
-use Rattle.record_text.specs.Kinds.{AreRows, MAX_RECORD_BYTES}
+use Rattle.record_text.proofs.KindLaws.{stands_in, no_claim}
+use Rattle.record_text.proofs.Rows.{plain_append, plain_spaced, plain_times, Stands}
+use Rattle.record_text.specs.Kinds.{AreRows, MAX_RECORD_BYTES, RulesHold, Leads, HasNone, Facts}
 use Rattle.record_text.specs.Rows.{line_pieces, Begin}
 
 -- ---- Lines that complete one node are those of a tree.
@@ -103,32 +102,6 @@ trees_law lines = (λ h. let g = grown 1 lines h in only g.trees g.count g.shape
     only (tree t no_trees) count shapes spelled = (t, record { shape = shapes.0; spelled = sym (append-nil (lines_of t)) ∙ spelled })
     only ts count shapes spelled = absurd (omega arith)
 
--- ---- The rows of a tree, read one after another.
-
-abbrev pub rules : Rules row_of
-rules = record {
-  read = λ due row. line_of row;
-  next = still_due;
-  last = kind.Dead;
-  reads_last = λ due some. line_again kind.Dead tt tt;
-  next_last = λ due some. omega (arith, some);
-  takes = λ due row line h. (line_takes row line h).0;
-}
-
-abbrev AreWritable : List Line → Type 0
-AreWritable lines = AllByRecursion IsWritableLine lines
-
-pub leads_from : (due : ℕ) (lines : List Line) → Completes due lines → AreWritable lines → Leads rules due lines 0
-leads_from due [] c w = c
-leads_from due (l ∷ ls) c w = (c.0, line_again l w.0 c.1, leads_from (still_due due l) ls c.2 w.1)
-
-pub leads_to : (due : ℕ) (lines : List Line) → Leads rules due lines 0 → Completes due lines × AreWritable lines
-leads_to due [] h = (h, tt)
-leads_to due (l ∷ ls) h =
-    let t = line_takes (row_of l) l h.1 in
-    let more = leads_to (still_due due l) ls h.2 in
-    ((h.0, t.2, more.0), (t.1, more.1))
-
 -- ---- what is due stays within bounds
 
 squares : (q m : ℕ) → q ≤ m → q * (q - 1) ≤ q * m
@@ -138,10 +111,29 @@ due_bound : (due : ℕ) (line : Line) → count_members line ≤ MAX_RECORD_BYTE
 due_bound due (kind.Split resource members) h = omega (arith, squares (length members) MAX_RECORD_BYTES h)
 due_bound due line h = omega arith
 
-pub next_room : (due : ℕ) (found : Line) (rest row more : List ℕ) → line_of row ≡ Some found → length row + 1 + length more ≡ length rest → length rest ≤ MAX_RECORD_BYTES → due + length rest * MAX_RECORD_BYTES ≤ MAX_RECORD_BYTES * MAX_RECORD_BYTES + 1 → still_due due found + length more * MAX_RECORD_BYTES ≤ MAX_RECORD_BYTES * MAX_RECORD_BYTES + 1
-next_room due found rest row more is shorter few room =
-    let fit = members_fit row found is in
-    omega (arith, fit, shorter, room, few, due_bound due found (omega (arith, fit, shorter, few)))
+-- ---- The rows of a tree, read one after another.
+
+hold : RulesHold search_rules
+hold = record {
+  reads_last = λ due some. line_again kind.Dead tt tt;
+  next_last = λ due some. omega (arith, some);
+  takes = λ due row line h. (line_takes row line h).0;
+  near = λ due row line h small. let fit = members_fit row line h in omega (arith, fit, due_bound due line (omega (arith, fit, small)));
+}
+
+abbrev AreWritable : List Line → Type 0
+AreWritable lines = AllByRecursion IsWritableLine lines
+
+pub leads_from : (due : ℕ) (lines : List Line) → Completes due lines → AreWritable lines → Leads search_rules due lines 0
+leads_from due [] c w = c
+leads_from due (l ∷ ls) c w = (c.0, line_again l w.0 c.1, leads_from (still_due due l) ls c.2 w.1)
+
+pub leads_to : (due : ℕ) (lines : List Line) → Leads search_rules due lines 0 → Completes due lines × AreWritable lines
+leads_to due [] h = (h, tt)
+leads_to due (l ∷ ls) h =
+    let t = line_takes (row_of l) l h.1 in
+    let more = leads_to (still_due due l) ls h.2 in
+    ((h.0, t.2, more.0), (t.1, more.1))
 
 some_rows : (claim : Claim) → 0 < length (claim_rows claim)
 some_rows claims.NoSchedule = omega arith
@@ -156,8 +148,9 @@ line_plain (kind.Force pair) w = plain_append (codes "force") (spaced (pair.befo
 line_plain (kind.Split resource members) w = plain_append (codes "split") (spaced (resource ∷ members)) refl (plain_spaced (resource ∷ members) (w.0, w.1))
 line_plain line w = refl
 
-pub facts : Facts search_kind rules
+pub facts : Facts search_kind search_rules
 facts = record {
+  rules = hold;
   leads = λ lines w whole. leads_from 1 lines ((trees_law lines).1 whole) w;
   whole = λ lines leads. let t = leads_to 1 lines leads in (t.1, (trees_law lines).0 t.0);
   one_claim = claim_injective;

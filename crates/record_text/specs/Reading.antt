@@ -4,7 +4,9 @@ use Rattle.std.specs.List.{slice_index}
 use Rattle.std.specs.Str.{bytes_eq}
 use Rattle.words.specs.Words.{pieces, natural}
 use Rattle.record_text.specs.declared.fields.TheConstants.{MAX_NUMBER_DIGITS}
-use Rattle.record_text.specs.declared.line.Line.{Line}
+use Rattle.record_text.specs.Kinds.{Rules}
+use Rattle.record_text.specs.Text.{row_of}
+use Rattle.record_text.specs.Tree.{Line, still_due}
 use Rattle.record_text.specs.declared.line.Line.TheVariants as kind
 
 -- ---- numbers
@@ -78,6 +80,9 @@ line_in None = None
 
 abbrev pub line_of : List ℕ → Option Line
 line_of row = line_in (parts_of (fields row))
+
+abbrev pub search_rules : Rules row_of
+search_rules = record { read = λ due row. line_of row; next = still_due; last = kind.Dead }
 
 -- ---- a claim
 

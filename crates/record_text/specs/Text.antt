@@ -3,10 +3,12 @@ use Rattle.std.specs.Prelude.{ℕ, ◌<◌, ◌^◌, ℤ, pos, negsuc, List, [],
 use Rattle.std.specs.List.{flat_map, AllByRecursion}
 use Rattle.std.specs.Fmt.{decimal, signed_decimal}
 use Rattle.record_text.specs.declared.fields.TheConstants.{MAX_NUMBER_DIGITS}
+use Rattle.record_text.specs.declared.proved.Proved.{Proved}
+use Rattle.record_text.specs.declared.proved.Proved.TheVariants as proved
 use Rattle.record_text.specs.declared.line.Claim.TheVariants as claims
 use Rattle.record_text.specs.declared.line.Line.TheVariants as kind
 use Rattle.record_text.specs.Tree.{Tree, IsTreeOf, Claim, Line}
-use Rattle.record_text.specs.Kinds.{Kind, ended}
+use Rattle.record_text.specs.Kinds.{Kind}
 
 -- each number with a space before it
 abbrev pub spaced : List ℕ → List ℕ
@@ -23,15 +25,19 @@ row_of kind.Cut = codes "cut"
 row_of kind.Dead = codes "dead"
 row_of (kind.Split resource members) = codes "split" ++ spaced (resource ∷ members)
 
+-- the rows that say that a schedule of these starts has this makespan, and none is shorter
+abbrev pub optimal_rows : ℤ → List ℤ → List (List ℕ)
+optimal_rows makespan starts = (codes "optimal" ++ spaced_times (makespan ∷ [])) ∷ (codes "starts" ++ spaced_times starts) ∷ []
+
 -- the rows of a claim
 abbrev pub claim_rows : Claim → List (List ℕ)
-claim_rows (claims.Optimal makespan starts) =
-    (codes "optimal" ++ spaced_times (makespan ∷ [])) ∷ (codes "starts" ++ spaced_times starts) ∷ []
+claim_rows (claims.Optimal makespan starts) = optimal_rows makespan starts
 claim_rows claims.NoSchedule = codes "no schedule" ∷ []
 
--- a line's bytes with its LF
-abbrev pub line_text : Line → List ℕ
-line_text line = ended (row_of line)
+-- what a claim says, apart from the starts
+abbrev pub says : Claim → Proved
+says (claims.Optimal makespan starts) = proved.Optimal makespan
+says claims.NoSchedule = proved.NoSchedule
 
 -- a number that the text can hold
 abbrev pub IsNumber : ℕ → Type 0
@@ -56,6 +62,7 @@ abbrev pub search_kind : Kind Claim Line
 search_kind = record {
   title = codes "record 1";
   claim_rows = claim_rows;
+  says = says;
   row_of = row_of;
   IsClaim = IsWritableClaim;
   IsLine = IsWritableLine;

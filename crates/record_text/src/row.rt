@@ -1,15 +1,13 @@
 //! Reads one line of a record.
 
-ghost use Rattle.std.specs.Prelude.{◌≡◌, IfOk, IfErr, Some};
+ghost use Rattle.std.specs.Prelude.{◌≡◌, IfOk};
 ghost use Rattle.record_text.specs.Reading.{leaf, force_of, split_of, line_from, line_of};
-ghost use Rattle.record_text.specs.TextFaults.{IsFormFault};
 
-use crate::fault::RecordFault;
 use crate::fields::{numbers, split_field};
 use crate::line::Line;
 use crate::listed::Members;
 use network::Pair;
-use std::alloc::Global;
+use std::alloc::{AllocError, Global};
 
 /// The line of a split of these numbers: its resource, then its members.
 fn split_of(mut numbers: Vec<usize>) -> Option<Line>
@@ -65,16 +63,12 @@ fn line_from(word: &[u8], numbers: Vec<usize>) -> Option<Line>
 }
 
 /// The line of the tree that a row is.
-pub(crate) fn line_of(alloc: Global, row: &[u8], line: usize) -> Result<Line, RecordFault>
-    ensures found { IfOk result (λ found. line_of row.now ≡ Some found) }
-    ensures fault { IfErr result (IsFormFault (line_of row.now) line) }
+pub(crate) fn line_of(alloc: Global, row: &[u8]) -> Result<Option<Line>, AllocError>
+    ensures { IfOk result (λ found. found ≡ line_of row.now) }
 {
     let (word, rest) = split_field(row);
     let Some(numbers) = numbers(alloc, rest)? else {
-        return Err(RecordFault::form(line));
+        return Ok(None);
     };
-    match line_from(word, numbers) {
-        Some(found) => Ok(found),
-        None => Err(RecordFault::form(line)),
-    }
+    Ok(line_from(word, numbers))
 }

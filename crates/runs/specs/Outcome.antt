@@ -18,6 +18,7 @@ use Rattle.record_text.specs.Text.{search_kind}
 use Rattle.record_text.specs.TextFaults.{IsFirstTextFault}
 use Rattle.record_text.specs.declared.fault.RecordFault.{RecordFault}
 use Rattle.search_record.specs.Right as wrongs
+use Rattle.search_record.specs.Right.{search_judge}
 use Rattle.answers.specs.declared.fault.Fault.{Fault}
 use Rattle.answers.specs.Answers.{IsEarliestText, IsCheckText, IsStartedText, IsTidyText, IsProvedText}
 use Rattle.answers.specs.Outcomes.{IsUnstartedText}
@@ -34,23 +35,21 @@ abbrev pub IsJob : Job → Type 0
 IsJob (jobs.Solve workers takes start json recorded) = AreAllowed (worker_count workers) takes
 IsJob job = Unit {0}
 
--- whether a job reads a second input
-abbrev pub reads_second : Job → Bool
-reads_second jobs.Check = true
-reads_second jobs.Verify = true
-reads_second (jobs.Solve workers takes start json recorded) = start
-reads_second job = false
-
 -- whether it writes a record
 abbrev pub writes_record : Job → Bool
 writes_record (jobs.Solve workers takes start json recorded) = recorded
 writes_record job = false
 
--- whether it reads its project from the second input, and not from the first
+-- whether a job reads its project from the second input, and not from the first
 abbrev pub project_is_second : Job → Bool
 project_is_second jobs.Check = true
 project_is_second jobs.Verify = true
 project_is_second job = false
+
+-- whether a job reads a second input
+abbrev pub reads_second : Job → Bool
+reads_second (jobs.Solve workers takes start json recorded) = start
+reads_second job = project_is_second job
 
 -- whether workers search; one thread searches by itself where no workers are asked for, no starts are handed
 -- in and no record is made
@@ -122,7 +121,7 @@ IsAnswer (jobs.Solve workers takes false json recorded) text second exit written
 IsAnswer (jobs.Solve workers takes true json recorded) text second exit written = SpellsOne text (λ p. GivesStarts p second (λ starts. IsStartedText p starts json exit written))
 IsAnswer jobs.Check text second exit written = SpellsOne second (λ p. GivesStarts p text (λ starts. IsCheckText p starts exit written))
 IsAnswer jobs.Tidy text second exit written = SpellsOne text (λ p. IsTidyText p exit written)
-IsAnswer jobs.Verify text second exit written = SpellsOne second (λ p. GivesRecord search_kind text (λ shown. IsProvedText p shown exit written))
+IsAnswer jobs.Verify text second exit written = SpellsOne second (λ p. GivesRecord search_kind text (λ shown. (exit ≡ 0) × IsProvedText search_kind search_judge p shown written))
 
 -- why a job has no answer to its two texts
 abbrev pub IsRefusal : Job → List ℕ → List ℕ → Fault → Type 0

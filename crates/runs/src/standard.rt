@@ -5,24 +5,38 @@ ghost use Rattle.std.specs.Prelude.{◌≡◌};
 use crate::device::{Failed, Input, Output};
 use std::io::{Read, Write};
 
-/// An input over a reader. It tells what the reader tells: a file nothing, a slice its bytes.
+/// A device over a reader or a writer. It tells what that tells: a file nothing, a slice its bytes. A write that takes
+/// nothing counts as a failure.
 #[derive(Drop)]
-pub struct Reader<R> {
-    inner: R,
+pub struct Counted<D> {
+    inner: D,
     pub failures: u64,
 }
 
-impl<R> Reader<R> {
-    /// An input over this reader, which hasn't failed.
-    pub fn new(inner: R) -> Reader<R>
+impl<D> Counted<D> {
+    /// A device over this reader or writer, which hasn't failed.
+    pub fn new(inner: D) -> Counted<D>
         ensures inner { result.inner ≡ inner }
         ensures failures { result.failures ≡ 0 }
     {
-        Reader { inner, failures: 0 }
+        Counted { inner, failures: 0 }
+    }
+
+    /// The reader or the writer.
+    pub fn into_inner(self) -> D
+        ensures { result ≡ self.inner }
+    {
+        self.inner
     }
 }
 
-impl<R: Read> Input for Reader<R> {
+/// An input over a reader.
+pub type Reader<R> = Counted<R>;
+
+/// An output over a writer.
+pub type Writer<W> = Counted<W>;
+
+impl<R: Read> Input for Counted<R> {
     ghost left = { λ device. R.remaining device.inner };
 
     ghost failed = { λ device. device.failures };
@@ -42,31 +56,7 @@ impl<R: Read> Input for Reader<R> {
     }
 }
 
-/// An output over a writer. A write that takes nothing counts as a failure.
-#[derive(Drop)]
-pub struct Writer<W> {
-    inner: W,
-    pub failures: u64,
-}
-
-impl<W> Writer<W> {
-    /// An output over this writer, which hasn't failed.
-    pub fn new(inner: W) -> Writer<W>
-        ensures inner { result.inner ≡ inner }
-        ensures failures { result.failures ≡ 0 }
-    {
-        Writer { inner, failures: 0 }
-    }
-
-    /// The writer.
-    pub fn into_inner(self) -> W
-        ensures { result ≡ self.inner }
-    {
-        self.inner
-    }
-}
-
-impl<W: Write> Output for Writer<W> {
+impl<W: Write> Output for Counted<W> {
     ghost held = { λ device. W.contents device.inner };
 
     ghost failed = { λ device. device.failures };

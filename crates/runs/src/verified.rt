@@ -2,7 +2,8 @@
 
 ghost use Rattle.std.specs.Prelude.{◌≡◌, ◌≢◌, IfOk, IfErr};
 ghost use Rattle.record_text.specs.Text.{search_kind};
-ghost use Rattle.search_record.specs.Right as wrongs;
+ghost use Rattle.search_record.specs.Right.{search_judge};
+ghost use Rattle.record_text.specs.FirstWrong.{IsFirstFaultBy};
 ghost use Rattle.answers.specs.declared.fault.Fault.{Fault};
 ghost use Rattle.answers.specs.Answers.{IsProvedText};
 ghost use Rattle.answers.specs.Faults.{exit_of, IsTextFault};
@@ -15,8 +16,9 @@ use std::alloc::Global;
 
 /// What a record proves of a project.
 fn proof_of(alloc: Global, project: &Project, shown: &Record) -> Result<Answer, Fault>
-    ensures said { IfOk result (λ a. IsProvedText project.now shown.now a.exit a.text.items) }
-    ensures refused { IfErr result (λ fault. exit_of fault ≢ 1 → Tells (wrongs.IsFirstFault project.now shown.now) fault) }
+    ensures said { IfOk result
+        (λ a. (a.exit ≡ 0) × IsProvedText search_kind search_judge project.now shown.now a.text.items) }
+    ensures refused { IfErr result (λ fault. exit_of fault ≢ 1 → Tells (IsFirstFaultBy search_judge project.now shown.now) fault) }
     ensures cause { IfErr result IsTextFault }
 {
     let proved = verify(alloc, project, shown)?;
@@ -27,8 +29,8 @@ fn proof_of(alloc: Global, project: &Project, shown: &Record) -> Result<Answer, 
 /// What the record in a text proves of a project. Otherwise the first fault of the text, or of the record.
 pub(crate) fn verified(alloc: Global, project: &Project, text: &[u8]) -> Result<Answer, Fault>
     ensures said { IfOk result
-        (λ a. GivesRecord search_kind text.now (λ shown. IsProvedText project.now shown a.exit a.text.items)) }
-    ensures refused { IfErr result (λ fault. exit_of fault ≢ 1 → IsNoProof search_kind (wrongs.IsFirstFault project.now) text.now fault) }
+        (λ a. GivesRecord search_kind text.now (λ shown. (a.exit ≡ 0) × IsProvedText search_kind search_judge project.now shown a.text.items)) }
+    ensures refused { IfErr result (λ fault. exit_of fault ≢ 1 → IsNoProof search_kind (IsFirstFaultBy search_judge project.now) text.now fault) }
     ensures cause { IfErr result IsTextFault }
 {
     let shown = Record::read(alloc, text)?;

@@ -3,6 +3,7 @@
 #![tactic(auto)]
 
 mod acceptance;
+mod claimed;
 mod entry;
 mod fault;
 mod line;
@@ -12,6 +13,7 @@ mod table;
 mod violation;
 
 pub use acceptance::{AcceptFault, accept};
+pub use claimed::check_claimed;
 pub use fault::StartsFault;
 pub use members::{are_members, is_forbidden};
 pub use starts_text::read_starts;

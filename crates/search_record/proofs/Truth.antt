@@ -1,13 +1,15 @@
 -- What a right record claims is true.
-use Rattle.std.proofs.Common.{◌≡◌, ◌-◌, ◌<◌, ◌≤◌, List, [], ◌∷◌, ◌++◌, length, sym, subst, ⊎_elim, arith, Option, Some, None, ℕ, ◌∙◌, ℤ, inl, inr, refl, ap, zero, suc, pos, negsuc, ◌≤ℤ◌, map}
-use Rattle.std.specs.List.{All, Contains, AllByRecursion, range_with_len}
+use Rattle.std.proofs.Common.{◌≡◌, ◌-◌, ◌<◌, ◌≤◌, List, [], ◌∷◌, ◌++◌, length, sym, subst, ⊎_elim, arith, Option, Some, None, ℕ, ◌∙◌, ℤ, refl, ap, suc, pos, negsuc, ◌≤ℤ◌, map, append-nil}
+use Rattle.std.specs.List.{All, Contains, AllByRecursion}
 use Rattle.std.proofs.lemmas.Bool.{cases_lt}
 use Rattle.std.proofs.lemmas.Int.{ints}
-use Rattle.std.proofs.lemmas.List.Elements.{All-nil, All-head, All-tail, All-push, All-contains, Contains-append_left, Contains-append_right}
+use Rattle.std.proofs.lemmas.List.Elements.{All-nil, All-head, All-tail, All-push, All-contains}
 use Rattle.network.specs.declared.parts.Pair.{Pair}
-use Rattle.network.specs.Problem.{Problem, activity_count, IsProject, AreStarts, end_of, start_arc, end_arc, implied_arcs, rules}
+use Rattle.network.specs.Problem.{Problem, activity_count, IsProject, AreStarts, arcs_of, rules}
 use Rattle.network.specs.Schedule.{Keeps, IsSchedule, IsFeasible, IsLeastSchedule, KeepsAll, makespan, StandsFor, start, Meets}
-use Rattle.network.proofs.Schedules.{no_schedule_on_cycle}
+use Rattle.network.specs.declared.parts.Lag.{Lag}
+use Rattle.network.proofs.Schedules.{no_schedule_on_cycle, walk_holds}
+use Rattle.earliest.proofs.Ends.{from_start}
 use Rattle.branching.specs.Subproblem.{ordered_pairs}
 use Rattle.branching.specs.Right.{IsCutUnder, IsSolvedUnder}
 use Rattle.branching.proofs.OrderedPairs.{contains_cases}
@@ -19,15 +21,16 @@ use Rattle.record_text.specs.declared.line.Claim.TheVariants as claims
 use Rattle.record_text.specs.declared.line.Line.TheVariants as kind
 use Rattle.record_text.specs.Tree.{Tree, force, solved, cut, dead, split, Trees, tree, count_trees, IsTree, AreTrees, IsTreeOf, no_trees, lines_of, lines_of_all}
 use Rattle.search_record.specs.Due.{place, places, kid_places, Place}
-use Rattle.record_text.proofs.FirstWrong.{all_right, wrong_place, one_wrong, one_first}
-use Rattle.search_record.specs.Right.{limit_of, IsRightPlace, AreRightStarts, proved_of, IsTrueOf, RightIsTrue, AreRightLines, tree_line, why_wrong_at, IsFirstWrong, FaultIsWrong, FirstFaultIsOne, IsRightLine}
+use Rattle.record_text.proofs.FirstWrong.{all_right, wrong_place, one_wrong, fault_is_wrong, other_is_none}
+use Rattle.search_record.specs.Right.{limit_of, IsRightPlace, AreRightStarts, RightIsTrue, AreRightLines, why_wrong_at, IsFirstWrong, IsRightLine, search_judge}
+use Rattle.record_text.specs.FirstWrong.{IsFactOf, FaultIsWrong, OtherFaultIsNone}
+use Rattle.record_text.specs.Kinds.{first_line}
 use Rattle.search_record.proofs.Steps.{kid_for_each, flat_whole}
 use Rattle.record_text.specs.declared.fault.RecordFault.{RecordFault}
 use Rattle.record_text.specs.declared.line.Line.{Line}
 use Rattle.std.proofs.lemmas.List.{map-append}
-use Rattle.std.proofs.lemmas.List.FromFn.{get_or-map-range_with_len, length-map-range_with_len}
 use Rattle.network.specs.declared.limits.TheConstants.{MAX_START}
-use Rattle.record_text.specs.Text.{IsNumber, IsWritableTime, IsWritableClaim, IsWritableLine}
+use Rattle.record_text.specs.Text.{IsNumber, IsWritableTime, IsWritableClaim, IsWritableLine, search_kind, says}
 
 -- the schedule is not below the limit, and there is none where there is no limit
 abbrev ReachesLimit : Option ℤ → List ℤ → Type 0
@@ -86,7 +89,7 @@ mutual
 pub right_is_true : RightIsTrue
 right_is_true p r right = by_claim r.claim right.starts (λ s feasible. node_reaches p (limit_of r.claim) [] right.lines.whole s right.lines.tree_of.shape right.lines.right (record { feasible = feasible; keeps = All-nil (Keeps p s) }))
   where
-    by_claim : (claim : Claim) → AreRightStarts p claim → ((s : List ℤ) → IsFeasible p s → ReachesLimit (limit_of claim) s) → IsTrueOf p (proved_of claim)
+    by_claim : (claim : Claim) → AreRightStarts p claim → ((s : List ℤ) → IsFeasible p s → ReachesLimit (limit_of claim) s) → IsFactOf p (says claim)
     by_claim (claims.Optimal length starts) found least = record { witness = (starts, found.0, found.1); bound = least }
     by_claim claims.NoSchedule found least = λ s feasible. least s feasible
 
@@ -100,13 +103,12 @@ pub wrong_line : (p : Problem) (limit : Option ℤ) (first : ℕ) (lines : List 
 wrong_line p limit first lines fault found right =
     wrong_place (IsRightPlace p limit) why_wrong_at first (places [] found.whole) fault found.first_of (rw (same_places lines found.whole right.whole found.tree_of right.tree_of) right.right)
 
-pub fault_is_wrong : FaultIsWrong
-fault_is_wrong p r fault (inl starts) right = starts.wrong right.starts
-fault_is_wrong p r fault (inr found) right = wrong_line p (limit_of r.claim) (tree_line r.claim) r.lines fault found.first right.lines
+pub faulty_is_wrong : FaultIsWrong search_judge
+faulty_is_wrong = fault_is_wrong search_judge (λ p claim lines fault found. wrong_line p (limit_of claim) (first_line search_kind claim) lines fault found)
 
-pub one_fault : FirstFaultIsOne
-one_fault p r a b = one_first (AreRightStarts p r.claim) (IsFirstWrong p (limit_of r.claim) (tree_line r.claim) r.lines) (λ a b f g.
-    one_wrong (IsRightPlace p (limit_of r.claim)) why_wrong_at (tree_line r.claim) _ _ a b (same_places r.lines f.whole g.whole f.tree_of g.tree_of) f.first_of g.first_of) a b
+pub one_fault : OtherFaultIsNone search_judge
+one_fault = other_is_none search_judge (λ p claim lines a b f g.
+    one_wrong (IsRightPlace p (limit_of claim)) why_wrong_at (first_line search_kind claim) _ _ a b (same_places lines f.whole g.whole f.tree_of g.tree_of) f.first_of g.first_of)
 
 -- ---- The numbers of a right record can be spelled.
 
@@ -154,17 +156,10 @@ spelled_tree p limit is t shape right = rw (sym (lines_at t [] shape)) (spelled_
 
 -- no activity starts before 0
 after_zero : (p : Problem) (s : List ℤ) → IsSchedule p s → (i : ℕ) → i < activity_count p → pos 0 ≤ℤ start s i
-after_zero p s is zero lt = omega (arith, ints, is.from_zero)
-after_zero p s is (suc i) lt =
-    let starts = map start_arc (range_with_len 1 (end_of p)) in
-    let len = length-map-range_with_len start_arc 1 (end_of p) in
-    let low : i < end_of p = omega arith in
-    let here : Contains (map start_arc (range_with_len 1 (end_of p))) (start_arc (suc i)) =
-    (i, rw len low, get_or-map-range_with_len start_arc 1 (end_of p) i (suc i) (start_arc (suc i)) low (omega arith)) in
-    let rule : Contains (rules p) (start_arc (suc i)) =
-    Contains-append_right p.lags (implied_arcs p) (start_arc (suc i)) (Contains-append_left (map start_arc (range_with_len 1 (end_of p))) (map (end_arc p) (range_with_len 0 (end_of p))) (start_arc (suc i)) here) in
-    let met : Meets s (start_arc (suc i)) = All-contains (Meets s) (rules p) (start_arc (suc i)) is.rules_met rule in
-    omega (arith, ints, met, is.from_zero)
+after_zero p s is i lt =
+    let far = from_start p [] i lt in
+    let met : (e : Lag) → Contains (arcs_of p []) e → Meets s e = λ e c. All-contains (Meets s) (rules p) e is.rules_met (subst (λ (arcs : List Lag). Contains arcs e) (append-nil (rules p)) c) in
+    omega (arith, ints, walk_holds (arcs_of p []) s met 0 i far.walk far.goes, far.weighs, is.from_zero)
 
 spelled_time : (z : ℤ) → pos 0 ≤ℤ z → z ≤ℤ MAX_START → IsWritableTime z
 spelled_time (pos n) low high = omega (arith, ints, high)

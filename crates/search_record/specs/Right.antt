@@ -1,10 +1,10 @@
 -- When a record is right for a project.
-use Rattle.std.specs.Prelude.{◌≡◌, ◌↔◌, ℤ, Bool, IsTrue, Option, Some, None, List, [], ◌<◌, ◌∷◌, ℕ, ◌+◌, length}
+use Rattle.std.specs.Prelude.{◌↔◌, ℤ, Bool, IsTrue, Option, Some, None, List, [], ◌<◌, ◌∷◌, ℕ}
 use Rattle.std.specs.List.{All}
 use Rattle.network.specs.declared.parts.Pair.{Pair}
 use Rattle.network.specs.Problem.{Problem, activity_count, NameActivities, AreStarts}
 use Rattle.network.specs.Walk.{IsProjectMatrix, Rows}
-use Rattle.network.specs.Schedule.{IsFeasible, makespan, ScheduleOf, IsShortest, HasNoSchedule}
+use Rattle.network.specs.Schedule.{IsFeasible, makespan, ScheduleOf}
 use Rattle.branching.specs.Subproblem.{IsLive}
 use Rattle.branching.specs.Right.{IsForced, IsRightSet, IsDead, IsCutUnder, IsSolvedUnder}
 use Rattle.record_text.specs.declared.line.Claim.{Claim}
@@ -13,14 +13,12 @@ use Rattle.record_text.specs.declared.line.Line.{Line}
 use Rattle.record_text.specs.declared.line.Line.TheVariants as kind
 use Rattle.record_text.specs.Tree.{SearchRecord, IsTreeOf, Tree}
 use Rattle.search_record.specs.Due.{Place, places}
-use Rattle.search_record.specs.declared.verification.Proved.{Proved}
-use Rattle.search_record.specs.declared.verification.Proved.TheVariants.{Optimal, NoSchedule}
 use Rattle.record_text.specs.declared.fault.RecordFault.{RecordFault}
 use Rattle.record_text.specs.declared.fault.Why.{Why}
 use Rattle.record_text.specs.declared.fault.Why.TheVariants as why
-use Rattle.record_text.specs.FirstWrong.{IsFirstWrongOf, IsFirstFaultOf}
-use Rattle.record_text.specs.Kinds.{head_rows}
-use Rattle.record_text.specs.Text.{search_kind}
+use Rattle.record_text.specs.FirstWrong.{HasMakespan, IsFactOf, IsFirstWrongOf, Judge, IsRightBy, IsFirstFaultBy}
+use Rattle.record_text.specs.Kinds.{first_line}
+use Rattle.record_text.specs.Text.{search_kind, says}
 
 -- the makespan that no schedule may be below, if one is claimed
 abbrev pub limit_of : Claim → Option ℤ
@@ -50,12 +48,8 @@ pub record AreRightLines (p : Problem) (limit : Option ℤ) (lines : List Line) 
 
 -- the starts are a feasible schedule of the makespan that is claimed
 abbrev pub AreRightStarts : Problem → Claim → Type 0
-AreRightStarts p (claims.Optimal length starts) = IsFeasible p starts × (makespan starts ≡ length)
+AreRightStarts p (claims.Optimal length starts) = HasMakespan p starts length
 AreRightStarts p claims.NoSchedule = Unit {0}
-
-pub record IsRight (p : Problem) (r : SearchRecord) : Type 0 where
-  pub starts : AreRightStarts p r.claim
-  pub lines : AreRightLines p (limit_of r.claim) r.lines
 
 -- ---- Which lines name activities alone.
 
@@ -76,27 +70,7 @@ claim_of (Some best) = claims.Optimal (makespan best.starts) best.starts
 abbrev pub IsKeptSchedule : ScheduleOf → Type 0
 IsKeptSchedule s = IsFeasible s.project s.starts × AreStarts s.project s.starts
 
--- ---- What a right record proves.
-
--- what a claim says, apart from the starts
-abbrev pub proved_of : Claim → Proved
-proved_of (claims.Optimal makespan starts) = Optimal makespan
-proved_of claims.NoSchedule = NoSchedule
-
--- it is true of the project
-abbrev pub IsTrueOf : Problem → Proved → Type 0
-IsTrueOf p (Optimal makespan) = IsShortest p makespan
-IsTrueOf p NoSchedule = HasNoSchedule p
-
--- what a right record claims is true
-abbrev pub RightIsTrue : Type 0
-RightIsTrue = (p : Problem) (r : SearchRecord) → IsRight p r → IsTrueOf p (proved_of r.claim)
-
 -- ---- The first fault of a record that is not right.
-
--- the number of the tree's first line
-abbrev pub tree_line : Claim → ℕ
-tree_line claim = length (head_rows search_kind claim) + 1
 
 -- what is wrong where a line is
 abbrev pub why_wrong : Line → Why
@@ -119,15 +93,21 @@ abbrev pub IsFirstWrongOfDead : ℕ → List Line → RecordFault → Type 0
 IsFirstWrongOfDead first lines fault =
     (p : Problem) (limit : Option ℤ) → IsDead p [] → IsFirstWrong p limit first lines fault
 
--- the starts come first, then the lines in their order
+-- ---- What is right in a record of a search.
+
+abbrev pub search_judge : Judge Claim Line
+search_judge = record {
+  AreRightStarts = AreRightStarts;
+  AreRightLines = λ p claim lines. AreRightLines p (limit_of claim) lines;
+  IsFirstWrong = λ p claim lines fault. IsFirstWrong p (limit_of claim) (first_line search_kind claim) lines fault;
+}
+
+abbrev pub IsRight : Problem → SearchRecord → Type 0
+IsRight p r = IsRightBy search_judge p r
+
 abbrev pub IsFirstFault : Problem → SearchRecord → RecordFault → Type 0
-IsFirstFault p r fault =
-    IsFirstFaultOf (AreRightStarts p r.claim) (IsFirstWrong p (limit_of r.claim) (tree_line r.claim) r.lines) fault
+IsFirstFault p r fault = IsFirstFaultBy search_judge p r fault
 
--- a record with a first fault is not right
-abbrev pub FaultIsWrong : Type 0
-FaultIsWrong = (p : Problem) (r : SearchRecord) (fault : RecordFault) → IsFirstFault p r fault → ¬ IsRight p r
-
--- and has no other
-abbrev pub FirstFaultIsOne : Type 0
-FirstFaultIsOne = (p : Problem) (r : SearchRecord) (a b : RecordFault) → IsFirstFault p r a → IsFirstFault p r b → a ≡ b
+-- what a right record claims is true
+abbrev pub RightIsTrue : Type 0
+RightIsTrue = (p : Problem) (r : SearchRecord) → IsRight p r → IsFactOf p (says r.claim)

@@ -7,7 +7,9 @@ ghost use Rattle.network.specs.Schedule.{IsFeasible};
 ghost use Rattle.branching.specs.Fair.{IsScheduleFor};
 ghost use Rattle.lemma_text.specs.Text.{lemma_kind};
 ghost use Rattle.record_text.specs.Kinds as records;
-ghost use Rattle.lemma_check.specs.Right.{IsRight, proved_of, IsTrueOf};
+ghost use Rattle.record_text.specs.FirstWrong.{IsFactOf};
+ghost use Rattle.lemma_text.specs.Text.{says};
+ghost use Rattle.lemma_check.specs.Right.{IsRight};
 ghost use Rattle.answers.specs.Faults.{exit_of, IsNoDeviceFault};
 ghost use Rattle.solve_runs.specs.Story.{IsShown};
 
@@ -90,7 +92,7 @@ fn best_of(
 /// Whether the record is right for the project, so that its claim is true.
 fn check(alloc: Global, project: &Project, shown: &LemmaRecord) -> Result<(), Fault>
     ensures right { OnOk result (IsRight project.now shown.now) }
-    ensures holds { OnOk result (IsTrueOf project.now (proved_of shown.now.claim)) }
+    ensures holds { OnOk result (IsFactOf project.now (says shown.now.claim)) }
     ensures status { IfErr result (λ fault. exit_of fault ≡ 1) }
     ensures cause { IfErr result IsNoDeviceFault }
 {

@@ -6,7 +6,9 @@ use Rattle.std.proofs.lemmas.Result.{on_ok_weaker, IfErr-weaker}
 use Rattle.network.specs.Problem.{Problem}
 pub use Rattle.record_text.specs.declared.fault.Why.TheVariants.{Memory}
 use Rattle.record_text.proofs.FirstWrong.{fault_at}
-use Rattle.lemma_check.specs.Right.{first_line, why_wrong, IsFirstWrong, IsRightAt, IsRightLine}
+use Rattle.record_text.specs.Kinds.{first_line}
+use Rattle.lemma_text.specs.Text.{lemma_kind}
+use Rattle.lemma_check.specs.Right.{why_wrong, IsFirstWrong, IsRightAt, IsRightLine}
 use Rattle.lemma_check.specs.Places.{Place, first_place}
 use Rattle.lemma_check.specs.Standing.{IsDeadAt}
 use Rattle.lemma_check.proofs.Standings.{memory_says, place_at, place_more, right_more, right_all, first_wrong}
@@ -21,7 +23,7 @@ pub returns-in_default-clause-fault : goal.returns-in_default-clause-fault
 returns-in_default-clause-fault c =
     let at : Place = first_place c.args.project.now c.args.claim.now in
     let dead : IsDeadAt (first_place c.args.project.now c.args.claim.now) = rw c.in_default.is at c.in_ok-state.ensures in
-    rw (sym c.first_line-first.ensures) (IfErr-weaker c.check_dead.result
+    rw (sym c.first_line-first.ensures.is) (IfErr-weaker c.check_dead.result
     (λ fault. (p : Problem) (at : Place) → IsDeadAt at → IsFirstWrong p at c.first_line-first.result c.args.lines.now fault)
     (λ fault. fault.why ≢ Memory → IsFirstWrong c.args.project.now at c.first_line-first.result c.args.lines.now fault)
     (λ fault wrong known. wrong c.args.project.now at dead) c.check_dead.ensures.fault)
@@ -37,11 +39,11 @@ returns-then-not-is_right-clause-fault c = λ _.
     let at : Place = first_place c.args.project.now c.args.claim.now in
     let i = c.loop-index.index in
     let told : fault_at (c.first_line-first.result + c.loop-index.index) c.why_wrong.result ≡ fault_at (c.first_line-first.result + c.loop-index.index) (why_wrong c.index-lines-index.result) = ap (fault_at (c.first_line-first.result + i)) c.why_wrong.ensures in
-    rw (sym c.first_line-first.ensures) (first_wrong p at c.first_line-first.result c.args.lines.now i c.index-lines-index.result (fault_at (c.first_line-first.result + i) c.why_wrong.result) c.loop-index-test.true c.index-lines-index.is c.loop-index.invariant.right
+    rw (sym c.first_line-first.ensures.is) (first_wrong p at c.first_line-first.result c.args.lines.now i c.index-lines-index.result (fault_at (c.first_line-first.result + i) c.why_wrong.result) c.loop-index-test.true c.index-lines-index.is c.loop-index.invariant.right
     (iff_false (c.is_right.ensures (place_at p at c.args.lines.now i) c.loop-index.invariant.stands) c.if-not-is_right.true) told)
 
 pub returns-in_err-go_on-clause-fault : goal.returns-in_err-go_on-clause-fault
-returns-in_err-go_on-clause-fault c = memory_says (IsFirstWrong c.args.project.now (first_place c.args.project.now c.args.claim.now) (first_line c.args.claim.now) c.args.lines.now) c.from_residual-in_err-go_on.result c.from_residual-in_err-go_on.ensures.1
+returns-in_err-go_on-clause-fault c = memory_says (IsFirstWrong c.args.project.now (first_place c.args.project.now c.args.claim.now) (first_line lemma_kind c.args.claim.now) c.args.lines.now) c.from_residual-in_err-go_on.result c.from_residual-in_err-go_on.ensures.1
 
 pub loop-index-preserved : goal.loop-index-preserved
 loop-index-preserved c =

@@ -1,24 +1,28 @@
-use Rattle.std.proofs.Common.{◌≡◌}
-use Rattle.std.specs.List.{All}
+use Rattle.std.proofs.Common.{◌≡◌, ◌≢◌, ◌∙◌, ap, inr, rules}
 use Rattle.std.proofs.lemmas.Result.{err_from_is_err_and}
 pub use Rattle.record_text.specs.declared.fault.Why.TheVariants.{Memory}
-use Rattle.record_text.proofs.KindLaws.{is_memory}
-use Rattle.lemma_check.specs.Right.{first_line, AreRightStarts, IsRightLine}
-use Rattle.lemma_check.specs.Places.{first_place, placed}
-use Rattle.lemma_check.proofs.Truth.{right_is_true, wrong_line}
+use Rattle.record_text.specs.Kinds.{first_line}
+use Rattle.record_text.proofs.FirstWrong.{refused}
+use Rattle.lemma_text.specs.Text.{lemma_kind, says}
+use Rattle.lemma_check.specs.Right.{AreRightStarts, AreRightFrom, IsFirstWrong, IsRight, lemma_judge}
+use Rattle.lemma_check.specs.Places.{first_place}
+use Rattle.lemma_check.proofs.Truth.{right_is_true, faulty_is_wrong}
 use Rattle.lemma_check.proofs.verification.verify.Goals as goal
 
-pub returns-in_err-check_lines-clause-only : goal.returns-in_err-check_lines-clause-only
-returns-in_err-check_lines-clause-only c = λ right.
-    let p = c.args.project.now in
+pub returns-in_err-check_lines : goal.returns-in_err-check_lines
+returns-in_err-check_lines c =
     let from = err_from_is_err_and c.from_residual-in_err-check_lines.result c.from_residual-in_err-check_lines.ensures.1 in
-    let lines : All (IsRightLine c.args.project.now) (placed c.args.project.now (first_place c.args.project.now c.claim-claim.result.now) c.lines.result.now) = rw (c.claim-claim.ensures.claim, c.lines.ensures.lines) right.lines in
-    let why : c.in_err-check_lines.field-0.0.why ≡ Memory = is_memory c.in_err-check_lines.field-0.0.why (λ known.
-    wrong_line p (first_place p c.claim-claim.result.now) (first_line c.claim-claim.result.now) c.lines.result.now c.in_err-check_lines.field-0.0 (c.in_err-check_lines.ensures.fault known) lines) in
-    rw (from.1, from.2) why
+    let claimed : AreRightStarts c.args.project.now c.claim-claim.result.now = search rules in
+    let starts : AreRightStarts c.args.project.now c.args.shown.now.claim = rw c.claim-claim.ensures.claim at claimed in
+    let first : c.in_err-check_lines.field-0.0.why ≢ Memory → IsFirstWrong c.args.project.now (first_place c.args.project.now c.args.shown.now.claim) (first_line lemma_kind c.args.shown.now.claim) c.args.shown.now.lines c.in_err-check_lines.field-0.0 =
+    rw (c.claim-claim.ensures.claim, c.lines.ensures.lines) at c.in_err-check_lines.ensures.fault in
+    rw (from.1, from.2) (refused lemma_kind lemma_judge faulty_is_wrong c.args.project.now c.args.shown.now c.in_err-check_lines.field-0.0 (λ known. inr (record { starts = starts; first = first known })))
 
-pub returns-clause-holds : goal.returns-clause-holds
-returns-clause-holds c =
-    let starts : AreRightStarts c.args.project.now c.args.shown.now.claim = rw c.claim-claim.ensures.claim at (c.in_ok-has_right_starts.ensures.0 c.if-not-branch.false) in
-    let lines : All (IsRightLine c.args.project.now) (placed c.args.project.now (first_place c.args.project.now c.args.shown.now.claim) c.args.shown.now.lines) = rw (c.claim-claim.ensures.claim, c.lines.ensures.lines) at c.in_ok-check_lines.ensures.right in
-    rw (c.proved_of.ensures, c.claim-claim.ensures.claim) (right_is_true c.args.project.now c.args.shown.now c.claim-claim.ensures.record (record { starts = starts; lines = lines }))
+pub returns : goal.returns
+returns c =
+    let claimed : AreRightStarts c.args.project.now c.claim-claim.result.now = search rules in
+    let starts : AreRightStarts c.args.project.now c.args.shown.now.claim = rw c.claim-claim.ensures.claim at claimed in
+    let lines : AreRightFrom c.args.project.now (first_place c.args.project.now c.args.shown.now.claim) c.args.shown.now.lines = rw (c.claim-claim.ensures.claim, c.lines.ensures.lines) at c.in_ok-check_lines.ensures.right in
+    let right : IsRight c.args.project.now c.args.shown.now = record { starts = starts; lines = lines } in
+    let said : c.says.result ≡ says c.args.shown.now.claim = c.says.ensures ∙ ap says c.claim-claim.ensures.claim in
+    record { right = right; proved = said; holds = rw said (right_is_true c.args.project.now c.args.shown.now c.claim-claim.ensures.record right); fault = tt; only = λ _. tt }

@@ -1,9 +1,9 @@
 use Rattle.std.proofs.Common.{◌∙◌, ◌≡◌, inl, inr}
 use Rattle.std.proofs.lemmas.Result.{MatchResult-weaker, err_from_is_err_and}
 use Rattle.lemma_text.specs.Text.{lemma_kind}
-use Rattle.lemma_check.specs.Right.{IsFirstFault}
+use Rattle.lemma_check.specs.Right.{IsFirstFault, lemma_judge}
 use Rattle.runs.proofs.TextLaws.{spells_one, record_whole, no_proof_whole}
-use Rattle.lemma_runs.specs.Outcome.{IsProvedText}
+use Rattle.answers.specs.Answers.{IsProvedText}
 use Rattle.lemma_runs.proofs.running.proof.Goals as goal
 
 pub returns-in_err-project-clause-refused : goal.returns-in_err-project-clause-refused
@@ -19,7 +19,7 @@ returns-clause-said g c =
     (λ a said. (
       said.0,
       λ text told more told_more. spells_one p more _ c.in_ok-project.ensures.project told_more
-          (record_whole lemma_kind c.deref.result.now text (λ shown. IsProvedText p shown a.text.items) (c.deref.ensures.value ∙ c.in_ok-project.ensures.told text told) said.1),
+          (record_whole lemma_kind c.deref.result.now text (λ shown. IsProvedText lemma_kind lemma_judge p shown a.text.items) (c.deref.ensures.value ∙ c.in_ok-project.ensures.told text told) said.1),
     ))
     (λ _ _. tt)
 

@@ -3,7 +3,7 @@ use Rattle.std.proofs.lemmas.Result.{MatchResult-weaker, err_from_is_err_and}
 use Rattle.runs.proofs.CallLaws.{answers_alone}
 use Rattle.runs.proofs.TextLaws.{spells_one, starts_whole, starts_fault_whole, record_whole, no_proof_whole}
 use Rattle.record_text.specs.Text.{search_kind}
-use Rattle.search_record.specs.Right.{IsFirstFault}
+use Rattle.search_record.specs.Right.{IsFirstFault, search_judge}
 use Rattle.answers.specs.Answers.{IsCheckText, IsProvedText}
 use Rattle.runs.proofs.one_thread.job_answer.Goals as goal
 
@@ -39,7 +39,7 @@ returns-in_ok-project-in-Verify-clause-said g c =
     let p = c.in_ok-project-in-Verify.project in
     MatchResult-weaker c.verified.result c.verified.ensures.said
     (λ a said text more told told_more. rw c.in-Verify.is (spells_one p more _ c.in_ok-project-in-Verify.ensures.project (told_more (rw c.in-Verify.is refl))
-    (record_whole search_kind c.deref-in-Verify.result.now text (λ shown. IsProvedText p shown a.exit a.text.items) (c.deref-in-Verify.ensures.value ∙ c.in_ok-project-in-Verify.ensures.told text told) said)))
+    (record_whole search_kind c.deref-in-Verify.result.now text (λ shown. (a.exit ≡ 0) × IsProvedText search_kind search_judge p shown a.text.items) (c.deref-in-Verify.ensures.value ∙ c.in_ok-project-in-Verify.ensures.told text told) said)))
     (λ _ _. tt)
 
 pub returns-in_ok-project-in-Verify-clause-refused : goal.returns-in_ok-project-in-Verify-clause-refused

@@ -7,7 +7,7 @@ use Rattle.record_text.proofs.KindLaws.{missing_fault, form_fault, stands_second
 use Rattle.lemma_text.specs.Text.{lemma_kind}
 use Rattle.lemma_text.specs.Reading.{amount_after}
 use Rattle.lemma_text.proofs.TextLaws.{stands_third, no_second, no_third, bound_read, optimal_read, facts}
-use Rattle.lemma_text.proofs.read.read_claim.Goals as goal
+use Rattle.lemma_text.proofs.record.LineRecordLineClaim.read_claim.Goals as goal
 
 pub returns-in_err-row-clause-fault : goal.returns-in_err-row-clause-fault
 returns-in_err-row-clause-fault c =
@@ -15,17 +15,11 @@ returns-in_err-row-clause-fault c =
     let e = c.in_err-row.ensures.fault in
     rw (p.1, p.2) (λ known. missing_fault lemma_kind (codes "record 2" ∷ []) c.args.text.now c.in_err-row.field-0.0 (stands_second facts) e.0 e.1)
 
-pub returns-in-Some-clause-rows : goal.returns-in-Some-clause-rows
-returns-in-Some-clause-rows c =
+pub returns-in-Some-clause-claim : goal.returns-in-Some-clause-claim
+returns-in-Some-clause-claim c =
     let fits : SFits w64 c.in-Some.bound = search rules in
     let found : amount_after (codes "bound") c.in_ok-row.row.now ≡ Some c.in-Some.bound = search rules in
-    rw (to_z-of_z w64 c.in-Some.bound fits) (bound_read c.args.text.now c.in_ok-row.row.now c.in_ok-row.rest.now c.in-Some.bound c.in_ok-row.ensures.row found).0
-
-pub returns-in-Some-clause-writable : goal.returns-in-Some-clause-writable
-returns-in-Some-clause-writable c =
-    let fits : SFits w64 c.in-Some.bound = search rules in
-    let found : amount_after (codes "bound") c.in_ok-row.row.now ≡ Some c.in-Some.bound = search rules in
-    rw (to_z-of_z w64 c.in-Some.bound fits) (bound_read c.args.text.now c.in_ok-row.row.now c.in_ok-row.rest.now c.in-Some.bound c.in_ok-row.ensures.row found).1
+    rw (to_z-of_z w64 c.in-Some.bound fits) (bound_read c.args.text.now c.in_ok-row.row.now c.in_ok-row.rest.now c.in-Some.bound c.in_ok-row.ensures.row found)
 
 pub returns-in_default-2-clause-fault : goal.returns-in_default-2-clause-fault
 returns-in_default-2-clause-fault c = λ known.
@@ -50,18 +44,10 @@ returns-in_default-3-clause-fault c = λ known.
     (form_fault lemma_kind (codes "record 2" ∷ c.in_ok-row.row.now ∷ []) c.in_ok-row.rest.now c.in_ok-row-2.row.now c.in_ok-row-2.rest.now c.form-in_default-3.result (stands_third c.in_ok-row.row.now c.in-Some-2.makespan found)
     (no_third c.in_ok-row.row.now c.in_ok-row-2.row.now c.in-Some-2.makespan found none) c.in_ok-row-2.ensures.row c.form-in_default-3.ensures)
 
-pub returns-clause-rows : goal.returns-clause-rows
-returns-clause-rows c =
+pub returns-clause-claim : goal.returns-clause-claim
+returns-clause-claim c =
     let fits : SFits w64 c.in-Some-2.makespan = search rules in
     let found : amount_after (codes "optimal") c.in_ok-row.row.now ≡ Some c.in-Some-2.makespan = search rules in
     let starts : starts_in c.in_ok-row-2.row.now ≡ Some c.in-Some-3.starts = search rules in
     rw (to_z-of_z w64 c.in-Some-2.makespan fits)
-    (optimal_read c.args.text.now c.in_ok-row.row.now c.in_ok-row.rest.now c.in_ok-row-2.row.now c.in_ok-row-2.rest.now c.in-Some-2.makespan c.in-Some-3.starts c.in_ok-row.ensures.row found c.in_ok-row-2.ensures.row starts).0
-
-pub returns-clause-writable : goal.returns-clause-writable
-returns-clause-writable c =
-    let fits : SFits w64 c.in-Some-2.makespan = search rules in
-    let found : amount_after (codes "optimal") c.in_ok-row.row.now ≡ Some c.in-Some-2.makespan = search rules in
-    let starts : starts_in c.in_ok-row-2.row.now ≡ Some c.in-Some-3.starts = search rules in
-    rw (to_z-of_z w64 c.in-Some-2.makespan fits)
-    (optimal_read c.args.text.now c.in_ok-row.row.now c.in_ok-row.rest.now c.in_ok-row-2.row.now c.in_ok-row-2.rest.now c.in-Some-2.makespan c.in-Some-3.starts c.in_ok-row.ensures.row found c.in_ok-row-2.ensures.row starts).1
+    (optimal_read c.args.text.now c.in_ok-row.row.now c.in_ok-row.rest.now c.in_ok-row-2.row.now c.in_ok-row-2.rest.now c.in-Some-2.makespan c.in-Some-3.starts c.in_ok-row.ensures.row found c.in_ok-row-2.ensures.row starts)

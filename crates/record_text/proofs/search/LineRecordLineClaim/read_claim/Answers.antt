@@ -5,7 +5,7 @@ use Rattle.record_text.specs.TextFaults.{HasFault}
 use Rattle.record_text.specs.Text.{search_kind}
 use Rattle.record_text.proofs.KindLaws.{missing_fault, form_fault, stands_second}
 use Rattle.record_text.proofs.TextLaws.{stands_third, no_second, no_third, claim_read, facts}
-use Rattle.record_text.proofs.read.read_claim.Goals as goal
+use Rattle.record_text.proofs.search.LineRecordLineClaim.read_claim.Goals as goal
 
 pub returns-in_err-row-clause-fault : goal.returns-in_err-row-clause-fault
 returns-in_err-row-clause-fault c =
@@ -36,14 +36,8 @@ returns-in_err-starts-clause-fault c =
     (stands_third c.in_ok-row.row.now c.in_ok-makespan.makespan c.in_ok-makespan.ensures.found)
     (no_third c.in_ok-row.row.now c.in_ok-row-2.row.now c.in_ok-makespan.makespan c.in_ok-makespan.ensures.found e.0) c.in_ok-row-2.ensures.row e.1))
 
-pub returns-clause-rows : goal.returns-clause-rows
-returns-clause-rows c =
+pub returns-clause-claim : goal.returns-clause-claim
+returns-clause-claim c =
     let fits : SFits w64 c.in_ok-makespan.makespan = search rules in
     rw (to_z-of_z w64 c.in_ok-makespan.makespan fits)
-    (claim_read c.args.text.now c.in_ok-row.row.now c.in_ok-row.rest.now c.in_ok-row-2.row.now c.in_ok-row-2.rest.now c.in_ok-makespan.makespan c.in_ok-starts.starts c.in_ok-row.ensures.row c.in_ok-makespan.ensures.found c.in_ok-row-2.ensures.row c.in_ok-starts.ensures.found).0
-
-pub returns-clause-writable : goal.returns-clause-writable
-returns-clause-writable c =
-    let fits : SFits w64 c.in_ok-makespan.makespan = search rules in
-    rw (to_z-of_z w64 c.in_ok-makespan.makespan fits)
-    (claim_read c.args.text.now c.in_ok-row.row.now c.in_ok-row.rest.now c.in_ok-row-2.row.now c.in_ok-row-2.rest.now c.in_ok-makespan.makespan c.in_ok-starts.starts c.in_ok-row.ensures.row c.in_ok-makespan.ensures.found c.in_ok-row-2.ensures.row c.in_ok-starts.ensures.found).1
+    (claim_read c.args.text.now c.in_ok-row.row.now c.in_ok-row.rest.now c.in_ok-row-2.row.now c.in_ok-row-2.rest.now c.in_ok-makespan.makespan c.in_ok-starts.starts c.in_ok-row.ensures.row c.in_ok-makespan.ensures.found c.in_ok-row-2.ensures.row c.in_ok-starts.ensures.found)
