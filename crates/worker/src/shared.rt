@@ -76,12 +76,10 @@ fn gather<L: Ledger>(
     let mut tallies = Vec::with_capacity(alloc, desks.len())?;
     for desk in desks {
         let Desk {
-            number: _,
             accepted,
             ahead,
             share,
-            seat: _,
-            searcher: _,
+            ..
         } = desk;
         all.merge(share);
         tallies.push(Tally { accepted, ahead })?;
@@ -180,12 +178,10 @@ impl<L: Ledger> Shared<L> {
         ensures lists { IfOk result (AreListsOf report) }
     {
         let Desk {
-            number: _,
             accepted,
             ahead,
             share,
-            seat: _,
-            searcher: _,
+            ..
         } = desk;
         let mut locked = self.locked.lock(rt);
         let checked = locked.check_in(share, name, report);
@@ -265,16 +261,12 @@ impl<L: Ledger> Shared<L> {
         ensures shares { IfOk result (λ r. sum_by (λ t. t.accepted) r.1.items ≡ r.0.checked) }
         ensures tallies { IfOk result (λ r. r.1.items ≡ map tally_of desks.items) }
     {
-        let Shared {
-            locked,
-            changed: _,
-            best: _,
-        } = self;
+        let Shared { locked, .. } = self;
         let Locked {
             book,
             mut shares,
             rest,
-            awaited: _,
+            ..
         } = locked.into_inner();
         let (tallies, mut all) = gather(alloc, desks, rest)?;
         shares.audit(&mut all);
