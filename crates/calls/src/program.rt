@@ -5,7 +5,7 @@ use crate::command_line::WordsFault;
 use crate::files::FileFault;
 use answers::Fault;
 use runs::Ended;
-use std::env;
+use std::env::{self, Env};
 use std::io::ErrorKind;
 use std::process::ExitCode;
 use std::rt::Runtime;
@@ -67,7 +67,7 @@ pub fn refuse_files<R: Eprint>(rt: &R, program: &str, call: &Call, fault: FileFa
 }
 
 /// The words of the command line.
-pub fn words<R: Runtime>(rt: &R) -> Result<Vec<String>, WordsFault> {
+pub fn words<R: Env + AllocGlobal>(rt: &R) -> Result<Vec<String>, WordsFault> {
     match env::args(rt) {
         Ok(words) => Ok(words.collect(rt.alloc())?),
         Err(error) if error.kind() == ErrorKind::OutOfMemory => Err(WordsFault::Memory),

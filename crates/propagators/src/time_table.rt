@@ -92,12 +92,7 @@ impl TimeTable {
     }
 
     /// The head of an activity moves past full times.
-    fn push_head(
-        &mut self,
-        rules: &Rules,
-        trail: &mut Trail,
-        pushed: Pushed,
-    ) -> Result<(), Stop> {
+    fn push_head(&mut self, rules: &Rules, trail: &mut Trail, pushed: Pushed) -> Result<(), Stop> {
         let activity = pushed.activity;
         let first = self.profile.ended_by(trail.history.head(activity));
         for x in first..self.profile.count() {
@@ -131,9 +126,7 @@ impl TimeTable {
             if piece.to <= latest {
                 break;
             }
-            if piece.from < latest.wrapping_add(pushed.duration)
-                && pushed.is_kept_out(piece)
-            {
+            if piece.from < latest.wrapping_add(pushed.duration) && pushed.is_kept_out(piece) {
                 let time = piece.from.max(latest);
                 let cause = self.load_at(rules, trail, pushed.index, time, Some(activity))?;
                 let start = time.wrapping_sub(pushed.duration);

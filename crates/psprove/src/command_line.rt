@@ -6,7 +6,6 @@ use calls::{project_subcommand, subcommand, words};
 use clap::{ArgMatches, Command};
 use solve_runs::{Asked, MAX_JOBS};
 use std::alloc::{AllocError, Global};
-use std::rt::Runtime;
 
 /// How many seconds a search has by default.
 const DEFAULT_SECONDS: &str = "60";
@@ -111,8 +110,8 @@ fn found_work(alloc: Global, matches: &ArgMatches<'_>) -> Result<Option<Work>, A
 }
 
 /// What the words of the command line ask for.
-pub(crate) fn work_of<R: Runtime>(rt: &R, alloc: Global) -> Result<Work, WordsFault> {
-    let words = words(rt)?;
+pub(crate) fn work_of(rt: &HostRuntime) -> Result<Work, WordsFault> {
+    let (alloc, words) = (rt.alloc(), words(rt)?);
     let matches = matches_of(alloc, command(alloc)?, &words)?;
     found_work(alloc, &matches)?.ok_or(WordsFault::Bad {
         text: String::new(alloc),

@@ -74,7 +74,7 @@ fn perform<R: Runtime + Threads + Wait + Sync>(rt: &R, alloc: Global, work: &Wor
 }
 
 fn main(rt: HostRuntime) -> ExitCode {
-    match work_of(&rt, rt.alloc()) {
+    match work_of(&rt) {
         Ok(work) => perform(&rt, rt.alloc(), &work),
         Err(fault) => refuse(&rt, PROGRAM, &fault),
     }

@@ -46,15 +46,14 @@ fn perform<R: Runtime + Threads + Wait + Sync>(rt: &R, alloc: Global, call: &Cal
 }
 
 /// The call that the words of the command line make.
-fn line_call<R: Runtime>(rt: &R, alloc: Global) -> Result<Call, WordsFault>
+fn line_call(rt: &HostRuntime) -> Result<Call, WordsFault>
     ensures { IfOk result IsCall }
 {
-    let words = words(rt)?;
-    call_of(alloc, &words)
+    call_of(rt.alloc(), &words(rt)?)
 }
 
 fn main(rt: HostRuntime) -> ExitCode {
-    match line_call(&rt, rt.alloc()) {
+    match line_call(&rt) {
         Ok(call) => perform(&rt, rt.alloc(), &call),
         Err(fault) => refuse(&rt, PROGRAM, &fault),
     }

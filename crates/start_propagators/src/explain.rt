@@ -14,6 +14,7 @@ pub struct Asked {
 }
 
 /// What explanations look at.
+#[derive(Drop)]
 pub struct Facts<'a> {
     pub rules: &'a Rules,
     pub pairs: &'a Pairs,

@@ -180,7 +180,7 @@ fn search_with<L: Ledger + Send + Sync, G: Gate, R: Threads + Wait + Sync>(
     ensures fault { IfErr result IsWithinLimits }
 {
     let again = copy_of(alloc, &start)?;
-    let (shared, mut desks) = Shared::<L>::around(alloc, blank, book, workers)?;
+    let (shared, mut desks) = Shared::<L>::open(alloc, blank, book, workers)?;
     if let Some(start) = start {
         offer_start(rt, &shared, &mut desks, start)?;
     }
