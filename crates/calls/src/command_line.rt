@@ -68,14 +68,14 @@ pub fn matches_of<'a>(
 }
 
 fn solve_command<'a>(alloc: Global) -> Result<Command<'a>, AllocError> {
-    let takes = number(alloc, "nodes", "L", "Stop after L nodes", 1, MAX_TAKES as i64);
+    let nodes = "Stop after L nodes";
     let threads = "Search with N threads, 1 to 64";
     let start = "Start from the feasible schedule in FILE";
     let json = "Print the answer as one line of JSON";
     let record = "Write a record that proves the answer into FILE";
     let about = "Print a shortest schedule of a project";
     subcommand(alloc, help::HEADING, "solve", about, help::SOLVE)
-        .arg(takes.default_value(DEFAULT_TAKES))?
+        .arg(number(alloc, "nodes", "L", nodes, 1, MAX_TAKES as i64).default_value(DEFAULT_TAKES))?
         .arg(number(alloc, "workers", "N", threads, 1, MAX_WORKERS as i64))?
         .arg(file(alloc, "start", start))?
         .arg(flag(alloc, "json", json))?

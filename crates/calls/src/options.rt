@@ -14,12 +14,9 @@ pub fn program<'a>(
     about: &'a str,
     more: &'a str,
 ) -> Result<Command<'a>, AllocError> {
-    let program = subcommand(alloc, heading, name, about, more);
-    Ok(program
-        .bin_name(name)?
-        .version(VERSION)
-        .subcommand_required(true)
-        .disable_help_subcommand(true))
+    let program = subcommand(alloc, heading, name, about, more).bin_name(name)?;
+    let program = program.version(VERSION).subcommand_required(true);
+    Ok(program.disable_help_subcommand(true))
 }
 
 /// A subcommand with its help: the program's heading, what it does in a line, and what stands below its options.

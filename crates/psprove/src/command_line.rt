@@ -1,8 +1,10 @@
 //! The words of the command line, by `clap`.
 
 use crate::help;
-use calls::{Call, WordsFault, file, file_name, flag, matches_of, number, program};
-use calls::{project_subcommand, subcommand, words};
+use calls::{
+    Call, WordsFault, file, file_name, flag, matches_of, number, program, project_subcommand,
+    subcommand, words,
+};
 use clap::{ArgMatches, Command};
 use solve_runs::{Asked, MAX_JOBS};
 use std::alloc::{AllocError, Global};

@@ -35,8 +35,8 @@ fn searched<R: Threads + Wait + Sync>(
 ) -> Result<Searched, Fail> {
     let start = schedule_of(alloc, asked.starts)?;
     let project = Arc::new(alloc, project_of(alloc, asked.project)?)?;
-    let (workers, takes) = (asked.workers, asked.takes);
-    match search(rt, alloc, project, workers, takes, start, asked.recorded, gate) {
+    let (workers, takes, recorded) = (asked.workers, asked.takes, asked.recorded);
+    match search(rt, alloc, project, workers, takes, start, recorded, gate) {
         Ok((solved, trail)) => {
             let entries = trail.map_or(0, |trail| trail.entries().len());
             Ok(Ok((solved, entries)))
