@@ -7,6 +7,7 @@ use Rattle.plain_search.specs.declared.search.Outcome.{Outcome}
 use Rattle.plain_search.specs.declared.search.Outcome.TheVariants.{Optimal, NoSchedule, Stopped}
 use Rattle.record_text.specs.declared.line.Claim.{Claim}
 use Rattle.sch_reader.specs.Text.{Spells}
+use Rattle.search_record.specs.Right.{claim_of}
 use Rattle.answers.proofs.OutcomeLaws.{found_is_true}
 use Rattle.answers.specs.Answers.{IsFoundText}
 use Rattle.answers.specs.Outcomes.{SaysOutcome, IsRightRecord, claim_text}
@@ -31,9 +32,9 @@ right_of p claim json text r said is = record {
 -- the record of an outcome is there exactly where the search wasn't stopped, and is right
 kept_of : (p : Problem) (outcome : Outcome) (json : Bool) (exit : ℕ) (text : List ℕ) (kept : Option (List ℕ)) →
     SaysOutcome outcome json exit text → IsOutcomeRecord p outcome kept → Kept p json exit text kept
-kept_of p (Optimal best) json exit text (Some r) said is = (((λ _. said.0), (λ _. refl)), right_of p _ json text r said.1 is)
+kept_of p (Optimal best) json exit text (Some r) said is = (((λ _. said.0), (λ _. refl)), right_of p (claim_of (Some best)) json text r said.1 is)
 kept_of p (Optimal best) json exit text None said is = absurd is
-kept_of p NoSchedule json exit text (Some r) said is = (((λ _. said.0), (λ _. refl)), right_of p _ json text r said.1 is)
+kept_of p NoSchedule json exit text (Some r) said is = (((λ _. said.0), (λ _. refl)), right_of p (claim_of None) json text r said.1 is)
 kept_of p NoSchedule json exit text None said is = absurd is
 kept_of p (Stopped (Some best) bound) json exit text None said is = (((λ (e : false ≡ true). cc), (λ zero. let three = said.0 in cc)), tt)
 kept_of p (Stopped None bound) json exit text None said is = (((λ (e : false ≡ true). cc), (λ zero. let three = said.0 in cc)), tt)
