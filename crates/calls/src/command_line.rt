@@ -6,7 +6,7 @@ ghost use Rattle.runs.specs.Outcome.{IsJob, reads_second, writes_record};
 
 use crate::call::Call;
 use crate::help;
-use crate::options::{file, flag, number, program, project_subcommand, subcommand};
+use crate::options::{file, flag, number, program_command, project_subcommand, subcommand};
 use book::{MAX_WORKERS, are_allowed};
 use clap::error::ErrorKind;
 use clap::{ArgMatches, Command};
@@ -89,7 +89,7 @@ fn command<'a>(alloc: Global) -> Result<Command<'a>, AllocError> {
     let check = "Check starts against a project in a file";
     let tidy = "Print the canonical text of a project";
     let verify = "Check the record of a search against a project in a file";
-    program(alloc, "psmax", heading, about, help::PROGRAM)?
+    program_command(alloc, "psmax", heading, about, help::PROGRAM)?
         .subcommand(subcommand(alloc, heading, "earliest", earliest, help::EARLIEST))?
         .subcommand(solve_command(alloc)?)?
         .subcommand(project_subcommand(alloc, heading, "check", check, help::CHECK)?)?

@@ -11,5 +11,5 @@ mod program;
 pub use call::Call;
 pub use command_line::{WordsFault, call_of, file_name, matches_of};
 pub use files::{FileFault, Opened, Opener};
-pub use options::{file, flag, number, program, project_subcommand, subcommand};
+pub use options::{file, flag, number, program_command, project_subcommand, subcommand};
 pub use program::{FOLDER, refuse, refuse_file, refuse_files, report, words};

@@ -7,7 +7,7 @@ use std::alloc::{AllocError, Global};
 const VERSION: &str = "0.9.0";
 
 /// A program of this name without its subcommands: its heading, what it does in a line, and what stands below.
-pub fn program<'a>(
+pub fn program_command<'a>(
     alloc: Global,
     name: &'a str,
     heading: &'a str,

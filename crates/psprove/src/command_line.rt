@@ -2,8 +2,8 @@
 
 use crate::help;
 use calls::{
-    Call, WordsFault, file, file_name, flag, matches_of, number, program, project_subcommand,
-    subcommand, words,
+    Call, WordsFault, file, file_name, flag, matches_of, number, program_command,
+    project_subcommand, subcommand, words,
 };
 use clap::{ArgMatches, Command};
 use solve_runs::{Asked, MAX_JOBS};
@@ -66,7 +66,7 @@ fn command<'a>(alloc: Global) -> Result<Command<'a>, AllocError> {
     let heading = help::HEADING;
     let about = "Solve projects with resources and time lags, and check records of lemmas";
     let verify = "Check a record of lemmas against a project in a file";
-    program(alloc, "psprove", heading, about, help::PROGRAM)?
+    program_command(alloc, "psprove", heading, about, help::PROGRAM)?
         .subcommand(solve_command(alloc)?)?
         .subcommand(project_subcommand(alloc, heading, "verify", verify, help::VERIFY)?)
 }
