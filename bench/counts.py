@@ -15,15 +15,8 @@ import projects
 import speed
 
 # activities, seed, how many that use a resource fit at once, how many use it, takes
-ROWS = (
-    (30, 1, 4, 0.5, 1_000),
-    (45, 1, 4, 0.5, 1_000),
-    (100, 1, 4, 0.5, 1_000),
-    (1000, 0, 4, 0.05, 50),
-    (30, 0, 2, 0.5, 1_000),
-    (45, 0, 2, 0.5, 1_000),
-    (100, 9, 2, 0.5, 1_000),
-)
+ROWS = ((30, 1, 4, 0.5, 1_000), (45, 1, 4, 0.5, 1_000), (100, 1, 4, 0.5, 1_000), (1000, 0, 4, 0.05, 50),
+        (30, 0, 2, 0.5, 1_000), (45, 0, 2, 0.5, 1_000), (100, 9, 2, 0.5, 1_000))
 
 
 def counted(tool: Sequence[str], pattern: str, program: str, text: bytes, takes: int) -> int:

@@ -18,29 +18,15 @@ from measuring import heads, row
 
 # activities, takes, how many that use a resource fit at once, how many use it, projects. Of two activities that use a
 # resource one may have to wait for the other, and pairs are forced:
-SEARCHES = (
-    (10, 100, 2, 0.5, 5),
-    (20, 10_000, 2, 0.5, 5),
-    (30, 10_000, 2, 0.5, 5),
-    (45, 10_000, 2, 0.5, 5),
-    (100, 5_000, 2, 0.5, 3),
-    (1000, 300, 2, 0.05, 2),
-)
+SEARCHES = ((10, 100, 2, 0.5, 5), (20, 10_000, 2, 0.5, 5), (30, 10_000, 2, 0.5, 5), (45, 10_000, 2, 0.5, 5),
+            (100, 5_000, 2, 0.5, 3), (1000, 300, 2, 0.05, 2))
 
 # Any two fit together, so that none is forced:
-UNFORCED = (
-    (20, 1_000, 4, 0.5, 5),
-    (30, 5_000, 4, 0.5, 5),
-    (45, 10_000, 4, 0.5, 5),
-    (100, 5_000, 4, 0.5, 3),
-    (1000, 300, 4, 0.05, 2),
-)
+UNFORCED = ((20, 1_000, 4, 0.5, 5), (30, 5_000, 4, 0.5, 5), (45, 10_000, 4, 0.5, 5), (100, 5_000, 4, 0.5, 3),
+            (1000, 300, 4, 0.05, 2))
 
 # jobs, machines, takes, projects. A job shop has an activity for each job and machine:
-JOB_SHOPS = (
-    (10, 5, 10_000, 3),
-    (10, 10, 10_000, 3),
-)
+JOB_SHOPS = ((10, 5, 10_000, 3), (10, 10, 10_000, 3))
 
 # The first job shop of Fisher and Thompson, which takes so many nodes to its end:
 SMALL_JOB_SHOP = measuring.TOP / "tests" / "inputs" / "job-shop-6-by-6.sch"

@@ -14,13 +14,8 @@ import measuring
 import projects
 
 # activities, takes, how many that use a resource fit at once, how many use it, projects
-ROWS = (
-    (30, 20_000, 4, 0.5, 3),
-    (45, 20_000, 4, 0.5, 3),
-    (100, 10_000, 4, 0.5, 3),
-    (30, 20_000, 2, 0.5, 3),
-    (100, 5_000, 2, 0.5, 3),
-)
+ROWS = ((30, 20_000, 4, 0.5, 3), (45, 20_000, 4, 0.5, 3), (100, 10_000, 4, 0.5, 3), (30, 20_000, 2, 0.5, 3),
+        (100, 5_000, 2, 0.5, 3))
 SEEDS = 200
 
 

@@ -19,9 +19,6 @@
 //! lower bound.
 #![tactic(auto)]
 
-ghost use Rattle.std.specs.Prelude.{IsTrue};
-ghost use Rattle.network.specs.Problem.{AreStarts};
-
 mod replies;
 mod trails;
 
@@ -30,10 +27,10 @@ use book::{Book, BookFault, Event, Take, run_events};
 use branching::{Lean, Report, expand, lean_root, rebuild};
 use earliest::least_starts;
 use longest_path::PathFault;
-use network::{MAX_START, Project, Schedule};
+use network::{Project, Schedule};
 use replies::{accepted_text, pairs_text, reply_text, starts_text, take_text, told, verdict_text};
 use sch_reader::read_sch;
-use schedule_check::accept;
+use schedule_check::{accept, read_starts};
 use std::alloc::Global;
 use std::io::Read;
 use std::sync::Arc;
@@ -104,25 +101,15 @@ fn report_on(
     Ok(expand(alloc, &rebuild(alloc, node)?, ceiling)?)
 }
 
-/// Whether there is a start within the limits for each activity.
-fn are_starts(project: &Project, starts: &[i64]) -> bool
-    ensures { IsTrue result → AreStarts project.now starts.now }
-{
-    starts.len() == project.activity_count()
-        && starts
-            .iter()
-            .all(|start| -MAX_START <= *start && *start <= MAX_START)
-}
-
 /// The schedule of these starts, with commas between.
 fn schedule(alloc: Global, project: &Arc<Project>, text: &str) -> anyhow::Result<Schedule> {
-    let mut starts = Vec::new(alloc);
-    for start in text.split(',') {
-        starts.push(start.parse::<i64>()?)?;
+    let mut lines = String::new(alloc);
+    for (activity, start) in text.split(',').enumerate() {
+        write!(lines, "{activity} {start}\n")?;
     }
-    if !are_starts(project, &starts) {
+    let Ok(starts) = read_starts(alloc, lines.as_bytes(), project.activity_count()) else {
         bail!("these are no starts");
-    }
+    };
     match accept(alloc, Arc::try_clone(project)?, starts) {
         Ok(schedule) => Ok(schedule),
         Err(_) => bail!("this is no schedule"),

@@ -6,9 +6,10 @@ ghost use Rattle.runs.specs.Outcome.{IsJob, reads_second, writes_record};
 
 use crate::call::Call;
 use crate::help;
+use crate::options::{file, flag, number, program_command, project_subcommand, subcommand};
 use book::{MAX_WORKERS, are_allowed};
 use clap::error::ErrorKind;
-use clap::{Arg, ArgAction, ArgMatches, Command, value_parser};
+use clap::{ArgMatches, Command};
 use plain_search::MAX_TAKES;
 use runs::{Job, ONE_WORKER};
 use std::alloc::{AllocError, Global};
@@ -26,6 +27,9 @@ pub enum WordsFault {
     /// Words that the program doesn't know: to standard error, exit status 2.
     #[error("{text}")]
     Bad { text: String },
+    /// A word is no text.
+    #[error("error: a word of the command line is not UTF-8")]
+    NoText,
     #[error("out of memory")]
     Memory,
 }
@@ -37,7 +41,7 @@ impl From<AllocError> for WordsFault {
 }
 
 /// The fault of an error of `clap`.
-pub fn words_fault(alloc: Global, error: &clap::Error) -> WordsFault {
+fn words_fault(alloc: Global, error: &clap::Error) -> WordsFault {
     if error.kind() == ErrorKind::OutOfMemory {
         return WordsFault::Memory;
     }
@@ -51,95 +55,46 @@ pub fn words_fault(alloc: Global, error: &clap::Error) -> WordsFault {
     }
 }
 
-/// A subcommand with its help: what it does in a line, and what stands below its options.
-fn subcommand<'a>(alloc: Global, name: &'a str, about: &'a str, more: &'a str) -> Command<'a> {
-    Command::new(alloc, name)
-        .before_help(help::HEADING)
-        .about(about)
-        .after_help(more)
-}
-
-fn earliest_command<'a>(alloc: Global) -> Command<'a> {
-    let about = "Print the earliest starts by a project's time lags alone";
-    subcommand(alloc, "earliest", about, help::EARLIEST)
+/// What a program finds in words; the first word is its name.
+pub fn matches_of<'a>(
+    alloc: Global,
+    program: Command<'a>,
+    words: &'a [String],
+) -> Result<ArgMatches<'a>, WordsFault> {
+    match program.try_get_matches_from(words) {
+        Ok(matches) => Ok(matches),
+        Err(error) => Err(words_fault(alloc, &error)),
+    }
 }
 
 fn solve_command<'a>(alloc: Global) -> Result<Command<'a>, AllocError> {
-    let nodes = Arg::new(alloc, "nodes")
-        .long("nodes")
-        .value_name("L")
-        .help("Stop after L nodes")
-        .default_value(DEFAULT_TAKES)
-        .value_parser(value_parser!(u64).range(1..=MAX_TAKES as i64));
-    let workers = Arg::new(alloc, "workers")
-        .long("workers")
-        .value_name("N")
-        .help("Search with N threads, 1 to 64")
-        .value_parser(value_parser!(u64).range(1..=MAX_WORKERS as i64));
-    let start = Arg::new(alloc, "start")
-        .long("start")
-        .value_name("FILE")
-        .help("Start from the feasible schedule in FILE")
-        .action(ArgAction::Set);
-    let json = Arg::new(alloc, "json")
-        .long("json")
-        .help("Print the answer as one line of JSON")
-        .action(ArgAction::SetTrue);
-    let record = Arg::new(alloc, "record")
-        .long("record")
-        .value_name("FILE")
-        .help("Write a record that proves the answer into FILE")
-        .action(ArgAction::Set);
+    let nodes = "Stop after L nodes";
+    let threads = "Search with N threads, 1 to 64";
+    let start = "Start from the feasible schedule in FILE";
+    let json = "Print the answer as one line of JSON";
+    let record = "Write a record that proves the answer into FILE";
     let about = "Print a shortest schedule of a project";
-    subcommand(alloc, "solve", about, help::SOLVE)
-        .arg(nodes)?
-        .arg(workers)?
-        .arg(start)?
-        .arg(json)?
-        .arg(record)
-}
-
-fn check_command<'a>(alloc: Global) -> Result<Command<'a>, AllocError> {
-    let project = Arg::new(alloc, "project")
-        .long("project")
-        .value_name("FILE")
-        .help("Check against the project in FILE")
-        .action(ArgAction::Set)
-        .required(true);
-    let about = "Check starts against a project in a file";
-    subcommand(alloc, "check", about, help::CHECK).arg(project)
-}
-
-fn verify_command<'a>(alloc: Global) -> Result<Command<'a>, AllocError> {
-    let project = Arg::new(alloc, "project")
-        .long("project")
-        .value_name("FILE")
-        .help("Check against the project in FILE")
-        .action(ArgAction::Set)
-        .required(true);
-    let about = "Check the record of a search against a project in a file";
-    subcommand(alloc, "verify", about, help::VERIFY).arg(project)
-}
-
-fn tidy_command<'a>(alloc: Global) -> Command<'a> {
-    let about = "Print the canonical text of a project";
-    subcommand(alloc, "tidy", about, help::TIDY)
+    subcommand(alloc, help::HEADING, "solve", about, help::SOLVE)
+        .arg(number(alloc, "nodes", "L", nodes, 1, MAX_TAKES as i64).default_value(DEFAULT_TAKES))?
+        .arg(number(alloc, "workers", "N", threads, 1, MAX_WORKERS as i64))?
+        .arg(file(alloc, "start", start))?
+        .arg(flag(alloc, "json", json))?
+        .arg(file(alloc, "record", record))
 }
 
 fn command<'a>(alloc: Global) -> Result<Command<'a>, AllocError> {
-    Command::new(alloc, "psmax")
-        .bin_name("psmax")?
-        .version(help::VERSION)
-        .before_help(help::HEADING)
-        .about("Solve projects with resources and time lags, with every answer proved")
-        .after_help(help::PROGRAM)
-        .subcommand_required(true)
-        .disable_help_subcommand(true)
-        .subcommand(earliest_command(alloc))?
+    let heading = help::HEADING;
+    let about = "Solve projects with resources and time lags, with every answer proved";
+    let earliest = "Print the earliest starts by a project's time lags alone";
+    let check = "Check starts against a project in a file";
+    let tidy = "Print the canonical text of a project";
+    let verify = "Check the record of a search against a project in a file";
+    program_command(alloc, "psmax", heading, about, help::PROGRAM)?
+        .subcommand(subcommand(alloc, heading, "earliest", earliest, help::EARLIEST))?
         .subcommand(solve_command(alloc)?)?
-        .subcommand(check_command(alloc)?)?
-        .subcommand(tidy_command(alloc))?
-        .subcommand(verify_command(alloc)?)
+        .subcommand(project_subcommand(alloc, heading, "check", check, help::CHECK)?)?
+        .subcommand(subcommand(alloc, heading, "tidy", tidy, help::TIDY))?
+        .subcommand(project_subcommand(alloc, heading, "verify", verify, help::VERIFY)?)
 }
 
 fn earliest_call() -> Call
@@ -238,14 +193,8 @@ fn found_call(alloc: Global, matches: &ArgMatches<'_>) -> Result<Option<Call>, A
 pub fn call_of(alloc: Global, words: &[String]) -> Result<Call, WordsFault>
     ensures { IfOk result IsCall }
 {
-    let matches = match command(alloc)?.try_get_matches_from(words) {
-        Ok(matches) => matches,
-        Err(error) => return Err(words_fault(alloc, &error)),
-    };
-    match found_call(alloc, &matches)? {
-        Some(call) => Ok(call),
-        None => Err(WordsFault::Bad {
-            text: String::new(alloc),
-        }),
-    }
+    let matches = matches_of(alloc, command(alloc)?, words)?;
+    found_call(alloc, &matches)?.ok_or(WordsFault::Bad {
+        text: String::new(alloc),
+    })
 }

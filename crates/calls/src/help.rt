@@ -1,8 +1,5 @@
 //! What help says besides the usage and the options that `clap` lists.
 
-/// The version of the program.
-pub(crate) const VERSION: &str = "0.9.0";
-
 /// The heading of every help.
 pub(crate) const HEADING: &str = "psmax 0.9.0";
 

@@ -5,9 +5,11 @@ mod call;
 mod command_line;
 mod files;
 mod help;
+mod options;
 mod program;
 
 pub use call::Call;
-pub use command_line::{WordsFault, call_of, file_name, words_fault};
+pub use command_line::{WordsFault, call_of, file_name, matches_of};
 pub use files::{FileFault, Opened, Opener};
-pub use program::{refuse, refuse_file, refuse_files, report, words_or_exit};
+pub use options::{file, flag, number, program_command, project_subcommand, subcommand};
+pub use program::{FOLDER, refuse, refuse_file, refuse_files, report, words};

@@ -5,9 +5,14 @@ use crate::command_line::WordsFault;
 use crate::files::FileFault;
 use answers::Fault;
 use runs::Ended;
-use std::io::{self, ErrorKind};
+use std::env::{self, Env};
+use std::io::ErrorKind;
 use std::process::ExitCode;
 use std::rt::Runtime;
+
+/// What stands in for a standard device that is closed: a folder gives no bytes, and takes none. While it is open, no file
+/// opens in the place of one, and no answer goes into a record.
+pub const FOLDER: &str = "/";
 
 /// Prints how a run of the program ended, where it has no answer.
 pub fn report<R: Eprint>(rt: &R, program: &str, ended: &Ended) -> ExitCode {
@@ -26,6 +31,10 @@ pub fn refuse<R: Runtime>(rt: &R, program: &str, fault: &WordsFault) -> ExitCode
         },
         WordsFault::Bad { text } => {
             let _ = eprint!(rt; "{text}");
+            ExitCode::from(2)
+        }
+        WordsFault::NoText => {
+            let _ = eprintln!(rt; "{fault}");
             ExitCode::from(2)
         }
         WordsFault::Memory => report(rt, program, &Ended::with(Fault::Memory)),
@@ -57,21 +66,11 @@ pub fn refuse_files<R: Eprint>(rt: &R, program: &str, call: &Call, fault: FileFa
     }
 }
 
-/// The words of the command line as they were read. If there was no memory for them, or one is no text, it prints that,
-/// and the result is the status with which the program ends.
-pub fn words_or_exit<R: Eprint>(
-    rt: &R,
-    program: &str,
-    words: io::Result<Vec<String>>,
-) -> Result<Vec<String>, ExitCode> {
-    match words {
-        Ok(words) => Ok(words),
-        Err(error) if error.kind() == ErrorKind::OutOfMemory => {
-            Err(report(rt, program, &Ended::with(Fault::Memory)))
-        }
-        Err(_) => {
-            let _ = eprintln!(rt; "error: a word of the command line is not UTF-8");
-            Err(ExitCode::from(2))
-        }
+/// The words of the command line.
+pub fn words<R: Env + AllocGlobal>(rt: &R) -> Result<Vec<String>, WordsFault> {
+    match env::args(rt) {
+        Ok(words) => Ok(words.collect(rt.alloc())?),
+        Err(error) if error.kind() == ErrorKind::OutOfMemory => Err(WordsFault::Memory),
+        Err(_) => Err(WordsFault::NoText),
     }
 }

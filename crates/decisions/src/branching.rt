@@ -253,7 +253,7 @@ impl Brancher {
         starts: Starts,
         dive: Option<Literal>,
     ) -> Result<Choice, Stop> {
-        self.overloads.take_times(rules, trail)?;
+        self.overloads.find_times(rules, trail)?;
         if self.overloads.are_none(rules, trail)? {
             return Ok(Choice::Feasible);
         }

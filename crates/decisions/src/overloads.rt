@@ -69,8 +69,8 @@ impl Overloads {
         }
     }
 
-    /// Takes the heads of the activities that run, rising.
-    pub(crate) fn take_times(&mut self, rules: &Rules, trail: &Trail) -> Result<(), AllocError> {
+    /// Finds the heads of the activities that run, rising.
+    pub(crate) fn find_times(&mut self, rules: &Rules, trail: &Trail) -> Result<(), AllocError> {
         self.times.clear();
         for i in 1..rules.end() {
             if rules.duration(i) > 0 {

@@ -26,29 +26,27 @@ impl History {
     }
 
     /// Makes tasks of the two ways of the step that first made the entry so much. Gives the value if no step is needed.
-    fn split_entry(
-        &mut self,
-        from: u32,
-        to: u32,
-        least: i32,
-        time: u32,
-    ) -> Result<i32, AllocError> {
-        let (change, value) = self.first_change(self.place(from, to), least, time);
+    fn split_entry(&mut self, arc: Literal, time: u32) -> Result<i32, AllocError> {
+        let at = self.place(arc.from, arc.to);
+        let (change, value) = self.first_change(at, arc.weight, time);
         if change == 0 {
             return Ok(value);
         }
         let index = self.changes.get((change - 1) as usize).step;
         let step = self.step(index);
-        let after = self.value_at(step.arc.to, to, step.start);
+        let after = self.value_at(step.arc.to, arc.to, step.start);
         self.tasks.push(Task::After {
             step: index,
-            to,
-            least,
+            to: arc.to,
+            least: arc.weight,
         })?;
-        self.tasks.push(Task::Entry {
-            from,
+        let before = Literal {
+            from: arc.from,
             to: step.arc.from,
-            least: least.wrapping_sub(step.arc.weight).wrapping_sub(after),
+            weight: arc.weight.wrapping_sub(step.arc.weight).wrapping_sub(after),
+        };
+        self.tasks.push(Task::Entry {
+            arc: before,
             time: step.start,
         })?;
         Ok(0)
@@ -68,8 +66,12 @@ impl History {
             least,
             before,
         })?;
-        let rest = least.wrapping_sub(step.arc.weight).wrapping_sub(before);
-        self.split_entry(step.arc.to, to, rest, step.start)
+        let rest = Literal {
+            from: step.arc.to,
+            to,
+            weight: least.wrapping_sub(step.arc.weight).wrapping_sub(before),
+        };
+        self.split_entry(rest, step.start)
     }
 
     /// Marks a step for what both ways leave to it. Gives what the three make together.
@@ -81,26 +83,15 @@ impl History {
 
     /// Marks steps that make the matrix's own entry at least so much, as of some time. Gives what these steps
     /// guarantee.
-    fn explain_entry(
-        &mut self,
-        from: u32,
-        to: u32,
-        least: i32,
-        time: u32,
-    ) -> Result<i32, AllocError> {
+    fn explain_entry(&mut self, arc: Literal, time: u32) -> Result<i32, AllocError> {
         self.tasks.clear();
-        let mut found = self.split_entry(from, to, least, time)?;
+        let mut found = self.split_entry(arc, time)?;
         for _ in 0..u64::MAX {
             let Some(task) = self.tasks.pop() else {
                 break;
             };
             found = match task {
-                Task::Entry {
-                    from,
-                    to,
-                    least,
-                    time,
-                } => self.split_entry(from, to, least, time)?,
+                Task::Entry { arc, time } => self.split_entry(arc, time)?,
                 Task::After { step, to, least } => self.explain_after(step, to, least, found)?,
                 Task::Own {
                     step,
@@ -112,43 +103,55 @@ impl History {
         Ok(found)
     }
 
-    /// Marks steps that make the greatest walk weigh at least so much, as of some time. Gives what they guarantee.
-    pub fn explain(
-        &mut self,
-        from: u32,
-        to: u32,
-        least: i32,
-        time: u32,
-    ) -> Result<i32, AllocError> {
-        if self.value_at(from, to, time) >= least {
-            return self.explain_entry(from, to, least, time);
+    /// Marks steps that make a literal hold, as of some time. Gives the weight that they guarantee.
+    pub fn explain(&mut self, arc: Literal, time: u32) -> Result<i32, AllocError> {
+        if self.value_at(arc.from, arc.to, time) >= arc.weight {
+            return self.explain_entry(arc, time);
         }
-        let after = self.value_at(0, to, time);
-        let before = self.explain_entry(from, 0, least.wrapping_sub(after), time)?;
-        let after = self.explain_entry(0, to, least.wrapping_sub(before), time)?;
+        let weight = arc.weight.wrapping_sub(self.value_at(0, arc.to, time));
+        let before = self.explain_entry(
+            Literal {
+                to: 0,
+                weight,
+                ..arc
+            },
+            time,
+        )?;
+        let weight = arc.weight.wrapping_sub(before);
+        let after = self.explain_entry(
+            Literal {
+                from: 0,
+                weight,
+                ..arc
+            },
+            time,
+        )?;
         Ok(before.wrapping_add(after))
     }
 
     /// The same with a literal added that is no step.
-    pub fn explain_with(
-        &mut self,
-        by: Literal,
-        from: u32,
-        to: u32,
-        least: i32,
-        time: u32,
-    ) -> Result<(), AllocError> {
-        if by.from == from && by.to == to && by.weight >= least {
+    pub fn explain_with(&mut self, by: Literal, arc: Literal, time: u32) -> Result<(), AllocError> {
+        if by.is_beside(arc) && by.weight >= arc.weight {
             return Ok(());
         }
-        if self.full_at(from, to, time) >= least {
-            self.explain(from, to, least, time)?;
+        if self.full_at(arc.from, arc.to, time) >= arc.weight {
+            self.explain(arc, time)?;
             return Ok(());
         }
-        let rest = least.wrapping_sub(by.weight);
-        let after = self.full_at(by.to, to, time);
-        let before = self.explain(from, by.from, rest.wrapping_sub(after), time)?;
-        self.explain(by.to, to, rest.wrapping_sub(before), time)?;
+        let rest = arc.weight.wrapping_sub(by.weight);
+        let to = by.from;
+        let weight = rest.wrapping_sub(self.full_at(by.to, arc.to, time));
+        let before = self.explain(Literal { to, weight, ..arc }, time)?;
+        let from = by.to;
+        let weight = rest.wrapping_sub(before);
+        self.explain(
+            Literal {
+                from,
+                weight,
+                ..arc
+            },
+            time,
+        )?;
         Ok(())
     }
 

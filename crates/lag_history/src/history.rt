@@ -35,25 +35,12 @@ pub struct Step {
 /// What is left of an explanation, one task after the other.
 #[derive(Clone, Copy)]
 pub(crate) enum Task {
-    /// An entry that is at least so much as of some time.
-    Entry {
-        from: u32,
-        to: u32,
-        least: i32,
-        time: u32,
-    },
+    /// An entry that makes a literal hold as of some time.
+    Entry { arc: Literal, time: u32 },
     /// The way after a step, once the way before it is known.
-    After {
-        step: u32,
-        to: u32,
-        least: i32,
-    },
+    After { step: u32, to: u32, least: i32 },
     /// The step itself, once both ways are known.
-    Own {
-        step: u32,
-        least: i32,
-        before: i32,
-    },
+    Own { step: u32, least: i32, before: i32 },
 }
 
 /// The matrix of the greatest weights of walks, with the history of its changes. Walks by literals do not pass through

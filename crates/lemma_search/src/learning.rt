@@ -3,15 +3,9 @@
 use decisions::Weights;
 use lemma_proofs::Forced;
 use lemma_trail::{Cause, Conflict, Lemmas, Literal, NO_LITERAL, Rules, Trail};
+use search_parts::Top;
 use std::alloc::{AllocError, Global};
 use tables::Table;
-
-/// The highest level of a conflict, and how many marked steps of it are left.
-#[derive(Clone, Copy)]
-struct Top {
-    level: u32,
-    left: u32,
-}
 
 /// Analyses conflicts to the first unique implication point, as Marques-Silva and Sakallah (1999) do.
 #[derive(Drop)]
@@ -173,14 +167,9 @@ fn raise_used(lemmas: &mut Lemmas, cause: Cause) {
 
 /// The highest level of the marked steps, and how many are of it.
 fn top_of(trail: &Trail) -> Top {
-    let mut top = Top { level: 0, left: 0 };
+    let mut top = Top::NONE;
     for step in trail.history.marked() {
-        let level = trail.level_of(*step);
-        if level > top.level {
-            top = Top { level, left: 1 };
-        } else if level == top.level {
-            top.left = top.left.wrapping_add(1);
-        }
+        top.add(trail.level_of(*step));
     }
     top
 }

@@ -47,8 +47,8 @@ impl Engine {
         let least = periods(self.bound());
         let now = self.trail.history.now();
         self.trail.history.unmark();
-        let end = self.rules.end();
-        self.trail.history.explain(0, end, least, now)?;
+        let end = Literal::at_least(self.rules.end(), least);
+        self.trail.history.explain(end, now)?;
         self.proofs.push(&self.trail, &[], None)
     }
 

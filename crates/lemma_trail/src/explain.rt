@@ -16,24 +16,16 @@ struct Query {
 }
 
 impl Trail {
-    /// Marks the steps that make a walk at least so long, beside the reverse of what was forced.
+    /// Marks the steps that make a literal hold, beside the reverse of what was forced.
     #[inline(always)]
-    fn explain_walk(
-        &mut self,
-        query: Query,
-        from: u32,
-        to: u32,
-        least: i32,
-    ) -> Result<(), AllocError> {
-        match query.arc {
-            Some(arc) => self
+    fn explain_literal(&mut self, query: Query, literal: Literal) -> Result<(), AllocError> {
+        if let Some(arc) = query.arc {
+            return self
                 .history
-                .explain_with(arc.reverse(), from, to, least, query.time),
-            None => {
-                self.history.explain(from, to, least, query.time)?;
-                Ok(())
-            }
+                .explain_with(arc.reverse(), literal, query.time);
         }
+        self.history.explain(literal, query.time)?;
+        Ok(())
     }
 
     /// Marks the steps that make one activity end after another starts.
@@ -49,8 +41,12 @@ impl Trail {
                 return Ok(());
             }
         }
-        let least = 1i32.wrapping_sub(rules.duration(x));
-        self.explain_walk(query, y, x, least)
+        let overlap = Literal {
+            from: y,
+            to: x,
+            weight: 1i32.wrapping_sub(rules.duration(x)),
+        };
+        self.explain_literal(query, overlap)
     }
 
     /// Marks the steps that make each two members overlap, but in the order that was forced.
@@ -92,8 +88,7 @@ impl Trail {
                 None => false,
             };
             if !is_refuted {
-                self.history
-                    .explain(literal.from, literal.to, literal.weight, query.time)?;
+                self.history.explain(*literal, query.time)?;
             }
         }
         Ok(())
@@ -110,8 +105,9 @@ impl Trail {
     ) -> Result<(), AllocError> {
         let i = part.activity;
         let end = from.wrapping_add(part.time);
-        self.explain_walk(query, 0, i, end.wrapping_sub(rules.duration(i)))?;
-        self.explain_walk(query, i, 0, part.time.wrapping_sub(to))
+        let least = end.wrapping_sub(rules.duration(i));
+        self.explain_literal(query, Literal::at_least(i, least))?;
+        self.explain_literal(query, Literal::at_most(i, to.wrapping_sub(part.time)))
     }
 
     /// The same for all members.
@@ -170,8 +166,7 @@ impl Trail {
         let now = self.history.now();
         match conflict {
             Conflict::Forced { arc, cause } => {
-                let least = 1i32.wrapping_sub(arc.weight);
-                self.history.explain(arc.to, arc.from, least, now)?;
+                self.history.explain(arc.reverse(), now)?;
                 self.explain_cause(rules, lemmas, Some(arc), cause, now)?;
                 Ok(cause)
             }

@@ -2,7 +2,7 @@
 
 use crate::watching::Watch;
 use lag_history::{Literal, NO_LITERAL};
-use search_parts::{Chains, Idle, Nogoods, least_half};
+use search_parts::{Chains, Nogood, Nogoods};
 use std::alloc::{AllocError, Global};
 
 /// The lemmas that were learnt, by number: literals that can't all hold, and whether the first two are watched.
@@ -72,23 +72,10 @@ impl Lemmas {
         self.watches.push(at, Watch { lemma, weight })
     }
 
-    /// The lemmas of three literals and more that are watched.
-    fn idle(&self, alloc: Global) -> Result<Vec<Idle>, AllocError> {
-        let mut idle = Vec::new(alloc);
-        for nogood in 0..self.list.count() {
-            let found = self.list.get(nogood);
-            if found.note && found.literals.count() > 2 {
-                let activity = found.activity;
-                idle.push(Idle { activity, nogood })?;
-            }
-        }
-        Ok(idle)
-    }
-
     /// Stops watching half of the lemmas of three literals and more, those needed the least.
     pub fn reduce(&mut self, alloc: Global) -> Result<(), AllocError> {
-        let mut idle = self.idle(alloc)?;
-        least_half(&mut idle);
+        let may_go = |found: Nogood<bool>| found.note && found.literals.count() > 2;
+        let idle = self.list.least_half(alloc, may_go)?;
         for lemma in &idle {
             self.list.set_note(lemma.nogood, false);
             self.watched = self.watched.wrapping_sub(1);

@@ -5,41 +5,36 @@ use Rattle.network.specs.Schedule.{ScheduleOf, makespan}
 use Rattle.plain_search.specs.Verdicts.{IsNoLongerThan, IsTrueOf}
 use Rattle.plain_search.specs.declared.search.Outcome.{Outcome}
 use Rattle.plain_search.specs.declared.search.Outcome.TheVariants.{Optimal, NoSchedule, Stopped}
+use Rattle.record_text.specs.declared.line.Claim.{Claim}
 use Rattle.sch_reader.specs.Text.{Spells}
+use Rattle.search_record.specs.Right.{claim_of}
 use Rattle.answers.proofs.OutcomeLaws.{found_is_true}
 use Rattle.answers.specs.Answers.{IsFoundText}
 use Rattle.answers.specs.Outcomes.{SaysOutcome, IsRightRecord, claim_text}
 use Rattle.runs.specs.declared.job.Job.{Job}
 use Rattle.runs.specs.Outcome.{answers_json, writes_record, SpellsOne}
 use Rattle.runs.specs.Runs.{ReplyOf}
-use Rattle.parallel_runs.specs.Searches.{IsOutcomeRecord, IsSearchReply, starts_from}
+use Rattle.parallel_runs.specs.Searches.{IsOutcomeRecord, IsSearchReply, IsTextOf, starts_from}
 
 -- a record of what is claimed is one of what the answer says
 abbrev Kept : Problem → Bool → ℕ → List ℕ → Option (List ℕ) → Type 0
 Kept p json exit text kept = (IsSome kept ↔ (exit ≡ 0)) × IfSome kept (IsRightRecord p json text)
 
+-- a record of the claim that an answer says
+right_of : (p : Problem) (claim : Claim) (json : Bool) (text r : List ℕ) → text ≡ claim_text json claim → IsTextOf p claim r → IsRightRecord p json text r
+right_of p claim json text r said is = record {
+  shown = is.shown;
+  right = is.right;
+  claims = said ∙ ap (claim_text json) (sym is.claims);
+  text = is.text;
+}
+
 -- the record of an outcome is there exactly where the search wasn't stopped, and is right
 kept_of : (p : Problem) (outcome : Outcome) (json : Bool) (exit : ℕ) (text : List ℕ) (kept : Option (List ℕ)) →
     SaysOutcome outcome json exit text → IsOutcomeRecord p outcome kept → Kept p json exit text kept
-kept_of p (Optimal best) json exit text (Some r) said is = (
-  ((λ _. said.0), (λ _. refl)),
-  record {
-    shown = is.shown;
-    right = is.right;
-    claims = said.1 ∙ ap (claim_text json) (sym is.claims);
-    text = is.text;
-  },
-)
+kept_of p (Optimal best) json exit text (Some r) said is = (((λ _. said.0), (λ _. refl)), right_of p (claim_of (Some best)) json text r said.1 is)
 kept_of p (Optimal best) json exit text None said is = absurd is
-kept_of p NoSchedule json exit text (Some r) said is = (
-  ((λ _. said.0), (λ _. refl)),
-  record {
-    shown = is.shown;
-    right = is.right;
-    claims = said.1 ∙ ap (claim_text json) (sym is.claims);
-    text = is.text;
-  },
-)
+kept_of p NoSchedule json exit text (Some r) said is = (((λ _. said.0), (λ _. refl)), right_of p (claim_of None) json text r said.1 is)
 kept_of p NoSchedule json exit text None said is = absurd is
 kept_of p (Stopped (Some best) bound) json exit text None said is = (((λ (e : false ≡ true). cc), (λ zero. let three = said.0 in cc)), tt)
 kept_of p (Stopped None bound) json exit text None said is = (((λ (e : false ≡ true). cc), (λ zero. let three = said.0 in cc)), tt)

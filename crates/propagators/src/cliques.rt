@@ -75,8 +75,8 @@ impl Cliques {
         self.has_moved.fill(true);
     }
 
-    /// Takes the windows of a clique's members.
-    fn take_windows(
+    /// Finds the windows of a clique's members.
+    fn find_windows(
         &mut self,
         rules: &Rules,
         trail: &Trail,
@@ -147,7 +147,7 @@ impl Cliques {
         for clique in 0..self.members.count() {
             if self.has_moved.get(clique as usize) {
                 self.has_moved.set(clique as usize, false);
-                self.take_windows(rules, trail, clique)?;
+                self.find_windows(rules, trail, clique)?;
                 self.find_overload(trail)?;
                 self.push_heads(trail)?;
                 self.push_ends(trail)?;

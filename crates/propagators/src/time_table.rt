@@ -18,8 +18,9 @@ pub(crate) struct TimeTable {
 #[derive(Clone, Copy)]
 struct Pushed {
     activity: u32,
-    resource: u32,
-    demand: i64,
+    /// The place of its resource, and how much of that the others may need.
+    index: u32,
+    room: i64,
     duration: i32,
     /// It must run from here to there, where these are in this order.
     from: i32,
@@ -29,10 +30,9 @@ struct Pushed {
 impl Pushed {
     /// Whether a piece leaves no room for the activity, which isn't in it.
     #[inline(always)]
-    fn is_kept_out(self, rules: &Rules, piece: Piece) -> bool {
-        let need = piece.need.wrapping_add(self.demand);
+    fn is_kept_out(self, piece: Piece) -> bool {
         let is_inside = self.from <= piece.from && piece.to <= self.to;
-        need > rules.capacity(self.resource) && !is_inside
+        piece.need > self.room && !is_inside
     }
 }
 
@@ -92,13 +92,7 @@ impl TimeTable {
     }
 
     /// The head of an activity moves past full times.
-    fn push_head(
-        &mut self,
-        rules: &Rules,
-        trail: &mut Trail,
-        index: u32,
-        pushed: Pushed,
-    ) -> Result<(), Stop> {
+    fn push_head(&mut self, rules: &Rules, trail: &mut Trail, pushed: Pushed) -> Result<(), Stop> {
         let activity = pushed.activity;
         let first = self.profile.ended_by(trail.history.head(activity));
         for x in first..self.profile.count() {
@@ -108,9 +102,9 @@ impl TimeTable {
             if piece.from >= end {
                 break;
             }
-            if piece.to > head && pushed.is_kept_out(rules, piece) {
+            if piece.to > head && pushed.is_kept_out(piece) {
                 let time = piece.to.min(end).wrapping_sub(1);
-                let cause = self.load_at(rules, trail, index, time, Some(activity))?;
+                let cause = self.load_at(rules, trail, pushed.index, time, Some(activity))?;
                 trail.force(Literal::at_least(activity, time.wrapping_add(1)), cause)?;
             }
         }
@@ -122,7 +116,6 @@ impl TimeTable {
         &mut self,
         rules: &Rules,
         trail: &mut Trail,
-        index: u32,
         pushed: Pushed,
     ) -> Result<(), Stop> {
         let activity = pushed.activity;
@@ -133,11 +126,9 @@ impl TimeTable {
             if piece.to <= latest {
                 break;
             }
-            if piece.from < latest.wrapping_add(pushed.duration)
-                && pushed.is_kept_out(rules, piece)
-            {
+            if piece.from < latest.wrapping_add(pushed.duration) && pushed.is_kept_out(piece) {
                 let time = piece.from.max(latest);
-                let cause = self.load_at(rules, trail, index, time, Some(activity))?;
+                let cause = self.load_at(rules, trail, pushed.index, time, Some(activity))?;
                 let start = time.wrapping_sub(pushed.duration);
                 trail.force(Literal::at_most(activity, start), cause)?;
             }
@@ -155,31 +146,27 @@ impl TimeTable {
     ) -> Result<(), Stop> {
         let resource = self.users.resource(index);
         let demand = rules.demand(resource, activity);
+        let room = rules.capacity(resource).wrapping_sub(demand);
         let head = trail.history.head(activity);
         let duration = rules.duration(activity);
         let from = trail.history.latest(activity);
-        if demand.wrapping_add(self.profile.peak) <= rules.capacity(resource) || head == from {
+        if self.profile.peak <= room || head == from {
             return Ok(());
         }
         let pushed = Pushed {
             activity,
-            resource,
-            demand,
+            index,
+            room,
             duration,
             from,
             to: head.wrapping_add(duration),
         };
-        self.push_head(rules, trail, index, pushed)?;
-        self.push_latest(rules, trail, index, pushed)
+        self.push_head(rules, trail, pushed)?;
+        self.push_latest(rules, trail, pushed)
     }
 
     /// Overloads of a resource, and windows that move.
-    fn propagate_resource(
-        &mut self,
-        rules: &Rules,
-        trail: &mut Trail,
-        index: u32,
-    ) -> Result<(), Stop> {
+    fn push_resource(&mut self, rules: &Rules, trail: &mut Trail, index: u32) -> Result<(), Stop> {
         self.make_profile(rules, trail, index)?;
         let resource = self.users.resource(index);
         if let Some(piece) = self.profile.first_above(rules.capacity(resource)) {
@@ -201,7 +188,7 @@ impl TimeTable {
     pub(crate) fn propagate(&mut self, rules: &Rules, trail: &mut Trail) -> Result<(), Stop> {
         for index in 0..self.users.count() {
             if self.users.take_moved(index) {
-                self.propagate_resource(rules, trail, index)?;
+                self.push_resource(rules, trail, index)?;
             }
         }
         Ok(())

@@ -1,8 +1,11 @@
 //! The words of the command line, by `clap`.
 
 use crate::help;
-use calls::{Call, WordsFault, file_name, words_fault};
-use clap::{Arg, ArgAction, ArgMatches, Command, value_parser};
+use calls::{
+    Call, WordsFault, file, file_name, flag, matches_of, number, program_command,
+    project_subcommand, subcommand, words,
+};
+use clap::{ArgMatches, Command};
 use solve_runs::{Asked, MAX_JOBS};
 use std::alloc::{AllocError, Global};
 
@@ -30,41 +33,6 @@ pub(crate) enum Work {
     Solve { asked: Asked, call: Call },
 }
 
-/// A subcommand with its help: what it does in a line, and what stands below its options.
-fn subcommand<'a>(alloc: Global, name: &'a str, about: &'a str, more: &'a str) -> Command<'a> {
-    Command::new(alloc, name)
-        .before_help(help::HEADING)
-        .about(about)
-        .after_help(more)
-}
-
-fn verify_command<'a>(alloc: Global) -> Result<Command<'a>, AllocError> {
-    let project = Arg::new(alloc, "project")
-        .long("project")
-        .value_name("FILE")
-        .help("Check against the project in FILE")
-        .action(ArgAction::Set)
-        .required(true);
-    let about = "Check a record of lemmas against a project in a file";
-    subcommand(alloc, "verify", about, help::VERIFY).arg(project)
-}
-
-/// An option that takes a number from this one on.
-fn number<'a>(
-    alloc: Global,
-    name: &'a str,
-    value: &'a str,
-    about: &'a str,
-    least: i64,
-    most: i64,
-) -> Arg<'a> {
-    Arg::new(alloc, name)
-        .long(name)
-        .value_name(value)
-        .help(about)
-        .value_parser(value_parser!(u64).range(least..=most))
-}
-
 /// The options that say how far a search goes.
 fn with_limits<'a>(alloc: Global, command: Command<'a>) -> Result<Command<'a>, AllocError> {
     let seconds = "Stop after S seconds";
@@ -80,48 +48,27 @@ fn with_limits<'a>(alloc: Global, command: Command<'a>) -> Result<Command<'a>, A
         .arg(number(alloc, "memory", "MIB", memory, 1, MAX_MEMORY).default_value(DEFAULT_MEMORY))
 }
 
-/// An option that is there or not.
-fn flag<'a>(alloc: Global, name: &'a str, about: &'a str) -> Arg<'a> {
-    Arg::new(alloc, name)
-        .long(name)
-        .help(about)
-        .action(ArgAction::SetTrue)
-}
-
 fn solve_command<'a>(alloc: Global) -> Result<Command<'a>, AllocError> {
-    let start = Arg::new(alloc, "start")
-        .long("start")
-        .value_name("FILE")
-        .help("Start from the feasible schedule in FILE")
-        .action(ArgAction::Set);
-    let record = Arg::new(alloc, "record")
-        .long("record")
-        .value_name("FILE")
-        .help("Write the record that proves the answer into FILE")
-        .action(ArgAction::Set);
     let about = "Print a shortest schedule of a project, with a record of lemmas that proves it";
-    with_limits(alloc, subcommand(alloc, "solve", about, help::SOLVE))?
-        .arg(start)?
-        .arg(flag(alloc, "json", "Print the answer as one line of JSON"))?
-        .arg(record)?
-        .arg(flag(
-            alloc,
-            "progress",
-            "Report each shorter schedule and greater bound on standard error",
-        ))
+    let start = "Start from the feasible schedule in FILE";
+    let json = "Print the answer as one line of JSON";
+    let record = "Write the record that proves the answer into FILE";
+    let progress = "Report each shorter schedule and greater bound on standard error";
+    let command = subcommand(alloc, help::HEADING, "solve", about, help::SOLVE);
+    with_limits(alloc, command)?
+        .arg(file(alloc, "start", start))?
+        .arg(flag(alloc, "json", json))?
+        .arg(file(alloc, "record", record))?
+        .arg(flag(alloc, "progress", progress))
 }
 
 fn command<'a>(alloc: Global) -> Result<Command<'a>, AllocError> {
-    Command::new(alloc, "psprove")
-        .bin_name("psprove")?
-        .version(help::VERSION)
-        .before_help(help::HEADING)
-        .about("Solve projects with resources and time lags, and check records of lemmas")
-        .after_help(help::PROGRAM)
-        .subcommand_required(true)
-        .disable_help_subcommand(true)
+    let heading = help::HEADING;
+    let about = "Solve projects with resources and time lags, and check records of lemmas";
+    let verify = "Check a record of lemmas against a project in a file";
+    program_command(alloc, "psprove", heading, about, help::PROGRAM)?
         .subcommand(solve_command(alloc)?)?
-        .subcommand(verify_command(alloc)?)
+        .subcommand(project_subcommand(alloc, heading, "verify", verify, help::VERIFY)?)
 }
 
 /// What is asked of a search.
@@ -164,16 +111,11 @@ fn found_work(alloc: Global, matches: &ArgMatches<'_>) -> Result<Option<Work>, A
     }
 }
 
-/// What words ask for; the first word is the program's name.
-pub(crate) fn work_of(alloc: Global, words: &[String]) -> Result<Work, WordsFault> {
-    let matches = match command(alloc)?.try_get_matches_from(words) {
-        Ok(matches) => matches,
-        Err(error) => return Err(words_fault(alloc, &error)),
-    };
-    match found_work(alloc, &matches)? {
-        Some(work) => Ok(work),
-        None => Err(WordsFault::Bad {
-            text: String::new(alloc),
-        }),
-    }
+/// What the words of the command line ask for.
+pub(crate) fn work_of(rt: &HostRuntime) -> Result<Work, WordsFault> {
+    let (alloc, words) = (rt.alloc(), words(rt)?);
+    let matches = matches_of(alloc, command(alloc)?, &words)?;
+    found_work(alloc, &matches)?.ok_or(WordsFault::Bad {
+        text: String::new(alloc),
+    })
 }

@@ -6,7 +6,7 @@ mod command_line;
 mod help;
 
 use answers::Fault;
-use calls::{Call, Opener, refuse, refuse_file, refuse_files, report, words_or_exit};
+use calls::{Call, FOLDER, Opener, refuse, refuse_file, refuse_files, report};
 use command_line::{Work, work_of};
 use lemma_runs::run;
 use runs::{Ended, Reader, Writer};
@@ -17,14 +17,10 @@ use std::process::ExitCode;
 use std::rt::Runtime;
 use std::sync::Wait;
 use std::thread::Threads;
-use std::{env, fs, io};
+use std::{fs, io};
 
 /// The program's name in what it prints.
 const PROGRAM: &str = "psprove";
-
-/// What stands in for a standard device that is closed: a folder gives no bytes, and takes none. While it is open, no file
-/// opens in the place of one, and no answer goes into a record.
-const FOLDER: &str = "/";
 
 /// Opens the project's file, and checks the record on standard input against it.
 fn verify<R: Runtime>(rt: &R, alloc: Global, name: &String) -> ExitCode {
@@ -77,17 +73,8 @@ fn perform<R: Runtime + Threads + Wait + Sync>(rt: &R, alloc: Global, work: &Wor
     }
 }
 
-/// The words of the command line.
-fn words(rt: &HostRuntime) -> io::Result<Vec<String>> {
-    Ok(env::args(rt)?.collect(rt.alloc())?)
-}
-
 fn main(rt: HostRuntime) -> ExitCode {
-    let words = match words_or_exit(&rt, PROGRAM, words(&rt)) {
-        Ok(words) => words,
-        Err(exit) => return exit,
-    };
-    match work_of(rt.alloc(), &words) {
+    match work_of(&rt) {
         Ok(work) => perform(&rt, rt.alloc(), &work),
         Err(fault) => refuse(&rt, PROGRAM, &fault),
     }

@@ -1,6 +1,10 @@
 //! A gate that watches, holds and counts workers.
 
-use branching::{Node, Report, expand};
+ghost use Rattle.std.specs.Prelude.{◌≡◌};
+ghost use Rattle.std.specs.Arc.{arc_value};
+ghost use Rattle.branching.specs.Path.{IsAt};
+
+use branching::{Lean, Report, Searcher};
 use network::Schedule;
 use std::alloc::{AllocError, Global};
 use std::sync::atomic::{AtomicU64, Ordering};
@@ -146,15 +150,24 @@ impl Watch {
     }
 
     /// The report of a worker that is refused, if this one of two is that of the node, which adds 3 before 2 under the name 6.
-    fn fail(&self, alloc: Global, refused: usize, node: &Arc<Node>) -> Result<Report, AllocError> {
-        let is_sixth = match node.lean().pairs().get(0) {
+    fn fail(
+        &self,
+        alloc: Global,
+        refused: usize,
+        searcher: &mut Searcher,
+        node: &Arc<Lean>,
+    ) -> Result<Report, AllocError>
+        requires { IsAt searcher.old (arc_value node.now) }
+        ensures { searcher.new ≡ searcher.old }
+    {
+        let is_sixth = match node.pairs().get(0) {
             Some(pair) => pair.before == 3 && pair.after == 2,
-            None => return expand(alloc, node, None),
+            None => return searcher.expand_here(alloc, node, None),
         };
         let is_first = self.holder_of_sixth.load(Ordering::SeqCst) == 0;
         let worker = if is_sixth == is_first { 0 } else { 1 };
         if worker == refused {
-            return expand(alloc, node, Some(1));
+            return searcher.expand_here(alloc, node, Some(1));
         }
         Err(AllocError)
     }
@@ -202,7 +215,8 @@ impl Gate for Watch {
         &self,
         _rt: &R,
         alloc: Global,
-        node: &Arc<Node>,
+        searcher: &mut Searcher,
+        node: &Arc<Lean>,
         ceiling: Option<i64>,
     ) -> Result<Report, AllocError> {
         let call = self.calls.fetch_add(1, Ordering::SeqCst);
@@ -212,11 +226,11 @@ impl Gate for Watch {
         }
         match self.holds {
             Holds::WithoutMemory => return Err(AllocError),
-            Holds::Fails(refused) => return self.fail(alloc, refused, node),
+            Holds::Fails(refused) => return self.fail(alloc, refused, searcher, node),
             Holds::Second if call == 1 => self.wait_for(&self.accepted, 2),
             _ => {}
         }
-        expand(alloc, node, ceiling)
+        searcher.expand_here(alloc, node, ceiling)
     }
 }
 
@@ -273,7 +287,8 @@ impl<'a, L: Ledger + Sync> Gate for Meddler<'a, L> {
         &self,
         _rt: &R,
         alloc: Global,
-        node: &Arc<Node>,
+        searcher: &mut Searcher,
+        node: &Arc<Lean>,
         ceiling: Option<i64>,
     ) -> Result<Report, AllocError> {
         let call = self.calls.fetch_add(1, Ordering::SeqCst);
@@ -285,7 +300,7 @@ impl<'a, L: Ledger + Sync> Gate for Meddler<'a, L> {
         } else {
             None
         };
-        expand(alloc, node, own.or(ceiling))
+        searcher.expand_here(alloc, node, own.or(ceiling))
     }
 }
 

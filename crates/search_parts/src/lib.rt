@@ -6,9 +6,11 @@ mod nogoods;
 mod random;
 mod restarts;
 mod stop;
+mod top;
 
 pub use chains::Chains;
-pub use nogoods::{Idle, Nogood, Nogoods, least_half};
+pub use nogoods::{Idle, Nogood, Nogoods};
 pub use random::{RANDOMS, Random};
 pub use restarts::Restarts;
 pub use stop::Stop;
+pub use top::Top;

@@ -35,13 +35,6 @@ pub struct Idle {
     pub nogood: u32,
 }
 
-/// The half of those that may be forgotten that were needed the least.
-pub fn least_half(idle: &mut Vec<Idle>) {
-    idle.sort_unstable();
-    let half = idle.len() / 2;
-    idle.truncate(half);
-}
-
 impl<L: Copy, N: Copy> Nogoods<L, N> {
     /// No nogoods. A literal and a note stand for those that aren't there.
     pub fn new(alloc: Global, no_literal: L, note: N) -> Nogoods<L, N> {
@@ -125,6 +118,28 @@ impl<L: Copy, N: Copy> Nogoods<L, N> {
             }
             self.bump = self.bump / SCALE;
         }
+    }
+
+    /// The half of those that may be forgotten that were needed the least.
+    pub fn least_half<F: Fn(Nogood<N>) -> bool>(
+        &self,
+        alloc: Global,
+        may_go: F,
+    ) -> Result<Vec<Idle>, AllocError>
+        requires { F.IsAlwaysCallable may_go }
+    {
+        let mut idle = Vec::new(alloc);
+        for nogood in 0..self.count() {
+            let found = self.get(nogood);
+            if may_go(found) {
+                let activity = found.activity;
+                idle.push(Idle { activity, nogood })?;
+            }
+        }
+        idle.sort_unstable();
+        let half = idle.len() / 2;
+        idle.truncate(half);
+        Ok(idle)
     }
 
     /// Gives up the literals of nogoods that aren't needed. Those that are left move up.

@@ -29,6 +29,7 @@ pub(crate) struct Partial {
 }
 
 impl Partial {
+    /// Room for a partial schedule. [`Partial::begin`] empties it at each pass.
     pub(crate) fn new(alloc: Global, rules: &Rules) -> Result<Partial, AllocError> {
         let count = rules.paths.activity_count();
         Ok(Partial {
@@ -59,7 +60,7 @@ impl Partial {
         self.placed = self.placed.wrapping_add(1);
         self.windows.place(activity, time);
         let end = time.wrapping_add(rules.needs.duration(activity));
-        self.profile.take(rules.needs.of(activity), time, end)?;
+        self.profile.occupy(rules.needs.of(activity), time, end)?;
         self.eligible.note_placed(&rules.precedence, activity)
     }
 
@@ -103,7 +104,7 @@ impl Partial {
             if let Some(start) = self.windows.start(activity) {
                 let end = start.wrapping_add(rules.needs.duration(activity));
                 if end > time {
-                    self.profile.take(rules.needs.of(activity), time, end)?;
+                    self.profile.occupy(rules.needs.of(activity), time, end)?;
                 }
             }
         }

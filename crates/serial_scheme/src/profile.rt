@@ -127,7 +127,7 @@ impl Profile {
     }
 
     /// Needs are met from a time to a time.
-    pub(crate) fn take(&mut self, needs: &[Need], from: i64, to: i64) -> Result<(), AllocError> {
+    pub(crate) fn occupy(&mut self, needs: &[Need], from: i64, to: i64) -> Result<(), AllocError> {
         if needs.is_empty() {
             return Ok(());
         }

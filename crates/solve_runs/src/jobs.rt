@@ -4,7 +4,7 @@ use crate::asked::Asked;
 use crate::board::Board;
 use crate::progress::Watch;
 use crate::report::raised;
-use crate::searching::search_beside;
+use crate::searching::{Run, search_beside};
 use lemma_search::State;
 use lemma_text::text_of;
 use network::Project;
@@ -48,28 +48,25 @@ impl From<AllocError> for SearchFault {
 fn search_all<R: Clock + Eprint + Threads + Wait + Sync>(
     rt: &R,
     alloc: Global,
-    asked: Asked,
-    watch: Watch,
-    project: &Project,
-    board: &Mutex<Board>,
+    run: Run<'_>,
 ) -> Result<(), SearchFault> {
     thread::scope(
         thread::scope_env(),
         rt,
         move |scope| -> Result<(), SearchFault> {
             let mut running: Vec<JoinHandle<()>> = Vec::new(alloc);
-            for job in 1..asked.jobs {
-                let beside = move || search_beside(rt, alloc, asked, watch, project, job, board);
+            for job in 1..run.asked.jobs {
+                let beside = move || search_beside(rt, alloc, run, job);
                 let Ok(handle) = scope.spawn(beside) else {
-                    board.lock(rt).is_over = true;
+                    run.board.lock(rt).is_over = true;
                     return Err(SearchFault::Thread);
                 };
                 if running.push(handle).is_err() {
-                    board.lock(rt).is_over = true;
+                    run.board.lock(rt).is_over = true;
                     return Err(SearchFault::Memory);
                 }
             }
-            search_beside(rt, alloc, asked, watch, project, 0, board);
+            search_beside(rt, alloc, run, 0);
             for handle in running {
                 handle.join(rt);
             }
@@ -98,7 +95,13 @@ pub(crate) fn searched<R: Clock + Eprint + Threads + Wait + Sync>(
 ) -> Result<Found, SearchFault> {
     let watch = Watch::start(rt);
     let board = Mutex::new(Board::new(alloc, start)?);
-    search_all(rt, alloc, asked, watch, project, &board)?;
+    let run = Run {
+        asked,
+        watch,
+        project,
+        board: &board,
+    };
+    search_all(rt, alloc, run)?;
     let board = board.into_inner();
     let (conflicts, decisions) = (board.conflicts, board.decisions);
     let (best, report) = board.into_parts()?;

@@ -11,27 +11,33 @@ use std::alloc::{AllocError, Global};
 use std::sync::{Mutex, Wait};
 use std::time::Clock;
 
+/// What the searches of a run have in common.
+#[derive(Clone, Copy)]
+pub(crate) struct Run<'a> {
+    pub(crate) asked: Asked,
+    pub(crate) watch: Watch,
+    pub(crate) project: &'a Project,
+    pub(crate) board: &'a Mutex<Board>,
+}
+
 /// Searches until the search ends, or another has ended, or as far as the limits let it.
 fn search_within<R: Clock + Eprint + Wait>(
     rt: &R,
     alloc: Global,
-    asked: Asked,
-    watch: Watch,
-    project: &Project,
-    board: &Mutex<Board>,
+    run: Run<'_>,
     team: &mut Team,
 ) -> Result<(), AllocError> {
     for _ in 0..u64::MAX {
-        let seconds = watch.seconds(rt).unwrap_or(u64::MAX);
-        let left = asked.conflicts.saturating_sub(team.counts().conflicts);
-        if seconds >= asked.seconds || left == 0 || team.state() != State::Going {
+        let seconds = run.watch.seconds(rt).unwrap_or(u64::MAX);
+        let left = run.asked.conflicts.saturating_sub(team.counts().conflicts);
+        if seconds >= run.asked.seconds || left == 0 || team.state() != State::Going {
             break;
         }
-        team.advance(alloc, project, left)?;
-        let mut board = board.lock(rt);
+        team.advance(alloc, run.project, left)?;
+        let mut board = run.board.lock(rt);
         team.exchange(alloc, &mut board)?;
-        if asked.progress {
-            board.tell(rt, watch, team.bound());
+        if run.asked.progress {
+            board.tell(rt, run.watch, team.bound());
         }
         if team.state() == State::Ended {
             board.is_over = true;
@@ -44,17 +50,11 @@ fn search_within<R: Clock + Eprint + Wait>(
 }
 
 /// Leaves a record on the board, where it shows more than the one that is there.
-fn hand_in<R: Wait>(
-    rt: &R,
-    alloc: Global,
-    project: &Project,
-    board: &Mutex<Board>,
-    team: Team,
-) -> Result<(), AllocError> {
+fn hand_in<R: Wait>(rt: &R, alloc: Global, run: Run<'_>, team: Team) -> Result<(), AllocError> {
     let (state, bound) = (team.state(), team.bound());
-    if board.lock(rt).leave(team.counts(), state, bound) {
-        let shown = team.into_record(alloc, project)?;
-        board.lock(rt).report(Report {
+    if run.board.lock(rt).leave(team.counts(), state, bound) {
+        let shown = team.into_record(alloc, run.project)?;
+        run.board.lock(rt).report(Report {
             state,
             bound,
             shown,
@@ -67,29 +67,23 @@ fn hand_in<R: Wait>(
 fn search<R: Clock + Eprint + Wait>(
     rt: &R,
     alloc: Global,
-    asked: Asked,
-    watch: Watch,
-    project: &Project,
+    run: Run<'_>,
     job: u64,
-    board: &Mutex<Board>,
 ) -> Result<(), AllocError> {
-    let mut team = Team::new(alloc, asked, project, job)?;
-    team.exchange(alloc, &mut board.lock(rt))?;
-    search_within(rt, alloc, asked, watch, project, board, &mut team)?;
-    hand_in(rt, alloc, project, board, team)
+    let mut team = Team::new(alloc, run.asked, run.project, job)?;
+    team.exchange(alloc, &mut run.board.lock(rt))?;
+    search_within(rt, alloc, run, &mut team)?;
+    hand_in(rt, alloc, run, team)
 }
 
 /// A search within limits, one of several side by side.
 pub(crate) fn search_beside<R: Clock + Eprint + Wait>(
     rt: &R,
     alloc: Global,
-    asked: Asked,
-    watch: Watch,
-    project: &Project,
+    run: Run<'_>,
     job: u64,
-    board: &Mutex<Board>,
 ) {
-    if search(rt, alloc, asked, watch, project, job, board).is_err() {
-        board.lock(rt).give_up();
+    if search(rt, alloc, run, job).is_err() {
+        run.board.lock(rt).give_up();
     }
 }

@@ -1,4 +1,4 @@
-//! How a project's size shares out the turns of a job.
+//! Whose turn it is in a job, by the size of its project.
 
 /// What a job does next.
 #[derive(Clone, Copy, PartialEq, Eq, Debug)]

@@ -2,8 +2,9 @@
 #![tactic(auto)]
 
 ghost use Rattle.calls.specs.Calls.{IsCall};
+ghost use Rattle.std.specs.Prelude.{IfOk};
 
-use calls::{Call, Opener, call_of, refuse, refuse_files, report, words_or_exit};
+use calls::{Call, FOLDER, Opener, WordsFault, call_of, refuse, refuse_files, report, words};
 use parallel_runs::run_parallel;
 use runs::{Reader, Writer};
 use std::alloc::Global;
@@ -11,15 +12,11 @@ use std::process::ExitCode;
 use std::rt::Runtime;
 use std::sync::Wait;
 use std::thread::Threads;
-use std::{env, fs, io};
+use std::{fs, io};
 use worker::OpenGate;
 
 /// The program's name in what it prints.
 const PROGRAM: &str = "psmax";
-
-/// What stands in for a standard device that is closed: a folder gives no bytes, and takes none. While it is open, no file
-/// opens in the place of one, and no answer goes into a record.
-const FOLDER: &str = "/";
 
 /// Opens the files that the call names, and runs its job. The devices are standard input and output, the second input
 /// and the output of the record.
@@ -48,17 +45,15 @@ fn perform<R: Runtime + Threads + Wait + Sync>(rt: &R, alloc: Global, call: &Cal
     report(rt, PROGRAM, &ended)
 }
 
-/// The words of the command line.
-fn words(rt: &HostRuntime) -> io::Result<Vec<String>> {
-    Ok(env::args(rt)?.collect(rt.alloc())?)
+/// The call that the words of the command line make.
+fn line_call(rt: &HostRuntime) -> Result<Call, WordsFault>
+    ensures { IfOk result IsCall }
+{
+    call_of(rt.alloc(), &words(rt)?)
 }
 
 fn main(rt: HostRuntime) -> ExitCode {
-    let words = match words_or_exit(&rt, PROGRAM, words(&rt)) {
-        Ok(words) => words,
-        Err(exit) => return exit,
-    };
-    match call_of(rt.alloc(), &words) {
+    match line_call(&rt) {
         Ok(call) => perform(&rt, rt.alloc(), &call),
         Err(fault) => refuse(&rt, PROGRAM, &fault),
     }

@@ -13,6 +13,15 @@ pub struct Asked {
     pub time: u32,
 }
 
+/// What explanations look at.
+#[derive(Drop)]
+pub struct Facts<'a> {
+    pub rules: &'a Rules,
+    pub pairs: &'a Pairs,
+    pub trail: &'a Trail,
+    pub nogoods: &'a mut Nogoods,
+}
+
 /// A question: who must run at a time besides one activity that may be left out, and above which use.
 #[derive(Clone, Copy)]
 struct Crowd {
@@ -47,12 +56,8 @@ impl Explainer {
     }
 
     /// Finds those that must run at a time.
-    fn find_members(
-        &mut self,
-        rules: &Rules,
-        trail: &Trail,
-        crowd: Crowd,
-    ) -> Result<(), AllocError> {
+    fn find_members(&mut self, facts: &Facts<'_>, crowd: Crowd) -> Result<(), AllocError> {
+        let (rules, trail) = (facts.rules, facts.trail);
         self.members.clear();
         let root = trail.root();
         for user in rules.users_of(crowd.resource) {
@@ -88,13 +93,8 @@ impl Explainer {
     }
 
     /// A smallest set of members that need more of a resource at a time than there is room.
-    fn explain_crowd(
-        &mut self,
-        rules: &Rules,
-        trail: &Trail,
-        crowd: Crowd,
-    ) -> Result<(), AllocError> {
-        self.find_members(rules, trail, crowd)?;
+    fn explain_crowd(&mut self, facts: &Facts<'_>, crowd: Crowd) -> Result<(), AllocError> {
+        self.find_members(facts, crowd)?;
         let (count, mut sum) = self.count_needed(crowd.room);
         for x in (0..count).rev() {
             if x < self.members.len() {
@@ -103,7 +103,7 @@ impl Explainer {
                 if without > crowd.room {
                     sum = without;
                 } else {
-                    let (started, runs) = running(rules, member.activity, crowd.time);
+                    let (started, runs) = running(facts.rules, member.activity, crowd.time);
                     self.literals.push(started)?;
                     self.literals.push(runs)?;
                 }
@@ -131,12 +131,12 @@ impl Explainer {
     /// Why an activity has no room at a time.
     fn explain_full(
         &mut self,
-        rules: &Rules,
-        trail: &Trail,
+        facts: &Facts<'_>,
         asked: Asked,
         resource: u32,
         time: i32,
     ) -> Result<(), AllocError> {
+        let rules = facts.rules;
         let slot = asked.literal.slot;
         let activity = slot / 2;
         let value = if slot % 2 == 0 {
@@ -153,19 +153,18 @@ impl Explainer {
             room: rules.capacity(resource).wrapping_sub(demand),
             before: asked.time,
         };
-        self.explain_crowd(rules, trail, crowd)
+        self.explain_crowd(facts, crowd)
     }
 
     /// Why a pair runs in an order that moves a slot.
     fn explain_order(
         &mut self,
-        rules: &Rules,
-        pairs: &Pairs,
+        facts: &Facts<'_>,
         literal: Literal,
         slot: u32,
     ) -> Result<(), AllocError> {
-        let order = pairs.order_of(slot);
-        let value = literal.value.wrapping_sub(rules.duration(order.a));
+        let order = facts.pairs.order_of(slot);
+        let value = literal.value.wrapping_sub(facts.rules.duration(order.a));
         let from = if literal.slot % 2 == 0 {
             order.a
         } else {
@@ -177,73 +176,48 @@ impl Explainer {
     }
 
     /// Why the other order of a pair doesn't fit: its first activity ends after the greatest start of the second.
-    fn explain_lost(
-        &mut self,
-        rules: &Rules,
-        pairs: &Pairs,
-        trail: &Trail,
-        asked: Asked,
-    ) -> Result<(), AllocError> {
-        let order = pairs.order_of(asked.literal.slot ^ 1);
+    fn explain_lost(&mut self, facts: &Facts<'_>, asked: Asked) -> Result<(), AllocError> {
+        let order = facts.pairs.order_of(asked.literal.slot ^ 1);
         let earliest = Literal::at_least(order.a, 0);
-        let value = trail.value_at(earliest.slot, asked.time);
-        let end = value.wrapping_add(rules.duration(order.a));
+        let value = facts.trail.value_at(earliest.slot, asked.time);
+        let end = value.wrapping_add(facts.rules.duration(order.a));
         self.literals.push(Literal { value, ..earliest })?;
         self.literals
             .push(Literal::at_most(order.b, end.wrapping_sub(1)))
     }
 
     /// The literals that a literal follows from, after those that were found before.
-    pub fn explain(
-        &mut self,
-        rules: &Rules,
-        pairs: &Pairs,
-        trail: &Trail,
-        nogoods: &mut Nogoods,
-        asked: Asked,
-    ) -> Result<(), AllocError> {
+    pub fn explain(&mut self, facts: &mut Facts<'_>, asked: Asked) -> Result<(), AllocError> {
         match asked.reason {
             Reason::Given | Reason::Decision => Ok(()),
             Reason::Arc { from, weight } => self.literals.push(Literal {
                 slot: from,
                 value: asked.literal.value.wrapping_sub(weight),
             }),
-            Reason::Order { slot } => self.explain_order(rules, pairs, asked.literal, slot),
-            Reason::Lost => self.explain_lost(rules, pairs, trail, asked),
+            Reason::Order { slot } => self.explain_order(facts, asked.literal, slot),
+            Reason::Lost => self.explain_lost(facts, asked),
             Reason::Use { nogood } => {
-                nogoods.list.raise(nogood);
-                self.explain_use(nogoods, asked.literal, nogood)
+                facts.nogoods.list.raise(nogood);
+                self.explain_use(facts.nogoods, asked.literal, nogood)
             }
-            Reason::Full { resource, time } => self.explain_full(
-                rules, trail, asked, resource, time,
-            ),
+            Reason::Full { resource, time } => self.explain_full(facts, asked, resource, time),
         }
     }
 
     /// The literals that a forced literal follows from, and one that contradicts it; both as weak as is needed.
-    fn explain_forced(
-        &mut self,
-        rules: &Rules,
-        pairs: &Pairs,
-        trail: &Trail,
-        nogoods: &mut Nogoods,
-        forced: Asked,
-    ) -> Result<(), AllocError> {
-        let literal = enough_of(trail, forced.literal);
+    fn explain_forced(&mut self, facts: &mut Facts<'_>, forced: Asked) -> Result<(), AllocError> {
+        let literal = enough_of(facts.trail, forced.literal);
         self.literals.push(literal.reverse())?;
-        self.explain(rules, pairs, trail, nogoods, Asked { literal, ..forced })
+        self.explain(facts, Asked { literal, ..forced })
     }
 
     /// The literals that contradict each other in a conflict.
     pub fn explain_conflict(
         &mut self,
-        rules: &Rules,
-        pairs: &Pairs,
-        trail: &Trail,
-        nogoods: &mut Nogoods,
+        facts: &mut Facts<'_>,
         conflict: Conflict,
     ) -> Result<(), AllocError> {
-        let time = trail.now();
+        let time = facts.trail.now();
         self.literals.clear();
         match conflict {
             Conflict::Forced { literal, reason } => {
@@ -252,21 +226,22 @@ impl Explainer {
                     reason,
                     time,
                 };
-                self.explain_forced(rules, pairs, trail, nogoods, forced)
+                self.explain_forced(facts, forced)
             }
             Conflict::Overload { resource, time: at } => {
                 let crowd = Crowd {
                     resource,
                     time: at,
                     but: None,
-                    room: rules.capacity(resource),
+                    room: facts.rules.capacity(resource),
                     before: time,
                 };
-                self.explain_crowd(rules, trail, crowd)
+                self.explain_crowd(facts, crowd)
             }
             Conflict::Nogood { nogood } => {
-                nogoods.list.raise(nogood);
-                self.literals.push_all(nogoods.list.literals_of(nogood))?;
+                let list = &mut facts.nogoods.list;
+                list.raise(nogood);
+                self.literals.push_all(list.literals_of(nogood))?;
                 Ok(())
             }
         }

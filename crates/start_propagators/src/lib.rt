@@ -12,6 +12,6 @@ mod pairs;
 mod propagation;
 mod time_table;
 
-pub use explain::{Asked, Explainer, enough_of};
+pub use explain::{Asked, Explainer, Facts, enough_of};
 pub use pairs::{Pair, Pairs};
 pub use propagation::Propagators;

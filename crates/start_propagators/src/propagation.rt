@@ -9,6 +9,7 @@ use std::alloc::{AllocError, Global};
 #[derive(Drop)]
 pub struct Propagators {
     pub pairs: Pairs,
+    pub nogoods: Nogoods,
     /// Arcs beside those of the project.
     arcs: Arcs,
     time_table: TimeTable,
@@ -45,8 +46,11 @@ impl Propagators {
         pairs: &[Pair],
         horizon: i32,
     ) -> Result<Propagators, AllocError> {
+        let activities = rules.activity_count() as usize;
+        let slots = activities.wrapping_add(pairs.len()).wrapping_mul(2);
         Ok(Propagators {
             pairs: Pairs::new(alloc, pairs, rules.activity_count())?,
+            nogoods: Nogoods::new(alloc, slots)?,
             arcs,
             time_table: TimeTable::new(alloc, rules, horizon)?,
             followed: 0,
@@ -112,28 +116,17 @@ impl Propagators {
     }
 
     /// What follows at the root, before anything is tried.
-    pub fn begin(
-        &mut self,
-        rules: &Rules,
-        trail: &mut Trail,
-        nogoods: &mut Nogoods,
-    ) -> Result<(), Stop> {
+    pub fn begin(&mut self, rules: &Rules, trail: &mut Trail) -> Result<(), Stop> {
         self.follow_all_slots(rules, trail)?;
         self.follow_all_pairs(rules, trail)?;
         self.table_all(rules, trail)?;
-        self.propagate(rules, trail, nogoods)
+        self.propagate(rules, trail)
     }
 
     /// What follows from one event by nogoods, arcs and pairs.
-    fn follow_event(
-        &mut self,
-        rules: &Rules,
-        trail: &mut Trail,
-        nogoods: &mut Nogoods,
-        number: u32,
-    ) -> Result<(), Stop> {
+    fn follow_event(&mut self, rules: &Rules, trail: &mut Trail, number: u32) -> Result<(), Stop> {
         let event = trail.event(number);
-        nogoods.visit(trail, event.slot, event.old)?;
+        self.nogoods.visit(trail, event.slot, event.old)?;
         let variable = event.slot / 2;
         if variable < rules.activity_count() {
             self.follow_slot(rules, trail, event.slot)?;
@@ -144,19 +137,14 @@ impl Propagators {
     }
 
     /// What follows from all events that propagation has not seen.
-    fn follow_events(
-        &mut self,
-        rules: &Rules,
-        trail: &mut Trail,
-        nogoods: &mut Nogoods,
-    ) -> Result<(), Stop> {
+    fn follow_events(&mut self, rules: &Rules, trail: &mut Trail) -> Result<(), Stop> {
         for _ in 0..u64::MAX {
             if self.followed >= trail.now() {
                 break;
             }
             self.followed = self.followed.wrapping_add(1);
             let number = self.followed;
-            self.follow_event(rules, trail, nogoods, number)?;
+            self.follow_event(rules, trail, number)?;
         }
         Ok(())
     }
@@ -186,14 +174,9 @@ impl Propagators {
     }
 
     /// Forces literals until nothing more follows.
-    pub fn propagate(
-        &mut self,
-        rules: &Rules,
-        trail: &mut Trail,
-        nogoods: &mut Nogoods,
-    ) -> Result<(), Stop> {
+    pub fn propagate(&mut self, rules: &Rules, trail: &mut Trail) -> Result<(), Stop> {
         for _ in 0..u64::MAX {
-            self.follow_events(rules, trail, nogoods)?;
+            self.follow_events(rules, trail)?;
             self.table_events(rules, trail)?;
             let Some((activity, look)) = self.time_table.next() else {
                 break;
@@ -222,5 +205,6 @@ impl Propagators {
             .bytes()
             .wrapping_add(self.arcs.bytes())
             .wrapping_add(self.pairs.bytes())
+            .wrapping_add(self.nogoods.bytes())
     }
 }

@@ -6,8 +6,8 @@ use crate::learning::Learner;
 use crate::options::{Counts, Limits, State};
 use crate::trace::Trace;
 use search_parts::Restarts;
-use start_propagators::{Pair, Propagators};
-use start_trail::{Arcs, Conflict, Literal, Nogoods, Note, Reason, Rules, Stop, Trail};
+use start_propagators::{Facts, Pair, Propagators};
+use start_trail::{Arcs, Conflict, Literal, Note, Reason, Rules, Stop, Trail};
 use std::alloc::{AllocError, Global};
 use tables::Table;
 
@@ -29,7 +29,6 @@ enum Next {
 #[derive(Drop)]
 pub struct Engine {
     trail: Trail,
-    nogoods: Nogoods,
     propagators: Propagators,
     learner: Learner,
     brancher: Brancher,
@@ -106,7 +105,6 @@ impl Engine {
         let count = propagators.pairs.count();
         Ok(Engine {
             trail,
-            nogoods: Nogoods::new(alloc, slots)?,
             propagators,
             learner: Learner::new(alloc, slots)?,
             brancher: Brancher::new(alloc, rules.activity_count(), count)?,
@@ -171,7 +169,10 @@ impl Engine {
     fn keep_proof(&mut self, conflict: Conflict) -> Result<u32, AllocError> {
         let (nogood, chain) = (self.learner.literals.all(), self.learner.chain.all());
         match &mut self.trace {
-            Some(trace) => trace.push(&self.trail, &self.nogoods, nogood, chain, conflict),
+            Some(trace) => {
+                let nogoods = &self.propagators.nogoods;
+                trace.push(&self.trail, nogoods, nogood, chain, conflict)
+            }
             None => Ok(0),
         }
     }
@@ -179,9 +180,9 @@ impl Engine {
     /// Forgets nogoods, whose numbers are then others.
     fn reduce(&mut self, alloc: Global) -> Result<(), AllocError> {
         if let Some(trace) = &mut self.trace {
-            trace.note_root(&self.trail, &self.nogoods)?;
+            trace.note_root(&self.trail, &self.propagators.nogoods)?;
         }
-        self.nogoods.reduce(alloc)
+        self.propagators.nogoods.reduce(alloc)
     }
 
     /// Takes a schedule that may be from elsewhere. One that isn't shorter than the best is left.
@@ -219,7 +220,7 @@ impl Engine {
     fn restart(&mut self, alloc: Global, rules: &Rules) -> Result<(), AllocError> {
         self.restarts.restart();
         self.go_back(rules, 0)?;
-        if self.nogoods.list.count() > self.most_nogoods {
+        if self.propagators.nogoods.list.count() > self.most_nogoods {
             self.reduce(alloc)?;
             self.most_nogoods = self.most_nogoods.wrapping_add(self.most_nogoods / 10);
         }
@@ -235,8 +236,7 @@ impl Engine {
 
     /// All that follows, and then a decision.
     fn go_on(&mut self, alloc: Global, rules: &Rules) -> Result<(), Stop> {
-        self.propagators
-            .propagate(rules, &mut self.trail, &mut self.nogoods)?;
+        self.propagators.propagate(rules, &mut self.trail)?;
         if self.restarts.is_due() {
             self.restart(alloc, rules)?;
             return Ok(());
@@ -261,14 +261,14 @@ impl Engine {
         self.next = Next::Decide;
         self.counts.conflicts = self.counts.conflicts.wrapping_add(1);
         self.restarts.note_conflict();
-        self.learner.analyse(
+        let mut facts = Facts {
             rules,
-            &self.propagators.pairs,
-            &self.trail,
-            &mut self.nogoods,
-            &mut self.brancher.weights,
-            conflict,
-        )?;
+            pairs: &self.propagators.pairs,
+            trail: &self.trail,
+            nogoods: &mut self.propagators.nogoods,
+        };
+        self.learner
+            .analyse(&mut facts, &mut self.brancher.weights, conflict)?;
         let proof = self.keep_proof(conflict)?;
         if self.learner.literals.is_empty() {
             self.state = State::Ended;
@@ -283,7 +283,8 @@ impl Engine {
                 glue: self.learner.glue,
                 proof,
             };
-            let nogood = self.nogoods.push(self.learner.literals.all(), note)?;
+            let literals = self.learner.literals.all();
+            let nogood = self.propagators.nogoods.push(literals, note)?;
             reason = Reason::Use { nogood };
         } else if let Some(trace) = &mut self.trace {
             trace.note_unit(first.reverse(), proof)?;
@@ -293,10 +294,7 @@ impl Engine {
 
     /// How many bytes the search takes.
     fn bytes(&self) -> u64 {
-        self.trail
-            .bytes()
-            .wrapping_add(self.nogoods.bytes())
-            .wrapping_add(self.propagators.bytes())
+        self.trail.bytes().wrapping_add(self.propagators.bytes())
     }
 
     /// Gives the proofs up where they take too much.
@@ -327,8 +325,7 @@ impl Engine {
         match self.next {
             Next::Begin => {
                 self.next = Next::Decide;
-                self.propagators
-                    .begin(rules, &mut self.trail, &mut self.nogoods)
+                self.propagators.begin(rules, &mut self.trail)
             }
             Next::Learn(conflict) => self.learn(rules, conflict),
             Next::Decide => {
@@ -372,8 +369,7 @@ impl Engine {
     pub fn begin(&mut self, rules: &Rules) -> State {
         if self.state == State::Going {
             self.next = Next::Decide;
-            let trail = &mut self.trail;
-            match self.propagators.begin(rules, trail, &mut self.nogoods) {
+            match self.propagators.begin(rules, &mut self.trail) {
                 Ok(()) => {}
                 Err(Stop::Conflict(_)) => self.state = State::Ended,
                 Err(Stop::Memory) => self.state = State::Full,

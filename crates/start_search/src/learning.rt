@@ -1,8 +1,9 @@
 //! Analyses a conflict to its first unique implication point.
 
 use crate::weights::Weights;
-use start_propagators::{Asked, Explainer, Pairs, enough_of};
-use start_trail::{Conflict, Literal, NO_LITERAL, Nogoods, Reason, Rules, Trail};
+use search_parts::Top;
+use start_propagators::{Asked, Explainer, Facts, enough_of};
+use start_trail::{Conflict, Literal, NO_LITERAL, Reason, Trail};
 use std::alloc::{AllocError, Global};
 use tables::Table;
 
@@ -16,13 +17,6 @@ const NOT_ASKED: Asked = Asked {
     time: 0,
 };
 
-/// The highest level of a conflict, and how many needed events of it are left.
-#[derive(Clone, Copy)]
-struct Top {
-    level: u32,
-    left: u32,
-}
-
 /// Analyses conflicts to the first unique implication point, as Marques-Silva and Sakallah (1999) do.
 #[derive(Drop)]
 pub(crate) struct Learner {
@@ -31,6 +25,7 @@ pub(crate) struct Learner {
     needs: Table<i32>,
     /// The events that are needed.
     needed: Vec<u32>,
+    /// Of the needed events that are left.
     top: Top,
     /// What was replaced by what it follows from, from the last to the first.
     pub(crate) chain: Table<Asked>,
@@ -49,7 +44,7 @@ impl Learner {
             explainer: Explainer::new(alloc),
             needs: Table::new(alloc, NOT_NEEDED),
             needed: Vec::new(alloc),
-            top: Top { level: 0, left: 0 },
+            top: Top::NONE,
             chain: Table::new(alloc, NOT_ASKED),
             literals: Table::new(alloc, NO_LITERAL),
             has_slot: Table::filled(alloc, slots, false, false)?,
@@ -64,7 +59,7 @@ impl Learner {
         self.literals.clear();
         self.back = 0;
         self.glue = 0;
-        self.top = Top { level: 0, left: 0 };
+        self.top = Top::NONE;
         for _ in self.needs.count()..trail.now().wrapping_add(1) {
             self.needs.push(NOT_NEEDED)?;
         }
@@ -81,12 +76,7 @@ impl Learner {
         self.needs.set(number as usize, known.max(literal.value));
         if known == NOT_NEEDED {
             self.needed.push(number)?;
-            let level = trail.event(number).level;
-            if level > self.top.level {
-                self.top = Top { level, left: 1 };
-            } else if level == self.top.level {
-                self.top.left = self.top.left.wrapping_add(1);
-            }
+            self.top.add(trail.event(number).level);
         }
         Ok(())
     }
@@ -118,28 +108,15 @@ impl Learner {
     }
 
     /// Finds what an event follows from.
-    fn explain(
-        &mut self,
-        rules: &Rules,
-        pairs: &Pairs,
-        trail: &Trail,
-        nogoods: &mut Nogoods,
-        asked: Asked,
-    ) -> Result<(), AllocError> {
+    fn explain(&mut self, facts: &mut Facts<'_>, asked: Asked) -> Result<(), AllocError> {
         self.explainer.literals.clear();
-        self.explainer.explain(rules, pairs, trail, nogoods, asked)
+        self.explainer.explain(facts, asked)
     }
 
     /// Replaces needed events of the top level by what they follow from, the last first, until one is left. Its literal
     /// is the first of the nogood.
-    fn resolve(
-        &mut self,
-        rules: &Rules,
-        pairs: &Pairs,
-        trail: &Trail,
-        nogoods: &mut Nogoods,
-        weights: &mut Weights,
-    ) -> Result<(), AllocError> {
+    fn resolve(&mut self, facts: &mut Facts<'_>, weights: &mut Weights) -> Result<(), AllocError> {
+        let trail = facts.trail;
         for number in (trail.root()..trail.now().wrapping_add(1)).rev() {
             if self.needs.get(number as usize) != NOT_NEEDED {
                 weights.raise(trail.event(number).slot / 2);
@@ -149,7 +126,7 @@ impl Learner {
                 self.top.left = self.top.left.wrapping_sub(1);
                 let asked = self.asked_of(trail, number);
                 self.chain.push(asked)?;
-                self.explain(rules, pairs, trail, nogoods, asked)?;
+                self.explain(facts, asked)?;
                 self.need_found(trail)?;
             }
         }
@@ -195,12 +172,10 @@ impl Learner {
     /// Keeps the literals below the top level, but those that follow from the others.
     fn keep_lower(
         &mut self,
-        rules: &Rules,
-        pairs: &Pairs,
-        trail: &Trail,
-        nogoods: &mut Nogoods,
+        facts: &mut Facts<'_>,
         weights: &mut Weights,
     ) -> Result<(), AllocError> {
+        let trail = facts.trail;
         self.needed.sort_unstable();
         for x in (0..self.needed.len()).rev() {
             let number = if x < self.needed.len() {
@@ -212,7 +187,7 @@ impl Learner {
             if event.level < self.top.level {
                 weights.raise(event.slot / 2);
                 let asked = self.asked_of(trail, number);
-                self.explain(rules, pairs, trail, nogoods, asked)?;
+                self.explain(facts, asked)?;
                 if event.reason == Reason::Decision || !self.is_covered(trail) {
                     self.keep(trail, number)?;
                 } else {
@@ -250,25 +225,21 @@ impl Learner {
     /// the root alone is at fault.
     pub(crate) fn analyse(
         &mut self,
-        rules: &Rules,
-        pairs: &Pairs,
-        trail: &Trail,
-        nogoods: &mut Nogoods,
+        facts: &mut Facts<'_>,
         weights: &mut Weights,
         conflict: Conflict,
     ) -> Result<(), AllocError> {
-        self.clear(trail)?;
-        self.push_forced(trail, conflict)?;
-        self.explainer
-            .explain_conflict(rules, pairs, trail, nogoods, conflict)?;
-        self.need_found(trail)?;
+        self.clear(facts.trail)?;
+        self.push_forced(facts.trail, conflict)?;
+        self.explainer.explain_conflict(facts, conflict)?;
+        self.need_found(facts.trail)?;
         if !self.needed.is_empty() {
-            self.resolve(rules, pairs, trail, nogoods, weights)?;
-            self.keep_lower(rules, pairs, trail, nogoods, weights)?;
+            self.resolve(facts, weights)?;
+            self.keep_lower(facts, weights)?;
         }
         self.forget();
         weights.raise_bump();
-        nogoods.list.raise_bump();
+        facts.nogoods.list.raise_bump();
         Ok(())
     }
 }

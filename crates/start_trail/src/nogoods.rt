@@ -2,7 +2,7 @@
 
 use crate::reason::{Literal, NO_LITERAL};
 use crate::watching::Watch;
-use search_parts::{Chains, Idle, least_half};
+use search_parts::{Chains, Nogood};
 use std::alloc::{AllocError, Global};
 use tables::Table;
 
@@ -85,24 +85,11 @@ impl Nogoods {
         self.watches.push(literal.slot as usize, watch)
     }
 
-    /// The nogoods of many levels.
-    fn idle(&self, alloc: Global) -> Result<Vec<Idle>, AllocError> {
-        let mut idle = Vec::new(alloc);
-        for nogood in 0..self.list.count() {
-            let found = self.list.get(nogood);
-            if found.note.glue > SMALL_GLUE {
-                let activity = found.activity;
-                idle.push(Idle { activity, nogood })?;
-            }
-        }
-        Ok(idle)
-    }
-
     /// Forgets the half of the nogoods of many levels that were needed the least. Those that are left get other
     /// numbers, so no event above the root may have one as its reason.
     pub fn reduce(&mut self, alloc: Global) -> Result<(), AllocError> {
-        let mut idle = self.idle(alloc)?;
-        least_half(&mut idle);
+        let may_go = |found: Nogood<Note>| found.note.glue > SMALL_GLUE;
+        let idle = self.list.least_half(alloc, may_go)?;
         let count = self.list.count() as usize;
         let mut is_needed = Table::filled(alloc, count, true, false)?;
         for nogood in &idle {

@@ -78,10 +78,6 @@ IsWorkFault (work_fault.Refused why) found = found ≡ fault.Refused why
 abbrev pub IsOfWork : SolveFault → Type 0
 IsOfWork found = (why : WorkFault) × IsWorkFault why found
 
--- a fault of an opening: there may not be so many workers or takes, or memory ran out
-abbrev pub IsOfOpening : SolveFault → Type 0
-IsOfOpening found = (found ≡ fault.Limit) ⊎ (found ≡ fault.Memory)
-
 -- why a node can't be given back
 abbrev pub IsOfGivingBack : CheckFault → Type 0
 IsOfGivingBack found = (found ≡ check_fault.Unknown) ⊎ ((found ≡ check_fault.NotInHand) ⊎ (found ≡ check_fault.Memory))

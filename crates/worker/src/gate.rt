@@ -4,7 +4,7 @@ ghost use Rattle.std.specs.Prelude.{◌≡◌};
 ghost use Rattle.std.specs.Arc.{arc_value};
 ghost use Rattle.branching.specs.Path.{IsAt};
 
-use branching::{Lean, Node, Report, Searcher, expand};
+use branching::{Lean, Report, Searcher};
 use std::alloc::{AllocError, Global};
 use std::marker::Sync;
 use std::sync::{Arc, Wait};
@@ -26,22 +26,10 @@ pub trait Gate: Sync {
     /// Called by a worker at each moment.
     fn pass<R: Wait>(&self, rt: &R, worker: usize, moment: Moment);
 
-    /// The report on a node under a ceiling.
+    /// The report on the node that the worker's searcher is at, under a ceiling.
     fn expand<R: Wait>(
         &self,
         _rt: &R,
-        alloc: Global,
-        node: &Arc<Node>,
-        ceiling: Option<i64>,
-    ) -> Result<Report, AllocError> {
-        expand(alloc, node, ceiling)
-    }
-
-    /// What workers call: the report of `expand` on the node that the worker's searcher is at. A gate that doesn't expand in
-    /// its own way saves the copy of the matrix here.
-    fn expand_at<R: Wait>(
-        &self,
-        rt: &R,
         alloc: Global,
         searcher: &mut Searcher,
         node: &Arc<Lean>,
@@ -50,8 +38,7 @@ pub trait Gate: Sync {
         requires { IsAt searcher.old (arc_value node.now) }
         ensures { searcher.new ≡ searcher.old }
     {
-        let node = searcher.node(alloc, node)?;
-        self.expand(rt, alloc, &node, ceiling)
+        searcher.expand_here(alloc, node, ceiling)
     }
 }
 
@@ -60,15 +47,4 @@ pub struct OpenGate;
 
 impl Gate for OpenGate {
     fn pass<R: Wait>(&self, _rt: &R, _worker: usize, _moment: Moment) {}
-
-    fn expand_at<R: Wait>(
-        &self,
-        _rt: &R,
-        alloc: Global,
-        searcher: &mut Searcher,
-        node: &Arc<Lean>,
-        ceiling: Option<i64>,
-    ) -> Result<Report, AllocError> {
-        searcher.expand_here(alloc, node, ceiling)
-    }
 }

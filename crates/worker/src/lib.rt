@@ -23,4 +23,4 @@ pub use fault::SolveFault;
 pub use gate::{Gate, Moment, OpenGate};
 pub use serving::work;
 pub use shared::Shared;
-pub use solution::{Solved, search, solve, solve_recorded};
+pub use solution::{Solved, search};

@@ -51,12 +51,7 @@ impl<L: Ledger> Locked<L> {
         ensures refused { OnErr result (share.new.amount ≡ share.old.amount) }
         ensures fits { share.new.amount ≤ 1000000000 }
     {
-        let Locked {
-            book,
-            shares,
-            rest: _,
-            awaited: _,
-        } = self;
+        let Locked { book, shares, .. } = self;
         let checked = book.check_in_for_reuse(name, report);
         if checked.is_ok() {
             shares.add(share, 1);

@@ -64,7 +64,7 @@ impl<L: Ledger> Shared<L> {
         ensures same { (desk.new.number ≡ desk.old.number) × (desk.new.seat ≡ desk.old.seat) }
         ensures counts { CountsAccepted desk.old result desk.new }
     {
-        let Ok(report) = gate.expand_at(rt, alloc, searcher, &ticket.node, ticket.ceiling) else {
+        let Ok(report) = gate.expand(rt, alloc, searcher, &ticket.node, ticket.ceiling) else {
             return Err(CheckFault::Memory);
         };
         let found = report.found().map(|schedule| schedule.makespan());

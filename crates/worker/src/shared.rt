@@ -4,20 +4,20 @@ ghost use Rattle.std.specs.Prelude.{◌≡◌, ◌+◌, ℕ, IfOk, IfErr, map, s
 ghost use Rattle.best_word.specs.Word.{Lowers};
 ghost use Rattle.worker.specs.Desks.{IsRow, IsRowAt, SeatedAt, CountsAccepted, tally_of};
 ghost use Rattle.branching.specs.Fair.{AreListsOf};
-ghost use Rattle.worker.specs.Solving.{IsOfGivingBack, IsOfOpening, RefusesLimits};
+ghost use Rattle.worker.specs.Solving.{IsOfGivingBack};
 ghost use Rattle.worker.specs.Locking.{IsEndFor};
 
 use crate::desk::{Desk, Tally};
-use crate::fault::{SolveFault, WorkFault};
+use crate::fault::WorkFault;
 use crate::locked::Locked;
 use best_word::{BestSeat, BestWord};
 use book::{Book, CheckFault, OtherProject, Take, Ticket};
 use branching::{Branches, Report};
-use network::{Project, Schedule};
+use network::Schedule;
 use std::alloc::{AllocError, Global};
 use std::mem;
 use std::sync::ledger::{Blank, Ledger, Share};
-use std::sync::{Arc, Condvar, Mutex, MutexGuard, Wait};
+use std::sync::{Condvar, Mutex, MutexGuard, Wait};
 
 /// What workers share: the book under its lock, a bell that tells of its changes, and the best word.
 #[derive(Drop)]
@@ -76,12 +76,10 @@ fn gather<L: Ledger>(
     let mut tallies = Vec::with_capacity(alloc, desks.len())?;
     for desk in desks {
         let Desk {
-            number: _,
             accepted,
             ahead,
             share,
-            seat: _,
-            searcher: _,
+            ..
         } = desk;
         all.merge(share);
         tallies.push(Tally { accepted, ahead })?;
@@ -90,31 +88,9 @@ fn gather<L: Ledger>(
 }
 
 impl<L: Ledger> Shared<L> {
-    /// A new book of a project under a new lock, and a desk for each worker, in the order of their numbers. The book
-    /// allows 1 to [`MAX_WORKERS`](book::MAX_WORKERS) workers and 1 to [`MAX_TAKES`](plain_search::MAX_TAKES) takes.
+    /// A book that has checked nothing in under a new lock, and a desk for each worker, in the order of their numbers.
     /// The ledger, which `blank` becomes, has a part for each worker.
     pub fn open(
-        alloc: Global,
-        blank: Blank,
-        project: Arc<Project>,
-        workers: usize,
-        takes: u64,
-    ) -> Result<(Shared<L>, Vec<Desk<L>>), SolveFault>
-        requires name { blank.name ≡ L.name }
-        requires parts { blank.parts ≡ L.parts }
-        requires one_each { blank.parts ≡ workers }
-        ensures desks { IfOk result (λ r. vec_len r.1 ≡ workers) }
-        ensures each { IfOk result (λ r. IsRow r.0 r.1.items) }
-        ensures limits { RefusesLimits workers takes result }
-        ensures fault { IfErr result IsOfOpening }
-    {
-        let book = Book::open(alloc, project, workers, takes)?;
-        let opened = Shared::around(alloc, blank, book, workers)?;
-        Ok(opened)
-    }
-
-    /// A book that has checked nothing in under a new lock, and a desk for each worker.
-    pub(crate) fn around(
         alloc: Global,
         blank: Blank,
         book: Book,
@@ -180,12 +156,10 @@ impl<L: Ledger> Shared<L> {
         ensures lists { IfOk result (AreListsOf report) }
     {
         let Desk {
-            number: _,
             accepted,
             ahead,
             share,
-            seat: _,
-            searcher: _,
+            ..
         } = desk;
         let mut locked = self.locked.lock(rt);
         let checked = locked.check_in(share, name, report);
@@ -265,16 +239,12 @@ impl<L: Ledger> Shared<L> {
         ensures shares { IfOk result (λ r. sum_by (λ t. t.accepted) r.1.items ≡ r.0.checked) }
         ensures tallies { IfOk result (λ r. r.1.items ≡ map tally_of desks.items) }
     {
-        let Shared {
-            locked,
-            changed: _,
-            best: _,
-        } = self;
+        let Shared { locked, .. } = self;
         let Locked {
             book,
             mut shares,
             rest,
-            awaited: _,
+            ..
         } = locked.into_inner();
         let (tallies, mut all) = gather(alloc, desks, rest)?;
         shares.audit(&mut all);

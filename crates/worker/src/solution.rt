@@ -180,7 +180,7 @@ fn search_with<L: Ledger + Send + Sync, G: Gate, R: Threads + Wait + Sync>(
     ensures fault { IfErr result IsWithinLimits }
 {
     let again = copy_of(alloc, &start)?;
-    let (shared, mut desks) = Shared::<L>::around(alloc, blank, book, workers)?;
+    let (shared, mut desks) = Shared::<L>::open(alloc, blank, book, workers)?;
     if let Some(start) = start {
         offer_start(rt, &shared, &mut desks, start)?;
     }
@@ -214,11 +214,11 @@ pub fn search<G: Gate, R: Threads + Wait + Sync>(
     if !are_allowed(workers, takes) {
         return Err(SolveFault::Limit);
     }
-    let shared = Arc::try_clone(&project)?;
+    let again = Arc::try_clone(&project)?;
     let book = if recorded {
-        Book::open_recorded(alloc, shared, workers, takes)?
+        Book::open_recorded(alloc, again, workers, takes)?
     } else {
-        Book::open(alloc, shared, workers, takes)?
+        Book::open(alloc, again, workers, takes)?
     };
     let blank = Blank::new(workers as u64);
     let (solved, trail) = search_with::<Brand, G, R>(
@@ -227,43 +227,5 @@ pub fn search<G: Gate, R: Threads + Wait + Sync>(
     if trail.is_some() != recorded {
         return Err(SolveFault::Thread);
     }
-    Ok((solved, trail))
-}
-
-/// Searches as [`search`] does, without a record.
-pub fn solve<G: Gate, R: Threads + Wait + Sync>(
-    rt: &R,
-    alloc: Global,
-    project: Arc<Project>,
-    workers: usize,
-    takes: u64,
-    start: Option<Schedule>,
-    gate: &G,
-) -> Result<Solved, SolveFault>
-    ensures solution { IfOk result (IsSolution (arc_value project) workers takes start) }
-    ensures limits { RefusesLimits workers takes result }
-{
-    let (solved, _) = search(rt, alloc, project, workers, takes, start, false, gate)?;
-    Ok(solved)
-}
-
-/// Searches as [`search`] does, with a record.
-pub fn solve_recorded<G: Gate, R: Threads + Wait + Sync>(
-    rt: &R,
-    alloc: Global,
-    project: Arc<Project>,
-    workers: usize,
-    takes: u64,
-    start: Option<Schedule>,
-    gate: &G,
-) -> Result<(Solved, Trail), SolveFault>
-    ensures solution { IfOk result (λ r. IsSolution (arc_value project) workers takes start r.0) }
-    ensures trail { IfOk result (λ r. IsTrailOf (arc_value project) r.0.outcome r.1) }
-    ensures limits { RefusesLimits workers takes result }
-{
-    let (solved, Some(trail)) = search(rt, alloc, project, workers, takes, start, true, gate)?
-    else {
-        unreachable!()
-    };
     Ok((solved, trail))
 }

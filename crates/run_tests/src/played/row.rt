@@ -30,7 +30,7 @@ pub(super) fn call_text(alloc: Global, line: &str) -> Result<String, AllocError>
             format!(in alloc; "{:?}, second {second}, record {record}", call.job)
         }
         Err(WordsFault::Help { .. }) => String::from_str(alloc, "help"),
-        Err(WordsFault::Bad { .. }) => String::from_str(alloc, "bad words"),
+        Err(WordsFault::Bad { .. } | WordsFault::NoText) => String::from_str(alloc, "bad words"),
         Err(WordsFault::Memory) => Err(AllocError),
     }
 }

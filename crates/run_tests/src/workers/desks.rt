@@ -6,7 +6,7 @@ ghost use Rattle.worker.specs.Desks.{SeatedAt};
 use crate::gates::{Holds, Meddler, Waker, Watch};
 use crate::workers::asked::{Asked, asked_by, schedule_of};
 use crate::workers::solving::{numbers, starts_of};
-use book::{CheckFault, Take};
+use book::{Book, CheckFault, Take};
 use std::alloc::Global;
 use std::marker::Brand;
 use std::sync::atomic::{AtomicU64, Ordering};
@@ -67,7 +67,8 @@ fn left_by<L: Ledger + Sync, R: Wait>(
 {
     let start = schedule_of(alloc, asked.starts)?;
     let project = Arc::new(alloc, one_machine(alloc, &[])?)?;
-    let (shared, mut desks) = Shared::<L>::open(alloc, blank, project, 1, 100)?;
+    let book = Book::open(alloc, project, 1, 100)?;
+    let (shared, mut desks) = Shared::<L>::open(alloc, blank, book, 1)?;
     shared.tell(&mut desks[0], asked.tells);
     let gate = Meddler {
         shared: &shared,
@@ -140,7 +141,8 @@ fn ends_of_two<L: Ledger + Send + Sync, R: Threads + Wait + Sync>(
     requires two { blank.parts ≡ 2 }
 {
     let project = Arc::new(alloc, one_machine(alloc, &[])?)?;
-    let (shared, mut desks) = Shared::<L>::open(alloc, blank, project, 2, 100)?;
+    let book = Book::open(alloc, project, 2, 100)?;
+    let (shared, mut desks) = Shared::<L>::open(alloc, blank, book, 2)?;
     let Some(second) = desks.pop() else {
         unreachable!()
     };

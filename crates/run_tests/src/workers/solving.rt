@@ -9,7 +9,7 @@ use std::alloc::{AllocError, Global};
 use std::sync::{Arc, Wait};
 use std::test::Fail;
 use std::thread::Threads;
-use worker::{SolveFault, Solved, solve, solve_recorded};
+use worker::{SolveFault, Solved, search};
 
 /// How many nodes were opened, checked in, cut and taken, and are open and in hand.
 pub(super) fn numbers(counts: &Counts) -> [u64; 6] {
@@ -35,15 +35,12 @@ fn searched<R: Threads + Wait + Sync>(
 ) -> Result<Searched, Fail> {
     let start = schedule_of(alloc, asked.starts)?;
     let project = Arc::new(alloc, project_of(alloc, asked.project)?)?;
-    let (workers, takes) = (asked.workers, asked.takes);
-    if asked.recorded {
-        return match solve_recorded(rt, alloc, project, workers, takes, start, gate) {
-            Ok((solved, trail)) => Ok(Ok((solved, trail.entries().len()))),
-            Err(fault) => Ok(Err(fault)),
-        };
-    }
-    match solve(rt, alloc, project, workers, takes, start, gate) {
-        Ok(solved) => Ok(Ok((solved, 0))),
+    let (workers, takes, recorded) = (asked.workers, asked.takes, asked.recorded);
+    match search(rt, alloc, project, workers, takes, start, recorded, gate) {
+        Ok((solved, trail)) => {
+            let entries = trail.map_or(0, |trail| trail.entries().len());
+            Ok(Ok((solved, entries)))
+        }
         Err(fault) => Ok(Err(fault)),
     }
 }
