@@ -3,7 +3,7 @@
 ghost use Rattle.std.specs.Prelude.{◌≡◌, ◌≢◌, true, IfOk, IfErr, IfSome};
 ghost use Rattle.std.specs.Arc.{arc_value};
 ghost use Rattle.network.specs.Schedule.{IsFeasible};
-ghost use Rattle.worker.specs.Solving.{IsWithinLimits};
+ghost use Rattle.worker.specs.Solving.{IsNotLimit};
 ghost use Rattle.answers.specs.declared.fault.Fault.TheVariants as faults;
 ghost use Rattle.answers.specs.Answers.{IsStartedText};
 ghost use Rattle.answers.specs.Faults.{exit_of, IsNoDeviceFault, IsSearchFault};
@@ -24,7 +24,7 @@ use worker::{Gate, SolveFault, Solved, search};
 
 /// The fault of a search that may have so many workers and takes.
 fn search_fault(fault: SolveFault) -> Fault
-    requires { IsWithinLimits fault }
+    requires { IsNotLimit fault }
     ensures becomes { IsSearchFaultOf fault result }
     ensures status { exit_of result ≡ 1 }
     ensures cause { IsNoDeviceFault result }

@@ -83,8 +83,8 @@ abbrev pub IsOfGivingBack : CheckFault → Type 0
 IsOfGivingBack found = (found ≡ check_fault.Unknown) ⊎ ((found ≡ check_fault.NotInHand) ⊎ (found ≡ check_fault.Memory))
 
 -- a fault of a search that may have so many workers and takes
-abbrev pub IsWithinLimits : SolveFault → Type 0
-IsWithinLimits found = found ≢ fault.Limit
+abbrev pub IsNotLimit : SolveFault → Type 0
+IsNotLimit found = found ≢ fault.Limit
 
 -- Limit comes exactly where there may not be so many workers or takes
 abbrev pub RefusesLimits : {A : Type 0} → ℕ → ℕ → Result A SolveFault → Type 0

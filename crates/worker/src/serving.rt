@@ -11,21 +11,10 @@ use crate::fault::{SolveFault, WorkFault};
 use crate::gate::{Gate, Moment};
 use crate::shared::Shared;
 use book::{CheckFault, Ticket};
-use branching::{Lean, Searcher};
+use branching::{Lean, Searcher, lesser};
 use std::alloc::{AllocError, Global};
 use std::sync::ledger::Ledger;
 use std::sync::{Arc, Wait};
-
-/// The lesser of a ticket's ceiling and the best word, where that is a makespan.
-fn lesser_ceiling(ceiling: Option<i64>, word: u64) -> Option<i64> {
-    let Ok(word) = i64::try_from(word) else {
-        return ceiling;
-    };
-    match ceiling {
-        Some(ceiling) => Some(ceiling.min(word)),
-        None => Some(word),
-    }
-}
 
 /// The kept searcher, if it is one of the node's project, else a new one.
 fn searcher_for(alloc: Global, kept: Option<Searcher>, node: &Lean) -> Result<Searcher, AllocError>
@@ -95,7 +84,7 @@ impl<L: Ledger> Shared<L> {
             return Err(CheckFault::Memory);
         };
         let word = self.best.look(&mut desk.seat);
-        ticket.ceiling = lesser_ceiling(ticket.ceiling, word);
+        ticket.ceiling = lesser(ticket.ceiling, i64::try_from(word).ok());
         let mut settled = self.attempt(rt, alloc, desk, gate, &mut searcher, &ticket);
         if let Err(CheckFault::AheadOfBook { best }) = settled {
             ticket.ceiling = best;

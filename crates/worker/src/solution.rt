@@ -6,7 +6,7 @@ ghost use Rattle.std.specs.Bool.{OnTrue};
 ghost use Rattle.network.specs.Schedule.{makespan};
 ghost use Rattle.plain_search.specs.Verdicts.{IsTrueOf};
 ghost use Rattle.worker.specs.Desks.{HasTold, IsRow};
-ghost use Rattle.worker.specs.Solving.{IsWithinLimits, RefusesLimits, HasBestWithin, IsOutcomeOf, IsSolution, IsTrailOf};
+ghost use Rattle.worker.specs.Solving.{IsNotLimit, RefusesLimits, HasBestWithin, IsOutcomeOf, IsSolution, IsTrailOf};
 
 use crate::desk::{Desk, Tally};
 use crate::fault::SolveFault;
@@ -61,7 +61,7 @@ fn offer_start<L: Ledger, R: Wait>(
     ensures row { IsRow shared.now desks.new.items }
     ensures count { vec_len desks.new ≡ vec_len desks.old }
     ensures told { OnOk result (HasTold (makespan start.starts) desks.new.items) }
-    ensures fault { IfErr result IsWithinLimits }
+    ensures fault { IfErr result IsNotLimit }
 {
     let makespan = start.makespan();
     if shared.offer(rt, start).is_err() {
@@ -85,7 +85,7 @@ fn copy_of(alloc: Global, start: &Option<Schedule>) -> Result<Option<Schedule>, 
 fn offer_again(book: &mut Book, start: Option<Schedule>) -> Result<(), SolveFault>
     ensures best { OnOk result (IfSome start (λ s. HasBestWithin (makespan s.starts) book.new)) }
     ensures only { book.new ≡ record book.old { best = book.new.best } }
-    ensures fault { IfErr result IsWithinLimits }
+    ensures fault { IfErr result IsNotLimit }
 {
     let Some(start) = start else {
         return Ok(());
@@ -139,7 +139,7 @@ fn conclude<R: Threads>(
     requires { sum_by (λ t. t.accepted) tallies.now ≡ book.checked }
     ensures solution { IfOk result (λ r. IsSolution project.now (length tallies.now) takes start r.0) }
     ensures trail { IfOk result (λ r. IfSome r.1 (IsTrailOf project.now r.0.outcome)) }
-    ensures fault { IfErr result IsWithinLimits }
+    ensures fault { IfErr result IsNotLimit }
 {
     if !book.project().is_same(project) {
         return Err(SolveFault::OtherProject);
@@ -177,7 +177,7 @@ fn search_with<L: Ledger + Send + Sync, G: Gate, R: Threads + Wait + Sync>(
     requires unused { book.checked ≡ 0 }
     ensures solution { IfOk result (λ r. IsSolution project.now workers takes start r.0) }
     ensures trail { IfOk result (λ r. IfSome r.1 (IsTrailOf project.now r.0.outcome)) }
-    ensures fault { IfErr result IsWithinLimits }
+    ensures fault { IfErr result IsNotLimit }
 {
     let again = copy_of(alloc, &start)?;
     let (shared, mut desks) = Shared::<L>::open(alloc, blank, book, workers)?;

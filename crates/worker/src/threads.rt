@@ -2,7 +2,7 @@
 
 ghost use Rattle.std.specs.Prelude.{◌≡◌, ◌≤◌, IfOk, IfErr, vec_len, vec_capacity, []};
 ghost use Rattle.worker.specs.Desks.{IsRow};
-ghost use Rattle.worker.specs.Solving.{IsWithinLimits};
+ghost use Rattle.worker.specs.Solving.{IsNotLimit};
 
 use crate::desk::Desk;
 use crate::fault::{SolveFault, WorkFault};
@@ -50,7 +50,7 @@ pub(crate) fn run_workers<L: Ledger + Send + Sync, G: Gate, R: Threads + Wait + 
 ) -> Result<Vec<Desk<L>>, SolveFault>
     requires { IsRow shared.now desks.items }
     ensures count { IfOk result (λ back. vec_len back ≡ vec_len desks) }
-    ensures fault { IfErr result IsWithinLimits }
+    ensures fault { IfErr result IsNotLimit }
 {
     let room = Vec::with_capacity(alloc, desks.len())?;
     let places = Vec::with_capacity(alloc, desks.len())?;
@@ -64,7 +64,7 @@ pub(crate) fn run_workers<L: Ledger + Send + Sync, G: Gate, R: Threads + Wait + 
             requires room_for_all { vec_len desks ≤ vec_capacity room }
             requires places_for_all { vec_len desks ≤ vec_capacity places }
             ensures count { IfOk result (λ back. vec_len back ≡ vec_len desks) }
-            ensures fault { IfErr result IsWithinLimits }
+            ensures fault { IfErr result IsNotLimit }
         {
             let mut running: Vec<JoinHandle<Ended<L>>> = room;
             let mut started = true;
