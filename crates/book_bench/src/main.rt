@@ -5,7 +5,7 @@
 #![tactic(auto)]
 
 use anyhow::{Context, bail};
-use book::{Book, Counts, Take};
+use book::{Book, Take};
 use branching::{expand, rebuild};
 use plain_search::MAX_TAKES;
 use sch_reader::read_sch;
@@ -79,16 +79,10 @@ fn measure(rt: &HostRuntime, book: &mut Book, rounds: u64) -> anyhow::Result<()>
 }
 
 fn print_counts(rt: &HostRuntime, book: &Book) -> anyhow::Result<()> {
-    let Counts {
-        opened,
-        checked,
-        cut,
-        taken,
-        waiting,
-        hand,
-    } = book.counts();
+    let all = book.counts();
     println!(rt;
-        "opened {opened}, checked in {checked}, cut {cut}, taken {taken}, open {waiting}, in hand {hand}"
+        "opened {}, checked in {}, cut {}, taken {}, open {}, in hand {}",
+        all.opened, all.checked, all.cut, all.taken, all.waiting, all.hand
     )?;
     Ok(())
 }

@@ -1,6 +1,6 @@
 //! What a book answers, as words.
 
-use book::{Book, CheckFault, CheckedIn, Counts, Reply, Take, Ticket, Verdict};
+use book::{Book, CheckFault, CheckedIn, Reply, Take, Ticket, Verdict};
 use branching::Lean;
 use network::Pair;
 use std::alloc::{AllocError, Global};
@@ -108,17 +108,13 @@ pub fn reply_text(alloc: Global, reply: &Reply) -> Result<String, AllocError> {
 
 /// The counts of a book, its best makespan and its lower bound.
 pub fn told(alloc: Global, book: &Book) -> Result<String, AllocError> {
-    let Counts {
-        opened,
-        checked,
-        cut,
-        taken,
-        waiting,
-        hand,
-    } = book.counts();
     let best = or_dash(alloc, book.best().map(|best| best.makespan()))?;
     let bound = or_dash(alloc, book.lower_bound())?;
-    format!(in alloc; "{opened} {checked} {cut} {taken} {waiting} {hand} {best} {bound}")
+    let all = book.counts();
+    format!(in alloc;
+        "{} {} {} {} {} {} {best} {bound}",
+        all.opened, all.checked, all.cut, all.taken, all.waiting, all.hand
+    )
 }
 
 /// What a book says of its project: of an open search the best makespan and the bound.

@@ -1,5 +1,5 @@
 -- What a node's matrix says: of the schedules that keep its pairs, and of one pair more.
-use Rattle.std.proofs.Common.{◌≡◌, refl, sym, ap, subst, ◌-◌, ◌<◌, ◌≤◌, arith, ℤ, pos, ◌+ℤ◌, ◌≤ℤ◌, ◌<ℤ◌, List, [], ◌∷◌, ◌++◌, length, Option, None, Some, true, false, ◌∙◌, IfSome, FitsSigned, neg_ℤ, int_lt, if◌then◌else◌}
+use Rattle.std.proofs.Common.{◌≡◌, refl, sym, ap, subst, ◌-◌, ◌<◌, ◌≤◌, arith, ℤ, pos, ◌+ℤ◌, ◌≤ℤ◌, ◌<ℤ◌, List, [], ◌∷◌, ◌++◌, length, Option, None, Some, true, false, ◌∙◌, IfSome, FitsSigned, int_lt, if◌then◌else◌}
 use Rattle.std.specs.Option.{unwrap_or}
 use Rattle.std.specs.Int.{w64}
 use Rattle.std.specs.Int.Signed.{lt_z}
@@ -9,7 +9,7 @@ use Rattle.network.specs.declared.parts.Lag.{Lag}
 use Rattle.network.specs.declared.parts.Pair.{Pair}
 use Rattle.network.specs.Problem.{Problem, activity_count, end_of, duration, pair_arc, arcs_of, NameActivities, IsProject, IsAmount, IsWithin}
 use Rattle.network.specs.Walk.{IsProjectMatrix, Rows, entry, IsMatrixOf, HasPositiveCycle}
-use Rattle.network.specs.declared.limits.TheConstants.{MAX_AMOUNT, MAX_WALK_WEIGHT}
+use Rattle.network.specs.declared.limits.TheConstants.{MAX_WALK_WEIGHT}
 use Rattle.longest_path.specs.declared.insert.TheConstants.{MAX_WAY_WITH}
 use Rattle.network.proofs.Schedules.{arcs_of-push}
 use Rattle.longest_path.specs.Insert.{entry_over, rows_over, ClosesNone}
@@ -75,30 +75,13 @@ weight_within None within = record { at_least = omega (arith, ints); at_most = o
 weight_within (Some w) within = within
 
 pub sum_fits : (x y : ℤ) → IsWithin MAX_WALK_WEIGHT x → IsAmount y → FitsSigned w64 (x +ℤ y)
-sum_fits x y within amount =
-    let up : x ≤ℤ MAX_WALK_WEIGHT = within.at_most in
-    let down : neg_ℤ MAX_WALK_WEIGHT ≤ℤ x = within.at_least in
-    let low : pos 0 ≤ℤ y = amount.at_least in
-    let high : y ≤ℤ MAX_AMOUNT = amount.at_most in
-    omega (arith, ints)
+sum_fits x y within amount = omega (arith, ints)
 
 pub way_amount_fits : (x y : ℤ) → IsWithin MAX_WAY_WITH x → IsAmount y → FitsSigned w64 (x +ℤ y)
-way_amount_fits x y within amount =
-    let up : x ≤ℤ MAX_WAY_WITH = within.at_most in
-    let down : neg_ℤ MAX_WAY_WITH ≤ℤ x = within.at_least in
-    let low : pos 0 ≤ℤ y = amount.at_least in
-    let high : y ≤ℤ MAX_AMOUNT = amount.at_most in
-    omega (arith, ints)
+way_amount_fits x y within amount = omega (arith, ints)
 
 pub sums_fit : (x y z : ℤ) → IsWithin MAX_WALK_WEIGHT x → IsAmount y → IsWithin MAX_WALK_WEIGHT z → FitsSigned w64 ((x +ℤ y) +ℤ z)
-sums_fit x y z within amount within_z =
-    let up : x ≤ℤ MAX_WALK_WEIGHT = within.at_most in
-    let down : neg_ℤ MAX_WALK_WEIGHT ≤ℤ x = within.at_least in
-    let low : pos 0 ≤ℤ y = amount.at_least in
-    let high : y ≤ℤ MAX_AMOUNT = amount.at_most in
-    let up_z : z ≤ℤ MAX_WALK_WEIGHT = within_z.at_most in
-    let down_z : neg_ℤ MAX_WALK_WEIGHT ≤ℤ z = within_z.at_least in
-    omega (arith, ints)
+sums_fit x y z within amount within_z = omega (arith, ints)
 
 pub positive_from : (x : ℤ) → lt_z (pos 0) x ≡ true → pos 0 <ℤ x
 positive_from x h = grind (arith, ints)
