@@ -2,6 +2,8 @@
 use Rattle.std.proofs.Common.{◌≡◌, refl, ap, ◌∙◌, inl, inr, ⊎_elim, ◌⊎◌, ◌+◌, add-one, arith, List, [], Option, Some, None, ℕ, ℤ, ◌≤ℤ◌, ◌<ℤ◌, IfSome}
 use Rattle.std.specs.List.{All, Any}
 use Rattle.std.proofs.lemmas.Int.{ints, by_lt_z}
+use Rattle.std.proofs.Math.ListN.{get_or-map}
+use Rattle.std.proofs.lemmas.List.{length-map}
 use Rattle.std.proofs.lemmas.List.Elements.{All-nil, All-contains, All-weaker}
 use Rattle.network.specs.Problem.{Problem}
 use Rattle.network.specs.Schedule.{ScheduleOf, IsFeasible, makespan}
@@ -74,7 +76,7 @@ lower None low high le under = tt
 lower (Some best) low high le under = omega (arith, ints, under)
 
 all_of_bounds : (P : ℤ → Type 0) (nodes : List Subproblem) → All P (bounds_of nodes) → All (λ (n : Subproblem). P n.bound) nodes
-all_of_bounds P nodes all = λ k d low. ?
+all_of_bounds P nodes all = λ k d low. rw (get_or-map (λ (n : Subproblem). n.bound) nodes k d) at (all k d.bound (rw (length-map nodes (λ (n : Subproblem). n.bound)) low))
 
 -- where the least bound is not below the best, no node is
 none_under : (best : Option ScheduleOf) (nodes : List Subproblem) (bound : ℤ) → IsLeast (bounds_of nodes) (Some bound) → ¬ IsUnder (ceiling_of best) bound → All (λ node. ¬ IsUnder (ceiling_of best) node.bound) nodes

@@ -1,15 +1,13 @@
 -- The takes of a search keep that its nodes cover what is shorter than its best.
-use Rattle.std.proofs.Common.{◌≡◌, sym, ap, ◌∙◌, subst, inl, inr, append_assoc, List, [], ◌∷◌, ◌++◌, ◌⊎◌, ⊎_elim, arith, Option, Some, None, ℤ, ◌≤ℤ◌, IfSome}
+use Rattle.std.proofs.Common.{◌≡◌, refl, sym, ap, ◌∙◌, subst, append_assoc, List, [], ◌∷◌, ◌++◌, ◌⊎◌, ⊎_elim, arith, Option, Some, None, ℤ}
 use Rattle.std.specs.List.{All, Contains}
 use Rattle.std.proofs.lemmas.Int.{ints}
-use Rattle.std.proofs.lemmas.List.Quantifiers.{Any-push}
-use Rattle.std.proofs.lemmas.List.Elements.{All-nil, All-cons, All-push, All-contains, All-weaker, Contains-append_cases, Contains-push}
+use Rattle.std.proofs.lemmas.List.Elements.{All-cons, All-contains, Contains-append_cases, Contains-push}
 use Rattle.network.specs.Problem.{Problem}
 use Rattle.network.specs.Schedule.{ScheduleOf}
 use Rattle.branching.specs.Subproblem.{Subproblem}
 use Rattle.branching.specs.Fair.{IsShorterThan, IsNodeOf, IsCovered, ceiling_of}
 use Rattle.branching.specs.Right.{IsBelow, IsUnder}
-use Rattle.branching.proofs.OrderedPairs.{here, any_left}
 use Rattle.branching.proofs.Covers.{all_left, covered_still, expansion_keeps}
 use Rattle.plain_search.specs.Takes.{SearchState, IsSoundState, bounds_of, DropsOver, IsTake}
 
