@@ -4,8 +4,8 @@ ghost use Rattle.std.specs.Prelude.{◌≡◌, ◌++◌, ◌∷◌, [], ◌<◌,
 ghost use Rattle.std.specs.Fmt.{decimal};
 ghost use Rattle.answers.specs.Answers.{starts_text, cycle_line, feasible_line, proved_line, start_lines, violation_line, violations_text};
 
-use schedule_check::Violation;
 use record_text::Proved;
+use schedule_check::Violation;
 use std::alloc::{AllocError, Global};
 
 fn put_start(out: &mut String, activity: usize, start: i64) -> Result<(), AllocError>
