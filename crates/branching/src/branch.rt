@@ -120,7 +120,9 @@ fn branch_with_forced(
 {
     match matrix.insert_under_mark(node.project().pair_arc(first)) {
         Ok(()) => {}
-        Err(PathFault::PositiveCycle { .. }) => return Ok(Fate::Dead { forced: Vec::new(alloc) }),
+        Err(PathFault::PositiveCycle { .. }) => return Ok(Fate::Dead {
+            forced: Vec::new(alloc),
+        }),
         Err(PathFault::Memory) => return Err(AllocError),
     }
     let branch = branch_at(alloc, node, matrix, bounds, ceiling, first);
@@ -147,10 +149,14 @@ pub(crate) fn branch_of(
 {
     let rows = matrix.matrix();
     if is_dead_with(node, rows, pair) {
-        return Ok(Fate::Dead { forced: Vec::new(alloc) });
+        return Ok(Fate::Dead {
+            forced: Vec::new(alloc),
+        });
     }
     if !is_below(least_with(node, rows, pair), ceiling) {
-        return Ok(Fate::Cut { forced: Vec::new(alloc) });
+        return Ok(Fate::Cut {
+            forced: Vec::new(alloc),
+        });
     }
     if node.pairs().get(0).is_none()
         || forces_some(node.project(), rows, node.base().incompatible(), pair)
@@ -159,7 +165,9 @@ pub(crate) fn branch_of(
     }
     let bound = bounds.bound_under(node.project(), rows, pair, ceiling);
     if !is_below(bound, ceiling) {
-        return Ok(Fate::Cut { forced: Vec::new(alloc) });
+        return Ok(Fate::Cut {
+            forced: Vec::new(alloc),
+        });
     }
     let forced = Vec::new(alloc);
     Ok(Fate::Kid(FoundKid { forced, bound }))

@@ -121,7 +121,11 @@ impl Lean {
         ensures pairs { result ≡ self.now.pairs }
         ensures is_node { IsNode self.now }
     {
-        PairList::of(self.parent.pairs.as_slice(), self.added, self.forced.as_slice())
+        PairList::of(
+            self.parent.pairs.as_slice(),
+            self.added,
+            self.forced.as_slice(),
+        )
     }
 
     /// A lower bound of the makespans of the schedules that the node stands for, in periods.

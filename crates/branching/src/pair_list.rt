@@ -28,11 +28,7 @@ impl<'a> Model for PairList<'a> {
 
 impl<'a> PairList<'a> {
     /// The pairs of all three, one after the other.
-    pub(crate) fn of(
-        before: &'a [Pair],
-        added: Option<Pair>,
-        forced: &'a [Pair],
-    ) -> PairList<'a>
+    pub(crate) fn of(before: &'a [Pair], added: Option<Pair>, forced: &'a [Pair]) -> PairList<'a>
         ensures { result ≡ before.now ++ (option_to_list added ++ forced.now) }
     {
         PairList {
