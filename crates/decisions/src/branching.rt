@@ -102,6 +102,7 @@ fn has_open_start(rules: &Rules, trail: &Trail, activity: u32) -> bool {
 }
 
 impl Brancher {
+    /// One for so many decisions, whose random numbers begin with this seed.
     pub fn new(alloc: Global, count: usize, seed: u64) -> Result<Brancher, AllocError> {
         Ok(Brancher {
             weights: Weights::new(alloc, count, seed)?,

@@ -41,6 +41,7 @@ fn columns_of(alloc: Global, rows: &Table<i64>, count: usize) -> Result<Table<i6
 }
 
 impl Paths {
+    /// The paths by the matrix of a project without pairs.
     pub(crate) fn new(alloc: Global, matrix: &Matrix) -> Result<Paths, AllocError> {
         let count = matrix.activity_count();
         let rows = rows_of(alloc, matrix)?;

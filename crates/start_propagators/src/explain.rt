@@ -48,6 +48,7 @@ pub struct Explainer {
 }
 
 impl Explainer {
+    /// One without memory, which takes it as it explains.
     pub fn new(alloc: Global) -> Explainer {
         Explainer {
             literals: Table::new(alloc, NO_LITERAL),
