@@ -1,4 +1,5 @@
-use Rattle.std.proofs.Common.{◌≡◌, sym, ap, ◌∙◌, ◌++◌, ◌∷◌, [], ◌<◌, ◌+◌, map, take, length, Some, arith}
+use Rattle.std.proofs.Common.{◌≡◌, sym, ap, ◌∙◌, ◌++◌, ◌∷◌, [], ◌<◌, ◌+◌, map, take, length, Some, arith, rules, w64, SFits}
+use Rattle.std.proofs.lemmas.Int.{to_z-of_z}
 use Rattle.std.proofs.lemmas.List.{take_more, map-append}
 use Rattle.std.specs.Arc.{arc_value}
 use Rattle.branching.specs.Subproblem.{Subproblem}
@@ -14,6 +15,7 @@ loop-node-preserved c =
     let items : map arc_value (take (c.loop-node.node-index + 1) c.args.nodes.now) ≡ map arc_value (take c.loop-node.node-index c.args.nodes.now) ++ arc_value c.node-item.result ∷ [] =
     ap (map arc_value) (more ∙ ap (λ x. take c.loop-node.node-index c.args.nodes.now ++ x ∷ []) (sym c.node-item.is)) ∙ map-append arc_value (take c.loop-node.node-index c.args.nodes.now) (c.node-item.result ∷ []) in
     let same : c.bound.result ≡ (arc_value c.node-item.result).bound = c.bound.ensures.bound ∙ ap (λ (n : Subproblem). n.bound) c.deref.ensures in
+    let fits : SFits w64 c.bound.result = search rules in
     let own : IsLeast ((arc_value c.node-item.result).bound ∷ []) (Some c.bound.result) = rw same (least_of_one (arc_value c.node-item.result).bound) in
-    let both = c.lesser.ensures (bounds_of (map arc_value (take c.loop-node.node-index c.args.nodes.now))) ((arc_value c.node-item.result).bound ∷ []) c.loop-node.invariant own in
+    let both = c.lesser-least.ensures (bounds_of (map arc_value (take c.loop-node.node-index c.args.nodes.now))) ((arc_value c.node-item.result).bound ∷ []) c.loop-node.invariant (simp to_z-of_z own) in
     rw (items, map-append (λ (n : Subproblem). n.bound) (map arc_value (take c.loop-node.node-index c.args.nodes.now)) (arc_value c.node-item.result ∷ [])) both
