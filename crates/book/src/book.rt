@@ -17,7 +17,7 @@ use crate::hands::Hands;
 use crate::nodes_left::NodesLeft;
 use crate::open_nodes::OpenNodes;
 use crate::recording::{clear_open, open_kids, shorter_found};
-use branching::{Branches, Report, is_below, is_in_time, lean_root, makespan_of};
+use branching::{Branches, Report, is_below, is_in_time, lean_root, lesser, makespan_of};
 use longest_path::PathFault;
 use network::{Project, Schedule};
 use plain_search::MAX_TAKES;

@@ -8,7 +8,7 @@ ghost use Rattle.book.specs.Steps.{IsFull};
 ghost use Rattle.branching.specs.Right.{IsLeast};
 ghost use Rattle.book.specs.Sound.{bounds_of};
 
-use branching::Lean;
+use branching::{Lean, lesser};
 use std::alloc::{AllocError, Global};
 use std::marker::Model;
 use std::sync::Arc;

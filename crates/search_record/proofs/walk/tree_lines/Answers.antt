@@ -1,4 +1,4 @@
-use Rattle.std.proofs.Common.{◌≡◌, ◌<◌, ◌∷◌, [], List, length, map, reverse, ap, refl, arith, Bor}
+use Rattle.std.proofs.Common.{◌≡◌, ℕ, ◌<◌, ◌∷◌, [], List, length, map, reverse, ap, refl, arith, Bor}
 use Rattle.std.proofs.lemmas.List.{length-map}
 use Rattle.branching.specs.Fates.{fate_value}
 use Rattle.trail.specs.Trail.{trail_entry}
