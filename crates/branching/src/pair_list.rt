@@ -7,6 +7,18 @@ use network::Pair;
 use std::alloc::{AllocError, Global};
 use std::marker::Model;
 
+/// The pair at a place of a pair, if there is one, and those that it forced. Most places of a list lie before these.
+#[inline(never)]
+fn own_pair(added: Option<Pair>, forced: &[Pair], place: usize) -> Option<Pair>
+    ensures { result ≡ slice_get (option_to_list added ++ forced.now) place }
+{
+    match (added, place.checked_sub(1)) {
+        (Some(_), Some(rest)) => forced.get(rest).copied(),
+        (Some(added), None) => Some(added),
+        (None, _) => forced.get(place).copied(),
+    }
+}
+
 /// Pairs in the order in which they were added.
 #[derive(Drop, Debug)]
 pub struct PairList<'a> {
@@ -42,13 +54,9 @@ impl<'a> PairList<'a> {
     pub fn get(&self, place: usize) -> Option<Pair>
         ensures { result ≡ slice_get self.now place }
     {
-        let Some(later) = place.checked_sub(self.before.len()) else {
-            return self.before.get(place).copied();
-        };
-        match (self.added, later.checked_sub(1)) {
-            (Some(_), Some(rest)) => self.forced.get(rest).copied(),
-            (Some(added), None) => Some(added),
-            (None, _) => self.forced.get(later).copied(),
+        match self.before.get(place) {
+            Some(pair) => Some(*pair),
+            None => own_pair(self.added, self.forced, place - self.before.len()),
         }
     }
 
