@@ -2,13 +2,13 @@
 
 ghost use Rattle.std.specs.Prelude.{◌≡◌, ◌↔◌, ◌++◌, IfOk, IsTrue, length, slice_get};
 ghost use Rattle.std.specs.Option.{option_to_list};
+ghost use Rattle.branching.specs.Path.{IsFrontOf};
 
 use network::Pair;
 use std::alloc::{AllocError, Global};
 use std::marker::Model;
 
-/// The pair at a place of a pair, if there is one, and those that it forced. Most places of a list lie before these.
-#[inline(never)]
+/// The pair at a place of a pair, if there is one, and those that it forced.
 fn own_pair(added: Option<Pair>, forced: &[Pair], place: usize) -> Option<Pair>
     ensures { result ≡ slice_get (option_to_list added ++ forced.now) place }
 {
@@ -48,6 +48,13 @@ impl<'a> PairList<'a> {
             added,
             forced,
         }
+    }
+
+    /// The pairs of the node's parent.
+    pub(crate) fn before(&self) -> &'a [Pair]
+        ensures { IsFrontOf result.now self.now }
+    {
+        self.before
     }
 
     /// The pair at a place, if there is one.

@@ -24,7 +24,7 @@ use std::marker::Model;
 use std::sync::Arc;
 
 /// Whether the pair at a place is this one.
-fn has_at(pairs: &PairList, place: usize, pair: Pair) -> bool
+fn has_at(pairs: &[Pair], place: usize, pair: Pair) -> bool
     ensures { OnTrue result (slice_get pairs.now place ≡ Some pair) }
 {
     match pairs.get(place) {
@@ -34,7 +34,7 @@ fn has_at(pairs: &PairList, place: usize, pair: Pair) -> bool
 }
 
 /// With how many pairs both lists begin.
-fn shared_count(left: &[Pair], right: &PairList) -> usize
+fn shared_count(left: &[Pair], right: &[Pair]) -> usize
     ensures { IsShared result left.now right.now }
 {
     for (place, pair) in left.iter().enumerate() {
@@ -97,16 +97,16 @@ impl Searcher {
         ensures pairs { OnOk result (self.new.pairs ≡ pairs.now) }
         ensures front { IsFrontOf self.new.pairs pairs.now }
     {
-        let shared = shared_count(self.at.pairs(), pairs);
+        let shared = shared_count(self.at.pairs(), pairs.before());
         self.at.keep(shared);
         self.at.go_on(&self.project, pairs)
     }
 
-    /// Drops what a report's lists hold, and keeps their memory for the next expansion.
+    /// Keeps the memory of a report's lists for the next expansion, which drops what they hold.
     pub fn reuse(&mut self, made: Branches)
         ensures { self.new ≡ self.old }
     {
-        self.workspace.made = made.emptied();
+        self.workspace.made = made;
     }
 
     /// The node that the searcher is at, with a copy of its matrix.
