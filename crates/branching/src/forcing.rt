@@ -1,9 +1,11 @@
 //! Pairs that a matrix forces, since the other order is impossible.
 
-ghost use Rattle.std.specs.Prelude.{◌≡◌, ◌↔◌, ◌<◌, [], ◌∷◌, ◌++◌, length, IsTrue, IfOk, IfSome};
+ghost use Rattle.std.specs.Prelude.{◌≡◌, ◌↔◌, ◌<◌, ◌+ℤ◌, Some, [], ◌∷◌, ◌++◌, length, IsTrue, IfOk, IfSome};
 ghost use Rattle.std.specs.List.{Any};
-ghost use Rattle.network.specs.Problem.{IsWithin, activity_count, pair_arc, NameActivities};
-ghost use Rattle.network.specs.Walk.{IsProjectMatrix};
+ghost use Rattle.network.specs.Problem.{IsWithin, activity_count, duration, pair_arc, NameActivities};
+ghost use Rattle.network.specs.Walk.{IsProjectMatrix, entry};
+ghost use Rattle.network.specs.declared.limits.TheConstants.{MAX_LAG_WEIGHT, MAX_WALK_WEIGHT};
+ghost use Rattle.longest_path.specs.Matrix.{joined};
 ghost use Rattle.longest_path.specs.declared.insert.TheConstants.{MAX_WAY_WITH};
 ghost use Rattle.rivals.specs.Incompatible.{pairs_of_row, pairs_of, IsRowOf, AreRowsOf};
 ghost use Rattle.branching.specs.Forcing.{IsForcedAt, IsForcedWith, IsNextForced, IsForcingOf};
@@ -73,8 +75,24 @@ fn next_forced(project: &Project, matrix: &Matrix, incompatible: &[Incompatible]
     None
 }
 
-/// Whether a way over the arc of one pair more forces some pair of one activity with others. It looks at entries of the
-/// matrix without that arc.
+/// Whether a way over the arc of the pair that is added forces a pair: a way that takes `first` up to the end of the
+/// arc. It looks at entries of the matrix without that arc.
+fn is_forced_over(project: &Project, matrix: &Matrix, added: Pair, first: i64, pair: Pair) -> bool
+    requires size { length matrix.now ≡ activity_count project.now }
+    requires added { NameActivities project.now (added ∷ []) }
+    requires pair { NameActivities project.now (pair ∷ []) }
+    requires first { joined (entry matrix.now pair.before added.before) (Some (duration project.now added.before)) ≡ Some first }
+    requires small { IsWithin (MAX_WALK_WEIGHT +ℤ MAX_LAG_WEIGHT) first }
+    ensures { IsTrue result ↔ IsForcedWith project.now matrix.now added pair }
+{
+    let Some(last) = matrix.get(added.after, pair.after) else {
+        return false;
+    };
+    let way = matrix.get(pair.before, pair.after);
+    is_forced_at(project, pair, or_way(way, Some(first), Some(last)))
+}
+
+/// Whether a way over the arc of one pair more forces some pair of one activity with others.
 fn forces_in_row(project: &Project, matrix: &Matrix, row: &Incompatible, added: Pair) -> bool
     requires size { length matrix.now ≡ activity_count project.now }
     requires row { IsRowOf project.now row.now }
@@ -87,15 +105,12 @@ fn forces_in_row(project: &Project, matrix: &Matrix, row: &Incompatible, added: 
         return false;
     };
     for after in row.others.as_slice() {
-        if let Some(last) = matrix.get(arc.to, *after) {
-            let pair = Pair {
-                before,
-                after: *after,
-            };
-            let greatest = or_way(matrix.get(before, *after), Some(first), Some(last));
-            if is_forced_at(project, pair, greatest) {
-                return true;
-            }
+        let pair = Pair {
+            before,
+            after: *after,
+        };
+        if is_forced_over(project, matrix, added, first, pair) {
+            return true;
         }
     }
     false

@@ -1,4 +1,4 @@
-use Rattle.std.proofs.Common.{◌≡◌, sym, ap, ◌∙◌, rules, pos, ◌+ℤ◌, ◌<ℤ◌, ◌≤ℤ◌, Some, true, false, ◌∷◌, ◌++◌, [], w64, SFits}
+use Rattle.std.proofs.Common.{◌≡◌, sym, ap, ◌∙◌, rules, pos, ◌+ℤ◌, ◌<ℤ◌, ◌≤ℤ◌, Some, true, false, ◌∷◌, ◌++◌, [], w64, SFits, to_z, of_z}
 use Rattle.std.specs.Int.Signed.{lt_z}
 use Rattle.std.proofs.lemmas.Int.{to_z-of_z}
 use Rattle.std.proofs.lemmas.Bool.{OnTrue_from, OnFalse_from}
@@ -8,6 +8,7 @@ use Rattle.longest_path.specs.Insert.{ClosesNone}
 use Rattle.branching.specs.Right.{IsDead}
 use Rattle.branching.proofs.Nodes.{rows_of, ends_of, closes_over, closes_none, closes_none_without, sum_fits, positive_from, not_positive}
 use Rattle.branching.proofs.branch.is_dead_with.Goals as goal
+use Rattle.branching.proofs.branch.is_dead_with.Goals.{In-Some}
 
 pub duration-duration-requires : goal.duration-duration-requires
 duration-duration-requires c = rw (c.deref.ensures ∙ c.project.ensures.project) ((ends_of c.args.node.now.project c.args.pair c.requires.named).0)
@@ -18,29 +19,27 @@ get-requires-clause-from_activity c = (rows_of c.args.node.now.project c.args.no
 pub get-requires-clause-to_activity : goal.get-requires-clause-to_activity
 get-requires-clause-to_activity c = (rows_of c.args.node.now.project c.args.node.now.pairs c.args.matrix.now c.args.pair c.requires.tied.matrix c.requires.named).0
 
-pub returns-in-Some-clause-dead : goal.returns-in-Some-clause-dead
-returns-in-Some-clause-dead c =
-    let long : c.duration-duration.result ≡ duration c.args.node.now.project c.args.pair.before = c.duration-duration.ensures.value ∙ ap (λ (p : Problem). duration p c.args.pair.before) (c.deref.ensures ∙ c.project.ensures.project) in
+-- the weight of the closed walk over the pair's arc
+around : (c : In-Some) → to_z w64 (of_z w64 (to_z w64 (of_z w64 c.in-Some.back) +ℤ to_z w64 (of_z w64 c.duration-duration.result))) ≡ c.in-Some.back +ℤ duration c.args.node.now.project c.args.pair.before
+around c =
     let back_fits : SFits w64 c.in-Some.back = search rules in
     let long_fits : SFits w64 c.duration-duration.result = search rules in
     let fits : SFits w64 (c.in-Some.back +ℤ c.duration-duration.result) = sum_fits c.in-Some.back c.duration-duration.result c.in-Some.ensures.fits c.duration-duration.ensures.amount in
+    simp to_z-of_z (ap (λ d. c.in-Some.back +ℤ d) (c.duration-duration.ensures.value ∙ ap (λ (p : Problem). duration p c.args.pair.before) (c.deref.ensures ∙ c.project.ensures.project)))
+
+pub returns-in-Some-clause-dead : goal.returns-in-Some-clause-dead
+returns-in-Some-clause-dead c =
+    let sum_is = around (goal.at.returns-in-Some-clause-dead c).In-Some in
     let read : entry c.args.matrix.now c.args.pair.after c.args.pair.before ≡ Some c.in-Some.back = sym c.get.ensures.value ∙ c.in-Some.is in
     OnTrue_from _ (IsDead c.args.node.now.project (c.args.node.now.pairs ++ c.args.pair ∷ [])) (λ test.
-    let sum : lt_z (pos 0) (c.in-Some.back +ℤ c.duration-duration.result) ≡ true = simp to_z-of_z at test in
-    let positive : pos 0 <ℤ (c.in-Some.back +ℤ c.duration-duration.result) = positive_from (c.in-Some.back +ℤ c.duration-duration.result) sum in
-    closes_over c.args.node.now.project c.args.node.now.pairs c.args.pair c.args.matrix.now c.in-Some.back c.requires.named c.requires.tied.matrix.matrix read (rw long at positive))
+    closes_over c.args.node.now.project c.args.node.now.pairs c.args.pair c.args.matrix.now c.in-Some.back c.requires.named c.requires.tied.matrix.matrix read (positive_from _ (rw sum_is at test)))
 
 pub returns-in-Some-clause-live : goal.returns-in-Some-clause-live
 returns-in-Some-clause-live c =
-    let long : c.duration-duration.result ≡ duration c.args.node.now.project c.args.pair.before = c.duration-duration.ensures.value ∙ ap (λ (p : Problem). duration p c.args.pair.before) (c.deref.ensures ∙ c.project.ensures.project) in
-    let back_fits : SFits w64 c.in-Some.back = search rules in
-    let long_fits : SFits w64 c.duration-duration.result = search rules in
-    let fits : SFits w64 (c.in-Some.back +ℤ c.duration-duration.result) = sum_fits c.in-Some.back c.duration-duration.result c.in-Some.ensures.fits c.duration-duration.ensures.amount in
+    let sum_is = around (goal.at.returns-in-Some-clause-live c).In-Some in
     let read : entry c.args.matrix.now c.args.pair.after c.args.pair.before ≡ Some c.in-Some.back = sym c.get.ensures.value ∙ c.in-Some.is in
     OnFalse_from _ (ClosesNone (pair_arc c.args.node.now.project c.args.pair) c.args.matrix.now) (λ test.
-    let sum : lt_z (pos 0) (c.in-Some.back +ℤ c.duration-duration.result) ≡ false = simp to_z-of_z at test in
-    let low : (c.in-Some.back +ℤ c.duration-duration.result) ≤ℤ pos 0 = not_positive (c.in-Some.back +ℤ c.duration-duration.result) sum in
-    closes_none c.args.node.now.project c.args.pair c.args.matrix.now c.in-Some.back read (rw long at low))
+    closes_none c.args.node.now.project c.args.pair c.args.matrix.now c.in-Some.back read (not_positive _ (rw sum_is at test)))
 
 pub returns-in-None-clause-live : goal.returns-in-None-clause-live
 returns-in-None-clause-live c = closes_none_without c.args.node.now.project c.args.pair c.args.matrix.now (sym c.get.ensures.value ∙ c.in-None.is)

@@ -8,6 +8,7 @@ use Rattle.branching.specs.Fair.{Expansion}
 use Rattle.branching.proofs.Together.{report_cut}
 use Rattle.branching.proofs.Covers.{reached_over}
 use Rattle.branching.proofs.expansion.expand_by.Goals as goal
+use Rattle.branching.proofs.expansion.expand_by.Goals.{Else-not-is_below}
 
 -- at a node below the ceiling nothing is to be shown
 not_over : {P : Type 0} (result : Result Expansion AllocError) → P → IfOk result (λ report. ¬ P → (report.found ≡ None) × (report.kids ≡ []))
@@ -36,16 +37,16 @@ report_split-report-requires-clause-earliest c = rw c.as_slice-least.ensures.val
 pub report_found-requires-clause-earliest : goal.report_found-requires-clause-earliest
 report_found-requires-clause-earliest c = c.in_ok-starts.ensures.earliest (arc_value c.args.node.now).project (arc_value c.args.node.now).pairs (rw c.matrix.ensures c.requires.tied.matrix)
 
-pub returns-in-Some-clause-over : goal.returns-in-Some-clause-over
-returns-in-Some-clause-over c =
+-- the node's bound is below the ceiling
+below : (c : Else-not-is_below) → IsUnder c.args.ceiling (arc_value c.args.node.now).bound
+below c =
     let bound_is : c.bound.result ≡ (arc_value c.args.node.now).bound = c.bound.ensures.bound ∙ ap (λ (n : Subproblem). n.bound) c.deref.ensures in
     let fits : SFits w64 c.bound.result = search rules in
     let under : IsUnder c.args.ceiling c.bound.result = simp to_z-of_z at c.if-not-is_below.ensures.below in
-    not_over _ (rw bound_is at under)
+    rw bound_is at under
+
+pub returns-in-Some-clause-over : goal.returns-in-Some-clause-over
+returns-in-Some-clause-over c = not_over _ (below (goal.at.returns-in-Some-clause-over c).Else-not-is_below)
 
 pub returns-in-None-clause-over : goal.returns-in-None-clause-over
-returns-in-None-clause-over c =
-    let bound_is : c.bound.result ≡ (arc_value c.args.node.now).bound = c.bound.ensures.bound ∙ ap (λ (n : Subproblem). n.bound) c.deref.ensures in
-    let fits : SFits w64 c.bound.result = search rules in
-    let under : IsUnder c.args.ceiling c.bound.result = simp to_z-of_z at c.if-not-is_below.ensures.below in
-    not_over _ (rw bound_is at under)
+returns-in-None-clause-over c = not_over _ (below (goal.at.returns-in-None-clause-over c).Else-not-is_below)
