@@ -7,7 +7,7 @@ use Rattle.std.proofs.lemmas.List.{get_or_default}
 use Rattle.std.proofs.lemmas.List.Sums.{sum_by-cons, sum_by-take-le, sum_by-le-sum_by}
 use Rattle.std.proofs.Math.Nat.{mul-le-mul_left}
 use Rattle.bounds.specs.declared.limits.TheConstants.{MAX_CAPACITY, MAX_END, MAX_WORK}
-use Rattle.bounds.specs.Loads.{IsSmall, AreLoads, work_after, share, IsReached, IsAbove, line_of, width_before, IsFilled, Load}
+use Rattle.bounds.specs.Loads.{IsSmall, AreLoads, work_after, envelope, IsReached, IsAbove, line_of, width_before, IsFilled, Load}
 use Rattle.bounds.proofs.Widths.{width_more}
 use Rattle.bounds.proofs.LateWork.{line_marks, line_far, sum_small, product_small, late_work, late_work-late, late_work-early, late_work-le, work_after-low, work_after-early, work_after-le, IsTop, sum_more, passed, work_reaches}
 
@@ -100,7 +100,7 @@ pub record IsHeld (line : List ℕ) (loads : List Load) (i n : ℕ) : Type 0 whe
   pub late : place < load.rank
   pub within : n ≤ end_from line loads (index + 1) place
 
--- the greatest end of the fill from a slot on, up to each slot; where the fill ends; the greatest share that was met
+-- the greatest end of the fill from a slot on, up to each slot; where the fill ends; the greatest envelope that was met
 pub record Filled (c : ℕ) (tails : List ℕ) (loads : List Load) (line : List ℕ) (i : ℕ) (widths : List ℕ) (filled n : ℕ) : Type 0 where
   pub count : length widths ≡ length tails
   pub tops : (q : ℕ) → q ≤ length tails → IsTop (end_from line loads i) q (top_at line loads i widths q)
@@ -159,7 +159,7 @@ pub record IsNext (c : ℕ) (tails : List ℕ) (loads : List Load) (line : List 
   pub at : x ≡ get_or loads i x
   pub small : IsSmall tails x
 
--- the share of a load's head and where the fill ends
+-- the envelope of a load's head and where the fill ends
 new_reached : (c : ℕ) (tails : List ℕ) (loads : List Load) (line : List ℕ) (i m : ℕ) (x : Load) → AreOnLine c tails loads line → i < length loads → x ≡ get_or loads i x → IsHeld line loads (i + 1) m → IsReached c tails loads (c * x.head + m)
 new_reached c tails loads line i m x on inside at h =
     let index : h.index < i + 1 = h.passed in
@@ -185,7 +185,7 @@ new_above : (c : ℕ) (tails : List ℕ) (loads : List Load) (line : List ℕ) (
 new_above c tails loads line i old filled n m x s over = λ a j y there high late.
     let more = sum_more (work_after a j) loads i x s.inside s.at in
     let rank : x.rank ≤ length tails = s.small.rank_limit in
-    let with_new : a ≤ x.head → j < x.rank → (z : Load) → Contains (take (i + 1) loads) z → j < z.rank → share c tails (take (i + 1) loads) a j ≤ c * x.head + m = λ up short z is_there counts.
+    let with_new : a ≤ x.head → j < x.rank → (z : Load) → Contains (take (i + 1) loads) z → j < z.rank → envelope c tails (take (i + 1) loads) a j ≤ c * x.head + m = λ up short z is_there counts.
     let between : sum_by (work_after a j) (take (i + 1) loads) ≤ sum_by (late_work j) (take (i + 1) loads) = sum_by-le-sum_by (work_after a j) (late_work j) (take (i + 1) loads) (work_after-le a j) in
     omega (arith, between, mul-le-mul_left c up, over j z is_there counts, line_marks c tails line s.on.is j (omega arith)) in
     ⊎_elim
@@ -205,7 +205,7 @@ new_above c tails loads line i old filled n m x s over = λ a j y there high lat
     omega (arith, with_new (omega arith) (omega arith) y there late))
     (passed loads i x y s.inside s.at there)
 
--- the greatest share with one load more, where the fill now ends at m
+-- the greatest envelope with one load more, where the fill now ends at m
 next_filled : (c : ℕ) (tails : List ℕ) (loads : List Load) (line : List ℕ) (i : ℕ) (old new : List ℕ) (filled n m : ℕ) (x : Load) → IsNext c tails loads line i old filled n x → length new ≡ length tails →
     ((q : ℕ) → q ≤ length tails → IsTop (end_from line loads (i + 1)) q (top_at line loads (i + 1) new q)) → IsHeld line loads (i + 1) m →
     ((q : ℕ) (y : Load) → Contains (take (i + 1) loads) y → q < y.rank → end_from line loads (i + 1) q ≤ m) → Filled c tails loads line (i + 1) new m (max n (c * x.head + m))

@@ -13,7 +13,7 @@ use Rattle.std.proofs.lemmas.List.Sorted.{All-permutation, length_permutation}
 use Rattle.network.specs.Problem.{IsBetween}
 use Rattle.network.specs.Schedule.{start}
 use Rattle.network.specs.declared.limits.TheConstants.{MAX_ACTIVITIES, MAX_WALK_WEIGHT}
-use Rattle.bounds.specs.declared.limits.TheConstants.{MAX_END, MAX_CAPACITY, MAX_WORK, MAX_SHARE, FAR_MARK}
+use Rattle.bounds.specs.declared.limits.TheConstants.{MAX_END, MAX_CAPACITY, MAX_WORK, MAX_ENVELOPE, FAR_MARK}
 use Rattle.bounds.specs.Energy.{AreEnds, IsTask, AreTasks, Task}
 use Rattle.bounds.proofs.Ranking.{rank_some, rank_limit}
 use Rattle.std.proofs.Math.Nat.{mul-le-mul, mul-le-mul_left}
@@ -116,7 +116,7 @@ tails_limited n tails rising tasks of_ends are of_tails =
     let at : IsTask n z.source = All-contains (IsTask n) tasks z.source are.each z.there in
     subst (λ (c : ℕ). c ≤ MAX_END) (sym z.is) (end_limit n tails z.source.activity of_ends at.there))
 
--- ---- Shares are within the limits.
+-- ---- Envelopes are within the limits.
 
 -- a sum of works, over few loads
 pub sum_small : (f : Load → ℕ) (tails : List ℕ) (loads : List Load) → AreLoads tails loads → ((x : Load) → f x ≤ x.work) → sum_by f loads ≤ 1002000000000000
@@ -132,7 +132,7 @@ sum_small f tails loads are part =
 pub product_small : (c a : ℕ) → c ≤ MAX_CAPACITY → a ≤ MAX_END → c * a ≤ 1003000000000000
 product_small c a small low = omega (arith, mul-le-mul small low)
 
-pub reached_small : (c : ℕ) (tails : List ℕ) (loads : List Load) (n : ℕ) → AreLoads tails loads → c ≤ MAX_CAPACITY → All (λ b. b ≤ MAX_END) tails → (n ≡ 0) ⊎ IsReached c tails loads n → n ≤ MAX_SHARE
+pub reached_small : (c : ℕ) (tails : List ℕ) (loads : List Load) (n : ℕ) → AreLoads tails loads → c ≤ MAX_CAPACITY → All (λ b. b ≤ MAX_END) tails → (n ≡ 0) ⊎ IsReached c tails loads n → n ≤ MAX_ENVELOPE
 reached_small c tails loads n are few low =
     ⊎_elim
     (λ (none : n ≡ 0). omega arith)

@@ -21,7 +21,7 @@ use Rattle.bounds.specs.Bound.{critical_weight, IsEnergyOf, IsBoundOf, IsBoundBe
 use Rattle.bounds.proofs.Ranked.{made_by}
 use Rattle.bounds.proofs.TrueBounds.{IsBoundOf-max, IsTrueBoundFor-bound, critical_from_zero}
 use Rattle.network.specs.Schedule.{start, makespan}
-use Rattle.bounds.specs.declared.limits.TheConstants.{MAX_SHARE}
+use Rattle.bounds.specs.declared.limits.TheConstants.{MAX_ENVELOPE}
 use Rattle.bounds.proofs.Energies.{IsBoundOf-exists}
 
 pub heads_over : (e : Lag) (rows : Rows) (heads : List ℤ) → length heads ≡ length rows → ((k : ℕ) → k < length rows → get_or heads k (pos 0) ≡ unwrap_or (entry_over e rows 0 k) (pos 0)) → heads ≡ weights_from 0 (rows_over e rows)
@@ -122,14 +122,14 @@ abbrev MOST : ℤ
 MOST = pos 9223372036854775807
 
 -- an energy below the ceiling
-energy_less : (ceiling : Option ℤ) (n : ℕ) (c : ℤ) → n ≤ MAX_SHARE → pos n ≤ℤ c → IfSome ceiling (λ limit. c <ℤ limit) → n < unsigned_abs (unwrap_or ceiling MOST)
+energy_less : (ceiling : Option ℤ) (n : ℕ) (c : ℤ) → n ≤ MAX_ENVELOPE → pos n ≤ℤ c → IfSome ceiling (λ limit. c <ℤ limit) → n < unsigned_abs (unwrap_or ceiling MOST)
 energy_less None n c small high under = omega (arith, ints)
 energy_less (Some limit) n c small high under = let less : c <ℤ limit = under in omega (arith, ints)
 
 -- the greater of the critical weight and the energy under the ceiling
 pub greater_under : (p : Problem) (pairs : List Pair) (pair : Pair) (rows : Rows) (heads tails : List ℤ) (ceiling : Option ℤ) (n : ℕ) → IsProjectMatrix p pairs rows → NameActivities p (pair ∷ []) → ClosesNone (pair_arc p pair) rows →
     heads ≡ weights_from 0 (rows_over (pair_arc p pair) rows) → tails ≡ tail_weights p (rows_over (pair_arc p pair) rows) → start heads (end_of p) ≡ critical_weight (rows_over (pair_arc p pair) rows) →
-    IsEnergyUnder p heads tails (unsigned_abs (unwrap_or ceiling MOST)) n → n ≤ MAX_SHARE → IsBoundUnder p rows pair ceiling (int_max (start heads (end_of p)) (pos n))
+    IsEnergyUnder p heads tails (unsigned_abs (unwrap_or ceiling MOST)) n → n ≤ MAX_ENVELOPE → IsBoundUnder p rows pair ceiling (int_max (start heads (end_of p)) (pos n))
 greater_under p pairs pair rows heads tails ceiling n m named none heads_are tails_are last energy small = record {
   low = λ bound of. low bound (of pairs over m more);
   exact = λ under.

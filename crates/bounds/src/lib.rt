@@ -10,10 +10,10 @@ ghost use Rattle.std.specs.Prelude.{◌≡◌, IfOk};
 ghost use Rattle.network.specs.Problem.{Problem};
 ghost use Rattle.bounds.specs.Bound.{critical_weight, IsMatrixFor, IsTrueBoundFor, IsBoundOf};
 
+mod envelope_buffers;
 mod limits;
 mod load;
 mod resource_buffers;
-mod share_buffers;
 mod slots;
 mod task;
 mod task_buffers;

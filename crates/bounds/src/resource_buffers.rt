@@ -5,7 +5,7 @@ ghost use Rattle.bounds.specs.Bound.{IsMatrixFor, IsTrueBoundFor, IsEnergyOf};
 ghost use Rattle.network.specs.Problem.{activity_count, resource_count};
 ghost use Rattle.bounds.specs.Energy.{IsResourceEnergy, IsEnergyUnder, AreEnds, IsGreatestEnds, all_tasks};
 
-use crate::limits::MAX_SHARE;
+use crate::limits::MAX_ENVELOPE;
 use crate::task_buffers::TaskBuffers;
 use earliest::{heads, tails};
 use longest_path::Matrix;
@@ -14,7 +14,7 @@ use std::alloc::{AllocError, Global};
 use std::marker::Model;
 
 /// The energy value of a matrix in periods. It takes each resource, head a and tail b, and the work of the activities
-/// with at least this head and this tail. This work, shared out over the capacity, has to fit between a and the
+/// with at least this head and this tail. This work, spread over the capacity, has to fit between a and the
 /// makespan less b.
 ///
 /// For each resource the activities that use it fill a line of slots between their tails, by falling head. An activity
@@ -90,14 +90,14 @@ impl ResourceBuffers {
         requires buffers { self.old ≡ all_tasks project.now }
         ensures buffers { self.new ≡ self.old }
         ensures value { IsResourceEnergy project.now heads.now tails.now resource result }
-        ensures limit { result ≤ MAX_SHARE }
+        ensures limit { result ≤ MAX_ENVELOPE }
     {
         let capacity = project.capacity(resource);
         if capacity == 0 {
             return 0;
         }
-        let share = self.buffers[resource].greatest_share(capacity, heads, tails);
-        ends.max(share.div_ceil(capacity))
+        let envelope = self.buffers[resource].greatest_envelope(capacity, heads, tails);
+        ends.max(envelope.div_ceil(capacity))
     }
 
     /// The energy value of heads and tails in periods, or a lower number that is at least the ceiling. It
@@ -114,7 +114,7 @@ impl ResourceBuffers {
         requires buffers { self.old ≡ all_tasks project.now }
         ensures buffers { self.new ≡ self.old }
         ensures value { IsEnergyUnder project.now heads.now tails.now ceiling result }
-        ensures limit { result ≤ MAX_SHARE }
+        ensures limit { result ≤ MAX_ENVELOPE }
     {
         prove!(0 < project.activity_count());
         let ends = greatest_ends(heads, tails);

@@ -3,9 +3,9 @@
 ghost use Rattle.std.specs.Prelude.{◌≡◌, ◌+◌, ◌<◌, ◌≤◌, length};
 ghost use Rattle.std.specs.List.{All};
 ghost use Rattle.std.specs.List.Sorted.{IsNonDecreasing};
-ghost use Rattle.bounds.specs.Loads.{AreLoads, IsGreatestShare, line_of, width_before, AreWidthsOf, IsFilled};
+ghost use Rattle.bounds.specs.Loads.{AreLoads, IsGreatestEnvelope, line_of, width_before, AreWidthsOf, IsFilled};
 
-use crate::limits::{FAR_MARK, MAX_CAPACITY, MAX_END, MAX_SHARE};
+use crate::limits::{FAR_MARK, MAX_CAPACITY, MAX_END, MAX_ENVELOPE};
 use crate::load::Load;
 
 /// Replaces the marks by the capacity times each tail, and a last mark that no work reaches.
@@ -55,7 +55,7 @@ fn fill(widths: &mut [u64], start: usize, work: u64) -> usize
 /// The loads come by falling head. Slot q lies between the capacity times tail q and the capacity times the next tail.
 /// The work of a load fills slots from that of its own tail on. Where the fill ends is the greatest of
 /// `capacity * tail + work` so far.
-pub(crate) fn greatest_share(
+pub(crate) fn greatest_envelope(
     loads: &[Load],
     capacity: u64,
     tails: &[u64],
@@ -68,8 +68,8 @@ pub(crate) fn greatest_share(
     requires capacity { capacity ≤ MAX_CAPACITY }
     requires tails { All (λ b. b ≤ MAX_END) tails.now }
     requires rising { IsNonDecreasing tails.now }
-    ensures greatest { IsGreatestShare capacity tails.now loads.now result }
-    ensures limit { result ≤ MAX_SHARE }
+    ensures greatest { IsGreatestEnvelope capacity tails.now loads.now result }
+    ensures limit { result ≤ MAX_ENVELOPE }
 {
     list_marks(line, capacity, tails);
     list_widths(widths, line);

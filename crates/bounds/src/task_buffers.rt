@@ -5,22 +5,22 @@ ghost use Rattle.network.specs.Problem.{resource_count};
 ghost use Rattle.bounds.specs.Energy.{tasks_of, AreTasks, AreEnds};
 ghost use Rattle.std.specs.List.{All};
 ghost use Rattle.std.specs.List.Sorted.{IsNonDecreasing};
-ghost use Rattle.bounds.specs.Loads.{AreLoads, IsGreatestShare, IsGreatestShareOf};
+ghost use Rattle.bounds.specs.Loads.{AreLoads, IsGreatestEnvelope, IsGreatestEnvelopeOf};
 
-use crate::limits::{MAX_CAPACITY, MAX_END, MAX_SHARE};
+use crate::envelope_buffers::EnvelopeBuffers;
+use crate::limits::{MAX_CAPACITY, MAX_END, MAX_ENVELOPE};
 use crate::load::Load;
-use crate::share_buffers::ShareBuffers;
-use crate::slots::greatest_share;
+use crate::slots::greatest_envelope;
 use crate::task::{Task, tasks_of};
 use network::Project;
 use std::alloc::{AllocError, Global};
 use std::marker::Model;
 
-/// The tasks of a resource, and the memory that their greatest share takes. Its value is the tasks.
+/// The tasks of a resource, and the memory that their greatest envelope takes. Its value is the tasks.
 #[derive(Drop, Debug)]
 pub(crate) struct TaskBuffers {
     tasks: Vec<Task>,
-    buffers: ShareBuffers,
+    buffers: EnvelopeBuffers,
 }
 
 impl Model for TaskBuffers {
@@ -47,23 +47,23 @@ impl TaskBuffers {
         ensures { IfOk result (λ buffers. buffers ≡ tasks_of project.now resource) }
     {
         let tasks = tasks_of(alloc, project, resource)?;
-        let buffers = ShareBuffers::new(alloc, tasks.as_slice())?;
+        let buffers = EnvelopeBuffers::new(alloc, tasks.as_slice())?;
         Ok(TaskBuffers { tasks, buffers })
     }
 
-    /// The greatest share of the tasks between heads and tails.
-    pub(crate) fn greatest_share(&mut self, capacity: u64, heads: &[i64], tails: &[i64]) -> u64
+    /// The greatest envelope of the tasks between heads and tails.
+    pub(crate) fn greatest_envelope(&mut self, capacity: u64, heads: &[i64], tails: &[i64]) -> u64
         requires capacity { capacity ≤ MAX_CAPACITY }
         requires heads { AreEnds (length heads.now) heads.now }
         requires tails { AreEnds (length heads.now) tails.now }
         requires tasks { AreTasks (length heads.now) self.old }
         ensures tasks { self.new ≡ self.old }
-        ensures greatest { IsGreatestShareOf capacity heads.now tails.now self.old result }
-        ensures limit { result ≤ MAX_SHARE }
+        ensures greatest { IsGreatestEnvelopeOf capacity heads.now tails.now self.old result }
+        ensures limit { result ≤ MAX_ENVELOPE }
     {
         let count = self.buffers.rank_tails(self.tasks.as_slice(), tails);
         self.buffers.list_loads(self.tasks.as_slice(), heads);
-        share_under(
+        envelope_under(
             self.buffers.loads.as_slice(),
             capacity,
             self.buffers.rising.as_slice(),
@@ -74,8 +74,8 @@ impl TaskBuffers {
     }
 }
 
-/// The greatest share of the loads under the first `count` tails.
-fn share_under(
+/// The greatest envelope of the loads under the first `count` tails.
+fn envelope_under(
     loads: &[Load],
     capacity: u64,
     rising: &[u64],
@@ -90,10 +90,10 @@ fn share_under(
     requires capacity { capacity ≤ MAX_CAPACITY }
     requires tails { All (λ b. b ≤ MAX_END) (take count rising.now) }
     requires up { IsNonDecreasing (take count rising.now) }
-    ensures greatest { IsGreatestShare capacity (take count rising.now) loads.now result }
-    ensures limit { result ≤ MAX_SHARE }
+    ensures greatest { IsGreatestEnvelope capacity (take count rising.now) loads.now result }
+    ensures limit { result ≤ MAX_ENVELOPE }
 {
     let tails = &rising[..count];
     let line = &mut line[..count + 1];
-    greatest_share(loads, capacity, tails, line, &mut widths[..count])
+    greatest_envelope(loads, capacity, tails, line, &mut widths[..count])
 }

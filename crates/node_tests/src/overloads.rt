@@ -26,7 +26,7 @@ fn first(
     alloc: Global,
     project: &Project,
     starts: &[i64],
-) -> Result<Option<Overload>, AllocError> {
+) -> Result<Option<(Overload, Vec<usize>)>, AllocError> {
     assert!(rt; are_starts(project, starts));
     first_overload(alloc, project, starts)
 }
@@ -61,10 +61,10 @@ fn use_rises_where_an_activity_starts(rt: HostRuntime) -> Result<(), Fail> {
 fn an_overload_between_two_starts(rt: HostRuntime) -> Result<(), Fail> {
     let project = one_machine(rt.alloc(), &[])?;
     let found = first(&rt, rt.alloc(), &project, &[0, 0, 2, 6])?;
-    let overload = found.ok_or("no overload")?;
+    let (overload, running) = found.ok_or("no overload")?;
     assert_eq!(rt; overload.time, 2);
     assert_eq!(rt; overload.resource, 0);
-    assert_eq!(rt; overload.used, 2);
+    assert_eq!(rt; running.as_slice(), [1, 2].as_slice());
     let overloads = all(&rt, rt.alloc(), &project, &[0, 0, 2, 6])?;
     let expected = [Overload {
         time: 2,
@@ -87,10 +87,10 @@ fn one_after_another_there_is_no_overload(rt: HostRuntime) -> Result<(), Fail> {
 fn the_second_resource_alone_is_overloaded(rt: HostRuntime) -> Result<(), Fail> {
     let project = three_activities(rt.alloc())?;
     let found = first(&rt, rt.alloc(), &project, &[0, 3, 3, 4, 6])?;
-    let overload = found.ok_or("no overload")?;
+    let (overload, running) = found.ok_or("no overload")?;
     assert_eq!(rt; overload.time, 4);
     assert_eq!(rt; overload.resource, 1);
-    assert_eq!(rt; overload.used, 3);
+    assert_eq!(rt; running.as_slice(), [1, 2, 3].as_slice());
     Ok(())
 }
 

@@ -99,8 +99,8 @@ impl OverloadSweep {
     }
 }
 
-/// The first overload of a list of starts, if there is one: at the least unit of time with an overload, of the least
-/// such resource.
+/// The first overload of a list of starts, if there is one, and all activities that run then, rising: the overload at
+/// the least unit of time with one, of the least such resource.
 ///
 /// It calls [`OverloadSweep::first`] once in a workspace of its own, and sorts the orders by insertion. With n
 /// activities and K resources it takes at most of the order of `n n + n K` steps.
@@ -108,15 +108,22 @@ pub fn first_overload(
     alloc: Global,
     project: &Project,
     starts: &[i64],
-) -> Result<Option<Overload>, AllocError>
+) -> Result<Option<(Overload, Vec<usize>)>, AllocError>
     requires starts { AreStarts project.now starts.now }
     ensures none { IfOk result (λ found. IfNone found (IsWithinCapacities project.now starts.now)) }
     ensures first { IfOk result (λ found.
-        IfSome found (λ overload. IsFirstOverload project.now starts.now overload.time overload.resource)) }
-    ensures used { IfOk result (λ found. IfSome found (TellsUse project.now starts.now)) }
+        IfSome found (λ f. IsFirstOverload project.now starts.now f.0.time f.0.resource)) }
+    ensures used { IfOk result (λ found. IfSome found (λ f. TellsUse project.now starts.now f.0)) }
+    ensures running { IfOk result (λ found. IfSome found (λ f. f.1.items ≡ running project.now starts.now f.0.time)) }
 {
     let mut sweep = OverloadSweep::new(alloc, project)?;
-    Ok(sweep.first(project, starts))
+    match sweep.first(project, starts) {
+        Some(overload) => {
+            let running = Vec::from_slice(alloc, sweep.running())?;
+            Ok(Some((overload, running)))
+        }
+        None => Ok(None),
+    }
 }
 
 /// The overloads at all start times, by time and then by resource. The use of a resource rises only where an activity

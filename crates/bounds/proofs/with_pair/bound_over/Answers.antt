@@ -9,7 +9,7 @@ use Rattle.network.specs.Walk.{IsProjectMatrix, Rows, weights_from}
 use Rattle.network.specs.Schedule.{start}
 use Rattle.longest_path.specs.Insert.{rows_over, ClosesNone}
 use Rattle.earliest.specs.Ends.{tail_weights}
-pub use Rattle.bounds.specs.declared.limits.TheConstants.{MAX_END, MAX_SHARE}
+pub use Rattle.bounds.specs.declared.limits.TheConstants.{MAX_END, MAX_ENVELOPE}
 use Rattle.bounds.specs.Energy.{AreEnds}
 use Rattle.bounds.specs.Bound.{critical_weight, IsBoundUnder}
 use Rattle.bounds.proofs.LateWork.{end_limit}
@@ -71,7 +71,7 @@ returns-clause-value c =
     let high : unsigned_abs x ≤ MAX_END = at.high in
     let fits : FitsSigned w64 x = omega (arith, ints) in
     let limit_fits : FitsSigned w64 c.unwrap_or-ceiling.result = search rules in
-    let limit : n ≤ MAX_SHARE = c.energy_under-energy.ensures.limit in
+    let limit : n ≤ MAX_ENVELOPE = c.energy_under-energy.ensures.limit in
     let same : to_z w64 n ≡ pos n = omega (arith, ints) in
     let max_is : c.max.result ≡ int_max x (pos n) = (simp to_z-of_z at c.max.ensures.value) ∙ ap (int_max x) same in
     let ceiling_is : c.unsigned_abs.result ≡ unsigned_abs (unwrap_or c.args.ceiling (pos 9223372036854775807)) = (simp to_z-of_z at c.unsigned_abs.ensures.value) ∙ ap unsigned_abs c.unwrap_or-ceiling.ensures in

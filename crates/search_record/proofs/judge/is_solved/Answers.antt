@@ -16,9 +16,9 @@ first_overload-requires c =
 pub returns-in-Some : goal.returns-in-Some
 returns-in-Some c = λ pairs m.
     let early = c.in_ok-starts.ensures.earliest c.args.project.now pairs m in
-    let found : IsFirstOverload c.args.project.now c.in_ok-starts.starts.items c.in-Some.field-0.time c.in-Some.field-0.resource = rw c.as_slice.ensures.value at (rw c.in-Some.is at c.in_ok-found.ensures.first) in
+    let found : IsFirstOverload c.args.project.now c.in_ok-starts.starts.items c.in-Some.field-0.0.time c.in-Some.field-0.0.resource = rw c.as_slice.ensures.value at (rw c.in-Some.is at c.in_ok-found.ensures.first) in
     refused (IsSolved c.args.project.now pairs c.args.limit)
-    (not_solved c.args.project.now pairs c.in_ok-starts.starts.items c.args.limit c.in-Some.field-0.time c.in-Some.field-0.resource early.least found)
+    (not_solved c.args.project.now pairs c.in_ok-starts.starts.items c.args.limit c.in-Some.field-0.0.time c.in-Some.field-0.0.resource early.least found)
 
 pub index-requires : goal.index-requires
 index-requires c =

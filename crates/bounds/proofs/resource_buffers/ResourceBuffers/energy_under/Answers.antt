@@ -2,12 +2,12 @@ use Rattle.std.proofs.Common.{nat_cmp, ◌≡◌, ◌∙◌, subst, sym, ℕ, �
 use Rattle.network.specs.Problem.{Problem, resource_count}
 use Rattle.std.specs.Ordering.{ord_max}
 use Rattle.bounds.specs.Energy.{IsResourceEnergy}
-pub use Rattle.bounds.specs.declared.limits.TheConstants.{MAX_SHARE}
+pub use Rattle.bounds.specs.declared.limits.TheConstants.{MAX_ENVELOPE}
 use Rattle.bounds.proofs.LateWork.{ord_max-max}
 use Rattle.bounds.proofs.Energies.{IsEnergyUpTo, energy_more, energy_stopped, energy_whole}
 use Rattle.bounds.proofs.resource_buffers.ResourceBuffers.energy_under.Goals as goal
 
-more : (p : Problem) (heads tails : List ℤ) (k e n both : ℕ) → k < resource_count p → IsEnergyUpTo p heads tails k e → IsResourceEnergy p heads tails k n → n ≤ MAX_SHARE → both ≡ ord_max nat_cmp e n → IsEnergyUpTo p heads tails (k + 1) both
+more : (p : Problem) (heads tails : List ℤ) (k e n both : ℕ) → k < resource_count p → IsEnergyUpTo p heads tails k e → IsResourceEnergy p heads tails k n → n ≤ MAX_ENVELOPE → both ≡ ord_max nat_cmp e n → IsEnergyUpTo p heads tails (k + 1) both
 more p heads tails k e n both in_range before of_resource small is =
     subst (IsEnergyUpTo p heads tails (k + 1)) (sym (is ∙ ord_max-max e n)) (energy_more p heads tails k e n in_range before of_resource small)
 

@@ -1,4 +1,6 @@
-//! The lists in which the greatest share of a resource's tasks is found.
+//! The lists in which the greatest envelope of a resource's tasks is found: the capacity times a head and a tail, and
+//! the work between both. With a head alone this is the energy envelope of Vilím (Edge finding filtering algorithm for
+//! discrete cumulative resources, 2009).
 
 ghost use Rattle.std.specs.Prelude.{◌≡◌, ◌<◌, ◌≤◌, IfOk, length};
 ghost use Rattle.std.specs.List.{All};
@@ -12,7 +14,7 @@ use std::alloc::{AllocError, Global};
 
 /// Two orders of the tasks, and a place for each task in each list.
 #[derive(Drop, Debug)]
-pub(crate) struct ShareBuffers {
+pub(crate) struct EnvelopeBuffers {
     /// The places of the tasks, by rising heads of the last call.
     by_head: Vec<usize>,
     /// The same, by rising tails.
@@ -26,9 +28,9 @@ pub(crate) struct ShareBuffers {
     pub(crate) widths: Vec<u64>,
 }
 
-impl ShareBuffers {
+impl EnvelopeBuffers {
     /// Buffers for these tasks.
-    pub(crate) fn new(alloc: Global, tasks: &[Task]) -> Result<ShareBuffers, AllocError>
+    pub(crate) fn new(alloc: Global, tasks: &[Task]) -> Result<EnvelopeBuffers, AllocError>
         ensures { IfOk result (AreBuffers (length tasks.now)) }
     {
         let load = Load {
@@ -36,7 +38,7 @@ impl ShareBuffers {
             rank: 0,
             work: 0,
         };
-        Ok(ShareBuffers {
+        Ok(EnvelopeBuffers {
             by_head: first_order(alloc, tasks.len())?,
             by_tail: first_order(alloc, tasks.len())?,
             keys: vec![in alloc; 0; tasks.len()]?,

@@ -3,8 +3,8 @@ use Rattle.bounds.specs.declared.task.Task.{Task}
 use Rattle.bounds.specs.Loads.{AreTailsOf, AreLoadsOf, AreRanked, AreRankedLoads, Load}
 use Rattle.bounds.proofs.LateWork.{loads_limited, tails_limited}
 use Rattle.bounds.proofs.Ranked.{ranked_loads}
-use Rattle.bounds.proofs.task_buffers.TaskBuffers.greatest_share.Goals as goal
-use Rattle.bounds.proofs.task_buffers.TaskBuffers.greatest_share.Goals.{After-list_loads}
+use Rattle.bounds.proofs.task_buffers.TaskBuffers.greatest_envelope.Goals as goal
+use Rattle.bounds.proofs.task_buffers.TaskBuffers.greatest_envelope.Goals.{After-list_loads}
 
 record AreOrdered (heads tails : List ℤ) (tasks : List Task) (rising : List ℕ) (loads : List Load) : Type 0 where
   of_tails : AreTailsOf tails tasks rising
@@ -19,9 +19,9 @@ ordered c =
       of_loads = ranked_loads c.args.heads.now c.args.tails.now c.args.self.now c.rank_tails-count.new.self.rising.items c.rank_tails-count.new.self.ranks.items c.rank_tails-count.result c.list_loads.new.self.loads.items ranked loads;
     })
 
-pub share_under-requires : goal.share_under-requires
-share_under-requires c =
-    let are = ordered (goal.at.share_under-requires c).After-list_loads in
+pub envelope_under-requires : goal.envelope_under-requires
+envelope_under-requires c =
+    let are = ordered (goal.at.envelope_under-requires c).After-list_loads in
     let rising : List ℕ = take c.rank_tails-count.result c.list_loads.new.self.rising.items in
     record {
       count = search rules;
@@ -41,5 +41,5 @@ returns-clause-greatest c =
       loads = c.list_loads.new.self.loads.items;
       of_tails = are.of_tails;
       of_loads = are.of_loads;
-      greatest = rw (c.as_slice-3.ensures.value, c.as_slice-4.ensures.value) at c.share_under.ensures.greatest;
+      greatest = rw (c.as_slice-3.ensures.value, c.as_slice-4.ensures.value) at c.envelope_under.ensures.greatest;
     }

@@ -2,8 +2,8 @@ use Rattle.std.proofs.Common.{sym, ap, ◌∙◌, length, arith}
 use Rattle.orders.specs.Orders.{IsOrder}
 use Rattle.bounds.specs.Loads.{AreKeysOf}
 use Rattle.bounds.proofs.Ranked.{order_long, order_has_keys, keys_are_ends, keys_long, ranked_tasks, refilled}
-use Rattle.bounds.proofs.share_buffers.ShareBuffers.rank_tails.Goals as goal
-use Rattle.bounds.proofs.share_buffers.ShareBuffers.rank_tails.Goals.{After-as_slice-2}
+use Rattle.bounds.proofs.envelope_buffers.EnvelopeBuffers.rank_tails.Goals as goal
+use Rattle.bounds.proofs.envelope_buffers.EnvelopeBuffers.rank_tails.Goals.{After-as_slice-2}
 
 is_order : (c : After-as_slice-2) → IsOrder (length c.args.tasks.now) c.as_slice.result.now
 is_order c = rw (c.as_slice.ensures.value, refilled c.args.self.now.by_tail c.sort_tasks.new.order (c.sort_tasks.auto.order ∙ ap length c.as_mut_slice.ensures.value)) c.sort_tasks.ensures.order

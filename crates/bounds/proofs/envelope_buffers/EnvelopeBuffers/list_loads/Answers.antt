@@ -1,8 +1,8 @@
 use Rattle.std.proofs.Common.{◌≡◌, sym, ap, ◌∙◌, List, length, map, reverse, ℕ, ℤ}
 use Rattle.bounds.specs.Loads.{keyed_load}
 use Rattle.bounds.proofs.Ranked.{order_long, order_below, keys_are_ends, loads_moved, loads_from_order, refilled}
-use Rattle.bounds.proofs.share_buffers.ShareBuffers.list_loads.Goals as goal
-use Rattle.bounds.proofs.share_buffers.ShareBuffers.list_loads.Goals.{After-as_slice-3}
+use Rattle.bounds.proofs.envelope_buffers.EnvelopeBuffers.list_loads.Goals as goal
+use Rattle.bounds.proofs.envelope_buffers.EnvelopeBuffers.list_loads.Goals.{After-as_slice-3}
 
 order_read : (c : After-as_slice-3) → c.as_slice.result.now ≡ c.sort_tasks.new.order
 order_read c = c.as_slice.ensures.value ∙ refilled c.args.self.now.by_head c.sort_tasks.new.order (c.sort_tasks.auto.order ∙ ap length c.as_mut_slice.ensures.value)

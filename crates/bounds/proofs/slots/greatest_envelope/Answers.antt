@@ -3,8 +3,8 @@ use Rattle.std.proofs.lemmas.List.{take_all, get_or_default}
 use Rattle.bounds.specs.Loads.{IsSmall, IsAbove, Load}
 use Rattle.bounds.proofs.LateWork.{ord_max-max, product_small, reached_small, line_long, line_rises}
 use Rattle.bounds.proofs.Fills.{Filled, AreOnLine, IsNext, IsStep, filled_start, filled_more, filled_small, width_enough, own_small}
-use Rattle.bounds.proofs.slots.greatest_share.Goals as goal
-use Rattle.bounds.proofs.slots.greatest_share.Goals.{After-fill-last, After-max-filled}
+use Rattle.bounds.proofs.slots.greatest_envelope.Goals as goal
+use Rattle.bounds.proofs.slots.greatest_envelope.Goals.{After-fill-last, After-max-filled}
 
 abbrev none : Load
 none = record { head = 0; rank = 0; work = 0 }
