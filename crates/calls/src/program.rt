@@ -10,8 +10,8 @@ use std::io::ErrorKind;
 use std::process::ExitCode;
 use std::rt::Runtime;
 
-/// What stands in for a standard device that is closed: a folder gives no bytes, and takes none. While it is open, no file
-/// opens in the place of one, and no answer goes into a record.
+/// What stands in for a standard device that is closed: a folder gives no bytes, and takes none. While it is open, no
+/// file opens in the place of one, and no answer goes into a record.
 pub const FOLDER: &str = "/";
 
 /// Prints how a run of the program ended, where it has no answer.

@@ -13,10 +13,9 @@ ghost use Rattle.runs.specs.Runs.{RecordsWhereAsked};
 ghost use Rattle.parallel_runs.specs.Searches.{IsAskedFor, IsSearchFaultOf, IsSearchReply};
 
 use crate::recorded::outcome_record;
-use answers::{Answer, Fault, solved_answer, violations_text};
+use answers::{Answer, Fault, solved_answer};
 use network::{Project, Schedule};
-use runs::{Job, ONE_WORKER, Reply};
-use schedule_check::{AcceptFault, accept, read_starts};
+use runs::{Job, Judged, ONE_WORKER, Reply, judged_starts};
 use std::alloc::{AllocError, Global};
 use std::sync::{Arc, Wait};
 use std::thread::Threads;
@@ -108,14 +107,9 @@ pub(crate) fn searched_from<G: Gate, R: Threads + Wait + Sync>(
     ensures cause { IfErr result IsNoDeviceFault }
     ensures searched { IfErr result (λ fault. IsSearchFault fault → GivesStarts project text.now (IsFeasible project)) }
 {
-    let starts = read_starts(alloc, text, project.activity_count())?;
     let project = Arc::new(alloc, project)?;
-    match accept(alloc, Arc::try_clone(&project)?, starts) {
-        Ok(start) => searched(rt, alloc, job, project, Some(start), gate),
-        Err(AcceptFault::Violated(found)) => {
-            let answer = Answer::of(violations_text(alloc, &found)?, 4);
-            Ok(Reply::new(answer, None))
-        }
-        Err(AcceptFault::Memory) => Err(Fault::Memory),
+    match judged_starts(alloc, &project, text)? {
+        Judged::Feasible(start) => searched(rt, alloc, job, project, Some(start), gate),
+        Judged::Refused(answer) => Ok(Reply::new(answer, None)),
     }
 }

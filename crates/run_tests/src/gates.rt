@@ -25,8 +25,8 @@ pub(crate) enum Holds {
     Ended(u64),
     /// It has no memory for any node.
     WithoutMemory,
-    /// The workers with the nodes 5 and 6 until both are taken. This one of them makes reports under a ceiling of 1, and
-    /// there is no memory for the other.
+    /// The workers with the nodes 5 and 6 until both are taken. This one of them makes reports under a ceiling of 1,
+    /// and there is no memory for the other.
     Fails(usize),
 }
 
@@ -70,8 +70,8 @@ pub(crate) struct Watch {
     ceiling: AtomicU64,
 }
 
-/// What a gate counted: the moments that workers passed, the calls of `expand`, the reports that were accepted, and those
-/// of worker 0, the workers that ended, the holds that it gave up, and the ceiling of the third call.
+/// What a gate counted: the moments that workers passed, the calls of `expand`, the reports that were accepted, and
+/// those of worker 0, the workers that ended, the holds that it gave up, and the ceiling of the third call.
 #[derive(Clone, Copy, Debug, PartialEq, Eq)]
 pub(crate) struct Seen {
     pub(crate) moments: u64,
@@ -149,7 +149,8 @@ impl Watch {
         }
     }
 
-    /// The report of a worker that is refused, if this one of two is that of the node, which adds 3 before 2 under the name 6.
+    /// The report of a worker that is refused, if this one of two is that of the node, which adds 3 before 2 under the
+    /// name 6.
     fn fail(
         &self,
         alloc: Global,
@@ -180,7 +181,8 @@ impl Watch {
         }
     }
 
-    /// Holds the workers with the nodes 5 and 6: the first until the fifth is taken, and that until the sixth is accepted.
+    /// Holds the workers with the nodes 5 and 6: the first until the fifth is taken, and that until the sixth is
+    /// accepted.
     fn hold_fifth(&self, moment: Moment) {
         match moment {
             Moment::Taken { name: 6 } => self.wait_for(&self.fifth_taken, 1),
@@ -252,7 +254,8 @@ pub(crate) struct Meddler<'a, L: Ledger> {
     pub(crate) lowered: u64,
     pub(crate) without_memory: bool,
     pub(crate) calls: AtomicU64,
-    /// What an offer and a node that was given back were answered with: 1 for yes, 2 for no, and 0 where there was none.
+    /// What an offer and a node that was given back were answered with: 1 for yes, 2 for no, and 0 where there was
+    /// none.
     pub(crate) offered: AtomicU64,
     pub(crate) given_back: AtomicU64,
 }
@@ -304,8 +307,8 @@ impl<'a, L: Ledger + Sync> Gate for Meddler<'a, L> {
     }
 }
 
-/// A gate that gives the root back behind the back of its first worker, once the other had turns to wait for a node, and
-/// holds that worker until a report was accepted.
+/// A gate that gives the root back behind the back of its first worker, once the other had turns to wait for a node,
+/// and holds that worker until a report was accepted.
 #[derive(Drop)]
 pub(crate) struct Waker<'a, L: Ledger> {
     pub(crate) shared: &'a Shared<L>,

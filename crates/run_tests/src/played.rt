@@ -143,7 +143,8 @@ fn gates_see_what_workers_do(rt: HostRuntime) -> Result<(), Fail> {
     plays(&rt, rt.alloc(), &rows, Holds::Second)
 }
 
-/// So many workers search as are asked for, whatever else is asked for. Each is held at its end until all have come to it.
+/// So many workers search as are asked for, whatever else is asked for. Each is held at its end until all have come to
+/// it.
 #[test]
 fn workers_are_as_many_as_asked_for(rt: HostRuntime) -> Result<(), Fail> {
     let rows = [

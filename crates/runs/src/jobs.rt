@@ -9,15 +9,13 @@ ghost use Rattle.answers.specs.Faults.{exit_of, IsTextFault};
 ghost use Rattle.answers.specs.Outcomes.{IsAloneText};
 ghost use Rattle.runs.specs.Outcome.{GivesStarts, IsFirstStartsFault};
 
-use answers::{
-    Answer, Fault, cycle_text, feasible_text, solved_answer, starts_text, violations_text,
-};
+use crate::judging::{Judged, judged_starts};
+use answers::{Answer, Fault, cycle_text, feasible_text, solved_answer, starts_text};
 use earliest::least_starts;
 use longest_path::{PathFault, longest};
 use network::Project;
 use plain_search::search_alone;
 use sch_reader::write_sch;
-use schedule_check::{read_starts, violations};
 use std::alloc::{AllocError, Global};
 use std::sync::Arc;
 
@@ -55,21 +53,20 @@ pub(crate) fn solve(
 }
 
 /// Whether the starts in a text are a feasible schedule of a project, or every rule that they break.
-pub(crate) fn check(alloc: Global, project: &Project, text: &[u8]) -> Result<Answer, Fault>
+pub(crate) fn check(alloc: Global, project: Project, text: &[u8]) -> Result<Answer, Fault>
     ensures said { IfOk result
-        (λ a. GivesStarts project.now text.now (λ starts. IsCheckText project.now starts a.exit a.text.items)) }
-    ensures refused { IfErr result (λ fault. exit_of fault ≢ 1 → IsFirstStartsFault project.now text.now fault) }
+        (λ a. GivesStarts project text.now (λ starts. IsCheckText project starts a.exit a.text.items)) }
+    ensures refused { IfErr result (λ fault. exit_of fault ≢ 1 → IsFirstStartsFault project text.now fault) }
     ensures cause { IfErr result IsTextFault }
 {
-    let count = project.activity_count();
-    let starts = read_starts(alloc, text, count)?;
-    let found = violations(alloc, project, &starts)?;
-    if found.is_empty() {
-        let text = feasible_text(alloc, starts[count - 1])?;
-        return Ok(Answer::of(text, 0));
+    let project = Arc::new(alloc, project)?;
+    match judged_starts(alloc, &project, text)? {
+        Judged::Feasible(schedule) => {
+            let text = feasible_text(alloc, schedule.makespan())?;
+            Ok(Answer::of(text, 0))
+        }
+        Judged::Refused(answer) => Ok(answer),
     }
-    let text = violations_text(alloc, &found)?;
-    Ok(Answer::of(text, 4))
 }
 
 /// The canonical text of a project.

@@ -8,6 +8,7 @@
 mod device;
 mod job;
 mod jobs;
+mod judging;
 mod one_thread;
 mod reading;
 mod reply;
@@ -16,6 +17,7 @@ mod verified;
 
 pub use device::{Failed, Input, Output, write_all};
 pub use job::{Job, ONE_WORKER};
+pub use judging::{Judged, judged_starts};
 pub use one_thread::{Ended, run, write_answer};
 pub use reading::{read_both, read_project, read_text};
 pub use reply::{Reply, write_reply};

@@ -71,7 +71,7 @@ fn job_answer<I: Input, S: Input>(
         }
         Job::Check => {
             let (project, starts) = read_both(alloc, MAX_TEXT_BYTES, input, second)?;
-            check(alloc, &project, &starts)
+            check(alloc, project, &starts)
         }
         Job::Tidy => {
             let project = read_project(alloc, input)?;

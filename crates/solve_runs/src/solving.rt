@@ -11,10 +11,9 @@ use crate::asked::Asked;
 use crate::figures::{Figures, answer_of};
 use crate::jobs::{Found, SearchFault, searched};
 use crate::judging::{outcome_of, record_of};
-use answers::{Answer, Fault, violations_text};
+use answers::Fault;
 use network::{Project, Schedule};
-use runs::Reply;
-use schedule_check::{AcceptFault, accept, read_starts};
+use runs::{Judged, Reply, judged_starts};
 use std::alloc::Global;
 use std::sync::{Arc, Wait};
 use std::thread::Threads;
@@ -92,14 +91,9 @@ pub(crate) fn solved_from<R: Clock + Eprint + Threads + Wait + Sync>(
     ensures cause { IfErr result IsNoDeviceFault }
     ensures searched { IfErr result (λ fault. IsSearchFault fault → GivesStarts project text.now (IsFeasible project)) }
 {
-    let starts = read_starts(alloc, text, project.activity_count())?;
     let project = Arc::new(alloc, project)?;
-    match accept(alloc, Arc::try_clone(&project)?, starts) {
-        Ok(start) => solved(rt, alloc, asked, &project, Some(&start)),
-        Err(AcceptFault::Violated(found)) => {
-            let answer = Answer::of(violations_text(alloc, &found)?, 4);
-            Ok(Reply::new(answer, None))
-        }
-        Err(AcceptFault::Memory) => Err(Fault::Memory),
+    match judged_starts(alloc, &project, text)? {
+        Judged::Feasible(start) => solved(rt, alloc, asked, &project, Some(&start)),
+        Judged::Refused(answer) => Ok(Reply::new(answer, None)),
     }
 }

@@ -39,9 +39,9 @@ IsOutcomeOf s NoSchedule = (live s ≡ []) × (s.best ≡ None)
 IsOutcomeOf s (Stopped best bound) =
     (0 < length (live s)) × (s.best ≡ best) × IsLeast (known_bounds s) (Some bound)
 
--- The outcome is true of the project, and tells no longer schedule than the start, if there was one. It is Stopped exactly
--- where nodes are left open or in hand, and then as many were taken as may be. Each worker has a number of its own, and
--- these numbers add up to the nodes that were checked in.
+-- The outcome is true of the project, and tells no longer schedule than the start, if there was one. The counts of the
+-- book add up. The outcome is Stopped exactly where nodes are left open or in hand, and then as many were taken as may
+-- be. Each worker has a number of its own, and these numbers add up to the nodes that were checked in.
 pub record IsSolution (p : Problem) (workers takes : ℕ) (start : Option ScheduleOf) (solved : Solved) : Type 0 where
   pub true_of : IsTrueOf p solved.outcome
   pub from_start : IfSome start (λ s. IsNoLongerThan (makespan s.starts) solved.outcome)

@@ -190,9 +190,9 @@ fn search_with<L: Ledger + Send + Sync, G: Gate, R: Threads + Wait + Sync>(
 }
 
 /// Searches a project with workers in their own threads: 1 to [`MAX_WORKERS`](book::MAX_WORKERS) of them. They take 1
-/// to [`MAX_TAKES`](plain_search::MAX_TAKES) nodes in all. A schedule that is known is offered before they start, so that no longer one is the outcome. A
-/// recorded search keeps a trail: what became of each node that was opened. If no limit stopped it, the trail and the
-/// shortest schedule give a record of it.
+/// to [`MAX_TAKES`](plain_search::MAX_TAKES) nodes in all. A schedule that is known is offered before they start, so
+/// that no longer one is the outcome. A recorded search keeps a trail: what became of each node that was opened. If no
+/// limit stopped it, the trail and the shortest schedule give a record of it.
 ///
 /// Workers pass the gate while they don't hold the lock. If several ended with faults, it answers the fault of the
 /// worker of least number. [`SolveFault::Thread`] comes if a thread could not start.

@@ -18,8 +18,8 @@ use std::thread::Threads;
 use test_projects::one_machine;
 use worker::{Shared, SolveFault, Tally, work};
 
-/// How a worker ended, what its desk counted, and whether the desk tells that; the counts of the book, its best starts, and
-/// what it answers to the next take; what the gate heard, and how often it was called.
+/// How a worker ended, what its desk counted, and whether the desk tells that; the counts of the book, its best starts,
+/// and what it answers to the next take; what the gate heard, and how often it was called.
 #[derive(Drop)]
 struct Left {
     ended: Result<(), SolveFault>,
@@ -129,8 +129,8 @@ pub(super) fn told<R: Wait>(rt: &R, alloc: Global, row: &str) -> Result<String, 
     )?)
 }
 
-/// How two workers on one machine end, of which the first to take the root loses it to the other, and how often the gate
-/// gave up to wait for that one.
+/// How two workers on one machine end, of which the first to take the root loses it to the other, and how often the
+/// gate gave up to wait for that one.
 fn ends_of_two<L: Ledger + Send + Sync, R: Threads + Wait + Sync>(
     rt: &R,
     alloc: Global,
@@ -173,7 +173,8 @@ fn ends_of_two<L: Ledger + Send + Sync, R: Threads + Wait + Sync>(
     Ok(([one, other], gate.watch.seen().gave_up))
 }
 
-/// What is told of two workers. Want of memory ends the test, and so does want of a thread: then one worker waits in vain.
+/// What is told of two workers. Want of memory ends the test, and so does want of a thread: then one worker waits in
+/// vain.
 pub(super) fn two_told<R: Threads + Wait + Sync>(rt: &R, alloc: Global) -> Result<String, Fail> {
     let (ends, gave_up) = ends_of_two::<Brand, _>(rt, alloc, Blank::new(2))?;
     let lost = Err(SolveFault::Refused(CheckFault::NotInHand));
