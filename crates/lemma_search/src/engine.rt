@@ -3,7 +3,6 @@
 use crate::learning::Learner;
 use crate::options::{Counts, Options, State};
 use crate::probing::Probe;
-use crate::showing::periods;
 use decisions::{Brancher, Choice, Incumbent, MAX_MAKESPAN, Starts};
 use lemma_proofs::Proofs;
 use lemma_trail::{Cause, Conflict, History, Lemmas, Literal, Rules, Stop, Trail, is_there};
@@ -22,6 +21,11 @@ const MAX_HALVINGS: u64 = 6;
 
 /// After how many conflicts dives begin: they raise bounds, and slow proofs down.
 const FIRST_DIVE: u64 = 10_000;
+
+/// A makespan or a bound in 32 bits.
+pub(crate) fn periods(x: i64) -> i32 {
+    x.clamp(0, 1_000_000) as i32
+}
 
 /// What the search does next.
 #[derive(Clone, Copy)]

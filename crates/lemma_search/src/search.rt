@@ -1,8 +1,7 @@
 //! The search on pairs, as callers see it.
 
-use crate::engine::{Engine, Next};
+use crate::engine::{Engine, Next, periods};
 use crate::options::{Counts, Options, State};
-use crate::showing::periods;
 use decisions::MAX_MAKESPAN;
 use lemma_proofs::Shown;
 use longest_path::{PathFault, longest};

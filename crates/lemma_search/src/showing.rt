@@ -1,6 +1,6 @@
 //! The claim of a search on pairs, and the lines that show it.
 
-use crate::engine::Engine;
+use crate::engine::{Engine, periods};
 use crate::options::State;
 use decisions::MAX_MAKESPAN;
 use lemma_proofs::{Shown, blocks_of, lines_of, outline};
@@ -8,11 +8,6 @@ use lemma_text::{Claim, Line};
 use lemma_trail::Literal;
 use record_text::Starts;
 use std::alloc::{AllocError, Global};
-
-/// A makespan or a bound in 32 bits.
-pub(crate) fn periods(x: i64) -> i32 {
-    x.clamp(0, 1_000_000) as i32
-}
 
 impl Engine {
     /// No feasible schedule is shorter than so many periods. Where the search ended, that is the best makespan.

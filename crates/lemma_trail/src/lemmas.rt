@@ -1,9 +1,15 @@
 //! The lemmas of a search, watched by two literals each.
 
-use crate::watching::Watch;
 use lag_history::{Literal, NO_LITERAL};
 use search_parts::{Chains, Nogood, Nogoods};
 use std::alloc::{AllocError, Global};
+
+/// A literal's watch over a lemma: the weight of the literal.
+#[derive(Clone, Copy)]
+pub(crate) struct Watch {
+    pub(crate) lemma: u32,
+    pub(crate) weight: i32,
+}
 
 /// The lemmas that were learnt, by number: literals that can't all hold, and whether the first two are watched.
 #[derive(Drop)]

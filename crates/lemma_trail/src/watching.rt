@@ -6,13 +6,6 @@ use crate::trail::Trail;
 use lag_history::Literal;
 use tables::Span;
 
-/// A literal's watch over a lemma: the weight of the literal.
-#[derive(Clone, Copy)]
-pub(crate) struct Watch {
-    pub(crate) lemma: u32,
-    pub(crate) weight: i32,
-}
-
 /// What is found of a watch.
 #[derive(Clone, Copy)]
 enum Found {

@@ -4,8 +4,8 @@
 //! Nothing here needs to be trusted: whoever takes a schedule has it checked.
 #![tactic(auto)]
 
-mod best;
+mod incumbent;
 mod portfolio;
 
-pub use best::Best;
+pub use incumbent::Incumbent;
 pub use portfolio::Portfolio;

@@ -1,6 +1,6 @@
 //! The searches of a portfolio, and their turns.
 
-use crate::best::Best;
+use crate::incumbent::Incumbent;
 use lemma_proofs::Shown;
 use neighbourhoods::{Neighbourhoods, State};
 use network::Project;
@@ -30,7 +30,7 @@ pub struct Portfolio {
     neighbourhoods: Neighbourhoods,
     /// How many of them are searched in the next turn.
     rounds: u64,
-    best: Best,
+    incumbent: Incumbent,
     seed: u64,
     is_over: bool,
 }
@@ -49,7 +49,7 @@ impl Portfolio {
             scheme: None,
             neighbourhoods: Neighbourhoods::new(alloc, project, seed, memory)?,
             rounds: MOST_ROUNDS,
-            best: Best::none(),
+            incumbent: Incumbent::none(),
             seed,
             is_over: false,
         })
@@ -57,11 +57,11 @@ impl Portfolio {
 
     /// A turn of the search on bounds.
     fn search_bounds(&mut self, alloc: Global) -> Result<State, AllocError> {
-        if let Some((starts, makespan)) = self.best.schedule() {
+        if let Some((starts, makespan)) = self.incumbent.schedule() {
             self.search.lower_ceiling(starts, makespan)?;
         }
         let state = self.search.advance(alloc, CONFLICTS);
-        self.best.take(alloc, self.search.best())?;
+        self.incumbent.take(alloc, self.search.best())?;
         Ok(state)
     }
 
@@ -72,14 +72,14 @@ impl Portfolio {
             None => Scheme::new(alloc, project, self.seed)?,
         };
         scheme.advance(alloc, PASSES)?;
-        self.best.take(alloc, scheme.best())?;
+        self.incumbent.take(alloc, scheme.best())?;
         self.scheme = Some(scheme);
         Ok(())
     }
 
     /// A turn of neighbourhoods.
     fn search_neighbourhoods(&mut self, alloc: Global) -> Result<State, AllocError> {
-        if let Some((starts, makespan)) = self.best.schedule() {
+        if let Some((starts, makespan)) = self.incumbent.schedule() {
             self.neighbourhoods.lower_ceiling(starts, makespan)?;
         }
         let better = self.neighbourhoods.counts().better;
@@ -91,7 +91,7 @@ impl Portfolio {
                 .saturating_sub(self.rounds / 8)
                 .max(LEAST_ROUNDS)
         };
-        self.best.take(alloc, self.neighbourhoods.best())?;
+        self.incumbent.take(alloc, self.neighbourhoods.best())?;
         Ok(state)
     }
 
@@ -121,12 +121,12 @@ impl Portfolio {
 
     /// Takes a feasible schedule by its starts in periods, which another search may have, if it is shorter.
     pub fn take(&mut self, alloc: Global, starts: Option<&[i64]>) -> Result<(), AllocError> {
-        self.best.take(alloc, starts)
+        self.incumbent.take(alloc, starts)
     }
 
     /// The starts of the shortest schedule known, in periods.
     pub fn best(&self) -> Option<&[i64]> {
-        self.best.starts()
+        self.incumbent.starts()
     }
 
     /// Whether there is a proof that the best schedule is a shortest one.

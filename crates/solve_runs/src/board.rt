@@ -3,14 +3,14 @@
 use crate::progress::{Told, Watch};
 use crate::report::Report;
 use lemma_search::{Counts, State};
-use portfolio::Best;
+use portfolio::Incumbent;
 use std::alloc::{AllocError, Global};
 use std::time::Clock;
 
 /// What any of the searches knows. It lies under a lock.
 #[derive(Drop)]
 pub(crate) struct Board {
-    pub(crate) best: Best,
+    pub(crate) incumbent: Incumbent,
     told: Told,
     /// Whether the searches stop: one of them has ended, or ran out of memory.
     pub(crate) is_over: bool,
@@ -26,7 +26,7 @@ impl Board {
     /// A board that may know the starts of a schedule.
     pub(crate) fn new(alloc: Global, start: Option<&[i64]>) -> Result<Board, AllocError> {
         let mut board = Board {
-            best: Best::none(),
+            incumbent: Incumbent::none(),
             told: Told::NOTHING,
             is_over: false,
             is_short_of_memory: false,
@@ -34,13 +34,13 @@ impl Board {
             conflicts: 0,
             decisions: 0,
         };
-        board.best.take(alloc, start)?;
+        board.incumbent.take(alloc, start)?;
         Ok(board)
     }
 
     /// Tells on standard error what is new: a shorter schedule, or a greater bound of a search.
     pub(crate) fn tell<R: Clock + Eprint>(&mut self, rt: &R, watch: Watch, bound: i64) {
-        let makespan = self.best.makespan();
+        let makespan = self.incumbent.makespan();
         let seconds = watch.seconds(rt).unwrap_or(0);
         self.told.tell(rt, makespan, bound, seconds);
     }
@@ -74,14 +74,14 @@ impl Board {
     /// out in one, another must have ended.
     pub(crate) fn into_parts(self) -> Result<(Option<Vec<i64>>, Report), AllocError> {
         let Board {
-            best,
+            incumbent,
             report,
             is_short_of_memory,
             ..
         } = self;
         match report {
             Some(report) if report.state == State::Ended || !is_short_of_memory => {
-                Ok((best.into_starts(), report))
+                Ok((incumbent.into_starts(), report))
             }
             _ => Err(AllocError),
         }

@@ -111,10 +111,10 @@ impl Team {
     /// Tells the board the best schedule, and takes that of the board.
     pub(crate) fn exchange(&mut self, alloc: Global, board: &mut Board) -> Result<(), AllocError> {
         if let Some(portfolio) = &self.portfolio {
-            board.best.take(alloc, portfolio.best())?;
+            board.incumbent.take(alloc, portfolio.best())?;
         }
-        board.best.take(alloc, self.lemmas.best())?;
-        if let Some((starts, makespan)) = board.best.schedule() {
+        board.incumbent.take(alloc, self.lemmas.best())?;
+        if let Some((starts, makespan)) = board.incumbent.schedule() {
             self.lemmas.lower_ceiling(alloc, starts, makespan)?;
         }
         Ok(())

@@ -2,10 +2,12 @@
 
 use crate::arcs::Arcs;
 use crate::reason::least_slot;
-use crate::rules::MAX_HORIZON;
 use network::Project;
 use std::alloc::{AllocError, Global};
 use tables::{Table, narrow};
+
+/// No start is after this: more than all durations and lags of a project in a row.
+pub(crate) const MAX_HORIZON: i32 = 1_100_000_000;
 
 /// The numbers of a project. Durations and weights are counted in units of so many periods.
 #[derive(Drop)]

@@ -1,7 +1,6 @@
 //! The nogoods of a search, watched by two literals each.
 
 use crate::reason::{Literal, NO_LITERAL};
-use crate::watching::Watch;
 use search_parts::{Chains, Nogood};
 use std::alloc::{AllocError, Global};
 use tables::Table;
@@ -13,6 +12,14 @@ pub struct Note {
     pub glue: u32,
     /// The number of its proof, for whoever keeps proofs.
     pub proof: u32,
+}
+
+/// A literal watches a nogood. The watch has the literal's value, and a literal of the nogood whose reverse may hold.
+#[derive(Clone, Copy)]
+pub(crate) struct Watch {
+    pub(crate) nogood: u32,
+    pub(crate) value: i32,
+    pub(crate) other: Literal,
 }
 
 /// The nogoods that were learnt and are kept, by number. The first two literals of each are watched.

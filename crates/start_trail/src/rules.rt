@@ -1,14 +1,11 @@
 //! What a search on bounds needs to know of a project.
 
 use crate::arcs::Arcs;
-use crate::making::{Numbers, arcs_of, horizon_of, numbers_of};
+use crate::making::{MAX_HORIZON, Numbers, arcs_of, horizon_of, numbers_of};
 use crate::reason::least_slot;
 use network::Project;
 use std::alloc::{AllocError, Global};
 use tables::{Rows, Table};
-
-/// No start is after this: more than all durations and lags of a project in a row.
-pub(crate) const MAX_HORIZON: i32 = 1_100_000_000;
 
 /// An activity needs so much of a resource.
 #[derive(Clone, Copy, PartialEq, Eq, PartialOrd, Ord)]

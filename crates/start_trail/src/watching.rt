@@ -1,16 +1,8 @@
 //! Which nogoods to look at when a bound moves.
 
-use crate::nogoods::Nogoods;
+use crate::nogoods::{Nogoods, Watch};
 use crate::reason::{Conflict, Literal, Reason, Stop};
 use crate::trail::Trail;
-
-/// A literal watches a nogood. The watch has the literal's value, and a literal of the nogood whose reverse may hold.
-#[derive(Clone, Copy)]
-pub(crate) struct Watch {
-    pub(crate) nogood: u32,
-    pub(crate) value: i32,
-    pub(crate) other: Literal,
-}
 
 /// What is found of a watch.
 #[derive(Clone, Copy)]

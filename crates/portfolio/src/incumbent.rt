@@ -4,7 +4,7 @@ use std::alloc::{AllocError, Global};
 
 /// The starts of the shortest schedule known, in periods.
 #[derive(Drop)]
-pub struct Best {
+pub struct Incumbent {
     starts: Option<Vec<i64>>,
 }
 
@@ -13,10 +13,10 @@ fn makespan_of(starts: Option<&[i64]>) -> Option<i64> {
     starts?.last().copied()
 }
 
-impl Best {
+impl Incumbent {
     /// No schedule is known.
-    pub fn none() -> Best {
-        Best { starts: None }
+    pub fn none() -> Incumbent {
+        Incumbent { starts: None }
     }
 
     /// The starts, where a schedule is known.
