@@ -3,8 +3,7 @@
 ghost use Rattle.std.specs.Prelude.{IfOk};
 ghost use Rattle.branching.specs.Path.{HasRoomFor};
 
-use crate::branches::Branches;
-use network::{Pair, Project};
+use network::Project;
 use profile::OverloadSweep;
 use std::alloc::{AllocError, Global};
 
@@ -13,10 +12,6 @@ use std::alloc::{AllocError, Global};
 pub(crate) struct Workspace {
     pub(crate) bounds: bounds::Workspace,
     pub(crate) overloads: OverloadSweep,
-    /// Lists that each expansion fills anew.
-    pub(crate) starts: Vec<i64>,
-    pub(crate) pairs: Vec<Pair>,
-    pub(crate) made: Branches,
 }
 
 impl Workspace {
@@ -26,12 +21,6 @@ impl Workspace {
     {
         let bounds = bounds::Workspace::new(alloc, project)?;
         let overloads = OverloadSweep::new(alloc, project)?;
-        Ok(Workspace {
-            bounds,
-            overloads,
-            starts: Vec::new(alloc),
-            pairs: Vec::new(alloc),
-            made: Branches::new(alloc),
-        })
+        Ok(Workspace { bounds, overloads })
     }
 }

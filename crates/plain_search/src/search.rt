@@ -139,9 +139,8 @@ impl Search {
             }
         };
         let report = searcher.expand(alloc, &node, ceiling)?;
-        let (found, mut made) = report.into_parts();
-        stack.append(&mut made.kids)?;
-        searcher.reuse(made);
+        let (found, mut kids) = report.into_parts();
+        stack.append(&mut kids)?;
         let best = shorter_of(best, found);
         Ok(Search {
             project,
