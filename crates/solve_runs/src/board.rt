@@ -45,8 +45,8 @@ impl Board {
         self.told.tell(rt, makespan, bound, seconds);
     }
 
-    /// A search stops after so many conflicts and decisions. Whether its record shows more than the one that is here:
-    /// once a search has ended, only one that ended does.
+    /// Counts the conflicts and decisions of a search that stops. True if the record of that search shows more than the
+    /// board's: once a search has ended, only one that ended does.
     pub(crate) fn leave(&mut self, counts: Counts, state: State, bound: i64) -> bool {
         self.conflicts = self.conflicts.saturating_add(counts.conflicts);
         self.decisions = self.decisions.saturating_add(counts.decisions);
