@@ -3,6 +3,8 @@ use Rattle.std.specs.Prelude.{ℕ, ◌||◌, Option, unwrap_or, is_some, Bool, t
 pub use Rattle.runs.specs.declared.job.Job.{Job}
 use Rattle.runs.specs.declared.job.Job.TheVariants as jobs
 use Rattle.runs.specs.declared.job.TheConstants.{ONE_WORKER}
+use Rattle.runs.specs.declared.judging.Judged.{Judged}
+use Rattle.runs.specs.declared.judging.Judged.TheVariants as judged
 use Rattle.book.specs.Steps.{AreAllowed}
 use Rattle.words.specs.declared.TheConstants.{MAX_TEXT_BYTES}
 use Rattle.record_text.specs.declared.TheConstants.{MAX_RECORD_BYTES}
@@ -20,7 +22,7 @@ use Rattle.record_text.specs.declared.fault.RecordFault.{RecordFault}
 use Rattle.search_record.specs.Right as wrongs
 use Rattle.search_record.specs.Right.{search_judge}
 use Rattle.answers.specs.declared.fault.Fault.{Fault}
-use Rattle.answers.specs.Answers.{IsEarliestText, IsCheckText, IsStartedText, IsTidyText, IsProvedText}
+use Rattle.answers.specs.Answers.{IsEarliestText, IsCheckText, IsViolationsText, IsStartedText, IsTidyText, IsProvedText}
 use Rattle.answers.specs.Outcomes.{IsUnstartedText}
 use Rattle.answers.specs.Faults.{fault_of, starts_fault_of, record_fault_of}
 
@@ -89,6 +91,11 @@ pub record HasFault (text : List ℕ) (fault : Fault) : Type 0 where
 pub record GivesStarts (p : Problem) (text : List ℕ) (P : List ℤ → Type 0) : Type 0 where
   pub read : starts_fault (activity_count p) text ≡ None
   pub has : P (starts_of (activity_count p) text)
+
+-- starts that are a feasible schedule of the project, which is told; or others, and the answer says what they violate
+abbrev pub IsJudged : Problem → Judged → List ℤ → Type 0
+IsJudged p (judged.Feasible schedule) starts = (schedule ≡ record { project = p; starts = starts }) × IsFeasible p starts
+IsJudged p (judged.Refused answer) starts = IsViolationsText p starts answer.exit answer.text.items
 
 -- the text gives no starts for the project, and this is its first fault
 pub record IsFirstStartsFault (p : Problem) (text : List ℕ) (fault : Fault) : Type 0 where

@@ -3,8 +3,7 @@
 ghost use Rattle.std.specs.Prelude.{◌≢◌, IfOk, IfErr};
 ghost use Rattle.std.specs.Arc.{arc_value};
 ghost use Rattle.answers.specs.Faults.{exit_of, IsTextFault};
-ghost use Rattle.runs.specs.Judged.{IsJudged};
-ghost use Rattle.runs.specs.Outcome.{GivesStarts, IsFirstStartsFault};
+ghost use Rattle.runs.specs.Outcome.{GivesStarts, IsFirstStartsFault, IsJudged};
 
 use answers::{Answer, Fault, violations_text};
 use network::{Project, Schedule};
