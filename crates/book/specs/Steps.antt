@@ -2,12 +2,13 @@
 use Rattle.std.specs.Prelude.{◌≡◌, ◌≢◌, ℤ, Bool, true, false, Option, Some, None, IfSome, Result, Ok, Err, ◌+◌, ◌<◌, ◌≤◌, ◌++◌, ℕ, List, [], ◌∷◌, length, option_map, slice_set, ◌⊎◌, replicate, ◌<ℤ◌, slice_get}
 use Rattle.network.specs.Schedule.{ScheduleOf, makespan}
 use Rattle.branching.specs.Right.{IsUnder, Reaches, IsInTime}
-use Rattle.branching.specs.Fair.{ceiling_of, Expansion, IsRootOf}
+use Rattle.branching.specs.Fair.{ceiling_of, Expansion, AreListsOf, IsRootOf}
 use Rattle.book.specs.State.{BookState, Named, node_named, Holds, in_hand, best_makespan}
 use Rattle.book.specs.declared.answers.OtherProject.{OtherProject}
 use Rattle.std.specs.List.{All, Any}
 use Rattle.std.specs.List.Sorted.{IsPermutation}
 use Rattle.branching.specs.Subproblem.{Subproblem}
+use Rattle.branching.specs.declared.branches.Branches.{Branches}
 use Rattle.trail.specs.RightTrail.{kids_below}
 use Rattle.trail.specs.Recording.{checked_in}
 pub use Rattle.book.specs.declared.answers.CheckedIn.{CheckedIn}
@@ -117,6 +118,12 @@ abbrev pub ChecksIn : BookState → ℕ → Expansion → Result CheckedIn (Expa
 ChecksIn old name report (Ok done) new =
     (worker : ℕ) × MayCheckIn old worker name report × Accepts old worker name report done new
 ChecksIn old name report (Err refused) new = Refuses old name report refused.1 × (refused.0 ≡ report) × (new ≡ old)
+
+-- the same, and the lists of an accepted report come back
+abbrev pub ChecksInForReuse :
+    BookState → ℕ → Expansion → Result (CheckedIn × Branches) (Expansion × CheckFault) → BookState → Type 0
+ChecksInForReuse old name report (Ok done) new = ChecksIn old name report (Ok done.0) new × AreListsOf report done.1
+ChecksInForReuse old name report (Err refused) new = ChecksIn old name report (Err refused) new
 
 -- the worker whose node the report is on, or why there is none
 abbrev pub Judges : BookState → ℕ → Expansion → Result ℕ CheckFault → Type 0

@@ -2,9 +2,10 @@
 
 ghost use Rattle.std.specs.Prelude.{◌≡◌, ◌↔◌, ◌<◌, IsTrue, true, false, length, IfOk, IfErr, IfSome, option_map};
 ghost use Rattle.std.specs.Arc.{arc_value};
+ghost use Rattle.branching.specs.Fair.{AreListsOf};
 ghost use Rattle.branching.specs.Right.{IsLeast};
 ghost use Rattle.book.specs.Sound.{IsSound, IsWithinLimits, IsRecorded, EndsWhole, known_bounds, IsBoundFor, IsTrueOf, IsVerdictOf};
-ghost use Rattle.book.specs.Steps.{AreAllowed, AreFirst, Opens, OpensRecorded, Offers, IsFull, Cuts, HandsOut, Takes, MayCheckIn, Judges, Accepts, ChecksIn, GivesBack};
+ghost use Rattle.book.specs.Steps.{AreAllowed, AreFirst, Opens, OpensRecorded, Offers, IsFull, Cuts, HandsOut, Takes, MayCheckIn, Judges, Accepts, ChecksIn, ChecksInForReuse, GivesBack};
 ghost use Rattle.book.specs.State.{counts_of, AddUp};
 ghost use Rattle.trail.specs.Trail.{trail_for};
 
@@ -16,7 +17,7 @@ use crate::hands::Hands;
 use crate::nodes_left::NodesLeft;
 use crate::open_nodes::OpenNodes;
 use crate::recording::{clear_open, open_kids, shorter_found};
-use branching::{Report, is_below, is_in_time, lean_root, lesser, makespan_of};
+use branching::{Branches, Report, is_below, is_in_time, lean_root, lesser, makespan_of};
 use longest_path::PathFault;
 use network::{Project, Schedule};
 use plain_search::MAX_TAKES;
@@ -237,9 +238,15 @@ impl Book {
     }
 
     /// Takes the node out of the worker's hand and opens its kids. Where memory runs out, the report comes back.
-    fn accept(&mut self, worker: usize, name: u64, report: Report) -> Result<CheckedIn, Report>
+    fn accept(
+        &mut self,
+        worker: usize,
+        name: u64,
+        report: Report,
+    ) -> Result<(CheckedIn, Branches), Report>
         requires { MayCheckIn self.old worker name report }
-        ensures ok { IfOk result (λ done. Accepts self.old worker name report done self.new) }
+        ensures ok { IfOk result (λ done. Accepts self.old worker name report done.0 self.new) }
+        ensures lists { IfOk result (λ done. AreListsOf report done.1) }
         ensures err { IfErr result (λ back. (back ≡ report) × (self.new ≡ self.old)) }
         ensures sound { IsSound self.new }
     {
@@ -257,17 +264,17 @@ impl Book {
         ) else {
             return Err(report);
         };
-        let (found, _) = report.into_parts();
+        let (found, made) = report.into_parts();
         self.hands.empty(worker);
         self.checked += 1;
         self.opened += opened;
         if shorter.is_none() {
             let improved = false;
-            return Ok(CheckedIn { opened, improved });
+            return Ok((CheckedIn { opened, improved }, made));
         }
         self.best = found;
         let improved = true;
-        Ok(CheckedIn { opened, improved })
+        Ok((CheckedIn { opened, improved }, made))
     }
 
     /// Checks in the report on the node in hand under a name, whichever worker holds it. The schedule found becomes the
@@ -276,6 +283,22 @@ impl Book {
     /// A refused report is handed back, and the book is as it was. Faults are tested in the order of [`CheckFault`].
     pub fn check_in(&mut self, name: u64, report: Report) -> Result<CheckedIn, (Report, CheckFault)>
         ensures step { ChecksIn self.old name report result self.new }
+        ensures sound { IsSound self.new }
+    {
+        match self.check_in_for_reuse(name, report) {
+            Ok((done, _)) => Ok(done),
+            Err(refused) => Err(refused),
+        }
+    }
+
+    /// The same, and the report's lists come back. So a caller who holds a lock need not drop them under it, and the
+    /// next expansion can use their memory again.
+    pub fn check_in_for_reuse(
+        &mut self,
+        name: u64,
+        report: Report,
+    ) -> Result<(CheckedIn, Branches), (Report, CheckFault)>
+        ensures step { ChecksInForReuse self.old name report result self.new }
         ensures sound { IsSound self.new }
     {
         let worker = match self.judge(name, &report) {

@@ -9,6 +9,7 @@
 //! | `starts:NODE` | rebuilds a node | its least starts |
 //! | `open:WORKERS:TAKES`, `record:WORKERS:TAKES` | opens a new book, without and with a trail | `open` or `limit`, and the book's counts |
 //! | `take:WORKER`, `check:NAME:NODE:CEILING`, `back:NAME`, `offer:STARTS`, `other:STARTS`, `halt` | one event | the reply, and the book's counts |
+//! | `reuse:NAME:NODE:CEILING` | the same as `check` | the reply with the sizes of the lists that come back, and the book's counts |
 //! | `search` | takes, expands and checks in until no node is handed out | what the worker 0 is told then, and the book's counts |
 //! | `best`, `verdict`, `trail` | asks the book | the starts of its best schedule; its verdict; its trail |
 //! | `close` | gives the book up for a new one | its trail |
@@ -27,7 +28,7 @@ use branching::{Lean, Report, expand, lean_root, rebuild};
 use earliest::least_starts;
 use longest_path::PathFault;
 use network::{Project, Schedule};
-use replies::{pairs_text, reply_text, starts_text, take_text, told, verdict_text};
+use replies::{accepted_text, pairs_text, reply_text, starts_text, take_text, told, verdict_text};
 use sch_reader::read_sch;
 use schedule_check::{accept, read_starts};
 use std::alloc::Global;
@@ -179,6 +180,18 @@ fn replied(alloc: Global, book: &mut Book, event: Event) -> anyhow::Result<Strin
     Ok(reply_text(alloc, reply)?)
 }
 
+/// What a book says to a report whose lists are to come back.
+fn reused(alloc: Global, book: &mut Book, name: u64, report: Report) -> anyhow::Result<String> {
+    match book.check_in_for_reuse(name, report) {
+        Ok((done, made)) => {
+            let (kids, fates) = (made.kids.len(), made.fates.len());
+            let done = accepted_text(alloc, &done)?;
+            Ok(format!(in alloc; "{done}, {kids} kids and {fates} fates come back")?)
+        }
+        Err(_) => bail!("the report is refused"),
+    }
+}
+
 /// Lets worker 0 take nodes, and checks the reports on them in, until it gets another answer.
 fn searched(alloc: Global, book: &mut Book) -> anyhow::Result<Take> {
     for _ in 0..100 {
@@ -232,6 +245,10 @@ fn answered(alloc: Global, table: &mut Table, kind: &str, rest: &str) -> anyhow:
         "search" => Ok(take_text(alloc, &searched(alloc, &mut table.book)?)?),
         "best" | "verdict" | "trail" => asked(alloc, &table.book, kind),
         "close" => closed(alloc, table),
+        "reuse" => {
+            let (name, report) = check_in(alloc, &table.nodes, rest)?;
+            reused(alloc, &mut table.book, name, report)
+        }
         _ => {
             let event = event_of(alloc, table, kind, rest)?;
             replied(alloc, &mut table.book, event)

@@ -77,7 +77,7 @@ fn fault_text(alloc: Global, fault: &CheckFault) -> Result<String, AllocError> {
 }
 
 /// What an accepted report did.
-fn accepted_text(alloc: Global, done: &CheckedIn) -> Result<String, AllocError> {
+pub fn accepted_text(alloc: Global, done: &CheckedIn) -> Result<String, AllocError> {
     let opened = done.opened;
     let improved = if done.improved {
         "improved"

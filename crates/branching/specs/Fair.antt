@@ -9,6 +9,7 @@ use Rattle.branching.specs.Subproblem.{Subproblem, NodeStandsFor, IsNode, ordere
 use Rattle.branching.specs.Right.{IsRightSet, IsCutUnder, IsBelow, IsUnder}
 use Rattle.branching.specs.Fates.{Fates, IsKidBy, AreFates, fate_value}
 use Rattle.std.specs.Arc.{arc_value}
+use Rattle.branching.specs.declared.branches.Branches.{Branches}
 use Rattle.branching.specs.declared.report.Report.TheInside.{Inside}
 use Rattle.network.specs.Problem.{Problem}
 
@@ -86,11 +87,16 @@ pub record IsReportOn (node : Subproblem) (ceiling : Option ℤ) (report : Expan
 abbrev pub FindsNothingOver : Subproblem → Option ℤ → Expansion → Type 0
 FindsNothingOver node ceiling report = ¬ IsUnder ceiling node.bound → (report.found ≡ None) × (report.kids ≡ [])
 
--- ---- The fields of a `Report`, as a caller sees them.
+-- ---- The fields of a `Report`, as a caller sees them, and the lists that it leaves.
 
 abbrev pub expansion_of : Inside → Expansion
 expansion_of r =
     report_of (arc_value r.node) r.ceiling r.found r.split (map fate_value r.fates.items) (map arc_value r.kids.items)
+
+-- the lists are the report's own
+pub record AreListsOf (report : Expansion) (made : Branches) : Type 0 where
+  pub kids : map arc_value made.kids.items ≡ report.kids
+  pub fates : map fate_value made.fates.items ≡ report.fates
 
 -- ---- The best schedule so far, and nodes that stand for every shorter one.
 

@@ -1,6 +1,6 @@
 //! The fates of the pairs of a forbidden set, and the kids among them.
 
-ghost use Rattle.std.specs.Prelude.{◌≡◌, IfOk};
+ghost use Rattle.std.specs.Prelude.{◌≡◌, [], IfOk};
 ghost use Rattle.network.specs.Problem.{NameActivities};
 ghost use Rattle.bounds.specs.Bound.{IsWorkspaceFor};
 ghost use Rattle.branching.specs.Subproblem.{IsTiedTo};
@@ -15,16 +15,44 @@ use network::Pair;
 use std::alloc::{AllocError, Global};
 use std::sync::Arc;
 
-/// What the ordered pairs of a set give.
-#[derive(Drop)]
-pub(crate) struct Branches {
+/// What the ordered pairs of a set give. [`Searcher::reuse`](crate::Searcher::reuse) uses the memory of both lists
+/// again.
+#[derive(Drop, Debug)]
+pub struct Branches {
     /// The kids, by rising pairs.
-    pub(crate) kids: Vec<Arc<Lean>>,
+    pub kids: Vec<Arc<Lean>>,
     /// What became of each pair.
-    pub(crate) fates: Vec<Fate<()>>,
+    pub fates: Vec<Fate<()>>,
 }
 
-/// What the pairs give under a ceiling, in their order.
+impl Branches {
+    /// Nothing, and no memory yet.
+    pub(crate) fn new(alloc: Global) -> Branches
+        ensures kids { result.kids.items ≡ [] }
+        ensures fates { result.fates.items ≡ [] }
+    {
+        Branches {
+            kids: Vec::new(alloc),
+            fates: Vec::new(alloc),
+        }
+    }
+
+    /// The same lists with nothing in them.
+    pub(crate) fn emptied(self) -> Branches
+        ensures kids { result.kids.items ≡ [] }
+        ensures fates { result.fates.items ≡ [] }
+    {
+        let Branches {
+            mut kids,
+            mut fates,
+        } = self;
+        kids.clear();
+        fates.clear();
+        Branches { kids, fates }
+    }
+}
+
+/// What the pairs give under a ceiling, in their order, in the memory of lists whatever those held.
 pub(crate) fn branches_of(
     alloc: Global,
     node: &Lean,
@@ -32,6 +60,7 @@ pub(crate) fn branches_of(
     bounds: &mut Workspace,
     ceiling: Option<i64>,
     pairs: &[Pair],
+    lists: Branches,
 ) -> Result<Branches, AllocError>
     requires tied { IsTiedTo node.now matrix.old.rows }
     requires bounds { IsWorkspaceFor node.now.project bounds.old }
@@ -40,8 +69,10 @@ pub(crate) fn branches_of(
     ensures bounds { bounds.new ≡ bounds.old }
     ensures fates { IfOk result (AreBranches node.now ceiling pairs.now) }
 {
-    let mut kids = Vec::with_capacity(alloc, pairs.len())?;
-    let mut fates = Vec::with_capacity(alloc, pairs.len())?;
+    let Branches {
+        mut kids,
+        mut fates,
+    } = lists.emptied();
     let mut made = None;
     for pair in pairs {
         let fate = match branch_of(alloc, node, matrix, bounds, ceiling, *pair)? {

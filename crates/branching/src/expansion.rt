@@ -9,19 +9,20 @@ ghost use Rattle.branching.specs.Subproblem.{IsNode, IsTiedTo};
 ghost use Rattle.branching.specs.Path.{HasRoomFor};
 ghost use Rattle.branching.specs.Fair.{IsReportOn, FindsNothingOver};
 
-use crate::branches::branches_of;
+use crate::branches::{Branches, branches_of};
 use crate::ceiling::is_below;
 use crate::lean::Lean;
 use crate::node::Node;
-use crate::pairs::ordered_pairs;
+use crate::pairs::put_ordered_pairs;
 use crate::report::Report;
 use crate::workspace::Workspace;
-use earliest::least_starts;
+use earliest::least_starts_in;
 use forbidden_sets::shrink_activities;
 use longest_path::MarkedMatrix;
 use network::Schedule;
 use profile::Overload;
 use std::alloc::{AllocError, Global};
+use std::mem;
 use std::sync::Arc;
 
 /// The report on a node whose least schedule overloads no resource.
@@ -65,8 +66,11 @@ fn report_split(
 {
     let running = workspace.overloads.running();
     let set = shrink_activities(alloc, node.project(), overload.resource, running)?;
-    let pairs = ordered_pairs(alloc, set.members())?;
-    let made = branches_of(alloc, node, matrix, &mut workspace.bounds, ceiling, &pairs)?;
+    put_ordered_pairs(&mut workspace.pairs, set.members())?;
+    let lists = mem::replace(&mut workspace.made, Branches::new(alloc));
+    let bounds = &mut workspace.bounds;
+    let pairs = workspace.pairs.as_slice();
+    let made = branches_of(alloc, node, matrix, bounds, ceiling, pairs, lists)?;
     let node = Arc::try_clone(node)?;
     Ok(Report::new(node, ceiling, None, Some(set), made.fates, made.kids))
 }
@@ -92,9 +96,15 @@ pub(crate) fn expand_by(
         let kids = Vec::new(alloc);
         return Ok(Report::new(node, ceiling, None, None, fates, kids));
     }
-    let starts = least_starts(alloc, matrix.matrix())?;
-    match workspace.overloads.first(node.project(), &starts) {
-        Some(overload) => report_split(alloc, node, matrix, workspace, ceiling, &starts, overload),
+    let list = mem::replace(&mut workspace.starts, Vec::new(alloc));
+    let starts = least_starts_in(list, matrix.matrix())?;
+    match workspace.overloads.first(node.project(), starts.as_slice()) {
+        Some(overload) => {
+            let least = starts.as_slice();
+            let report = report_split(alloc, node, matrix, workspace, ceiling, least, overload);
+            workspace.starts = starts;
+            report
+        }
         None => report_found(alloc, node, ceiling, starts),
     }
 }

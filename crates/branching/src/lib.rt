@@ -23,6 +23,7 @@ mod report;
 mod searcher;
 mod workspace;
 
+pub use branches::Branches;
 pub use ceiling::{is_below, is_in_time, lesser, makespan_of};
 pub use expansion::expand;
 pub use fate::Fate;

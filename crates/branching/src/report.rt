@@ -4,6 +4,7 @@ ghost use Rattle.std.specs.Prelude.{◌≡◌, ◌≤◌, List, map, length, opt
 ghost use Rattle.std.specs.Arc.{arc_value};
 ghost use Rattle.branching.specs.Fates.{fate_value};
 
+use crate::branches::Branches;
 use crate::fate::Fate;
 use crate::lean::Lean;
 use forbidden_sets::ForbiddenSet;
@@ -119,10 +120,11 @@ impl Report {
         self.kids.as_slice()
     }
 
-    /// What was found, and the kids.
-    pub fn into_parts(self) -> (Option<Schedule>, Vec<Arc<Lean>>)
+    /// What was found, and the lists of the kids and of the fates.
+    pub fn into_parts(self) -> (Option<Schedule>, Branches)
         ensures found { result.0 ≡ self.found }
-        ensures kids { map arc_value result.1.items ≡ self.kids }
+        ensures kids { map arc_value result.1.kids.items ≡ self.kids }
+        ensures fates { map fate_value result.1.fates.items ≡ self.fates }
         ensures report { IsReport self }
     {
         let Report {
@@ -130,9 +132,9 @@ impl Report {
             ceiling: _,
             found,
             split: _,
-            fates: _,
+            fates,
             kids,
         } = self;
-        (found, kids)
+        (found, Branches { kids, fates })
     }
 }

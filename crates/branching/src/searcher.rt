@@ -9,6 +9,7 @@ ghost use Rattle.longest_path.specs.Insert.{Explains};
 ghost use Rattle.branching.specs.Fair.{IsReportOn, FindsNothingOver, IsRootOf};
 ghost use Rattle.branching.specs.Path.{IsAt, IsFrontOf, IsShared};
 
+use crate::branches::Branches;
 use crate::expansion::expand_by;
 use crate::lean::{Lean, lean_root};
 use crate::node::Node;
@@ -99,6 +100,13 @@ impl Searcher {
         let shared = shared_count(self.at.pairs(), pairs.before());
         self.at.keep(shared);
         self.at.go_on(&self.project, pairs)
+    }
+
+    /// Keeps the memory of a report's lists for the next expansion, which drops what they hold.
+    pub fn reuse(&mut self, made: Branches)
+        ensures { self.new ≡ self.old }
+    {
+        self.workspace.made = made;
     }
 
     /// The node that the searcher is at, with a copy of its matrix.

@@ -3,7 +3,8 @@
 ghost use Rattle.std.specs.Prelude.{IfOk};
 ghost use Rattle.branching.specs.Path.{HasRoomFor};
 
-use network::Project;
+use crate::branches::Branches;
+use network::{Pair, Project};
 use profile::OverloadSweep;
 use std::alloc::{AllocError, Global};
 
@@ -12,6 +13,10 @@ use std::alloc::{AllocError, Global};
 pub(crate) struct Workspace {
     pub(crate) bounds: bounds::Workspace,
     pub(crate) overloads: OverloadSweep,
+    /// Lists that each expansion fills anew.
+    pub(crate) starts: Vec<i64>,
+    pub(crate) pairs: Vec<Pair>,
+    pub(crate) made: Branches,
 }
 
 impl Workspace {
@@ -21,6 +26,12 @@ impl Workspace {
     {
         let bounds = bounds::Workspace::new(alloc, project)?;
         let overloads = OverloadSweep::new(alloc, project)?;
-        Ok(Workspace { bounds, overloads })
+        Ok(Workspace {
+            bounds,
+            overloads,
+            starts: Vec::new(alloc),
+            pairs: Vec::new(alloc),
+            made: Branches::new(alloc),
+        })
     }
 }

@@ -16,7 +16,17 @@ pub fn least_starts(alloc: Global, matrix: &Matrix) -> Result<Vec<i64>, AllocErr
     ensures weights { IfOk result (λ starts. starts.items ≡ weights_from 0 matrix.now) }
     ensures earliest { IfOk result (λ starts. AreEarliestFor matrix.now starts.items) }
 {
-    let mut starts = Vec::with_capacity(alloc, matrix.activity_count())?;
+    let starts = Vec::with_capacity(alloc, matrix.activity_count())?;
+    least_starts_in(starts, matrix)
+}
+
+/// The same in the memory of a list, whatever that held.
+pub fn least_starts_in(list: Vec<i64>, matrix: &Matrix) -> Result<Vec<i64>, AllocError>
+    ensures weights { IfOk result (λ starts. starts.items ≡ weights_from 0 matrix.now) }
+    ensures earliest { IfOk result (λ starts. AreEarliestFor matrix.now starts.items) }
+{
+    let mut starts = list;
+    starts.clear();
     for i in 0..matrix.activity_count() {
         starts.push(matrix.get(0, i).unwrap_or(0))?;
     }

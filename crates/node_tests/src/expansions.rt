@@ -1,7 +1,7 @@
 //! Expansions, searches and matrices of nodes, played from lines.
 
 use bounds::bound;
-use branching::{Fate, Lean, Report, Searcher, expand, ordered_pairs, rebuild, root};
+use branching::{Branches, Fate, Lean, Report, Searcher, expand, ordered_pairs, rebuild, root};
 use earliest::least_starts;
 use longest_path::{MarkedMatrix, Matrix, PathFault, longest};
 use network::{Pair, Project};
@@ -268,11 +268,12 @@ fn kids_of(
     assert_eq!(rt; bound(alloc, lean.project(), node.matrix())?, lean.bound());
     let (found, fresh) = expand(alloc, &node, None)?.into_parts();
     assert!(rt; searcher.is_for(lean));
-    let (again, kids) = searcher.expand(alloc, lean, None)?.into_parts();
+    let (again, moved) = searcher.expand(alloc, lean, None)?.into_parts();
     assert_same(rt, searcher.node(alloc, lean)?.matrix(), &whole);
     assert_eq!(rt; again.is_some(), found.is_some());
-    assert_eq!(rt; kids.len(), fresh.len());
-    Ok(fresh)
+    assert_eq!(rt; moved.kids.len(), fresh.kids.len());
+    searcher.reuse(moved);
+    Ok(fresh.kids)
 }
 
 /// How many nodes the search tree of a project has.
@@ -300,6 +301,24 @@ fn matrices_are_those_of_the_recurrence(rt: HostRuntime) -> Result<(), Fail> {
     ] {
         assert_eq!(rt; tree_size(&rt, rt.alloc(), name)?, wanted, "{name}");
     }
+    Ok(())
+}
+
+/// For how many kids and fates the lists of a report have room, where lists for so many were handed back before.
+fn room_after(alloc: Global, count: usize) -> Result<[usize; 2], Fail> {
+    let root = root(alloc, project_of(alloc, "one machine")?)?;
+    let mut searcher = Searcher::for_node(alloc, root.lean())?;
+    searcher.reuse(Branches {
+        kids: Vec::with_capacity(alloc, count)?,
+        fates: Vec::with_capacity(alloc, count)?,
+    });
+    let (_, made) = searcher.expand(alloc, root.lean(), None)?.into_parts();
+    Ok([made.kids.capacity(), made.fates.capacity()])
+}
+
+#[test]
+fn lists_are_used_again(rt: HostRuntime) -> Result<(), Fail> {
+    assert_eq!(rt; room_after(rt.alloc(), 100)?, [100, 100]);
     Ok(())
 }
 

@@ -139,8 +139,9 @@ impl Search {
             }
         };
         let report = searcher.expand(alloc, &node, ceiling)?;
-        let (found, mut kids) = report.into_parts();
-        stack.append(&mut kids)?;
+        let (found, mut made) = report.into_parts();
+        stack.append(&mut made.kids)?;
+        searcher.reuse(made);
         let best = shorter_of(best, found);
         Ok(Search {
             project,

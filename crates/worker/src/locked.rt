@@ -1,12 +1,12 @@
 //! A book and the shares of those who checked nodes in, under one lock.
 
 ghost use Rattle.std.specs.Prelude.{◌≡◌, ◌+◌, ◌<◌, ◌≤◌, OnOk, OnErr};
-ghost use Rattle.book.specs.Steps.{Takes, ChecksIn, GivesBack, Offers};
+ghost use Rattle.book.specs.Steps.{Takes, ChecksInForReuse, GivesBack, Offers};
 ghost use Rattle.worker.specs.Locking.{GivesBackAndHalts, Halts, Stops};
 
 use crate::fault::WorkFault;
 use book::{Book, CheckFault, CheckedIn, OtherProject, Take};
-use branching::Report;
+use branching::{Branches, Report};
 use network::Schedule;
 use std::sync::ledger;
 use std::sync::ledger::{Ledger, Share};
@@ -37,22 +37,22 @@ impl<L: Ledger> Locked<L> {
         taken
     }
 
-    /// Checks a report in; one that is accepted counts in the share.
+    /// Checks a report in; one that is accepted counts in the share, and its lists come back.
     pub(crate) fn check_in(
         &mut self,
         share: &mut Share<L>,
         name: u64,
         report: Report,
-    ) -> Result<CheckedIn, (Report, CheckFault)>
+    ) -> Result<(CheckedIn, Branches), (Report, CheckFault)>
         requires { 0 < share.old.parts }
-        ensures step { ChecksIn self.old.book name report result self.new.book }
+        ensures step { ChecksInForReuse self.old.book name report result self.new.book }
         ensures parts { share.new.parts ≡ share.old.parts }
         ensures accepted { OnOk result (share.new.amount ≡ share.old.amount + 1) }
         ensures refused { OnErr result (share.new.amount ≡ share.old.amount) }
         ensures fits { share.new.amount ≤ 1000000000 }
     {
         let Locked { book, shares, .. } = self;
-        let checked = book.check_in(name, report);
+        let checked = book.check_in_for_reuse(name, report);
         if checked.is_ok() {
             shares.add(share, 1);
         }

@@ -57,8 +57,13 @@ impl<L: Ledger> Shared<L> {
             return Err(CheckFault::Memory);
         };
         let found = report.found().map(|schedule| schedule.makespan());
-        self.check_in(rt, desk, ticket.name, report)?;
-        Ok(found)
+        match self.check_in(rt, desk, ticket.name, report) {
+            Ok(made) => {
+                searcher.reuse(made);
+                Ok(found)
+            }
+            Err(fault) => Err(fault),
+        }
     }
 
     /// Expands a node under the lesser of the ticket's ceiling and the best word. If the book knows of no schedule so

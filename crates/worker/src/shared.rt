@@ -3,6 +3,7 @@
 ghost use Rattle.std.specs.Prelude.{◌≡◌, ◌+◌, ℕ, IfOk, IfErr, map, sum_by, vec_len};
 ghost use Rattle.best_word.specs.Word.{Lowers};
 ghost use Rattle.worker.specs.Desks.{IsRow, IsRowAt, SeatedAt, CountsAccepted, tally_of};
+ghost use Rattle.branching.specs.Fair.{AreListsOf};
 ghost use Rattle.worker.specs.Solving.{IsOfGivingBack};
 ghost use Rattle.worker.specs.Locking.{IsEndFor};
 
@@ -11,7 +12,7 @@ use crate::fault::WorkFault;
 use crate::locked::Locked;
 use best_word::{BestSeat, BestWord};
 use book::{Book, CheckFault, OtherProject, Take, Ticket};
-use branching::Report;
+use branching::{Branches, Report};
 use network::Schedule;
 use std::alloc::{AllocError, Global};
 use std::mem;
@@ -142,16 +143,17 @@ impl<L: Ledger> Shared<L> {
         None
     }
 
-    /// Checks a report in, and counts at the desk what came of it.
+    /// Checks a report in, and counts at the desk what came of it: the lists of one that was accepted.
     pub(crate) fn check_in<R: Wait>(
         &self,
         rt: &R,
         desk: &mut Desk<L>,
         name: u64,
         report: Report,
-    ) -> Result<(), CheckFault>
+    ) -> Result<Branches, CheckFault>
         ensures same { (desk.new.number ≡ desk.old.number) × (desk.new.seat ≡ desk.old.seat) }
         ensures counts { CountsAccepted desk.old result desk.new }
+        ensures lists { IfOk result (AreListsOf report) }
     {
         let Desk {
             accepted,
@@ -163,9 +165,9 @@ impl<L: Ledger> Shared<L> {
         let checked = locked.check_in(share, name, report);
         self.wake_up(locked);
         match checked {
-            Ok(_) => {
+            Ok((_, made)) => {
                 *accepted += 1;
-                Ok(())
+                Ok(made)
             }
             Err((_, fault)) => {
                 if let CheckFault::AheadOfBook { .. } = fault {

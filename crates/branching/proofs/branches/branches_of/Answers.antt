@@ -23,12 +23,12 @@ loop-pair-preserved c =
     record {
       unchanged = c.branch_of.ensures.unchanged ∙ c.loop-pair.invariant.unchanged;
       bounds = c.branch_of.ensures.bounds ∙ c.loop-pair.invariant.bounds;
-      parent = elim c.match-branch-4.branch [
+      parent = elim c.match-branch-2.branch [
         | in-Kid+in_ok-parent-in-Kid+in_ok-with_pairs-in-Kid+in_ok-push-in-Kid w ↦ rw w.made-is w.parent_of.ensures.made
         | in-Dead w ↦ rw w.made-is c.loop-pair.invariant.parent
         | in-Cut w ↦ rw w.made-is c.loop-pair.invariant.parent
       ];
-      fates = elim c.match-branch-4.branch [
+      fates = elim c.match-branch-2.branch [
         | in-Kid+in_ok-parent-in-Kid+in_ok-with_pairs-in-Kid+in_ok-push-in-Kid w ↦
             let made = rw w.in-Kid.is at c.in_ok-kid.ensures.branch in
             let fits : SFits w64 w.in-Kid.kid.bound = search rules in

@@ -29,10 +29,10 @@ pub first-requires-clause-starts : goal.first-requires-clause-starts
 first-requires-clause-starts c =
     let same : c.deref-3.result.now ≡ (arc_value c.args.node.now).project = c.deref-3.ensures ∙ c.project.ensures.project ∙ ap (λ (n : Subproblem). n.project) c.deref-2.ensures in
     let earliest = c.in_ok-starts.ensures.earliest (arc_value c.args.node.now).project (arc_value c.args.node.now).pairs (rw c.matrix.ensures c.requires.tied.matrix) in
-    rw (same, c.deref-4.ensures.value) earliest.limits
+    rw (same, c.as_slice.ensures.value) earliest.limits
 
-pub report_split-requires-clause-earliest : goal.report_split-requires-clause-earliest
-report_split-requires-clause-earliest c = rw c.deref-in-Some.ensures.value (c.in_ok-starts.ensures.earliest (arc_value c.args.node.now).project (arc_value c.args.node.now).pairs (rw c.matrix.ensures c.requires.tied.matrix))
+pub report_split-report-requires-clause-earliest : goal.report_split-report-requires-clause-earliest
+report_split-report-requires-clause-earliest c = rw c.as_slice-least.ensures.value (c.in_ok-starts.ensures.earliest (arc_value c.args.node.now).project (arc_value c.args.node.now).pairs (rw c.matrix.ensures c.requires.tied.matrix))
 
 pub report_found-requires-clause-earliest : goal.report_found-requires-clause-earliest
 report_found-requires-clause-earliest c = c.in_ok-starts.ensures.earliest (arc_value c.args.node.now).project (arc_value c.args.node.now).pairs (rw c.matrix.ensures c.requires.tied.matrix)

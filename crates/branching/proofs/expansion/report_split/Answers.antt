@@ -25,19 +25,19 @@ shrink_activities-requires-clause-rising c =
 pub branches_of-requires-clause-named : goal.branches_of-requires-clause-named
 branches_of-requires-clause-named c =
     let runs : c.running-running.result.now ≡ running (arc_value c.args.node.now).project c.args.starts.now c.args.overload.time = c.running-running.ensures ∙ c.requires.running in
-    let pairs : c.deref-4.result.now ≡ ordered_pairs c.in_ok-set.set.members = c.deref-4.ensures.value ∙ c.in_ok-pairs.ensures ∙ ap ordered_pairs c.members.ensures.members in
+    let pairs : c.as_slice-pairs.result.now ≡ ordered_pairs c.in_ok-set.set.members = c.as_slice-pairs.ensures.value ∙ c.in_ok-put_ordered_pairs.ensures ∙ ap ordered_pairs c.members.ensures.members in
     let together = run_together (arc_value c.args.node.now).project c.args.starts.now c.args.overload.time _ c.in_ok-set.set.members runs c.in_ok-set.ensures.among in
     rw (c.deref-3.ensures, pairs) (named_pairs (arc_value c.args.node.now).project c.args.starts.now c.args.overload.time c.in_ok-set.set.members together)
 
-pub new-requires : goal.new-requires
-new-requires c =
+pub new-requires-2 : goal.new-requires-2
+new-requires-2 c =
     let runs : c.running-running.result.now ≡ running (arc_value c.args.node.now).project c.args.starts.now c.args.overload.time = c.running-running.ensures ∙ c.requires.running in
     let node : Subproblem = arc_value c.args.node.now in
     let t = c.args.overload.time in
     let k : ℕ = c.args.overload.resource in
     let set : MinimalSet = c.in_ok-set.set in
     let same : c.deref-2.result.now ≡ node.project = c.deref-2.ensures ∙ c.project.ensures.project ∙ ap (λ (n : Subproblem). n.project) c.deref.ensures in
-    let pairs : c.deref-4.result.now ≡ ordered_pairs set.members = c.deref-4.ensures.value ∙ c.in_ok-pairs.ensures ∙ ap ordered_pairs c.members.ensures.members in
+    let pairs : c.as_slice-pairs.result.now ≡ ordered_pairs set.members = c.as_slice-pairs.ensures.value ∙ c.in_ok-put_ordered_pairs.ensures ∙ ap ordered_pairs c.members.ensures.members in
     let minimal : IsMinimalForbidden node.project k set.members = rw same at c.in_ok-set.ensures.minimal in
     let run = run_together node.project c.args.starts.now t _ set.members runs c.in_ok-set.ensures.among in
     let together : IsRightSet node.project k set.members = minimal_together node.project c.args.starts.now t k _ set.members c.requires.first.least_resource.in_range runs c.in_ok-set.ensures.among minimal in

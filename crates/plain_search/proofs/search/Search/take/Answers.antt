@@ -21,7 +21,7 @@ invariant_of-result c =
 pub invariant_of-result-2 : goal.invariant_of-result-2
 invariant_of-result-2 c =
     let kids : map arc_value c.append.new.self.items ≡ map arc_value c.next_node.new.stack.items ++ c.in_ok-report.report.kids =
-    ap (map arc_value) c.in_ok-append.ensures.items ∙ map-append arc_value c.next_node.new.stack.items c.into_parts-found.result.1.items ∙ ap (λ (ks : List Subproblem). map arc_value c.next_node.new.stack.items ++ ks) c.into_parts-found.ensures.kids in
+    ap (map arc_value) c.in_ok-append.ensures.items ∙ map-append arc_value c.next_node.new.stack.items c.into_parts-found.result.1.kids.items ∙ ap (λ (ks : List Subproblem). map arc_value c.next_node.new.stack.items ++ ks) c.into_parts-found.ensures.kids in
     let old : SearchState = record { project = c.self.inside.project.value; best = c.self.inside.best; nodes = map arc_value c.self.inside.stack.items } in
     let new : SearchState = record { project = c.self.inside.project.value; best = c.shorter_of-best.result; nodes = map arc_value c.append.new.self.items } in
     let take : IsTake old new = record {

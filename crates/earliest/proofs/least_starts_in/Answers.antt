@@ -4,7 +4,7 @@ use Rattle.std.proofs.lemmas.Int.{to_z-of_z}
 use Rattle.network.specs.Walk.{entry, weights_from}
 use Rattle.network.proofs.FaultLaws.{appended_more}
 use Rattle.earliest.proofs.Ends.{AreEarliest-weights}
-use Rattle.earliest.proofs.least_starts.Goals as goal
+use Rattle.earliest.proofs.least_starts_in.Goals as goal
 
 pub loop-i-preserved : goal.loop-i-preserved
 loop-i-preserved c =
