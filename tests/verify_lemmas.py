@@ -17,6 +17,7 @@ from verify import LOW, MAX_BYTES, Fault, Project, Rows, root_matrix, run
 NUMBER = re.compile(rb"0|[1-9][0-9]{0,9}")
 WEIGHT = re.compile(rb"0|-?(1000000|[1-9][0-9]{0,5})")
 CLAIM = re.compile(rb"no schedule|(optimal|bound) (0|1000000|[1-9][0-9]{0,5})")
+MAX_WEIGHT = 1_000_000
 # The least and the most numbers of a reason, and how many ends more a line makes due.
 COUNTS = {b"dead": (0, 0), b"set": (2, MAX_BYTES), b"load": (3, 3), b"clique": (3, MAX_BYTES), b"use": (1, 1)}
 KINDS = {b"lemma": 1, b"force": 0, b"add": 0, b"end": -1}
@@ -177,6 +178,14 @@ def ends(project: Project, lemmas: Sequence[Arcs], weight: Weight, word: str, fi
     return word in tests and tests[word](project, weight, *fields)
 
 
+def horizon(project: Project) -> int:
+    """The sum over all activities of the greatest of the duration and the lags of the arcs that leave it."""
+    stretches = list(project.durations)
+    for activity, _, lag in project.arcs:
+        stretches[activity] = max(stretches[activity], lag)
+    return sum(stretches)
+
+
 def is_right(project: Project, rows: Rows | None, lemmas: Sequence[Arcs], line: Line) -> bool:
     """Whether a line is right in a block with these weights, after these lemmas."""
     if rows is None:
@@ -199,8 +208,9 @@ def verify(project: Project, claim: Claim, starts: Sequence[int] | None, lines: 
         raise Fault(3, "start", 4)
     lemmas: list[Arcs] = []
     rows, first = root_matrix(project), None
-    if length is not None:
-        rows = with_arc(rows, (project.end, 0, 1 - length))
+    latest = horizon(project) if length is None else length - 1
+    if length is not None or latest <= MAX_WEIGHT:
+        rows = with_arc(rows, (project.end, 0, -latest))
     for line in lines:
         if not is_right(project, rows, lemmas, line):
             raise Fault(line.number, line.kind, 4)

@@ -86,7 +86,7 @@ pub first_dead : (p : Problem) (claim : Claim) (top : ℕ) → IsLeastCycleTop (
 first_dead p claim top least =
     let found = least.reached in
     let cycle : HasPositiveCycle (rules p) = subst HasPositiveCycle (append-nil (rules p)) (found.0, found.1, found.2) in
-    record { none = refl; cycle = cycle_more (rules p) (deadlines p (bound_of claim)) cycle }
+    record { none = refl; cycle = cycle_more (rules p) (deadlines p (bound_of p claim)) cycle }
 
 -- ---- a lemma begins and ends
 

@@ -1,11 +1,13 @@
 -- What a right record claims is true.
-use Rattle.std.proofs.Common.{ℕ, List, [], get_or, arith, ℤ, ◌+ℤ◌, ◌≤ℤ◌, ◌≡◌, refl, sym, ap, subst, ⊎_elim, ◌∷◌, ◌++◌, length, ◌-◌, append_assoc, Option, None, Some, pos, ◌-ℤ◌, ◌<ℤ◌, inl, inr}
+use Rattle.std.proofs.Common.{ℕ, ◌+◌, Bool, true, false, cond, nat_le, List, [], get_or, arith, ℤ, ◌+ℤ◌, ◌≤ℤ◌, ◌≡◌, refl, sym, ap, subst, ⊎_elim, ◌∷◌, ◌++◌, length, ◌-◌, append_assoc, Option, None, Some, pos, ◌-ℤ◌, ◌<ℤ◌}
 use Rattle.std.specs.List.{All, Contains, flat_map}
 use Rattle.std.proofs.lemmas.Int.{ints, by_lt_z}
 use Rattle.std.proofs.lemmas.List.Elements.{All-weaker, All-nil, All-head, All-tail, All-push, All-contains, Contains-append_cases, Contains-push_cases}
 use Rattle.network.specs.declared.parts.Lag.{Lag}
-use Rattle.network.specs.Problem.{Problem, end_of, duration, rules, pair_arc}
-use Rattle.network.specs.Schedule.{start, Meets, IsFeasible, makespan}
+use Rattle.horizon.specs.Horizon.{horizon}
+use Rattle.horizon.proofs.Sooner.{horizon_suffices}
+use Rattle.network.specs.Problem.{Problem, IsProject, end_of, duration, rules, pair_arc}
+use Rattle.network.specs.Schedule.{start, Meets, IsFeasible, HasNoSchedule, makespan}
 use Rattle.network.specs.Walk.{weight, HasPositiveCycle}
 use Rattle.network.proofs.Schedules.{walk_holds}
 use Rattle.lemma_text.specs.declared.reason.Reason.{Reason}
@@ -165,15 +167,23 @@ deadline_met p s bound feasible less =
 bounded : (p : Problem) (s : List ℤ) (bound : ℤ) → IsFeasible p s → (MeetsAll s (rules p ++ deadline p bound ∷ []) → ⊥) → bound ≤ℤ makespan s
 bounded p s bound feasible none = by_lt_z (makespan s) bound (λ less. absurd (none (deadline_met p s bound feasible less))) (λ reached. reached)
 
+-- no schedule ends by the horizon, so there is none
+no_schedule : (p : Problem) → IsProject p → (b : Bool) → ((s : List ℤ) → IsFeasible p s → MeetsAll s (rules p ++ deadlines p (cond b (Some (pos (horizon p + 1))) None)) → ⊥) → HasNoSchedule p
+no_schedule p is true none = λ s feasible.
+    let sooner = horizon_suffices p s is feasible in
+    let less : makespan sooner.0 <ℤ pos (horizon p + 1) = omega (arith, ints, sooner.1.in_time) in
+    none sooner.0 sooner.1.feasible (deadline_met p sooner.0 (pos (horizon p + 1)) sooner.1.feasible less)
+no_schedule p is false none = λ s feasible. none s feasible (meets_both s (rules p) [] (rules_met p s feasible) (λ e c. absurd (omega (arith, c.1))))
+
 pub right_is_true : RightIsTrue
-right_is_true p r record_is right =
-    by_claim r.claim right.starts (λ s feasible met.
-    none_left p (rules p ++ deadlines p (bound_of r.claim)) record_is.whole.0 s (subst (λ (lines : List Line). All (IsRightLine p) (placed p (first_place p r.claim) lines)) (sym record_is.whole.1) right.lines) feasible met)
+right_is_true p r is record_is right =
+    by_claim is r.claim right.starts (λ s feasible met.
+    none_left p (rules p ++ deadlines p (bound_of p r.claim)) record_is.whole.0 s (subst (λ (lines : List Line). All (IsRightLine p) (placed p (first_place p r.claim) lines)) (sym record_is.whole.1) right.lines) feasible met)
   where
-    by_claim : (claim : Claim) → AreRightStarts p claim → ((s : List ℤ) → IsFeasible p s → MeetsAll s (rules p ++ deadlines p (bound_of claim)) → ⊥) → IsFactOf p (says claim)
-    by_claim (claims.Optimal length starts) found none = record { witness = (starts, found.0, found.1); bound = λ s feasible. bounded p s length feasible (none s feasible) }
-    by_claim (claims.Bound bound) found none = λ s feasible. bounded p s bound feasible (none s feasible)
-    by_claim claims.NoSchedule found none = λ s feasible. none s feasible (meets_both s (rules p) [] (rules_met p s feasible) (λ e c. absurd (omega (arith, c.1))))
+    by_claim : IsProject p → (claim : Claim) → AreRightStarts p claim → ((s : List ℤ) → IsFeasible p s → MeetsAll s (rules p ++ deadlines p (bound_of p claim)) → ⊥) → IsFactOf p (says claim)
+    by_claim is (claims.Optimal length starts) found none = record { witness = (starts, found.0, found.1); bound = λ s feasible. bounded p s length feasible (none s feasible) }
+    by_claim is (claims.Bound bound) found none = λ s feasible. bounded p s bound feasible (none s feasible)
+    by_claim is claims.NoSchedule found none = no_schedule p is (nat_le (horizon p) 1000000) none
 
 -- ---- A record with a first fault is not right, and has no other.
 

@@ -3,7 +3,7 @@ use Rattle.std.specs.Prelude.{◌≡◌, ◌⊎◌, ◌<◌, pos, ◌-ℤ◌, No
 use Rattle.std.specs.List.{All}
 use Rattle.network.specs.declared.parts.Lag.{Lag}
 use Rattle.network.specs.declared.parts.Pair.{Pair}
-use Rattle.network.specs.Problem.{Problem, activity_count}
+use Rattle.network.specs.Problem.{Problem, IsProject, activity_count}
 use Rattle.network.specs.Walk.{HasNoPositiveCycle}
 use Rattle.longest_path.specs.Insert.{arc_of}
 use Rattle.rivals.specs.Incompatible.{AreIncompatible}
@@ -99,6 +99,7 @@ IsRight p r = IsRightBy lemma_judge p r
 abbrev pub IsFirstFault : Problem → LemmaRecordOf → RecordFault → Type 0
 IsFirstFault p r fault = IsFirstFaultBy lemma_judge p r fault
 
--- what a right record claims is true
+-- what a right record claims of a project is true
 abbrev pub RightIsTrue : Type 0
-RightIsTrue = (p : Problem) (r : LemmaRecordOf) → IsRecord lemma_kind r → IsRight p r → IsFactOf p (says r.claim)
+RightIsTrue =
+    (p : Problem) (r : LemmaRecordOf) → IsProject p → IsRecord lemma_kind r → IsRight p r → IsFactOf p (says r.claim)

@@ -1,21 +1,24 @@
 //! The block that a line stands in: its matrix, and the lemmas before.
 
-ghost use Rattle.std.specs.Prelude.{◌≡◌, ◌↔◌, List, length, IsTrue, IfOk, OnOk, MatchOption};
+ghost use Rattle.std.specs.Prelude.{◌≡◌, ◌↔◌, pos, ◌-ℤ◌, List, length, IsTrue, IfOk, IfSome, OnOk, MatchOption};
 ghost use Rattle.std.specs.List.{All};
-ghost use Rattle.network.specs.Problem.{IsAmount, IsLag, Problem, activity_count};
+ghost use Rattle.network.specs.declared.limits.TheConstants.{MAX_LAG_WEIGHT};
+ghost use Rattle.network.specs.Problem.{IsLag, IsWithin, Problem, activity_count};
+ghost use Rattle.horizon.specs.Horizon.{horizon};
 ghost use Rattle.lemma_text.specs.declared.line.Line.{Line};
 ghost use Rattle.lemma_text.specs.declared.line.Line.TheVariants as kind;
 ghost use Rattle.lemma_text.specs.declared.reason.Reason.TheVariants as reasons;
 ghost use Rattle.lemma_text.specs.Text.{IsWritableClaim, IsWritableLine};
-ghost use Rattle.lemma_check.specs.Places.{Place, bound_of, deadline, ended, first_place, with_arc};
+ghost use Rattle.lemma_check.specs.Places.{Place, bound_of, deadline, ended, first_place, past_horizon, with_arc};
 ghost use Rattle.lemma_check.specs.Right.{IsRightAt};
 ghost use Rattle.lemma_check.specs.Standing.{IsDeadAt};
 
 use crate::lemmas::Lemmas;
 use crate::right::is_right_by;
+use horizon::horizon_of;
 use lemma_text::{Claim, Line, Reason};
 use longest_path::{MarkedMatrix, PathFault, longest};
-use network::{Lag, Project};
+use network::{Lag, MAX_LAG_WEIGHT, Project};
 use std::alloc::{AllocError, Global};
 
 /// What is kept of a line's place.
@@ -32,20 +35,35 @@ pub(crate) struct State {
     opened: Option<usize>,
 }
 
-/// The makespan that no schedule may be below, if one is claimed.
-fn bound_of(claim: &Claim) -> Option<i64>
-    ensures { result ≡ bound_of claim.now }
+/// One more than the horizon, where a lag may be as long as that.
+fn past_horizon(project: &Project) -> Option<i64>
+    ensures value { result ≡ past_horizon (horizon project.now) }
+    ensures small { IfSome result (λ bound. IsWithin MAX_LAG_WEIGHT (pos 1 -ℤ bound)) }
+{
+    let horizon = horizon_of(project);
+    if horizon <= MAX_LAG_WEIGHT {
+        Some(horizon + 1)
+    } else {
+        None
+    }
+}
+
+/// What no makespan in question reaches.
+fn bound_of(project: &Project, claim: &Claim) -> Option<i64>
+    requires { IsWritableClaim claim.now }
+    ensures value { result ≡ bound_of project.now claim.now }
+    ensures small { IfSome result (λ bound. IsWithin MAX_LAG_WEIGHT (pos 1 -ℤ bound)) }
 {
     match claim {
         Claim::Optimal { makespan, .. } => Some(*makespan),
         Claim::Bound { bound } => Some(*bound),
-        Claim::NoSchedule => None,
+        Claim::NoSchedule => past_horizon(project),
     }
 }
 
 /// The arc that makes the makespan less than a bound.
 fn deadline(project: &Project, bound: i64) -> Lag
-    requires { IsAmount bound }
+    requires { IsWithin MAX_LAG_WEIGHT (pos 1 -ℤ bound) }
     ensures arc { result ≡ deadline project.now bound }
     ensures inside { IsLag (activity_count project.now) result }
 {
@@ -93,7 +111,7 @@ impl State {
             begins: Vec::new(alloc),
             opened: None,
         };
-        let Some(bound) = bound_of(claim) else {
+        let Some(bound) = bound_of(project, claim) else {
             return Ok(Some(state));
         };
         state.add(deadline(project, bound))?;

@@ -27,6 +27,7 @@ pub fn right_law()
 pub fn verify(alloc: Global, project: &Project, shown: &LemmaRecord) -> Result<Proved, RecordFault>
     ensures { IsVerdict lemma_kind lemma_judge project.now shown.now result }
 {
+    prove!(project.activity_count() >= 2);
     let claim = shown.claim();
     if let Claim::Optimal { makespan, starts } = claim {
         check_claimed(alloc, project, starts.as_slice(), *makespan)?;

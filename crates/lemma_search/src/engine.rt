@@ -4,6 +4,7 @@ use crate::learning::Learner;
 use crate::options::{Counts, Options, State};
 use crate::probing::Probe;
 use decisions::{Brancher, Choice, Incumbent, MAX_MAKESPAN, Starts};
+use horizon::horizon_of;
 use lemma_proofs::Proofs;
 use lemma_trail::{Cause, Conflict, History, Lemmas, Literal, Rules, Stop, Trail, is_there};
 use longest_path::Matrix;
@@ -42,6 +43,8 @@ pub(crate) enum Next {
 #[derive(Drop)]
 pub(crate) struct Engine {
     pub(crate) rules: Rules,
+    /// A feasible schedule ends by then, if there is one.
+    pub(crate) horizon: i64,
     pub(crate) trail: Trail,
     pub(crate) lemmas: Lemmas,
     pub(crate) proofs: Proofs,
@@ -74,6 +77,7 @@ impl Engine {
         let propagators = Propagators::new(alloc, &rules, &history, options.propagators)?;
         Ok(Engine {
             rules,
+            horizon: horizon_of(project),
             trail: Trail::new(alloc, history),
             lemmas: Lemmas::new(alloc, count)?,
             proofs: Proofs::new(alloc),

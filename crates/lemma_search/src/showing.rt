@@ -47,6 +47,15 @@ impl Engine {
         self.proofs.push(&self.trail, &[], None)
     }
 
+    /// One more than the horizon, where a record has a deadline of that length.
+    fn past_horizon(&self) -> Option<i32> {
+        if self.horizon > MAX_MAKESPAN {
+            None
+        } else {
+            Some(periods(self.horizon).wrapping_add(1))
+        }
+    }
+
     /// The lines that show the claim. None if a number is larger than a record may have.
     fn lines(&mut self, alloc: Global, claim: &Claim) -> Result<Option<Vec<Line>>, AllocError> {
         self.go_back(0);
@@ -59,12 +68,13 @@ impl Engine {
             &mut self.proofs,
             last,
         )?;
+        let past_horizon = self.past_horizon();
         let history = &mut self.trail.history;
         history.go_back(0, 0);
         let ceiling = match claim {
             Claim::Optimal { makespan, .. } => Some(periods(*makespan)),
             Claim::Bound { bound } => Some(periods(*bound)),
-            Claim::NoSchedule => None,
+            Claim::NoSchedule => past_horizon,
         };
         let mut is_dead = false;
         if let Some(ceiling) = ceiling {

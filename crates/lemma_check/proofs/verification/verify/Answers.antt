@@ -25,4 +25,4 @@ returns c =
     let lines : AreRightFrom c.args.project.now (first_place c.args.project.now c.args.shown.now.claim) c.args.shown.now.lines = rw (c.claim-claim.ensures.claim, c.lines.ensures.lines) at c.in_ok-check_lines.ensures.right in
     let right : IsRight c.args.project.now c.args.shown.now = record { starts = starts; lines = lines } in
     let said : c.says.result ≡ says c.args.shown.now.claim = c.says.ensures ∙ ap says c.claim-claim.ensures.claim in
-    record { right = right; proved = said; holds = rw said (right_is_true c.args.project.now c.args.shown.now c.claim-claim.ensures.record right); fault = tt; only = λ _. tt }
+    record { right = right; proved = said; holds = rw said (right_is_true c.args.project.now c.args.shown.now c.activity_count.ensures.limits c.claim-claim.ensures.record right); fault = tt; only = λ _. tt }

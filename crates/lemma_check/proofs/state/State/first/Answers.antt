@@ -9,7 +9,7 @@ pub returns : goal.returns
 returns c = λ lines.
     let p = c.args.project.now in
     let at : Place = record { lemmas = []; own = project_rules c.args.project.now; opened = None } in
-    let claimed : bound_of c.args.claim.now ≡ Some c.in-Some.bound = sym c.bound_of.ensures ∙ c.in-Some.is in
+    let claimed : bound_of c.args.project.now c.args.claim.now ≡ Some c.in-Some.bound = sym c.bound_of.ensures.value ∙ c.in-Some.is in
     let before = stands_rules p lines c.in-Ok.matrix c.in-Ok.ensures.matrix in
     let fits : SFits w64 c.in-Some.bound = search rules in
     let arc : c.deadline.result ≡ deadline c.args.project.now c.in-Some.bound = simp to_z-of_z at c.deadline.ensures.arc in

@@ -1,0 +1,3 @@
+pub mod Squeezed
+pub mod Sooner
+pub mod Stretches
