@@ -5,15 +5,16 @@ use Rattle.std.proofs.lemmas.Int.{ints}
 use Rattle.std.proofs.lemmas.List.{map-append, take_more, take_all, drop_more, take-append-drop, length-take-le}
 use Rattle.std.proofs.lemmas.List.Elements.{All-push, All-nil, Contains-append_left}
 use Rattle.network.specs.declared.parts.Lag.{Lag}
-use Rattle.network.specs.Problem.{Problem, activity_count, rules, arcs_of}
+use Rattle.network.specs.Problem.{Problem, IsProject, activity_count, end_of, rules, arcs_of}
 use Rattle.network.specs.Walk.{Rows, IsWalk, weight, HasPositiveCycle, HasNoPositiveCycle, IsMatrixOf, IsLeastCycleTop}
-use Rattle.longest_path.specs.Insert.{AddsArc, ClosesCycle}
+use Rattle.longest_path.specs.Insert.{AddsArc, ClosesCycle, FillsRows}
 use Rattle.longest_path.specs.Saved.{Marked}
 use Rattle.lemma_text.specs.declared.record.Claim.{Claim}
 use Rattle.lemma_text.specs.declared.line.Line.{Line}
-use Rattle.lemma_check.specs.Places.{lemma_at, lemmas_of, place, open_lemma, Opened, arcs_in, with_arc, ended, bound_of, deadlines, first_place, Place, after, Placed, placed}
+use Rattle.lemma_check.specs.Places.{lemma_at, lemmas_of, place, open_lemma, Opened, arcs_in, with_arc, ended, bound_of, deadline, first_place, Place, after, Placed, placed}
 use Rattle.lemma_check.specs.Right.{JoinsActivities, IsRightAt, IsRightLine, why_wrong, IsFirstWrong}
-use Rattle.lemma_check.specs.Standing.{kept, IsKnown, Stands, IsDeadAt}
+use Rattle.lemma_check.specs.Standing.{kept, IsKnown, IsRecordLag, IsTaken, Stands, IsDeadAt}
+use Rattle.lemma_check.proofs.FullBlocks.{deadline_first, deadline_in, deadline_more, fills_more}
 use Rattle.record_text.specs.declared.fault.RecordFault.{RecordFault}
 use Rattle.record_text.specs.declared.fault.Why.TheVariants.{Memory}
 use Rattle.record_text.proofs.FirstWrong.{fault_at}
@@ -32,7 +33,7 @@ cycle_more arcs more cycle = (cycle.0, cycle.1, record { closed = walk_more arcs
 stands_with : (p : Problem) (lines : List Line) (lemmas : List (List Lag)) (own : List Lag) (lemma_open : Option Opened) (m : Marked) (is_dead : Bool) (begins : List ℕ) (opened : Option ℕ) (e : Lag) (new : Marked) (now_dead : Bool) →
     Stands p lines (place lemmas own lemma_open) (kept m is_dead begins opened) → IsKnown (activity_count p) (arcs_in own lemma_open ++ e ∷ []) now_dead new.rows → length new.rows ≡ activity_count p → new.marks ≡ m.marks →
     Stands p lines (with_arc e lemmas own lemma_open) (kept new now_dead begins opened)
-stands_with p lines lemmas own None m is_dead begins opened e new now_dead s known size marks = record { size = size; known = known; back = marks ∙ s.back; before = s.before; begins_at = s.begins_at; named = s.named }
+stands_with p lines lemmas own None m is_dead begins opened e new now_dead s known size marks = record { size = size; known = known; back = marks ∙ s.back; before = s.before; begins_at = s.begins_at; named = s.named; deadline = deadline_more p own (e ∷ []) s.deadline }
 stands_with p lines lemmas own (Some lemma) m is_dead begins opened e new now_dead s known size marks = record {
   size = size;
   known = subst (λ (arcs : List Lag). IsKnown (activity_count p) arcs now_dead new.rows) (append_assoc own lemma.arcs (e ∷ [])) known;
@@ -40,6 +41,7 @@ stands_with p lines lemmas own (Some lemma) m is_dead begins opened e new now_de
   before = s.before;
   begins_at = s.begins_at;
   named = s.named;
+  deadline = s.deadline;
 }
 
 pub stands_dead : (p : Problem) (lines : List Line) (lemmas : List (List Lag)) (own : List Lag) (lemma_open : Option Opened) (m : Marked) (is_dead : Bool) (begins : List ℕ) (opened : Option ℕ) (e : Lag) →
@@ -73,20 +75,53 @@ stands_closed p lines lemmas own lemma_open m is_dead begins opened e live s clo
     let cycle = closes arcs (subst (λ (k : ℕ). IsMatrixOf k arcs m.rows) (sym s.size) before) in
     stands_with p lines lemmas own lemma_open m is_dead begins opened e m true s (e.from, cycle.0, cycle.1) s.size refl
 
+pub stands_taken : (p : Problem) (lines : List Line) (lemmas : List (List Lag)) (own : List Lag) (lemma_open : Option Opened) (m : Marked) (is_dead : Bool) (begins : List ℕ) (opened : Option ℕ) (e : Lag) (new : Marked) (now_dead : Bool) →
+    is_dead ≡ false → Stands p lines (place lemmas own lemma_open) (kept m is_dead begins opened) → length new.rows ≡ length m.rows → IsTaken e m new now_dead →
+    Stands p lines (with_arc e lemmas own lemma_open) (kept new now_dead begins opened)
+stands_taken p lines lemmas own lemma_open m is_dead begins opened e new true live s size (closes, same) =
+    subst (λ (k : Marked). Stands p lines (with_arc e lemmas own lemma_open) (kept k true begins opened)) (sym same) (stands_closed p lines lemmas own lemma_open m is_dead begins opened e live s closes)
+stands_taken p lines lemmas own lemma_open m is_dead begins opened e new false live s size (adds, marks) =
+    subst (λ (b : Bool). Stands p lines (with_arc e lemmas own lemma_open) (kept new b begins opened)) live (stands_added p lines lemmas own lemma_open m is_dead begins opened e new live s adds marks size)
+
+-- an arc more fills the matrix of a block that isn't dead
+pub fills_there : (p : Problem) (lines : List Line) (lemmas : List (List Lag)) (own : List Lag) (lemma_open : Option Opened) (m : Marked) (is_dead : Bool) (begins : List ℕ) (opened : Option ℕ) (e : Lag) →
+    is_dead ≡ false → Stands p lines (place lemmas own lemma_open) (kept m is_dead begins opened) → IsRecordLag (length m.rows) e → FillsRows e m.rows
+fills_there p lines lemmas own lemma_open m is_dead begins opened e live s lag =
+    fills_more p (arcs_in own lemma_open) m.rows e (deadline_in p own lemma_open s.deadline) (live_matrix p lines lemmas own lemma_open m is_dead begins opened live s) lag
+
 -- ---- the first place
 
-pub stands_first : (p : Problem) (lines : List Line) (rows : Rows) → IsMatrixOf (activity_count p) (arcs_of p []) rows → Stands p lines (place [] (rules p ++ []) None) (kept (record { rows = rows; marks = [] }) false [] None)
-stands_first p lines rows m = record { size = m.square.0; known = m; back = refl; before = refl; begins_at = refl; named = All-nil (All (JoinsActivities p)) }
+-- the matrix of the rules takes the deadline
+pub stands_first : (p : Problem) (lines : List Line) (claim : Claim) (rows : Rows) (new : Marked) (dead : Bool) → IsProject p → IsMatrixOf (activity_count p) (arcs_of p []) rows → IsRecordLag (activity_count p) (deadline p (bound_of p claim)) →
+    length new.rows ≡ length rows → IsTaken (deadline p (bound_of p claim)) (record { rows = rows; marks = [] }) new dead → Stands p lines (first_place p claim) (kept new dead [] None)
+stands_first p lines claim rows new dead is m lag size taken =
+    let e : Lag = deadline p (bound_of p claim) in
+    let long : length rows ≡ activity_count p = m.square.0 in
+    let own : IsMatrixOf (length rows) (rules p) rows = subst (λ (arcs : List Lag). IsMatrixOf (length rows) arcs rows) (append-nil (rules p)) (rw long m) in
+    record {
+      size = size ∙ long;
+      known = known dead own taken;
+      back = back dead taken;
+      before = refl;
+      begins_at = refl;
+      named = All-nil (All (JoinsActivities p));
+      deadline = deadline_first p (bound_of p claim) is lag;
+    }
+  where
+    known : (dead : Bool) → IsMatrixOf (length rows) (rules p) rows → IsTaken (deadline p (bound_of p claim)) (record { rows = rows; marks = [] }) new dead → IsKnown (activity_count p) (rules p ++ deadline p (bound_of p claim) ∷ []) dead new.rows
+    known true own taken = let cycle = taken.0 (rules p) own in (end_of p, cycle.0, cycle.1)
+    known false own taken = let long : length rows ≡ activity_count p = m.square.0 in subst (λ (k : ℕ). IsMatrixOf k (rules p ++ deadline p (bound_of p claim) ∷ []) new.rows) long (taken.0 (rules p) own)
 
-pub stands_rules : (p : Problem) (lines : List Line) (rows : Rows) → IsMatrixOf (activity_count p) (arcs_of p []) rows → Stands p lines (place [] (rules p) None) (kept (record { rows = rows; marks = [] }) false [] None)
-stands_rules p lines rows m = subst (λ (own : List Lag). Stands p lines (place [] own None) (kept (record { rows = rows; marks = [] }) false [] None)) (append-nil (rules p)) (stands_first p lines rows m)
+    back : (dead : Bool) → IsTaken (deadline p (bound_of p claim)) (record { rows = rows; marks = [] }) new dead → new.marks ≡ []
+    back true taken = ap (λ (k : Marked). k.marks) taken.1
+    back false taken = taken.1
 
 -- where the project's own rules close a walk of positive weight, so do they with a deadline
 pub first_dead : (p : Problem) (claim : Claim) (top : ℕ) → IsLeastCycleTop (arcs_of p []) top → IsDeadAt (first_place p claim)
 first_dead p claim top least =
     let found = least.reached in
     let cycle : HasPositiveCycle (rules p) = subst HasPositiveCycle (append-nil (rules p)) (found.0, found.1, found.2) in
-    record { none = refl; cycle = cycle_more (rules p) (deadlines p (bound_of p claim)) cycle }
+    record { none = refl; cycle = cycle_more (rules p) (deadline p (bound_of p claim) ∷ []) cycle }
 
 -- ---- a lemma begins and ends
 
@@ -111,6 +146,7 @@ stands_opened p lines lemmas own None m false begins opened index arcs new s non
       before = s.before;
       begins_at = record { index = index; is = refl; line = sym at; joined = joins };
       named = s.named;
+      deadline = s.deadline;
     }
 
 pub stands_ended : (p : Problem) (lines : List Line) (lemmas : List (List Lag)) (own : List Lag) (lemma_open : Option Opened) (m : Marked) (is_dead : Bool) (begins : List ℕ) (opened : Option ℕ) (index : ℕ) (new : Marked) (now : List ℕ) →
@@ -132,6 +168,7 @@ stands_ended p lines lemmas own (Some lemma) m is_dead begins opened index new n
       before = ap (λ (ls : List (List Lag)). ls ++ lemma.first ∷ []) s.before ∙ ap (λ (l : List Lag). lemmas_of lines begins ++ l ∷ []) first ∙ sym (ap (lemmas_of lines) more ∙ map-append (lemma_at lines) begins (index ∷ []));
       begins_at = refl;
       named = All-push (All (JoinsActivities p)) lemmas lemma.first s.named s.begins_at.joined;
+      deadline = s.deadline;
     }
 
 -- whether a lemma is open

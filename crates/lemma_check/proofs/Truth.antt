@@ -1,5 +1,5 @@
 -- What a right record claims is true.
-use Rattle.std.proofs.Common.{ℕ, ◌+◌, Bool, true, false, cond, nat_le, List, [], get_or, arith, ℤ, ◌+ℤ◌, ◌≤ℤ◌, ◌≡◌, refl, sym, ap, subst, ⊎_elim, ◌∷◌, ◌++◌, length, ◌-◌, append_assoc, Option, None, Some, pos, ◌-ℤ◌, ◌<ℤ◌}
+use Rattle.std.proofs.Common.{ℕ, ◌+◌, List, [], get_or, arith, ℤ, ◌+ℤ◌, ◌≤ℤ◌, ◌≡◌, refl, sym, ap, subst, ⊎_elim, ◌∷◌, ◌++◌, length, ◌-◌, append_assoc, Option, None, Some, pos, ◌-ℤ◌, ◌<ℤ◌}
 use Rattle.std.specs.List.{All, Contains, flat_map}
 use Rattle.std.proofs.lemmas.Int.{ints, by_lt_z}
 use Rattle.std.proofs.lemmas.List.Elements.{All-weaker, All-nil, All-head, All-tail, All-push, All-contains, Contains-append_cases, Contains-push_cases}
@@ -23,7 +23,7 @@ use Rattle.lemma_text.specs.declared.record.Claim.TheVariants as claims
 use Rattle.lemma_text.specs.declared.line.Line.{Line}
 use Rattle.lemma_text.specs.declared.line.Line.TheVariants as kind
 use Rattle.lemma_text.specs.Blocks.{Block, item_lines, lines_of}
-use Rattle.lemma_check.specs.Places.{Opened, Place, arcs_in, arcs_at, with_arc, ended, after, deadline, bound_of, deadlines, first_place, placed}
+use Rattle.lemma_check.specs.Places.{Opened, Place, arcs_in, arcs_at, with_arc, ended, after, deadline, bound_of, first_place, placed}
 use Rattle.lemma_check.specs.Right.{IsForced, IsShown, IsRightAt, IsRightLine, AreRightStarts, reverse_of, RightIsTrue, why_wrong_at, IsFirstWrong, lemma_judge}
 use Rattle.lemma_check.proofs.Passed.{passed, items_closed}
 use Rattle.record_text.specs.declared.fault.RecordFault.{RecordFault}
@@ -168,22 +168,21 @@ bounded : (p : Problem) (s : List ℤ) (bound : ℤ) → IsFeasible p s → (Mee
 bounded p s bound feasible none = by_lt_z (makespan s) bound (λ less. absurd (none (deadline_met p s bound feasible less))) (λ reached. reached)
 
 -- no schedule ends by the horizon, so there is none
-no_schedule : (p : Problem) → IsProject p → (b : Bool) → ((s : List ℤ) → IsFeasible p s → MeetsAll s (rules p ++ deadlines p (cond b (Some (pos (horizon p + 1))) None)) → ⊥) → HasNoSchedule p
-no_schedule p is true none = λ s feasible.
+no_schedule : (p : Problem) → IsProject p → ((s : List ℤ) → IsFeasible p s → MeetsAll s (rules p ++ deadline p (pos (horizon p + 1)) ∷ []) → ⊥) → HasNoSchedule p
+no_schedule p is none = λ s feasible.
     let sooner = horizon_suffices p s is feasible in
     let less : makespan sooner.0 <ℤ pos (horizon p + 1) = omega (arith, ints, sooner.1.in_time) in
     none sooner.0 sooner.1.feasible (deadline_met p sooner.0 (pos (horizon p + 1)) sooner.1.feasible less)
-no_schedule p is false none = λ s feasible. none s feasible (meets_both s (rules p) [] (rules_met p s feasible) (λ e c. absurd (omega (arith, c.1))))
 
 pub right_is_true : RightIsTrue
 right_is_true p r is record_is right =
     by_claim is r.claim right.starts (λ s feasible met.
-    none_left p (rules p ++ deadlines p (bound_of p r.claim)) record_is.whole.0 s (subst (λ (lines : List Line). All (IsRightLine p) (placed p (first_place p r.claim) lines)) (sym record_is.whole.1) right.lines) feasible met)
+    none_left p (rules p ++ deadline p (bound_of p r.claim) ∷ []) record_is.whole.0 s (subst (λ (lines : List Line). All (IsRightLine p) (placed p (first_place p r.claim) lines)) (sym record_is.whole.1) right.lines) feasible met)
   where
-    by_claim : IsProject p → (claim : Claim) → AreRightStarts p claim → ((s : List ℤ) → IsFeasible p s → MeetsAll s (rules p ++ deadlines p (bound_of p claim)) → ⊥) → IsFactOf p (says claim)
+    by_claim : IsProject p → (claim : Claim) → AreRightStarts p claim → ((s : List ℤ) → IsFeasible p s → MeetsAll s (rules p ++ deadline p (bound_of p claim) ∷ []) → ⊥) → IsFactOf p (says claim)
     by_claim is (claims.Optimal length starts) found none = record { witness = (starts, found.0, found.1); bound = λ s feasible. bounded p s length feasible (none s feasible) }
     by_claim is (claims.Bound bound) found none = λ s feasible. bounded p s bound feasible (none s feasible)
-    by_claim is claims.NoSchedule found none = no_schedule p is (nat_le (horizon p) 1000000) none
+    by_claim is claims.NoSchedule found none = no_schedule p is none
 
 -- ---- A record with a first fault is not right, and has no other.
 

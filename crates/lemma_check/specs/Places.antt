@@ -1,5 +1,5 @@
 -- Where each line of a record stands.
-use Rattle.std.specs.Prelude.{ℤ, pos, ◌+◌, ◌-ℤ◌, if◌then◌else◌, nat_le, Option, None, Some, List, [], ◌∷◌, ◌++◌, ℕ, map, slice_get}
+use Rattle.std.specs.Prelude.{ℤ, pos, ◌+◌, ◌-ℤ◌, Option, None, Some, List, [], ◌∷◌, ◌++◌, ℕ, map, slice_get}
 use Rattle.network.specs.declared.parts.Lag.{Lag}
 use Rattle.network.specs.Problem.{Problem, end_of, rules, pair_arc}
 use Rattle.horizon.specs.Horizon.{horizon}
@@ -56,25 +56,16 @@ after p at (kind.End reason) = ended at.lemmas at.own at.opened
 abbrev pub deadline : Problem → ℤ → Lag
 deadline p bound = arc_of (end_of p) 0 (pos 1 -ℤ bound)
 
--- one more than the horizon, where a lag may be as long as that
-abbrev pub past_horizon : ℕ → Option ℤ
-past_horizon h = if nat_le h 1_000_000 then Some (pos (h + 1)) else None
-
 -- what no makespan in question reaches: the makespan or the bound of the claim. A project that has a feasible
--- schedule has one that ends by the horizon, so without a schedule it is what is past that
-abbrev pub bound_of : Problem → Claim → Option ℤ
-bound_of p (claims.Optimal makespan starts) = Some makespan
-bound_of p (claims.Bound bound) = Some bound
-bound_of p claims.NoSchedule = past_horizon (horizon p)
-
--- the record is about schedules that are below
-abbrev pub deadlines : Problem → Option ℤ → List Lag
-deadlines p (Some bound) = deadline p bound ∷ []
-deadlines p None = []
+-- schedule has one that ends by the horizon, so to have none is to have none that ends by then
+abbrev pub bound_of : Problem → Claim → ℤ
+bound_of p (claims.Optimal makespan starts) = makespan
+bound_of p (claims.Bound bound) = bound
+bound_of p claims.NoSchedule = pos (horizon p + 1)
 
 -- the first line stands after no lemma, in a block of the project's rules and the deadline
 abbrev pub first_place : Problem → Claim → Place
-first_place p claim = place [] (rules p ++ deadlines p (bound_of p claim)) None
+first_place p claim = place [] (rules p ++ deadline p (bound_of p claim) ∷ []) None
 
 pub record Placed : Type 0 where
   pub place : Place

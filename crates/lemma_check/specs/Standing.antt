@@ -1,10 +1,12 @@
 -- What is kept of a line's place: a matrix, and the lines that lemmas begin with.
-use Rattle.std.specs.Prelude.{◌≡◌, ℕ, Bool, true, false, Option, None, Some, List, [], ◌∷◌, length, is_some, slice_get}
-use Rattle.std.specs.List.{All}
+use Rattle.std.specs.Prelude.{◌≡◌, ◌<◌, ℕ, ℤ, neg_ℤ, ◌≤ℤ◌, Bool, true, false, Option, None, Some, List, [], ◌∷◌, length, is_some, slice_get}
+use Rattle.std.specs.List.{All, Contains}
 use Rattle.network.specs.declared.parts.Lag.{Lag}
-use Rattle.network.specs.Problem.{Problem, activity_count}
+use Rattle.network.specs.Problem.{Problem, IsProject, IsWithin, activity_count, end_of, rules}
 use Rattle.network.specs.Walk.{Rows, HasPositiveCycle, IsMatrixOf}
+use Rattle.longest_path.specs.Insert.{AddsArc, ClosesCycle, arc_of}
 use Rattle.longest_path.specs.Saved.{Marked}
+use Rattle.lemma_text.specs.declared.limits.TheConstants.{MAX_WEIGHT}
 use Rattle.lemma_text.specs.declared.line.Line.{Line}
 use Rattle.lemma_check.specs.Places.{lemma_at, lemmas_of, Opened, Place, arcs_at, after}
 use Rattle.lemma_check.specs.Right.{JoinsActivities, IsRightAt}
@@ -46,6 +48,14 @@ pub record Kept : Type 0 where
 abbrev pub kept : Marked → Bool → List ℕ → Option ℕ → Kept
 kept matrix is_dead begins opened = record { matrix = matrix; is_dead = is_dead; begins = begins; opened = opened }
 
+-- among the arcs are the project's rules and a deadline: the end starts by some time, which is within the limits
+pub record HaveDeadline (p : Problem) (arcs : List Lag) : Type 0 where
+  pub limits : IsProject p
+  pub rules_there : (e : Lag) → Contains (rules p) e → Contains arcs e
+  pub weight : ℤ
+  pub least : neg_ℤ MAX_WEIGHT ≤ℤ weight
+  pub deadline_there : Contains arcs (arc_of (end_of p) 0 weight)
+
 -- this is kept of a place
 pub record Stands (p : Problem) (lines : List Line) (at : Place) (of : Kept) : Type 0 where
   pub size : length of.matrix.rows ≡ activity_count p
@@ -54,6 +64,18 @@ pub record Stands (p : Problem) (lines : List Line) (at : Place) (of : Kept) : T
   pub before : at.lemmas ≡ lemmas_of lines of.begins
   pub begins_at : BeginsAt p lines at.opened of.opened
   pub named : All (All (JoinsActivities p)) at.lemmas
+  pub deadline : HaveDeadline p at.own
+
+-- an arc between two of n activities, with a weight within the limits of records
+pub record IsRecordLag (n : ℕ) (e : Lag) : Type 0 where
+  pub from_activity : e.from < n
+  pub to_activity : e.to < n
+  pub light : IsWithin MAX_WEIGHT e.weight
+
+-- the arc closes a walk of positive weight, and the matrix is as it was, or it is that with the arc
+abbrev pub IsTaken : Lag → Marked → Marked → Bool → Type 0
+IsTaken e old new true = ClosesCycle e old.rows × (new ≡ old)
+IsTaken e old new false = AddsArc e old.rows new.rows × (new.marks ≡ old.marks)
 
 -- ---- A place of which the block's arcs have a matrix.
 
@@ -77,12 +99,13 @@ pub record IsSomewhere (p : Problem) (lines : List Line) (s : State) : Type 0 wh
 abbrev pub Leads : (Problem → Place → Place) → State → State → Type 0
 Leads next old new = (p : Problem) (lines : List Line) (at : Place) → IsAt p lines at old → IsAt p lines (next p at) new
 
--- a line that is right at the state's place
-pub record IsRightSomewhere (p : Problem) (line : Line) (s : State) : Type 0 where
+-- the line of this index, which is right at the state's place
+pub record IsRightSomewhere (p : Problem) (index : ℕ) (line : Line) (s : State) : Type 0 where
   pub lines : List Line
   pub place : Place
   pub stands : IsAt p lines place s
   pub right : IsRightAt p place line
+  pub read : slice_get lines index ≡ Some line
 
 -- the line of this index, where it is right, leads from its place to the next
 abbrev pub GoesOn : Problem → ℕ → Line → State → State → Type 0

@@ -3,7 +3,7 @@
 ghost use Rattle.std.specs.Prelude.{◌≡◌, ◌↔◌, List, length, IsTrue};
 ghost use Rattle.std.specs.List.{All};
 ghost use Rattle.network.specs.declared.parts.Lag.{Lag};
-ghost use Rattle.network.specs.declared.limits.TheConstants.{MAX_LAG_WEIGHT};
+ghost use Rattle.lemma_text.specs.declared.limits.TheConstants.{MAX_WEIGHT};
 ghost use Rattle.network.specs.Problem.{IsWithin, activity_count};
 ghost use Rattle.lemma_text.specs.Text.{IsWritableLine, IsWritableReason};
 ghost use Rattle.lemma_check.specs.Standing.{IsLiveAt};
@@ -60,7 +60,7 @@ fn is_forced(project: &Project, matrix: &Matrix, pair: Pair) -> bool
 fn is_shown(project: &Project, matrix: &Matrix, lemmas: &Lemmas, arc: Lag, reason: &Reason) -> bool
     requires size { length matrix.now ≡ activity_count project.now }
     requires named { All (All (JoinsActivities project.now)) lemmas.now }
-    requires light { IsWithin MAX_LAG_WEIGHT arc.weight }
+    requires light { IsWithin MAX_WEIGHT arc.weight }
     requires writable { IsWritableReason reason.now }
     ensures { TellsWhether (activity_count project.now) matrix.now result
         (λ arcs. IsShown project.now lemmas.now arcs arc reason.now) }

@@ -1,24 +1,24 @@
 //! The block that a line stands in: its matrix, and the lemmas before.
 
-ghost use Rattle.std.specs.Prelude.{◌≡◌, ◌↔◌, pos, ◌-ℤ◌, List, length, IsTrue, IfOk, IfSome, OnOk, MatchOption};
+ghost use Rattle.std.specs.Prelude.{◌≡◌, ◌↔◌, pos, ◌-ℤ◌, ◌<◌, List, length, IsTrue, IfOk, OnOk, MatchOption};
 ghost use Rattle.std.specs.List.{All};
-ghost use Rattle.network.specs.declared.limits.TheConstants.{MAX_LAG_WEIGHT};
-ghost use Rattle.network.specs.Problem.{IsLag, IsWithin, Problem, activity_count};
-ghost use Rattle.horizon.specs.Horizon.{horizon};
+ghost use Rattle.network.specs.Problem.{IsProject, IsWithin, Problem, activity_count};
+ghost use Rattle.longest_path.specs.Insert.{FillsRows};
+ghost use Rattle.lemma_text.specs.declared.limits.TheConstants.{MAX_WEIGHT};
 ghost use Rattle.lemma_text.specs.declared.line.Line.{Line};
 ghost use Rattle.lemma_text.specs.declared.line.Line.TheVariants as kind;
 ghost use Rattle.lemma_text.specs.declared.reason.Reason.TheVariants as reasons;
 ghost use Rattle.lemma_text.specs.Text.{IsWritableClaim, IsWritableLine};
-ghost use Rattle.lemma_check.specs.Places.{Place, bound_of, deadline, ended, first_place, past_horizon, with_arc};
+ghost use Rattle.lemma_check.specs.Places.{Place, bound_of, deadline, ended, first_place, with_arc};
 ghost use Rattle.lemma_check.specs.Right.{IsRightAt};
-ghost use Rattle.lemma_check.specs.Standing.{IsDeadAt};
+ghost use Rattle.lemma_check.specs.Standing.{IsDeadAt, IsRecordLag, IsTaken};
 
 use crate::lemmas::Lemmas;
 use crate::right::is_right_by;
 use horizon::horizon_of;
 use lemma_text::{Claim, Line, Reason};
 use longest_path::{MarkedMatrix, PathFault, longest};
-use network::{Lag, MAX_LAG_WEIGHT, Project};
+use network::{Lag, Project};
 use std::alloc::{AllocError, Global};
 
 /// What is kept of a line's place.
@@ -35,42 +35,46 @@ pub(crate) struct State {
     opened: Option<usize>,
 }
 
-/// One more than the horizon, where a lag may be as long as that.
-fn past_horizon(project: &Project) -> Option<i64>
-    ensures value { result ≡ past_horizon (horizon project.now) }
-    ensures small { IfSome result (λ bound. IsWithin MAX_LAG_WEIGHT (pos 1 -ℤ bound)) }
-{
-    let horizon = horizon_of(project);
-    if horizon <= MAX_LAG_WEIGHT {
-        Some(horizon + 1)
-    } else {
-        None
-    }
-}
-
 /// What no makespan in question reaches.
-fn bound_of(project: &Project, claim: &Claim) -> Option<i64>
+fn bound_of(project: &Project, claim: &Claim) -> i64
     requires { IsWritableClaim claim.now }
     ensures value { result ≡ bound_of project.now claim.now }
-    ensures small { IfSome result (λ bound. IsWithin MAX_LAG_WEIGHT (pos 1 -ℤ bound)) }
+    ensures small { IsWithin MAX_WEIGHT (pos 1 -ℤ result) }
 {
     match claim {
-        Claim::Optimal { makespan, .. } => Some(*makespan),
-        Claim::Bound { bound } => Some(*bound),
-        Claim::NoSchedule => past_horizon(project),
+        Claim::Optimal { makespan, .. } => *makespan,
+        Claim::Bound { bound } => *bound,
+        Claim::NoSchedule => horizon_of(project) + 1,
     }
 }
 
 /// The arc that makes the makespan less than a bound.
 fn deadline(project: &Project, bound: i64) -> Lag
-    requires { IsWithin MAX_LAG_WEIGHT (pos 1 -ℤ bound) }
+    requires { IsWithin MAX_WEIGHT (pos 1 -ℤ bound) }
     ensures arc { result ≡ deadline project.now bound }
-    ensures inside { IsLag (activity_count project.now) result }
+    ensures inside { IsRecordLag (activity_count project.now) result }
+    ensures limits { IsProject project.now }
 {
     Lag {
         from: project.activity_count() - 1,
         to: 0,
         weight: 1 - bound,
+    }
+}
+
+/// Adds an arc with which every activity reaches every other. Whether it closes a walk of positive weight, and is not
+/// added.
+fn take(matrix: &mut MarkedMatrix, arc: Lag) -> Result<bool, AllocError>
+    requires from_activity { arc.from < length matrix.old.rows }
+    requires to_activity { arc.to < length matrix.old.rows }
+    requires fills { FillsRows arc matrix.old.rows }
+    ensures size { length matrix.new.rows ≡ length matrix.old.rows }
+    ensures taken { IfOk result (IsTaken arc matrix.old matrix.new) }
+{
+    match matrix.insert_filling(arc.from, arc.to, arc.weight) {
+        Ok(()) => Ok(false),
+        Err(PathFault::PositiveCycle { .. }) => Ok(true),
+        Err(PathFault::Memory) => Err(AllocError),
     }
 }
 
@@ -105,17 +109,15 @@ impl State {
             Err(PathFault::PositiveCycle { .. }) => return Ok(None),
             Err(PathFault::Memory) => return Err(AllocError),
         };
-        let mut state = State {
-            matrix: MarkedMatrix::new(alloc, matrix),
-            is_dead: false,
+        let mut matrix = MarkedMatrix::new(alloc, matrix);
+        let deadline = deadline(project, bound_of(project, claim));
+        let is_dead = take(&mut matrix, deadline)?;
+        Ok(Some(State {
+            matrix,
+            is_dead,
             begins: Vec::new(alloc),
             opened: None,
-        };
-        let Some(bound) = bound_of(project, claim) else {
-            return Ok(Some(state));
-        };
-        state.add(deadline(project, bound))?;
-        Ok(Some(state))
+        }))
     }
 
     /// Whether a line is right.
@@ -135,26 +137,22 @@ impl State {
 
     /// Adds an arc to the block.
     fn add(&mut self, arc: Lag) -> Result<(), AllocError>
-        requires { IsLag (length self.old.matrix.rows) arc }
+        requires somewhere { (p : Problem) × (lines : List Line) × IsSomewhere p lines self.old }
+        requires arc { IsRecordLag (length self.old.matrix.rows) arc }
         ensures size { length self.new.matrix.rows ≡ length self.old.matrix.rows }
         ensures added { OnOk result (Leads (λ p at. with_arc arc at.lemmas at.own at.opened) self.old self.new) }
     {
         if self.is_dead {
             return Ok(());
         }
-        match self.matrix.insert(arc.from, arc.to, arc.weight) {
-            Ok(()) => Ok(()),
-            Err(PathFault::PositiveCycle { .. }) => {
-                self.is_dead = true;
-                Ok(())
-            }
-            Err(PathFault::Memory) => Err(AllocError),
-        }
+        self.is_dead = take(&mut self.matrix, arc)?;
+        Ok(())
     }
 
     /// Begins a lemma with the line of this index, which has these arcs.
     fn open(&mut self, index: usize, arcs: &[Lag]) -> Result<(), AllocError>
-        requires { All (IsLag (length self.old.matrix.rows)) arcs.now }
+        requires right { (p : Problem) × IsRightSomewhere p index (kind.Lemma arcs.now) self.old }
+        requires arcs { All (IsRecordLag (length self.old.matrix.rows)) arcs.now }
         ensures { OnOk result ((p : Problem) → GoesOn p index (kind.Lemma arcs.now) self.old self.new) }
     {
         self.matrix.mark()?;
@@ -187,7 +185,7 @@ impl State {
         index: usize,
         line: &Line,
     ) -> Result<(), AllocError>
-        requires right { IsRightSomewhere project.now line.now self.old }
+        requires right { IsRightSomewhere project.now index line.now self.old }
         requires writable { IsWritableLine line.now }
         ensures { OnOk result (GoesOn project.now index line.now self.old self.new) }
     {

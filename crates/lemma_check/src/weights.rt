@@ -9,12 +9,13 @@ ghost use Rattle.longest_path.specs.Insert.{rows_over};
 ghost use Rattle.longest_path.specs.Matrix.{greater, joined};
 ghost use Rattle.lemma_check.specs.Reasons.{Implies, MayBeAdded, TellsWhether};
 
+use lemma_text::MAX_WEIGHT;
 use longest_path::Matrix;
-use network::{Lag, MAX_LAG_WEIGHT, MAX_WALK_WEIGHT};
+use network::{Lag, MAX_WALK_WEIGHT};
 use std::marker::Model;
 
 /// What the reverse of an arc weighs at most.
-const MAX_REVERSE_WEIGHT: i64 = MAX_LAG_WEIGHT + 1;
+const MAX_REVERSE_WEIGHT: i64 = MAX_WEIGHT + 1;
 
 /// What a walk, a reverse and a walk weigh at most.
 const MAX_WAY_WEIGHT: i64 = MAX_WALK_WEIGHT + MAX_REVERSE_WEIGHT + MAX_WALK_WEIGHT;

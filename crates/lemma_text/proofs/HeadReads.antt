@@ -5,8 +5,8 @@ use Rattle.std.specs.List.{slice_index, list_all, flat_map, join_with_byte, All,
 use Rattle.std.specs.Fmt.{decimal, signed_decimal}
 use Rattle.std.specs.Str.Parse.{starts_with_minus}
 use Rattle.std.proofs.lemmas.Fmt.{decimal_digit, first_decimal}
-use Rattle.network.specs.Problem.{IsWithin, IsAmount}
-use Rattle.network.specs.declared.limits.TheConstants.{MAX_LAG_WEIGHT, MAX_AMOUNT}
+use Rattle.network.specs.Problem.{IsWithin}
+use Rattle.lemma_text.specs.declared.limits.TheConstants.{MAX_WEIGHT}
 use Rattle.record_text.specs.Text.{IsNumber, spaced_times, spaced}
 use Rattle.record_text.specs.Reading.{number, numbers_after, starts_in, fields}
 use Rattle.record_text.proofs.RowReads.{number_again, number_takes, is_space, after_again, after_takes, starts_again}
@@ -15,7 +15,7 @@ use Rattle.std.specs.Str.{bytes_eq}
 use Rattle.record_text.proofs.KindLaws.{first_is}
 use Rattle.lemma_text.specs.declared.record.Claim.{Claim}
 use Rattle.lemma_text.specs.declared.record.Claim.TheVariants as claims
-use Rattle.lemma_text.specs.Text.{IsWritableClaim, claim_rows, spaced_lag, reason_text, row_of, IsWritableLag}
+use Rattle.lemma_text.specs.Text.{IsWritableAmount, IsWritableClaim, claim_rows, spaced_lag, reason_text, row_of, IsWritableLag}
 use Rattle.std.proofs.lemmas.List.Concat.{flat_map-append}
 use Rattle.std.proofs.lemmas.List.Splits.{slice_split_at, slice_split_none, length-slice_split}
 use Rattle.network.specs.declared.parts.Lag.{Lag}
@@ -36,22 +36,22 @@ at_most_takes most n z h = by_test (int_le (pos n) most) refl h
     by_test false e h = absurd cc
     by_test true e h = (cc, grind (arith, ints))
 
-size_again : (n : ℕ) → IsNumber n → pos n ≤ℤ MAX_LAG_WEIGHT → size (decimal n) ≡ Some (pos n)
-size_again n small le = ap size_in (number_again n small) ∙ at_most_again MAX_LAG_WEIGHT n le
+size_again : (n : ℕ) → IsNumber n → pos n ≤ℤ MAX_WEIGHT → size (decimal n) ≡ Some (pos n)
+size_again n small le = ap size_in (number_again n small) ∙ at_most_again MAX_WEIGHT n le
 
 -- so much has the word
 record Sized (word : List ℕ) (z : ℤ) : Type 0 where
   n : ℕ
   is : z ≡ pos n
   digits : word ≡ decimal n
-  light : pos n ≤ℤ MAX_LAG_WEIGHT
+  light : pos n ≤ℤ MAX_WEIGHT
 
 sized : (word : List ℕ) (z : ℤ) → size word ≡ Some z → Sized word z
 sized word z h = by_number (number word) refl h
   where
     by_number : (o : Option ℕ) → number word ≡ o → size_in o ≡ Some z → Sized word z
     by_number None e h = absurd cc
-    by_number (Some n) e h = let t = at_most_takes MAX_LAG_WEIGHT n z h in record { n = n; is = t.0; digits = (number_takes word n e).0; light = t.1 }
+    by_number (Some n) e h = let t = at_most_takes MAX_WEIGHT n z h in record { n = n; is = t.0; digits = (number_takes word n e).0; light = t.1 }
 
 no_minus : (n : ℕ) → IsNumber n → starts_with_minus (decimal n) ≡ false
 no_minus zero small = rw (decimal_digit 0 (omega arith)) refl
@@ -59,11 +59,11 @@ no_minus (suc n) small =
     let first : 48 < get_or (decimal (suc n)) 0 0 = first_decimal (suc n) (omega arith) (omega (arith, small)) in
     ne_eqb (slice_index (decimal (suc n)) 0) 45 (λ same. omega (arith, first, same))
 
-pub weight_again : (z : ℤ) → IsWithin MAX_LAG_WEIGHT z → weight (signed_decimal z) ≡ Some z
+pub weight_again : (z : ℤ) → IsWithin MAX_WEIGHT z → weight (signed_decimal z) ≡ Some z
 unfolding weight
 weight_again (pos n) w = let small : IsNumber n = omega (arith, ints, w.at_most) in rw (no_minus n small) (size_again n small w.at_most)
 weight_again (negsuc n) w =
-    let light : pos (suc n) ≤ℤ MAX_LAG_WEIGHT = omega (arith, ints, w.at_least) in
+    let light : pos (suc n) ≤ℤ MAX_WEIGHT = omega (arith, ints, w.at_least) in
     let small : IsNumber (suc n) = omega (arith, ints, light) in
     ap negated (size_again (suc n) small light) ∙ below n
   where
@@ -74,10 +74,10 @@ after_minus : (word : List ℕ) → starts_with_minus word ≡ true → word ≡
 after_minus [] e = absurd cc
 after_minus (b ∷ bs) e = ap (λ (first : ℕ). first ∷ bs) (eqb-true b 45 e)
 
-negative : (word : List ℕ) (y z : ℤ) → Sized (drop 1 word) y → starts_with_minus word ≡ true → negated (Some y) ≡ Some z → (word ≡ signed_decimal z) × IsWithin MAX_LAG_WEIGHT z
+negative : (word : List ℕ) (y z : ℤ) → Sized (drop 1 word) y → starts_with_minus word ≡ true → negated (Some y) ≡ Some z → (word ≡ signed_decimal z) × IsWithin MAX_WEIGHT z
 negative word y z s minus h = by_test (int_lt (pos 0) y) refl h
   where
-    by_size : (n : ℕ) → y ≡ pos n → drop 1 word ≡ decimal n → pos n ≤ℤ MAX_LAG_WEIGHT → int_lt (pos 0) y ≡ true → Some (neg_ℤ y) ≡ Some z → (word ≡ signed_decimal z) × IsWithin MAX_LAG_WEIGHT z
+    by_size : (n : ℕ) → y ≡ pos n → drop 1 word ≡ decimal n → pos n ≤ℤ MAX_WEIGHT → int_lt (pos 0) y ≡ true → Some (neg_ℤ y) ≡ Some z → (word ≡ signed_decimal z) × IsWithin MAX_WEIGHT z
     by_size zero is digits light e h = let t : int_lt (pos 0) (pos 0) ≡ true = ap (int_lt (pos 0)) (sym is) ∙ e in absurd cc
     by_size (suc n) is digits light e h =
         let below : neg_ℤ (pos (suc n)) ≡ negsuc n = omega (arith, ints) in
@@ -85,19 +85,19 @@ negative word y z s minus h = by_test (int_lt (pos 0) y) refl h
         let value : z ≡ negsuc n = sym same ∙ ap neg_ℤ is ∙ below in
         rw value (after_minus word minus ∙ ap (λ (bs : List ℕ). 45 ∷ bs) digits, record { at_least = omega (arith, ints, light); at_most = omega (arith, ints) })
 
-    by_test : (b : Bool) → int_lt (pos 0) y ≡ b → cond b (Some (neg_ℤ y)) None ≡ Some z → (word ≡ signed_decimal z) × IsWithin MAX_LAG_WEIGHT z
+    by_test : (b : Bool) → int_lt (pos 0) y ≡ b → cond b (Some (neg_ℤ y)) None ≡ Some z → (word ≡ signed_decimal z) × IsWithin MAX_WEIGHT z
     by_test false e h = absurd cc
     by_test true e h = by_size s.n s.is s.digits s.light e h
 
-pub weight_takes : (word : List ℕ) (z : ℤ) → weight word ≡ Some z → (word ≡ signed_decimal z) × IsWithin MAX_LAG_WEIGHT z
+pub weight_takes : (word : List ℕ) (z : ℤ) → weight word ≡ Some z → (word ≡ signed_decimal z) × IsWithin MAX_WEIGHT z
 unfolding weight
 weight_takes word z h = by_test (starts_with_minus word) refl h
   where
-    by_size : (o : Option ℤ) → size (drop 1 word) ≡ o → starts_with_minus word ≡ true → negated o ≡ Some z → (word ≡ signed_decimal z) × IsWithin MAX_LAG_WEIGHT z
+    by_size : (o : Option ℤ) → size (drop 1 word) ≡ o → starts_with_minus word ≡ true → negated o ≡ Some z → (word ≡ signed_decimal z) × IsWithin MAX_WEIGHT z
     by_size None e minus h = absurd cc
     by_size (Some y) e minus h = negative word y z (sized (drop 1 word) y e) minus h
 
-    by_test : (b : Bool) → starts_with_minus word ≡ b → cond b (negated (size (drop 1 word))) (size word) ≡ Some z → (word ≡ signed_decimal z) × IsWithin MAX_LAG_WEIGHT z
+    by_test : (b : Bool) → starts_with_minus word ≡ b → cond b (negated (size (drop 1 word))) (size word) ≡ Some z → (word ≡ signed_decimal z) × IsWithin MAX_WEIGHT z
     by_test true minus h = by_size (size (drop 1 word)) refl minus h
     by_test false e h =
         let s = sized word z h in
@@ -108,18 +108,18 @@ weight_takes word z h = by_test (starts_with_minus word) refl h
 abbrev pub amount_row : List ℕ → ℤ → List ℕ
 amount_row word z = word ++ spaced_times (z ∷ [])
 
-pub amount_again : (word : List ℕ) (z : ℤ) → list_all (λ b. not (is_space b)) word ≡ true → bytes_eq word word ≡ true → IsAmount z → amount_after word (amount_row word z) ≡ Some z
+pub amount_again : (word : List ℕ) (z : ℤ) → list_all (λ b. not (is_space b)) word ≡ true → bytes_eq word word ≡ true → IsWritableAmount z → amount_after word (amount_row word z) ≡ Some z
 amount_again word (pos n) plain same w =
     let small : IsNumber n = omega (arith, ints, w.at_most) in
-    ap only_amount (after_again word (n ∷ []) plain same (small, tt)) ∙ at_most_again MAX_AMOUNT n w.at_most
+    ap only_amount (after_again word (n ∷ []) plain same (small, tt)) ∙ at_most_again MAX_WEIGHT n w.at_most
 amount_again word (negsuc n) plain same w = absurd (omega (arith, ints, w.at_least))
 
-pub amount_takes : (word row : List ℕ) (z : ℤ) → amount_after word row ≡ Some z → (row ≡ amount_row word z) × IsAmount z
+pub amount_takes : (word row : List ℕ) (z : ℤ) → amount_after word row ≡ Some z → (row ≡ amount_row word z) × IsWritableAmount z
 amount_takes word row z h = by_numbers (numbers_after word row) refl h
   where
-    by_numbers : (o : Option (List ℕ)) → numbers_after word row ≡ o → only_amount o ≡ Some z → (row ≡ amount_row word z) × IsAmount z
+    by_numbers : (o : Option (List ℕ)) → numbers_after word row ≡ o → only_amount o ≡ Some z → (row ≡ amount_row word z) × IsWritableAmount z
     by_numbers (Some (n ∷ [])) e h =
-        let t = at_most_takes MAX_AMOUNT n z h in
+        let t = at_most_takes MAX_WEIGHT n z h in
         rw t.0 ((after_takes word row (n ∷ []) e).0, record { at_least = omega (arith, ints); at_most = t.1 })
     by_numbers o e h = absurd cc
 

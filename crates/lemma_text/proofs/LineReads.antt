@@ -6,7 +6,7 @@ use Rattle.std.proofs.lemmas.List.Elements.{All-cons}
 use Rattle.std.proofs.lemmas.List.Splits.{join_with_byte-slice_split}
 use Rattle.std.proofs.lemmas.Int.{ints}
 use Rattle.network.specs.declared.parts.Lag.{Lag}
-use Rattle.network.specs.declared.limits.TheConstants.{MAX_LAG_WEIGHT}
+use Rattle.lemma_text.specs.declared.limits.TheConstants.{MAX_WEIGHT}
 use Rattle.network.specs.Problem.{IsWithin}
 use Rattle.record_text.specs.Text.{IsNumber, IsWritableTime}
 use Rattle.record_text.specs.Reading.{fields, numbers}
@@ -36,7 +36,7 @@ plain_time : (z : ℤ) → IsWritableTime z → IsPlain (signed_decimal z)
 plain_time (pos n) small = no_space n small
 plain_time (negsuc n) small = absurd small
 
-plain_weight : (z : ℤ) → IsWithin MAX_LAG_WEIGHT z → IsPlain (signed_decimal z)
+plain_weight : (z : ℤ) → IsWithin MAX_WEIGHT z → IsPlain (signed_decimal z)
 plain_weight (pos n) w = no_space n (omega (arith, ints, w.at_most))
 plain_weight (negsuc n) w = All-cons (λ b. is_space b ≡ false) 45 (decimal (suc n)) refl (no_space (suc n) (omega (arith, ints, w.at_least)))
 

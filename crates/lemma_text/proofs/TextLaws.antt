@@ -5,14 +5,14 @@ use Rattle.record_text.specs.declared.TheConstants.{MAX_RECORD_BYTES}
 use Rattle.lemma_text.specs.declared.reason.Reason.TheVariants as reasons
 use Rattle.lemma_text.specs.declared.line.Line.TheVariants as kind
 use Rattle.lemma_text.specs.Blocks.{still_due, Completes, Step, force, add, Lemma, Item, step, lemma, Block, step_line, lemma_lines, item_lines, lines_of, Line, Reason, Claim}
-use Rattle.lemma_text.specs.Text.{IsWritableLine, row_of, spaced_lag, reason_text, claim_rows, IsWritableLag, IsWritableReason, IsWritableClaim, lemma_kind}
+use Rattle.lemma_text.specs.Text.{IsWritableAmount, IsWritableLine, row_of, spaced_lag, reason_text, claim_rows, IsWritableLag, IsWritableReason, IsWritableClaim, lemma_kind}
 use Rattle.lemma_text.specs.Reading.{amount_after, lemma_rules}
 use Rattle.lemma_text.proofs.LineReads.{at_again, at_takes}
 use Rattle.network.specs.declared.parts.Lag.{Lag}
 use Rattle.std.specs.Fmt.{decimal, signed_decimal}
 use Rattle.std.proofs.lemmas.Int.{ints}
-use Rattle.network.specs.declared.limits.TheConstants.{MAX_LAG_WEIGHT}
-use Rattle.network.specs.Problem.{IsWithin, IsAmount}
+use Rattle.lemma_text.specs.declared.limits.TheConstants.{MAX_WEIGHT}
+use Rattle.network.specs.Problem.{IsWithin}
 use Rattle.record_text.specs.Text.{spaced, spaced_times}
 use Rattle.record_text.proofs.KindLaws.{first_is, stands_in, no_claim}
 use Rattle.record_text.proofs.Rows.{plain_append, plain_digits, plain_spaced, plain_times, Stands}
@@ -127,7 +127,7 @@ items_complete (item ∷ items) rest h =
 pub blocks_law : (lines : List Line) → Completes 1 lines ↔ ((block : Block) × (lines_of block ≡ lines))
 blocks_law lines = (own lines, λ (block, h). subst (Completes 1) h (items_complete block.items (kind.End block.reason ∷ []) (omega arith, refl, refl)))
 
-none_weight : (z : ℤ) → IsWithin MAX_LAG_WEIGHT z → HasNone (32 ∷ signed_decimal z)
+none_weight : (z : ℤ) → IsWithin MAX_WEIGHT z → HasNone (32 ∷ signed_decimal z)
 none_weight (pos n) w = plain_digits (decimal n) (are_digits n (omega (arith, ints, w.at_most)))
 none_weight (negsuc n) w = plain_digits (decimal (suc n)) (are_digits (suc n) (omega (arith, ints, w.at_least)))
 
@@ -151,7 +151,7 @@ none_row (kind.Force pair) w = plain_spaced (pair.before ∷ pair.after ∷ []) 
 none_row (kind.Add arc reason) w = plain_append (spaced_lag arc) (32 ∷ reason_text reason) (none_lag arc w.0) (none_reason reason w.1)
 none_row (kind.End reason) w = none_reason reason w
 
-none_amount : (word : List ℕ) (z : ℤ) → HasNone word → IsAmount z → HasNone (word ++ spaced_times (z ∷ []))
+none_amount : (word : List ℕ) (z : ℤ) → HasNone word → IsWritableAmount z → HasNone (word ++ spaced_times (z ∷ []))
 none_amount word (pos n) plain w = plain_append word (spaced_times (pos n ∷ [])) plain (plain_times (pos n ∷ []) (omega (arith, ints, w.at_most), tt))
 none_amount word (negsuc n) plain w = absurd (omega (arith, ints, w.at_least))
 

@@ -3,8 +3,8 @@ use Rattle.std.specs.Prelude.{ℕ, ℤ, pos, neg_ℤ, int_le, int_lt, if◌then�
 use Rattle.std.specs.Str.{bytes_eq}
 use Rattle.std.specs.Str.Parse.{starts_with_minus}
 use Rattle.network.specs.declared.parts.Lag.{Lag}
-use Rattle.network.specs.declared.limits.TheConstants.{MAX_AMOUNT, MAX_LAG_WEIGHT}
 use Rattle.record_text.specs.Reading.{number, numbers, numbers_after, fields, Parts, parts_of}
+use Rattle.lemma_text.specs.declared.limits.TheConstants.{MAX_WEIGHT}
 use Rattle.lemma_text.specs.declared.reason.Reason.TheVariants as reasons
 use Rattle.lemma_text.specs.declared.line.Line.TheVariants as kind
 use Rattle.record_text.specs.Kinds.{Rules}
@@ -18,7 +18,7 @@ abbrev pub at_most : ℤ → ℕ → Option ℤ
 at_most most n = if int_le (pos n) most then Some (pos n) else None
 
 abbrev pub size_in : Option ℕ → Option ℤ
-size_in (Some n) = at_most MAX_LAG_WEIGHT n
+size_in (Some n) = at_most MAX_WEIGHT n
 size_in None = None
 
 -- how far from 0 the weight of an arc is
@@ -158,7 +158,7 @@ lemma_rules = record { read = line_at; next = still_due; last = kind.End reasons
 -- ---- a claim
 
 abbrev pub only_amount : Option (List ℕ) → Option ℤ
-only_amount (Some (n ∷ [])) = at_most MAX_AMOUNT n
+only_amount (Some (n ∷ [])) = at_most MAX_WEIGHT n
 only_amount ns = None
 
 -- the makespan or the bound that a row claims by this word

@@ -1,10 +1,9 @@
 -- The text of a record.
-use Rattle.std.specs.Prelude.{◌≡◌, ℕ, ◌<◌, List, [], ◌∷◌, ◌++◌, codes, length}
+use Rattle.std.specs.Prelude.{◌≡◌, ℕ, ℤ, pos, ◌<◌, List, [], ◌∷◌, ◌++◌, codes, length}
 use Rattle.std.specs.List.{flat_map, AllByRecursion}
 use Rattle.std.specs.Fmt.{signed_decimal}
 use Rattle.network.specs.declared.parts.Lag.{Lag}
-use Rattle.network.specs.declared.limits.TheConstants.{MAX_LAG_WEIGHT}
-use Rattle.network.specs.Problem.{IsWithin, IsAmount}
+use Rattle.network.specs.Problem.{IsBetween, IsWithin}
 use Rattle.record_text.specs.Kinds.{Kind}
 use Rattle.record_text.specs.Text.{spaced, spaced_times, optimal_rows, IsNumber, IsWritableTime}
 use Rattle.record_text.specs.declared.proved.Proved.{Proved}
@@ -12,6 +11,7 @@ use Rattle.record_text.specs.declared.proved.Proved.TheVariants as proved
 use Rattle.lemma_text.specs.declared.record.Claim.TheVariants as claims
 use Rattle.lemma_text.specs.declared.reason.Reason.TheVariants as reasons
 use Rattle.lemma_text.specs.declared.line.Line.TheVariants as kind
+use Rattle.lemma_text.specs.declared.limits.TheConstants.{MAX_WEIGHT}
 use Rattle.lemma_text.specs.Blocks.{Block, lines_of, Claim, Reason, Line}
 
 -- ---- bytes
@@ -48,11 +48,11 @@ says claims.NoSchedule = proved.NoSchedule
 
 -- ---- what a text can hold
 
--- an arc between activities of any number, with a weight within the limits of lags
+-- an arc between activities of any number, with a weight within the limits
 pub record IsWritableLag (arc : Lag) : Type 0 where
   pub from : IsNumber arc.from
   pub to : IsNumber arc.to
-  pub light : IsWithin MAX_LAG_WEIGHT arc.weight
+  pub light : IsWithin MAX_WEIGHT arc.weight
 
 -- one member or more, each a number
 pub record AreMembers (members : List ℕ) : Type 0 where
@@ -72,10 +72,14 @@ IsWritableLine (kind.Force pair) = IsNumber pair.before × IsNumber pair.after
 IsWritableLine (kind.Add arc reason) = IsWritableLag arc × IsWritableReason reason
 IsWritableLine (kind.End reason) = IsWritableReason reason
 
+-- a makespan or a bound within the limits
+abbrev pub IsWritableAmount : ℤ → Type 0
+IsWritableAmount z = IsBetween (pos 0) MAX_WEIGHT z
+
 abbrev pub IsWritableClaim : Claim → Type 0
 IsWritableClaim (claims.Optimal makespan starts) =
-    IsAmount makespan × (0 < length starts) × AllByRecursion IsWritableTime starts
-IsWritableClaim (claims.Bound bound) = IsAmount bound
+    IsWritableAmount makespan × (0 < length starts) × AllByRecursion IsWritableTime starts
+IsWritableClaim (claims.Bound bound) = IsWritableAmount bound
 IsWritableClaim claims.NoSchedule = Unit {0}
 
 -- the records of lemmas

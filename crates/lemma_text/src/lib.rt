@@ -5,6 +5,7 @@
 //! project.
 #![tactic(auto)]
 
+mod limits;
 mod line;
 mod read;
 mod read_lags;
@@ -15,6 +16,7 @@ mod row;
 mod weight;
 mod write;
 
+pub use limits::MAX_WEIGHT;
 pub use line::{Lags, Line};
 pub use reason::Reason;
 pub use record::{Claim, LemmaRecord};

@@ -4,9 +4,9 @@ ghost use Rattle.std.specs.Prelude.{◌≡◌, IfOk};
 ghost use Rattle.lemma_text.specs.Reading.{amount_after};
 ghost use Rattle.lemma_text.specs.Blocks.{may_stand};
 
+use crate::limits::MAX_WEIGHT;
 use crate::line::Line;
 use crate::weight::at_most;
-use network::MAX_AMOUNT;
 use record_text::numbers_after;
 use std::alloc::{AllocError, Global};
 
@@ -22,7 +22,7 @@ pub(crate) fn amount_after(
         return Ok(None);
     };
     match numbers.as_slice() {
-        [amount] => Ok(at_most(MAX_AMOUNT, *amount)),
+        [amount] => Ok(at_most(MAX_WEIGHT, *amount)),
         _ => Ok(None),
     }
 }

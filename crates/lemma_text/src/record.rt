@@ -24,7 +24,7 @@ pub enum Claim {
 }
 
 /// A record of lemmas: a claim and the lines of its blocks. Numbers are below 10,000,000,000. A makespan and a bound are
-/// at most 1,000,000, weights of arcs within 1,000,000, starts and windows at least 0.
+/// at most 1,002,000,000, weights of arcs within 1,002,000,000, starts and windows at least 0.
 pub type LemmaRecord = Recorded<Claim, Line>;
 
 impl RecordLine<Claim> for Line {

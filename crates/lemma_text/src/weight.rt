@@ -4,7 +4,7 @@ ghost use Rattle.std.specs.Prelude.{◌≡◌, ◌<◌, ◌^◌};
 ghost use Rattle.record_text.specs.Text.{IsNumber};
 ghost use Rattle.lemma_text.specs.Reading.{at_most, size, weight};
 
-use network::MAX_LAG_WEIGHT;
+use crate::limits::MAX_WEIGHT;
 use record_text::number;
 
 /// A number, where it is at most this.
@@ -20,7 +20,7 @@ pub(crate) fn at_most(most: i64, n: usize) -> Option<i64>
 fn size(word: &[u8]) -> Option<i64>
     ensures { result ≡ size word.now }
 {
-    at_most(MAX_LAG_WEIGHT, number(word)?)
+    at_most(MAX_WEIGHT, number(word)?)
 }
 
 /// The weight of an arc, with a minus before it where it is below 0.

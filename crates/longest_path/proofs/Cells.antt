@@ -14,7 +14,7 @@ use Rattle.network.specs.declared.parts.Lag.{Lag}
 use Rattle.network.specs.Walk.{entry, Rows}
 use Rattle.longest_path.specs.Matrix.{greater, joined, IsSquare, IsRaised, IsRelaxed, IsRow, IsRowRelaxed, HasSmallSums, nothing, weight_of, weight_at, placed_at, row_of, rows_of}
 use Rattle.longest_path.proofs.Reach.{greater_none}
-use Rattle.network.specs.declared.limits.TheConstants.{MAX_LAG_WEIGHT}
+use Rattle.network.specs.declared.limits.TheConstants.{MAX_LAG_WEIGHT, MAX_WALK_WEIGHT}
 use Rattle.network.specs.Problem.{IsWithin}
 use Rattle.longest_path.specs.declared.grid.TheConstants.{MAX_FIRST_WEIGHT, MAX_WAY_WEIGHT}
 
@@ -322,6 +322,9 @@ pub record IsPartlyWithoutArcs (n a : ℕ) (rows : Rows) : Type 0 where
   pub done : (k : ℕ) → k < a → entry rows k k ≡ Some (pos 0)
   pub rest : (k : ℕ) → a ≤ k → entry rows k k ≡ None
   pub apart : (j k : ℕ) → j ≢ k → entry rows j k ≡ None
+
+pub walk_fits : (w : ℤ) → IsWithin MAX_WALK_WEIGHT w → FitsSigned w32 w
+walk_fits w light = omega (arith, ints)
 
 pub light_fits : (w : ℤ) → IsWithin MAX_LAG_WEIGHT w → FitsSigned w32 w
 light_fits w light = omega (arith, ints)

@@ -7,3 +7,4 @@ pub mod Bound
 pub mod Over
 pub mod Inserted
 pub mod Saving
+pub mod Full

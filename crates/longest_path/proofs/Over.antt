@@ -5,7 +5,7 @@ use Rattle.std.proofs.Math.ListN.{get_or-eq_default}
 use Rattle.network.specs.declared.parts.Lag.{Lag}
 use Rattle.network.specs.Walk.{entry, IsMatrixOf, weight, Rows}
 use Rattle.longest_path.specs.Matrix.{greater, joined, Reaches, IsSquare, IsRow, IsRelaxed, HasSmallSums, weight_at, placed_at, IsRowOver, HasEntriesWithin, GainsNothingAt, nothing, weight_of}
-use Rattle.longest_path.specs.Insert.{entry_over, IsEntryOver, IsTransitive, IsReadyRow, IsReady, StartGainsNothing}
+use Rattle.longest_path.specs.Insert.{EndGains, entry_over, IsEntryOver, IsTransitive, IsReadyRow, IsReady, StartGainsNothing}
 use Rattle.network.proofs.Walks.{IsWalk-append, weight-append}
 use Rattle.longest_path.proofs.OneArc.{IsGreatest-matrix}
 use Rattle.std.proofs.lemmas.Int.{ints}
@@ -126,7 +126,7 @@ small_through m a first via old is at within =
     let p : IsWithin MAX_WALK_WEIGHT first = within a m first at in
     small_over first via old (λ k y e. (m, k, sym (is.says k) ∙ e)) (record { at_most = omega (arith, ints); at_least = omega (arith, ints) }) within
 
-pub one_sum_fits : (x w : ℤ) → IsWithin MAX_WALK_WEIGHT x → IsWithin MAX_LAG_WEIGHT w → FitsSigned w64 (x +ℤ w)
+pub one_sum_fits : (x w : ℤ) → IsWithin MAX_WALK_WEIGHT x → IsWithin MAX_WALK_WEIGHT w → FitsSigned w64 (x +ℤ w)
 one_sum_fits x w p light = omega (arith, ints)
 
 pub transitive : (n : ℕ) (arcs : List Lag) (rows : Rows) → IsMatrixOf n arcs rows → IsTransitive rows
@@ -156,7 +156,7 @@ some_within (Some x) h =
 pub sum_within : (x w : ℤ) → IsWithin MAX_WALK_WEIGHT x → IsWithin MAX_LAG_WEIGHT w → IsWithin MAX_FIRST_WEIGHT (x +ℤ w)
 sum_within x w p light = record { at_most = omega (arith, ints); at_least = omega (arith, ints) }
 
-pub some_sum_fits : (o : Option ℤ) (w : ℤ) → ((x : ℤ) → o ≡ Some x → IsWithin MAX_WALK_WEIGHT x) → IsWithin MAX_LAG_WEIGHT w → IfSome o (λ x. IfSome (Some w) (λ y. FitsSigned w64 (x +ℤ y)))
+pub some_sum_fits : (o : Option ℤ) (w : ℤ) → ((x : ℤ) → o ≡ Some x → IsWithin MAX_WALK_WEIGHT x) → IsWithin MAX_WALK_WEIGHT w → IfSome o (λ x. IfSome (Some w) (λ y. FitsSigned w64 (x +ℤ y)))
 some_sum_fits None w h light = tt
 some_sum_fits (Some x) w h light = one_sum_fits x w (h x refl) light
 
@@ -169,6 +169,10 @@ pub ready_row : (n a : ℕ) (e : Lag) (from : ℕ) (via : List ℤ) (old rows : 
 ready_row n a e from via old rows h low inside holds size ready =
     let le : a ≤ a = omega arith in
     let long : length rows ≡ n = h.square.rows_long in
+    let gains_before : (w : ℤ) → EndGains e rows a w → EndGains e old a w = λ w g. record {
+      over = ap (λ (o : Option ℤ). joined o (Some e.weight)) (sym (h.rest a e.from le)) ∙ g.over;
+      more = λ r. g.more (rw (h.rest a e.to le) r);
+    } in
     record {
       square = rw long h.square;
       row = rw long low;
@@ -177,8 +181,9 @@ ready_row n a e from via old rows h low inside holds size ready =
       inside = rw long inside;
       light = ready.light;
       entry_fits = λ x p. ready.fits a e.from x (sym (h.rest a e.from le) ∙ p);
-      fits = λ x p. small_over (x +ℤ e.weight) via old (λ k y q. (e.to, from + k, held e (placed_at from via) old holds (from + k) y (placed_inside from k via ∙ q)))
-          (sum_within x e.weight (ready.fits a e.from x (sym (h.rest a e.from le) ∙ p)) ready.light) ready.fits;
+      first_fits = λ w g. ready.first_fits a w (gains_before w g);
+      fits = λ w g. small_over w via old (λ k y q. (e.to, from + k, held e (placed_at from via) old holds (from + k) y (placed_inside from k via ∙ q)))
+          (ready.first_fits a w (gains_before w g)) ready.fits;
       closed = λ b x y p q. rw (h.rest a b le) (ready.transitive a e.to b x y (sym (h.rest a e.to le) ∙ p) (held e (placed_at from via) old holds b y q));
     }
 
@@ -190,9 +195,6 @@ first_is : (o : Option ℤ) (w first : ℤ) → joined o (Some w) ≡ Some first
 first_is o w first e =
     let parts = joined-parts first o (Some w) e in
     (parts.0, parts.2, parts.4 ∙ ap (λ t. parts.0 +ℤ t) (same_some parts.1 w (Some w) parts.3 refl))
-
-pub first_small : (o : Option ℤ) (w first : ℤ) (via : List ℤ) → joined o (Some w) ≡ Some first → ((x : ℤ) → o ≡ Some x → HasSmallSums (x +ℤ w) via) → HasSmallSums first via
-first_small o w first via e fits = let is = first_is o w first e in let P : ℤ → Type 0 = λ z. HasSmallSums z via in subst P (sym is.2) (fits is.0 is.1)
 
 pub first_within : (o : Option ℤ) (w first : ℤ) → joined o (Some w) ≡ Some first → ((x : ℤ) → o ≡ Some x → IsWithin MAX_WALK_WEIGHT x) → IsWithin MAX_LAG_WEIGHT w → IsWithin MAX_FIRST_WEIGHT first
 first_within o w first e fits light = let is = first_is o w first e in let P : ℤ → Type 0 = λ z. IsWithin MAX_FIRST_WEIGHT z in subst P (sym is.2) (sum_within is.0 w (fits is.0 is.1) light)
@@ -245,7 +247,7 @@ one_less end first via row some after here k le = elim (cases_eq k (end - 1)) [ 
 
 pub small_arc : (e : Lag) (via : List ℤ) (rows : Rows) → IsReady e rows → IsRow e.to rows via → HasSmallSums e.weight via
 small_arc e via rows ready is =
-    let light : IsWithin MAX_LAG_WEIGHT e.weight = ready.light in
+    let light : IsWithin MAX_WALK_WEIGHT e.weight = ready.light in
     small_over e.weight via rows (λ k y h. (e.to, k, sym (is.says k) ∙ h)) (record { at_most = omega (arith, ints); at_least = omega (arith, ints) }) ready.fits
 
 pub start_gains_nothing : (e : Lag) (row via : List ℤ) (rows : Rows) (b : ℕ) → IsRow e.from rows row → IsRow e.to rows via → GainsNothingAt e.weight via row b → StartGainsNothing e rows b

@@ -1,5 +1,5 @@
 -- A matrix of greatest weights: its rows and cells, and the recurrence that makes it.
-use Rattle.std.specs.Prelude.{◌≡◌, ◌≤◌, ℕ, ℤ, List, length, Some, pos, ◌<ℤ◌, ◌+ℤ◌, ◌≤ℤ◌, int_lt, Option, None, if◌then◌else◌, ◌≢◌, ◌<◌, ◌+◌, ◌*◌, negsuc, ◌++◌, map, take, drop, replicate, slice_index_or, ◌⊎◌}
+use Rattle.std.specs.Prelude.{◌≡◌, ◌≤◌, ℕ, ℤ, List, length, Some, pos, neg_ℤ, ◌<ℤ◌, ◌+ℤ◌, ◌≤ℤ◌, int_lt, Option, None, if◌then◌else◌, ◌≢◌, ◌<◌, ◌+◌, ◌*◌, negsuc, ◌++◌, map, take, drop, replicate, slice_index_or, ◌⊎◌}
 use Rattle.network.specs.declared.parts.Lag.{Lag}
 use Rattle.network.specs.Walk.{entry, AreLight, IsMatrixOf, Rows}
 use Rattle.network.specs.declared.limits.TheConstants.{MAX_ACTIVITIES, MAX_WALK_WEIGHT}
@@ -13,10 +13,18 @@ use Rattle.longest_path.specs.declared.grid.TheConstants.{MAX_WAY_WEIGHT}
 abbrev pub HasEntriesWithin : ℤ → Rows → Type 0
 HasEntriesWithin m rows = (a b : ℕ) (w : ℤ) → entry rows a b ≡ Some w → IsWithin m w
 
--- the matrix of some arcs that are within the limits
+-- the entry is there, and is at least w
+abbrev pub Reaches : ℤ → Option ℤ → Type 0
+Reaches w o = (x : ℤ) × (o ≡ Some x) × (w ≤ℤ x)
+
+-- every entry is there, and none is below what a walk may weigh
+abbrev pub IsFull : Rows → Type 0
+IsFull rows = (a b : ℕ) → a < length rows → b < length rows → Reaches (neg_ℤ MAX_WALK_WEIGHT) (entry rows a b)
+
+-- the matrix of some arcs, which are within the limits of lags, or by which every activity reaches every other
 pub record IsMatrix (rows : Rows) : Type 0 where
   pub arcs : List Lag
-  pub light : AreLight arcs
+  pub light : AreLight arcs ⊎ IsFull rows
   pub few : length rows ≤ MAX_ACTIVITIES
   pub matrix : IsMatrixOf (length rows) arcs rows
   pub within : HasEntriesWithin MAX_WALK_WEIGHT rows
@@ -39,10 +47,6 @@ abbrev pub greater : Option ℤ → Option ℤ → Option ℤ
 greater x None = x
 greater None (Some y) = Some y
 greater (Some x) (Some y) = Some (if int_lt x y then y else x)
-
--- the entry is there, and is at least w
-abbrev pub Reaches : ℤ → Option ℤ → Type 0
-Reaches w o = (x : ℤ) × (o ≡ Some x) × (w ≤ℤ x)
 
 -- the entry is there, and is above 0
 abbrev pub IfSomeAbove : Option ℤ → Type 0

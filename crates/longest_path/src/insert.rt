@@ -88,7 +88,7 @@ pub(crate) fn first_over(grid: &Grid, a: usize, arc: Lag) -> Option<i64>
     requires row { a < length grid.now }
     requires from_vertex { arc.from < length grid.now }
     requires to_vertex { arc.to < length grid.now }
-    requires light { IsWithin MAX_LAG_WEIGHT arc.weight }
+    requires light { IsWithin MAX_WALK_WEIGHT arc.weight }
     requires entry_fits { (x : ℤ) → entry grid.now a arc.from ≡ Some x → IsWithin MAX_WALK_WEIGHT x }
     ensures { IsFirstOver arc grid.now a result }
 {

@@ -1,7 +1,7 @@
 //! A matrix with marks to go back to.
 
 ghost use Rattle.std.specs.Prelude.{◌≡◌, ◌<◌, [], ◌∷◌, length, Err, IfErr, OnOk, OnErr};
-ghost use Rattle.longest_path.specs.Insert.{arc_of, AddsArc, IsInsertFault};
+ghost use Rattle.longest_path.specs.Insert.{arc_of, AddsArc, FillsRows, MayInsert, IsInsertFault};
 ghost use Rattle.longest_path.specs.Saved.{Marked};
 ghost use Rattle.network.specs.declared.limits.TheConstants.{MAX_LAG_WEIGHT};
 ghost use Rattle.network.specs.Problem.{IsWithin};
@@ -95,6 +95,36 @@ impl MarkedMatrix {
         requires from_activity { i < length self.old.rows }
         requires to_activity { j < length self.old.rows }
         requires limit { IsWithin MAX_LAG_WEIGHT w }
+        ensures size { length self.new.rows ≡ length self.old.rows }
+        ensures marks { self.new.marks ≡ self.old.marks }
+        ensures ok { OnOk result (AddsArc (arc_of i j w) self.old.rows self.new.rows) }
+        ensures fault { IfErr result (IsInsertFault (arc_of i j w) self.old.rows) }
+        ensures memory { result ≡ Err PathFault.Memory → 0 < length self.old.marks }
+        ensures unchanged { OnErr result (self.new ≡ self.old) }
+    {
+        self.take(i, j, w)
+    }
+
+    /// The same for an arc of any weight that a walk may have, with which every activity reaches every other.
+    pub fn insert_filling(&mut self, i: usize, j: usize, w: i64) -> Result<(), PathFault>
+        requires from_activity { i < length self.old.rows }
+        requires to_activity { j < length self.old.rows }
+        requires limit { FillsRows (arc_of i j w) self.old.rows }
+        ensures size { length self.new.rows ≡ length self.old.rows }
+        ensures marks { self.new.marks ≡ self.old.marks }
+        ensures ok { OnOk result (AddsArc (arc_of i j w) self.old.rows self.new.rows) }
+        ensures fault { IfErr result (IsInsertFault (arc_of i j w) self.old.rows) }
+        ensures memory { result ≡ Err PathFault.Memory → 0 < length self.old.marks }
+        ensures unchanged { OnErr result (self.new ≡ self.old) }
+    {
+        self.take(i, j, w)
+    }
+
+    /// Adds an arc of either kind.
+    fn take(&mut self, i: usize, j: usize, w: i64) -> Result<(), PathFault>
+        requires from_activity { i < length self.old.rows }
+        requires to_activity { j < length self.old.rows }
+        requires limit { MayInsert (arc_of i j w) self.old.rows }
         ensures size { length self.new.rows ≡ length self.old.rows }
         ensures marks { self.new.marks ≡ self.old.marks }
         ensures ok { OnOk result (AddsArc (arc_of i j w) self.old.rows self.new.rows) }

@@ -3,9 +3,9 @@
 ghost use Rattle.std.specs.Prelude.{◌≡◌, ◌<◌, ◌≤◌, pos, length, take, drop, Some, Err, IsTrue, IfSome, IfOk, IfErr, OnOk, OnErr};
 ghost use Rattle.network.specs.Walk.{entry, Rows};
 ghost use Rattle.std.specs.Bool.{MatchBool};
-ghost use Rattle.longest_path.specs.Insert.{arc_of, AddsArc, ClosesCycle, TakesArc, IsInsertFault};
+ghost use Rattle.longest_path.specs.Insert.{arc_of, AddsArc, ClosesCycle, MayInsert, TakesArc, IsInsertFault};
 ghost use Rattle.longest_path.specs.Saved.{IsKept, undone};
-ghost use Rattle.network.specs.declared.limits.TheConstants.{MAX_ACTIVITIES, MAX_LAG_WEIGHT, MAX_WALK_WEIGHT};
+ghost use Rattle.network.specs.declared.limits.TheConstants.{MAX_ACTIVITIES, MAX_WALK_WEIGHT};
 ghost use Rattle.network.specs.Problem.{IsWithin};
 ghost use Rattle.longest_path.specs.Matrix.{IsMatrix};
 
@@ -72,7 +72,7 @@ impl Matrix {
     pub(crate) fn closes_cycle(&self, arc: Lag) -> bool
         requires from_activity { arc.from < length self.now }
         requires to_activity { arc.to < length self.now }
-        requires light { IsWithin MAX_LAG_WEIGHT arc.weight }
+        requires light { MayInsert arc self.now }
         ensures { MatchBool result (ClosesCycle arc self.now) (TakesArc arc self.now) }
     {
         is_positive(sum(self.grid.get(arc.to, arc.from), Some(arc.weight)))
@@ -90,7 +90,7 @@ impl Matrix {
     ) -> Result<(), PathFault>
         requires from_activity { i < length self.old }
         requires to_activity { j < length self.old }
-        requires limit { IsWithin MAX_LAG_WEIGHT w }
+        requires limit { MayInsert (arc_of i j w) self.old }
         requires width { saves.old.width ≡ length self.old }
         ensures size { length self.new ≡ length self.old }
         ensures law { IsMatrix self.new }

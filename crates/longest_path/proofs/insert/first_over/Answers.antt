@@ -1,6 +1,7 @@
 use Rattle.std.proofs.Common.{rules, ◌≡◌, ◌+ℤ◌, Some, refl, sym, ◌∙◌, w64, SFits}
 use Rattle.std.proofs.lemmas.Int.{to_z-of_z}
 use Rattle.network.specs.Walk.{entry}
+use Rattle.longest_path.specs.Insert.{EndGains}
 use Rattle.longest_path.specs.Matrix.{Reaches}
 use Rattle.longest_path.proofs.Reach.{joined-some}
 use Rattle.longest_path.proofs.Over.{one_sum_fits, reached_at}
@@ -22,7 +23,13 @@ returns-else-is_reached c =
     let fw : SFits w64 c.in_ok-first.field-0 = search rules in
     let fa : SFits w64 c.args.arc.weight = search rules in
     let fs : SFits w64 (c.in_ok-first.field-0 +ℤ c.args.arc.weight) = one_sum_fits c.in_ok-first.field-0 c.args.arc.weight (c.requires.entry_fits c.in_ok-first.field-0 read) c.requires.light in
-    simp to_z-of_z (joined-some c.in_ok-first.field-0 c.args.arc.weight (entry c.args.grid.now c.args.a c.args.arc.from) (Some c.args.arc.weight) read refl)
+    let none : Reaches (c.in_ok-first.field-0 +ℤ c.args.arc.weight) c.get-2.result → ⊥ = simp to_z-of_z at c.if-is_reached.ensures in
+    let more : Reaches (c.in_ok-first.field-0 +ℤ c.args.arc.weight) (entry c.args.grid.now c.args.a c.args.arc.to) → ⊥ = rw c.get-2.ensures at none in
+    let gains : EndGains c.args.arc c.args.grid.now c.args.a (c.in_ok-first.field-0 +ℤ c.args.arc.weight) = record {
+      over = joined-some c.in_ok-first.field-0 c.args.arc.weight (entry c.args.grid.now c.args.a c.args.arc.from) (Some c.args.arc.weight) read refl;
+      more = more;
+    } in
+    simp to_z-of_z gains
 
 pub overflow_add-first : goal.overflow_add-first
 overflow_add-first c =

@@ -1,5 +1,5 @@
-use Rattle.std.proofs.Common.{◌∙◌, ap, length, pos, take, Some}
-use Rattle.std.proofs.lemmas.List.{take_more}
+use Rattle.std.proofs.Common.{◌≡◌, ◌∙◌, ap, length, pos, take, Some}
+use Rattle.std.proofs.lemmas.List.{take_more, take_all}
 use Rattle.network.specs.declared.parts.Lag.{Lag}
 use Rattle.longest_path.specs.Saved.{Marked}
 use Rattle.lemma_check.specs.Places.{first_arcs, Place}
@@ -25,3 +25,9 @@ loop-arc-preserved c =
           let here : Place = record { lemmas = at.lemmas; own = at.own; opened = Some (record { first = arcs; arcs = take i arcs }) } in
           rw (take_more arcs i d c.loop-arc-test.true) (c.in_ok-add.ensures.added p lines here (c.loop-arc.invariant.so_far p lines at s may first));
     }
+
+pub returns : goal.returns
+returns c = λ p lines at s may first.
+    let whole : take c.loop-arc.arc-index c.args.arcs.now ≡ c.args.arcs.now = take_all c.loop-arc.arc-index c.args.arcs.now c.loop-arc-test.false in
+    let there = c.loop-arc.invariant.so_far p lines at s may first in
+    rw whole at there
