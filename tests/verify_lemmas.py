@@ -15,9 +15,9 @@ from typing import NamedTuple, TypeVar
 from verify import LOW, MAX_BYTES, Fault, Project, Rows, root_matrix, run
 
 NUMBER = re.compile(rb"0|[1-9][0-9]{0,9}")
-WEIGHT = re.compile(rb"0|-?(1000000|[1-9][0-9]{0,5})")
-CLAIM = re.compile(rb"no schedule|(optimal|bound) (0|1000000|[1-9][0-9]{0,5})")
-MAX_WEIGHT = 1_000_000
+WEIGHT = re.compile(rb"0|-?[1-9][0-9]{0,9}")
+CLAIM = re.compile(rb"no schedule|(optimal|bound) (0|[1-9][0-9]{0,9})")
+MAX_WEIGHT = 1_002_000_000  # of a weight, a makespan and a bound
 # The least and the most numbers of a reason, and how many ends more a line makes due.
 COUNTS = {b"dead": (0, 0), b"set": (2, MAX_BYTES), b"load": (3, 3), b"clique": (3, MAX_BYTES), b"use": (1, 1)}
 KINDS = {b"lemma": 1, b"force": 0, b"add": 0, b"end": -1}
@@ -45,8 +45,9 @@ def numbers(fields: Sequence[bytes]) -> list[int] | None:
 
 def arcs_of(fields: Sequence[bytes]) -> list[list[int]] | None:
     arcs = list(zip(fields[::3], fields[1::3], fields[2::3]))
-    spelled = len(fields) % 3 == 0 and all(numbers([i, j]) and WEIGHT.fullmatch(v) for i, j, v in arcs)
-    return [[*map(int, arc)] for arc in arcs] if spelled else None
+    if len(fields) % 3 != 0 or not all(numbers([i, j]) and WEIGHT.fullmatch(v) for i, j, v in arcs):
+        return None
+    return [[*map(int, arc)] for arc in arcs] if all(abs(int(v)) <= MAX_WEIGHT for _, _, v in arcs) else None
 
 
 def reason_of(fields: Sequence[bytes]) -> Reason | None:
@@ -70,7 +71,9 @@ def line_of(number: int, due: int, row: bytes) -> Line | None:
 
 def claim_of(row: bytes) -> Claim | None:
     found = CLAIM.fullmatch(row)
-    return ((found[1] or found[0]).decode(), int(found[2]) if found[2] else None) if found else None
+    if not found or int(found[2] or 0) > MAX_WEIGHT:
+        return None
+    return (found[1] or found[0]).decode(), int(found[2]) if found[2] else None
 
 
 def read_record(text: bytes) -> tuple[Claim, list[int] | None, list[Line]]:
@@ -208,9 +211,7 @@ def verify(project: Project, claim: Claim, starts: Sequence[int] | None, lines: 
         raise Fault(3, "start", 4)
     lemmas: list[Arcs] = []
     rows, first = root_matrix(project), None
-    latest = horizon(project) if length is None else length - 1
-    if length is not None or latest <= MAX_WEIGHT:
-        rows = with_arc(rows, (project.end, 0, -latest))
+    rows = with_arc(rows, (project.end, 0, 1 - length if length is not None else -horizon(project)))
     for line in lines:
         if not is_right(project, rows, lemmas, line):
             raise Fault(line.number, line.kind, 4)

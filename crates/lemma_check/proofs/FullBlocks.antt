@@ -1,23 +1,21 @@
 -- With a deadline every activity reaches every other: by the end, the deadline and the start.
-use Rattle.std.proofs.Common.{◌≡◌, refl, sym, ap, ◌∙◌, ℕ, zero, suc, ◌<◌, ◌≤◌, inl, inr, ⊎_elim, arith, ℤ, pos, neg_ℤ, ◌+ℤ◌, ◌≤ℤ◌, List, [], ◌∷◌, ◌++◌, map, length, Option, None, Some}
+use Rattle.std.proofs.Common.{◌≡◌, refl, ℕ, zero, suc, ◌<◌, ◌≤◌, ⊎_elim, arith, ℤ, pos, neg_ℤ, ◌+ℤ◌, ◌≤ℤ◌, List, [], ◌∷◌, ◌++◌, map, length, Option, None, Some}
 use Rattle.std.specs.List.{Contains, range_with_len}
 use Rattle.std.proofs.lemmas.Bool.{cases_lt}
 use Rattle.std.proofs.lemmas.Int.{ints}
-use Rattle.std.proofs.lemmas.List.{append-nil}
 use Rattle.std.proofs.lemmas.List.Elements.{Contains-append_left, Contains-append_right}
 use Rattle.std.proofs.lemmas.List.FromFn.{get_or-map-range_with_len, length-map-range_with_len}
 use Rattle.network.specs.declared.parts.Lag.{Lag}
 use Rattle.network.specs.declared.limits.TheConstants.{MAX_WALK_WEIGHT}
-use Rattle.network.specs.Problem.{Problem, IsProject, IsAmount, IsWithin, activity_count, duration, end_of, end_arc, implied_arcs, rules, arcs_of, start_arc}
+use Rattle.network.specs.Problem.{Problem, IsProject, IsAmount, activity_count, duration, end_of, end_arc, implied_arcs, rules, arcs_of, start_arc}
 use Rattle.network.specs.Walk.{Rows, entry, IsWalk, weight, IsGreatestWeight, IsMatrixOf}
 use Rattle.network.proofs.Schedules.{start_rule}
 use Rattle.network.proofs.Walks.{IsWalk-append, weight-append}
-use Rattle.longest_path.specs.Insert.{arc_of, weight_over, entry_over, rows_over, FillsRows}
+use Rattle.longest_path.specs.Insert.{arc_of, weight_over, rows_over, FillsRows}
 use Rattle.longest_path.specs.Matrix.{joined, Reaches, IsFull}
 use Rattle.longest_path.proofs.Full.{full_over}
 use Rattle.longest_path.proofs.Inserted.{length-rows_over, entry-rows_over}
 use Rattle.longest_path.proofs.Reach.{Reaches-weaker, greater-more, joined-some}
-use Rattle.lemma_text.specs.declared.limits.TheConstants.{MAX_WEIGHT}
 use Rattle.lemma_check.specs.Places.{Opened, arcs_in, deadline}
 use Rattle.lemma_check.specs.Standing.{HaveDeadline, IsRecordLag}
 

@@ -11,7 +11,7 @@ use std::alloc::{AllocError, Global};
 use tables::{Span, Table};
 
 /// The greatest weight of an arc of a record in periods; the least is its negative.
-const MAX_WEIGHT: i32 = 1_000_000;
+const MAX_WEIGHT: i32 = 1_002_000_000;
 
 /// Makes lines of blocks, with new numbers for the lemmas.
 #[derive(Drop)]

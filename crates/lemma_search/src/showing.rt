@@ -9,6 +9,9 @@ use lemma_trail::Literal;
 use record_text::Starts;
 use std::alloc::{AllocError, Global};
 
+/// The longest deadline of a history in periods: the sum of two is the weight of a walk.
+const MOST_HORIZON: i64 = 100_000_000;
+
 impl Engine {
     /// No feasible schedule is shorter than so many periods. Where the search ended, that is the best makespan.
     pub(crate) fn bound(&self) -> i64 {
@@ -47,12 +50,12 @@ impl Engine {
         self.proofs.push(&self.trail, &[], None)
     }
 
-    /// One more than the horizon, where a record has a deadline of that length.
+    /// One more than the horizon, where a history can have a deadline as long as that.
     fn past_horizon(&self) -> Option<i32> {
-        if self.horizon > MAX_MAKESPAN {
+        if self.horizon > MOST_HORIZON {
             None
         } else {
-            Some(periods(self.horizon).wrapping_add(1))
+            Some(self.horizon.clamp(0, MOST_HORIZON) as i32 + 1)
         }
     }
 

@@ -1,12 +1,12 @@
 -- Matrices by which every activity reaches every other: no entry is beyond the least one.
-use Rattle.std.proofs.Common.{◌≡◌, refl, sym, ap, ◌∙◌, ℕ, ◌+◌, ◌<◌, Option, None, Some, ◌⊎◌, inl, inr, ⊎_elim, arith, ℤ, pos, neg_ℤ, ◌+ℤ◌, ◌≤ℤ◌, ◌<ℤ◌, List, [], ◌∷◌, ◌++◌, length}
+use Rattle.std.proofs.Common.{◌≡◌, refl, sym, ℕ, ◌<◌, Some, ◌⊎◌, inl, inr, ⊎_elim, arith, ℤ, pos, neg_ℤ, ◌+ℤ◌, ◌≤ℤ◌, List, [], ◌∷◌, ◌++◌, length}
 use Rattle.std.proofs.lemmas.Int.{ints, by_lt_z}
 use Rattle.network.specs.declared.parts.Lag.{Lag}
 use Rattle.network.specs.declared.limits.TheConstants.{MAX_LAG_WEIGHT, MAX_WALK_WEIGHT}
 use Rattle.network.specs.Problem.{IsWithin}
 use Rattle.network.specs.Walk.{entry, weight, AreLight, IsGreatestWeight, IsMatrixOf, Rows}
 use Rattle.longest_path.specs.declared.grid.TheConstants.{MAX_FIRST_WEIGHT}
-use Rattle.longest_path.specs.Matrix.{greater, joined, Reaches, IsSquare, IsFull, IsMatrix}
+use Rattle.longest_path.specs.Matrix.{joined, Reaches, IsSquare, IsFull, IsMatrix}
 use Rattle.longest_path.specs.Insert.{weight_over, entry_over, rows_over, EndGains, IsEntryOver, FillsRows, MayInsert}
 use Rattle.longest_path.proofs.Reach.{at_Reaches, same_some, greater-kept, greater-cases, joined-parts, joined-some}
 use Rattle.longest_path.proofs.Weights.{IsSquare-inside, square_of, diagonal_at}
