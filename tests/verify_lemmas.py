@@ -210,8 +210,8 @@ def verify(project: Project, claim: Claim, starts: Sequence[int] | None, lines: 
     if starts is not None and not (project.is_feasible(starts) and starts[-1] == length):
         raise Fault(3, "start", 4)
     lemmas: list[Arcs] = []
-    rows, first = root_matrix(project), None
-    rows = with_arc(rows, (project.end, 0, 1 - length if length is not None else -horizon(project)))
+    latest = horizon(project) if length is None else length - 1
+    rows, first = with_arc(root_matrix(project), (project.end, 0, -latest)), None
     for line in lines:
         if not is_right(project, rows, lemmas, line):
             raise Fault(line.number, line.kind, 4)

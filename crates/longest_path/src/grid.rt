@@ -128,8 +128,8 @@ fn put_part(cells: &mut [i32], size: usize, a: usize, from: usize, part: &[i32])
     cells[start..start + part.len()].copy_from_slice(part);
 }
 
-/// A square of weights, row after row in one list of cells. Four bytes a cell, since the weights of
-/// walks that visit no activity twice, and the sums of two, are within i32.
+/// A square of weights, row after row in one list of cells. Four bytes a cell, since the greatest
+/// weights of walks, and the sums of two, are within i32.
 #[derive(Drop, Debug)]
 pub(crate) struct Grid {
     size: usize,
