@@ -9,13 +9,20 @@ ROW = 20  # pixels of an activity's row
 LOAD = 44  # pixels of a resource's row
 TOP = 56
 CHART = 900  # pixels of the time that is shown
+RIGHT = 80  # pixels behind that, which is room for the last date
 LETTER = 7  # pixels of a letter, about
 MARKS = 12  # about so many numbers on the ruler
+
+BEGIN = b"<svg "
 
 STYLE = """text { font: 12px sans-serif; fill: #222 } .title { font-weight: bold } .time { fill: #666 }
 .bar { fill: #3a7ca5 } .critical { fill: #d9822b } .float { fill: #b8cfdd } .point { fill: #c0392b }
 .use { fill: #9bb8a0 } .over { fill: #c0392b }
+.group { fill: #444 } .due { stroke: #c0392b; stroke-width: 2 } .away { fill: url(#hatch) }
 .grid { stroke: #ddd } .most { stroke: #555; stroke-dasharray: 4 3 }"""
+
+HATCH = ('<defs><pattern id="hatch" width="6" height="6" patternTransform="rotate(45)" patternUnits="userSpaceOnUse">'
+         '<line y2="6" stroke="#777" stroke-width="3"/></pattern></defs>')
 
 
 class Sheet:
@@ -38,12 +45,6 @@ class Sheet:
     def words(self, x: float, y: float, text: str, kind: str = "") -> None:
         self.add(f'<text x="{x}" y="{y}"' + (f' class="{kind}"' if kind else "") + f">{escape(text)}</text>")
 
-    def tip(self, bar: Bar, name: str) -> str:
-        """When it runs, as it is told where the pointer rests."""
-        if self.shown.calendar is None:
-            return f"{name}: {bar.begins} to {bar.ends}"
-        return f"{name}: {' to '.join(self.shown.calendar.times(bar.begins, bar.ends))}"
-
     def box(self, begins: int, ends: int, y: float, height: float, kind: str, tip: str) -> None:
         width = round(max(self.x(ends) - self.x(begins), 1.5), 2)
         place = f'x="{self.x(begins)}" y="{round(y, 2)}" width="{width}" height="{round(height, 2)}"'
@@ -60,9 +61,9 @@ def draw(shown: Drawing) -> str:
         load_row(sheet, load, TOP + ROW * len(shown.bars) + LOAD * row)
     for row, note in enumerate(shown.notes):
         sheet.words(16, sheet.bottom + 24 + ROW * row, note)
-    width, height = sheet.left + CHART + 24, sheet.bottom + 24 + ROW * len(shown.notes)
+    width, height = sheet.left + CHART + RIGHT, sheet.bottom + 24 + ROW * len(shown.notes)
     head = f'<svg xmlns="http://www.w3.org/2000/svg" width="{width}" height="{height}" viewBox="0 0 {width} {height}">'
-    return "\n".join([head, f"<style>{STYLE}</style>", *sheet.lines, "</svg>"]) + "\n"
+    return "\n".join([head, f"<style>{STYLE}</style>", HATCH, *sheet.lines, "</svg>"]) + "\n"
 
 
 def ruler(sheet: Sheet) -> None:
@@ -75,15 +76,24 @@ def ruler(sheet: Sheet) -> None:
 
 
 def bar_row(sheet: Sheet, bar: Bar, y: float) -> None:
-    """A bar, thin where it may run too, and of another colour where it is critical."""
-    sheet.words(16, y + 14, f"{bar.activity} {bar.name}".rstrip())
-    name = f"{bar.activity} {bar.name}".rstrip()
+    """A bar, thin where it may run too, and of another colour where it is critical; a bracket for a group."""
+    sheet.words(16, y + 14, bar.label, "title" if bar.activity is None else "")
+    tip = f"{bar.label}: {bar.first} to {bar.last}"
+    if bar.activity is None:
+        sheet.box(bar.begins, bar.ends, y + 6, 4, "group", tip)
+        for time in (bar.begins, bar.ends):
+            sheet.add(f'<path class="group" d="M{sheet.x(time) - 4},{y + 6} h8 l-4,8 z"/>')
+        return
     if bar.window is not None and bar.window.float:
         earliest, latest = bar.window.earliest, bar.window.latest
-        tip = f"{name}: may start from {earliest} to {latest}"
-        sheet.box(earliest, latest + bar.ends - bar.begins, y + 8, ROW - 16, "float", tip)
-    kind = "critical" if bar.window is not None and not bar.window.float else "bar"
-    sheet.box(bar.begins, bar.ends, y + 3, ROW - 6, kind if bar.ends > bar.begins else "point", sheet.tip(bar, name))
+        alone = f"{bar.label}: may start from {earliest} to {latest}"
+        sheet.box(earliest, latest + bar.ends - bar.begins, y + 8, ROW - 16, "float", alone)
+    kind = "critical" if bar.is_critical else "bar"
+    sheet.box(bar.begins, bar.ends, y + 3, ROW - 6, kind if bar.ends > bar.begins else "point", tip)
+    if bar.due is not None and sheet.shown.begins <= bar.due <= sheet.shown.ends:
+        x = sheet.x(bar.due)
+        sheet.add(f'<line x1="{x}" y1="{y + 1}" x2="{x}" y2="{y + ROW - 1}" class="due"><title>due: {escape(bar.label)}</title>'
+                  "</line>")
 
 
 def load_row(sheet: Sheet, load: Load, y: float) -> None:
@@ -91,6 +101,10 @@ def load_row(sheet: Sheet, load: Load, y: float) -> None:
     sheet.words(16, y + LOAD / 2 + 4, f"{load.name}, of {load.capacity}")
     most = max([load.capacity, 1, *(stretch.units for stretch in load.stretches)])
     floor, unit = y + LOAD - 4, (LOAD - 12) / most
+    for stretch in load.away:
+        tip = f"{load.name}: {stretch.units} away from {stretch.begins} to {stretch.ends}"
+        top = floor - unit * load.capacity
+        sheet.box(stretch.begins, stretch.ends, top, unit * stretch.units, drawing.HATCHED, tip)
     for stretch in load.stretches:
         load_box(sheet, load, stretch, floor, unit)
     line = round(floor - unit * load.capacity, 2)

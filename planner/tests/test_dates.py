@@ -67,7 +67,7 @@ class Dates(InFolder):
         self.read("days")
         self.assertEqual(self.written()[1:], wanted)
         self.assertIn("2026-04-08", self.ran("gantt").stdout)
-        self.assertIn("2026-04-09  2026-04-09  2026-04-09      0  critical", self.ran("float").stdout)
+        self.assertIn("2026-04-09  2026-04-09  2026-04-09        0\n", self.ran("float").stdout)
         self.assertEqual(self.written("--from", "2026-04-08")[1], ["2026-04-08", "2026-04-10"])
         self.assertEqual(plan("solve", self.folder / "p.sch", "--svg", self.folder / "s.svg").returncode, 0)
         self.assertIn("build: 2026-04-02 to 2026-04-08", (self.folder / "s.svg").read_text())
@@ -98,14 +98,14 @@ class Dates(InFolder):
         self.assertEqual(plan("read", self.folder / "p.csv").returncode, 0)
         self.file("p.st", STARTS)
         out = self.folder / "out.csv"
-        for words, begin in ((["--excel"], "activity;name;start;end"), (["--excel", "--separator", "tab"], "activity\tname"),
+        for words, begin in ((["--excel"], "activity;name;start;takes;end"), (["--excel", "--separator", "tab"], "activity\tname"),
                              (["--excel", "--separator", "comma"], "activity,name")):
             with self.subTest(words):
                 self.assertEqual(self.ran("write", *words, "--out", out).returncode, 0)
                 self.assertTrue(out.read_bytes().startswith(b"\xef\xbb\xbf" + begin.encode()))
                 self.assertIn(b"\r\n", out.read_bytes())
         self.assertEqual(plan("write", INPUTS / "two-jobs.sch", "--excel", given=b"0 0\n1 4\n2 0\n3 7\n").stdout,
-                         "\ufeffactivity,name,start,end\r\n2,,0,4\r\n1,,4,7\r\n")
+                         "\ufeffactivity,name,start,takes,end\r\n2,,0,4,4\r\n1,,4,3,7\r\n")
 
     def test_tables_of_a_spreadsheet(self) -> None:
         """A line that tells the separator, which a spreadsheet doesn't show, and columns of notes."""

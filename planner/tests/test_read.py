@@ -122,7 +122,6 @@ class Faults(InFolder):
             ("blinding,1,2,,excavate", "blinding,1,2,,blinding", 3, "E (after)"),
             ("blinding,1,2,,excavate", "excavate,1,2,,excavate", 3, "A (activity)"),
             ("blinding,1,2,,excavate", "start,1,2,,excavate", 3, "A (activity)"),
-            ("blinding,1,2,,excavate", "a;b,1,2,,excavate", 3, "A (activity)"),
             ("excavate,,2", "excavate,3,2", 3, "G (at most)"),
             ("excavate,,2", "excavate,any,", 3, "F (at least)"),
             ("excavate,,2", "excavate,,any", 3, "G (at most)"),

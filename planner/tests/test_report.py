@@ -14,12 +14,12 @@ pour {{title}},1,1,dig <b>,,
 '''
 ASK = """<script>
 const all = (selector) => [...document.querySelectorAll(selector)];
-all("tbody tr")[2].click();
+all("#rows tr")[2].click();
 all("th button")[2].click();
 document.body.textContent = JSON.stringify({
   sideways: document.documentElement.scrollWidth > window.innerWidth,
-  rows: all("tbody tr").map((row) => row.cells[0].textContent),
-  shown: all(".lag.shown").length, chosen: all(".names .chosen").map((one) => one.textContent),
+  rows: all("#rows tr").map((row) => row.cells[0].textContent),
+  shown: all(".lag.shown").length, chosen: all(".line.chosen th").map((one) => one.textContent),
   lags: all("#lags li").map((one) => one.textContent),
 });
 </script></body>"""
@@ -84,8 +84,9 @@ class Report(InFolder):
         """Of the building site: a row for each of 13 activities in the chart and in the table, and its three resources."""
         answer = self.file("best", psmax("solve", given=(EXAMPLES / "building-site.sch").read_bytes()))
         page = self.page(EXAMPLES / "building-site.sch", answer)
-        self.assertEqual((page.count('<g data-a="'), page.count("<tr data-a="), page.count('class="load"')), (13, 13, 3))
-        named = plan("float", EXAMPLES / "building-site.sch", answer).stdout
+        self.assertEqual((page.count('<tr class="line"'), page.count('<tr class="activity"'), page.count('class="load"')),
+                         (13, 13, 3))
+        named = plan("float", EXAMPLES / "building-site.sch", answer, "--total").stdout
         self.assertEqual(page.count('data-key="0">critical'), named.count("critical"))
 
     def asked(self, page: str, width: int) -> str:
@@ -105,16 +106,15 @@ class Report(InFolder):
             self.assertIn('"sideways":false', told)
             self.assertIn('"rows":["1","2","3"]', told)
             self.assertIn('"shown":2,"chosen":["3 cure & \\"wait\\""]', told)
-            self.assertIn('"lags":["3 (cure & \\"wait\\") starts at least 1 after 2 (pour {{title}}) starts '
-                          '(0 after it ends): tight', told)
+            self.assertIn('"lags":["3 (cure & \\"wait\\") starts no sooner than 2 (pour {{title}}) ends: tight', told)
 
     @unittest.skipUnless(CHROMIUM, "Chromium isn't here")
     def test_sorted(self) -> None:
         """By float: the order is that of `plan float`."""
         path = PROJECTS / "paint-line.sch"
         answer = self.file("best", psmax("solve", given=path.read_bytes()))
-        rows = [line.split() for line in plan("float", path, answer).stdout.splitlines()[1:]]
-        spare = {row[0]: int(row[-1] if row[-1] != "critical" else row[-2]) for row in rows}
+        rows = [line.split() for line in plan("float", path, answer, "--total").stdout.splitlines()[1:]]
+        spare = {row[0]: int(row[-2] if row[-1] != "critical" else row[-3]) for row in rows}
         found = re.search(r'"rows":\[(.*?)\]', self.asked(self.page(path, answer), 1280))
         assert found is not None
         told = [spare[number.strip('"')] for number in found[1].split(",")]
