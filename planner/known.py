@@ -12,7 +12,7 @@ from .spelled import Spelled
 class Known(Claim):
     def __init__(self, clock: Clock, project: Project) -> None:
         self.clock = clock
-        self.goal = project.goal
+        self.goal, self.project = project.goal, project
         self.better: Callable[[], None] = lambda: None  # what is done each time the schedule gets shorter
         self.bound = Spelled(project).value(0)
         self.value = None
@@ -46,4 +46,4 @@ class Known(Claim):
 
     def answer(self) -> bytes:
         """What is known, in the words of psmax; `psmax check` and `plan gantt` read it."""
-        return starts_text(self.starts or (), self.first_line())
+        return starts_text(self.project.plain(self.starts) if self.starts else (), self.first_line())

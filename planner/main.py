@@ -8,7 +8,7 @@ from typing import NoReturn
 from .clock import end_at_once, interrupt_once
 from .errors import BadInput, Failed, TimeUp
 from .letters import printable
-from .options import parser
+from .options import parsed
 
 INTERRUPTED = 130
 
@@ -37,7 +37,7 @@ def answered(words: Sequence[str]) -> int:
         if isinstance(stream, io.TextIOWrapper):
             stream.reconfigure(errors="replace")
     try:
-        options = parser().parse_args(words)
+        options = parsed(words)
         status: int = options.run(options)
         sys.stdout.flush()
         return status

@@ -2,7 +2,7 @@
 import argparse
 import os
 import re
-from collections.abc import Callable
+from collections.abc import Callable, Sequence
 from dataclasses import fields
 from functools import partial
 from typing import NoReturn
@@ -54,15 +54,22 @@ def part(text: str) -> tuple[int, int]:
     return int(found[1]), int(found[2])
 
 
-def parser() -> Parser:
+def parser() -> tuple[Parser, dict[str, Parser]]:
+    """The parser of all, and those of the commands."""
     shown = argparse.RawDescriptionHelpFormatter
     top = Parser(prog="plan", description=ABOUT, epilog=STATUSES, formatter_class=shown)
     top.add_argument("--version", action=Version, nargs=0, help="print the versions of plan, its programs and Python")
-    commands = top.add_subparsers(dest="command", required=True, metavar="COMMAND")
+    commands: "argparse._SubParsersAction[Parser]" = top.add_subparsers(dest="command", required=True, metavar="COMMAND")
     for name, add, text, reads, example in COMMANDS:
         epilog = f"example:\n  plan {name} {example}\n\n{STATUSES}"
         add(commands.add_parser(name, help=text, description=reads, epilog=epilog, formatter_class=shown))
-    return top
+    return top, dict(commands.choices)
+
+
+def parsed(words: Sequence[str]) -> argparse.Namespace:
+    """The words, of which files and options may stand in any order behind the command."""
+    top, commands = parser()
+    return commands[words[0]].parse_intermixed_args(words[1:]) if words and words[0] in commands else top.parse_args(words)
 
 
 def add_solve(one: argparse.ArgumentParser) -> None:

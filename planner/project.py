@@ -75,6 +75,10 @@ class Project:
         """When each activity ends, but for the start and the end."""
         return [starts[i] + self.durations[i] for i in range(1, self.end)]
 
+    def plain(self, starts: "tuple[int, ...]") -> "tuple[int, ...]":
+        """The starts as psmax has them: the end starts when the last activity ends."""
+        return starts if self.goal is Goal.MAKESPAN else (*starts[:-1], max([0, *self.ends(starts)]))
+
     def goal_arcs(self) -> list[Arc]:
         """The least start of the end that each activity leaves."""
         if self.goal is Goal.LATENESS:

@@ -44,7 +44,7 @@ class Psmax(Program):
     def check(self, project: Project, starts: tuple[int, ...]) -> Checked:
         """What psmax says of the starts. Whatever is minimized, a schedule is feasible by its lags and resources."""
         if project.goal is Goal.LATENESS:
-            known = self.check(replace(project, goal=Goal.MAKESPAN), (*starts[:-1], max([0, *project.ends(starts)])))
+            known = self.check(replace(project, goal=Goal.MAKESPAN), project.plain(starts))
             return known if known.value is None else Checked(starts[-1], ())
         spelled = Spelled(project)
         status, out = self.judge("check", spelled.text, starts_text(spelled.inward(starts)))

@@ -4,6 +4,7 @@ from collections.abc import Iterable
 from dataclasses import dataclass
 from enum import Enum
 from fractions import Fraction
+from functools import reduce
 from math import gcd
 
 NUMBER = r"[-+]?(?:[0-9]{1,9}(?:[.,][0-9]{1,6})?|[.,][0-9]{1,6})"
@@ -70,7 +71,7 @@ class Scale:
 
     def of(self, unit: Unit) -> Fraction:
         """How many periods one of these takes; ValueError where nothing says so."""
-        if unit is self.period or unit is Unit.PERIODS:
+        if unit is Unit.PERIODS or unit is self.period is not Unit.MINUTES:
             return Fraction(1)
         if self.period is Unit.DAYS and unit is Unit.WEEKS:
             return Fraction(self.week)
@@ -93,9 +94,10 @@ def in_minutes(unit: Unit, day: int | None, week: int) -> int | None:
     return None if day is None else day * {Unit.DAYS: 1, Unit.WEEKS: week}[unit]
 
 
-def scale(lengths: Iterable[Length], own: Unit, shift: Iterable[tuple[int, int]] | None, week: int) -> Scale:
-    """The longest period that divides all lengths, and that is no longer than the least unit among them and the table's own.
-    Where it is shorter than a day it divides the hours of work too."""
+def scale_of(lengths: Iterable[Length], own: Unit, shift: Iterable[tuple[int, int]] | None, week: int) -> Scale:
+    """The longest period that divides all lengths, and that is no longer than an hour where some are in hours, and so on; one of
+    minutes only where the table's own unit is that. Where it is shorter than a day it divides the hours of work too."""
+    lengths = [*lengths]
     parts = None if shift is None else [ends - begins for begins, ends in shift]
     day = None if parts is None else sum(parts)
     units = {length.unit for length in lengths if length.value} - {Unit.CALENDAR_DAYS} | {own}
@@ -105,18 +107,14 @@ def scale(lengths: Iterable[Length], own: Unit, shift: Iterable[tuple[int, int]]
         others = {Unit.WEEKS} if unit is Unit.DAYS else set()
         if is_whole and unit in units and units <= {unit} | others:
             return Scale(unit, 0, day, week)
-    known = [in_minutes(unit, day, week) for unit in units if unit is not Unit.PERIODS]
-    if not known or None in known:
+    clocked = [unit for unit in units if unit is not Unit.PERIODS]
+    known: dict[Unit, int | None] = {unit: in_minutes(unit, day, week) for unit in clocked}
+    if not known or None in known.values():
         return Scale(own, 0, day, week)
-    step = Fraction(min(minutes for minutes in known if minutes is not None))
-    for length in lengths:
-        minutes = in_minutes(length.unit, day, week) if length.unit in (Unit.MINUTES, Unit.HOURS, Unit.DAYS, Unit.WEEKS) else 0
-        if minutes and length.value:
-            step = common(step, abs(length.value * minutes))
-    for part in parts or ():
-        step = common(step, Fraction(part))
-    whole = max(1, int(step)) if step.denominator == 1 else 1
-    return Scale(Unit.MINUTES, whole, day, week)
+    steps = [Fraction(known[unit] or 0) for unit in clocked if unit is not Unit.MINUTES or unit is own]
+    steps += [abs(length.value) * (known[length.unit] or 0) for length in lengths if length.unit in known]
+    step = reduce(common, [*steps, *map(Fraction, parts or ())])
+    return Scale(Unit.MINUTES, int(step) if step.denominator == 1 else 1, day, week)
 
 
 def common(one: Fraction, other: Fraction) -> Fraction:

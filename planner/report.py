@@ -143,7 +143,7 @@ class Chart:
 def heads(shown: Drawing, has_due: bool) -> str:
     names = ["No.", "Activity", "total float", "free float", *(shown.calendar.heads if shown.calendar else ("start", "end")),
              "takes", *(["due", "late"] if has_due else []), "needs"]
-    return "".join(f'<th><button type="button">{escape(name)}</button></th>' for name in names)
+    return "".join(f'<th><span role="button" tabindex="0">{escape(name)}</span></th>' for name in names)
 
 
 def row(bar: Bar, words: Words, total: TotalFloat) -> str:

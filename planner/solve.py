@@ -81,15 +81,11 @@ def give(known: Known, opened: ProjectFile, options: Options, kept: Kept | None)
 
 def as_json(known: Known, opened: ProjectFile) -> str:
     """What is known as one line, with the keys of psmax first. Where the lateness is minimized, the bound is one of it."""
-    starts = known.starts
-    makespan, lateness = known.value, {}
-    if known.goal is Goal.LATENESS:
-        lateness = {"lateness": known.value}
-        makespan = None if starts is None else max([0, *opened.project.ends(starts)])
-        starts = None if starts is None or makespan is None else (*starts[:-1], makespan)
+    starts = None if known.starts is None else opened.project.plain(known.starts)
+    lateness = {"lateness": known.value} if known.goal is Goal.LATENESS else {}
     told: dict[str, object] = {
         "bound": known.bound,
-        "makespan": makespan,
+        "makespan": None if starts is None else starts[-1],
         "starts": starts,
         "status": known.status(),
         **lateness,

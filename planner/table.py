@@ -1,8 +1,8 @@
 """Tables of activities in CSV: docs/PLANNER.md says what the columns are. Faults name the row and the column."""
-from collections.abc import Sequence
+from collections.abc import Iterable, Sequence
+from contextlib import suppress
 from dataclasses import dataclass, replace
 
-from . import quantities
 from .absences import read_absences
 from .calendar_days import CalendarLag
 from .calendars import Calendar
@@ -17,7 +17,7 @@ from .names import Names
 from .outline import Group, groups, is_summary, levels
 from .progress import Progress
 from .project import MOST_ACTIVITIES, MOST_ARCS, Arc, Goal, Project
-from .quantities import Scale, Unit
+from .quantities import Length, Scale, Unit, read_length, scale_of
 from .rows import Row, Terms
 from .settings import NAMES, PERIOD, Settings, calendar, checked, from_rows, minutes_of, shift, time_of, workdays
 
@@ -65,17 +65,24 @@ def terms_of(file: str, sheet: Sheet, columns: Columns, settings: Settings) -> T
     parts = None if settings.shift is None else shift(settings, 1)
     week = len(workdays(settings))
     blank = Terms(file, columns, Scale(own, 0, None, week), None, settings.dates, own)
-    found = []
-    for number, cells in sheet.numbered():
-        for text in lengths_in(Row(blank, number, cells)):
-            try:
-                found.append(quantities.read_length(text, own))
-            except ValueError:
-                pass  # a fault that is told where the cell is read
-    scale = quantities.scale(found, own, parts, week)
+    rows = [Row(blank, number, cells) for number, cells in sheet.numbered()]
+    units = {length.unit for length in lengths([row.cell(Column.DURATION) for row in rows], own) if length.value}
+    if own is Unit.PERIODS and len(units) == 1:
+        [own] = units  # a column `duration` with one unit in all of its cells
+    found = lengths([text for row in rows for text in lengths_in(row)], own)
+    scale = scale_of(found, own, parts, week)
     if settings.period is not None and PERIOD.fullmatch(settings.period):
         scale = replace(scale, period=Unit.MINUTES, minutes=minutes_of(settings.period))
-    return replace(blank, scale=scale, calendar=calendar(replace(settings, period=None), scale.name()))
+    return replace(blank, own=own, scale=scale, calendar=calendar(replace(settings, period=None), scale.name()))
+
+
+def lengths(texts: Iterable[str], own: Unit) -> list[Length]:
+    """Those that are lengths; what is none is a fault that is told where the cell is read."""
+    found = []
+    for text in texts:
+        with suppress(ValueError):
+            found.append(read_length(text, own))
+    return found
 
 
 class Reading:

@@ -67,6 +67,7 @@ def changes(opened: ProjectFile) -> list[Change]:
 
 def whatif(opened: ProjectFile, seconds: int, jobs: int, sheet: Sheet) -> int:
     guard([sheet.out], opened.inputs())
+    sheet.must_have(HEADS)
     clock = Clock(seconds / SHARE)
     clock.listen()
     project = opened.project

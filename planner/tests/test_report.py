@@ -15,7 +15,7 @@ pour {{title}},1,1,dig <b>,,
 ASK = """<script>
 const all = (selector) => [...document.querySelectorAll(selector)];
 all("#rows tr")[2].click();
-all("th button")[2].click();
+all("th [role=button]")[2].click();
 document.body.textContent = JSON.stringify({
   sideways: document.documentElement.scrollWidth > window.innerWidth,
   rows: all("#rows tr").map((row) => row.cells[0].textContent),
