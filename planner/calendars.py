@@ -124,17 +124,21 @@ class Days(Calendar):
 
 
 class Moments(Calendar):
-    """Periods of so many minutes, around the clock."""
+    """Periods of so many minutes, around the clock. In a time zone a day on which clocks change has an hour less or more."""
 
     heads = ("from", "until")
 
-    def __init__(self, first: datetime.datetime, minutes: int) -> None:
-        self.first = first
+    def __init__(self, first: datetime.datetime, minutes: int, zone: datetime.tzinfo = datetime.UTC) -> None:
+        self.zone = zone
+        self.first = self.absolute(first)
         self.length = datetime.timedelta(minutes=minutes)
+
+    def absolute(self, moment: datetime.datetime) -> datetime.datetime:
+        return moment.replace(tzinfo=self.zone).astimezone(datetime.UTC)
 
     def begins(self, time: int) -> datetime.datetime:
         try:
-            return self.first + time * self.length
+            return (self.first + time * self.length).astimezone(self.zone).replace(tzinfo=None)
         except OverflowError:
             raise BadInput(BEYOND) from None
 
@@ -142,10 +146,10 @@ class Moments(Calendar):
         return self.begins(time)
 
     def from_on(self, moment: datetime.datetime) -> int:
-        return max(0, -((self.first - moment) // self.length))
+        return max(0, -((self.first - self.absolute(moment)) // self.length))
 
     def by(self, moment: datetime.datetime) -> int:
-        return max(-1, (moment - self.first) // self.length)
+        return max(-1, (self.absolute(moment) - self.first) // self.length)
 
     def times(self, begins: int, ends: int, is_morning: bool = False) -> tuple[str, str]:
         return self.begins(begins).isoformat(" ", "minutes"), self.begins(ends).isoformat(" ", "minutes")

@@ -84,7 +84,7 @@ def floats(opened: ProjectFile, given: str | None, sheet: Sheet, chart: Chart, w
     if wanted is not None:
         clock = Clock(wanted.seconds)
         clock.listen()
-        total = total_float(opened.project, known.starts, Psprove(clock, opened.path), wanted.jobs)
+        total = total_float(opened, known.starts, Psprove(clock, opened.path), wanted.jobs)
     if sheet.out is not None and total is not None:
         os.makedirs(sheet.out, exist_ok=True)
         total.write(sheet.out)

@@ -102,6 +102,7 @@ def add_settings(one: argparse.ArgumentParser) -> None:
     one.add_argument("--workdays", metavar="DAYS", help="the days with work, such as mon-fri or Mo-Fr (default: every day)")
     one.add_argument("--holidays", metavar="FILE", help="a file of days without work, one date a line")
     one.add_argument("--shift", metavar="HOURS", help="the hours of work of a day, such as 07:00-12:00,13:00-16:00")
+    one.add_argument("--zone", metavar="ZONE", help="the time zone of periods around the clock, such as Europe/Berlin")
     one.add_argument("--dates", choices=ORDERS, help="what stands first in a date such as 3/2/2026: the day or the month")
     one.add_argument("--absences", metavar="FILE", help="a table of what is away when: resource, from, to, units")
     one.add_argument("--status", metavar="DATE", help="the day at which the table says how far the project has come")

@@ -81,7 +81,9 @@ def real_start(row: Row, now: int, planned: int) -> int:
 def is_before(row: Row, text: str) -> bool:
     """Whether a date is before the project's first day."""
     found, calendar = row.time_in(Column.STARTED, text), row.terms.calendar
-    return not isinstance(found, int) and calendar is not None and found.next() <= calendar.begins(0)
+    if isinstance(found, int) or calendar is None:
+        return False
+    return found.next() <= calendar.begins(0) if found.is_day else found.at < calendar.begins(0)
 
 
 def what_remains(row: Row, planned: int) -> int | None:

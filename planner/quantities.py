@@ -95,8 +95,8 @@ def in_minutes(unit: Unit, day: int | None, week: int) -> int | None:
 
 
 def scale_of(lengths: Iterable[Length], own: Unit, shift: Iterable[tuple[int, int]] | None, week: int) -> Scale:
-    """The longest period that divides all lengths, and that is no longer than an hour where some are in hours, and so on; one of
-    minutes only where the table's own unit is that. Where it is shorter than a day it divides the hours of work too."""
+    """The longest period that divides all lengths, and that is no longer than an hour where some are in hours, and so on; one
+    of minutes only where the table's own unit is that. Where it is shorter than a day it divides the hours of work too."""
     lengths = [*lengths]
     parts = None if shift is None else [ends - begins for begins, ends in shift]
     day = None if parts is None else sum(parts)

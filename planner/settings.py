@@ -6,6 +6,7 @@ import re
 from collections.abc import Mapping
 from dataclasses import dataclass, fields, replace
 from math import gcd
+from zoneinfo import ZoneInfo, ZoneInfoNotFoundError
 
 from .calendars import MINUTES, Calendar, Days, Moments, Shifts
 from .dates import ORDERS, Moment, is_dated, read_moment, read_shift, read_workdays
@@ -28,6 +29,7 @@ class Settings:
     workdays: str | None = None
     holidays: str | None = None
     shift: str | None = None
+    zone: str | None = None
     dates: str | None = None
     absences: str | None = None
     status: str | None = None
@@ -77,7 +79,7 @@ def checked(settings: Settings) -> Settings:
 def calendar(settings: Settings, unit: str) -> Calendar | None:
     """None where nothing says when the project begins. A period is what the settings say, and else such a unit."""
     if settings.first is None:
-        for name in ("workdays", "holidays", "shift"):
+        for name in ("workdays", "holidays", "shift", "zone"):
             if getattr(settings, name) is not None:
                 raise BadInput(f"--{name} needs --from, the first day of the project")
         return None
@@ -90,9 +92,18 @@ def calendar(settings: Settings, unit: str) -> Calendar | None:
         raise BadInput("workdays and holidays are for periods of a day, and a period here is one of the "
                        f"{settings.period or unit}; with --shift, the hours of work, there are days off too")
     if minutes < MINUTES["days"] and settings.shift is None:
-        return Moments(first, minutes)
+        return Moments(first, minutes, zone(settings))
     days = Days(first.date(), max(1, minutes // MINUTES["days"]), workdays(settings), holidays(settings))
     return days if minutes >= MINUTES["days"] else Shifts(first, minutes, days, shift(settings, minutes))
+
+
+def zone(settings: Settings) -> datetime.tzinfo:
+    """By the time zones of the system."""
+    try:
+        return datetime.UTC if settings.zone is None else ZoneInfo(settings.zone)
+    except (ZoneInfoNotFoundError, ValueError, OSError):
+        told = f"zone {short(settings.zone or '')}: no time zone that this system knows, such as Europe/Berlin"
+        raise BadInput(told) from None
 
 
 def minutes_of(unit: str) -> int:

@@ -3,11 +3,13 @@ latest start: it finds a schedule with that start, and proves that there is none
 import math
 import os
 import threading
+from collections.abc import Collection
 from concurrent.futures import ThreadPoolExecutor
 from dataclasses import dataclass, field, replace
 
 from .clock import tell
 from .files import write_whole
+from .opened import ProjectFile
 from .project import Arc, Goal, Project
 from .psmax import starts_text
 from .psprove import Limits, Psprove
@@ -26,17 +28,20 @@ class Latest:
     schedule: tuple[int, ...]  # in which it starts at the least
     record: bytes = b""  # that none starts later than the most
     proved: int | None = None  # the most that the record is about
+    has_started: bool = False  # and stays
 
     @property
     def is_settled(self) -> bool:
-        return self.least == self.most and self.proved == self.most
+        return self.has_started or self.least == self.most == self.proved
 
     @property
     def is_critical(self) -> bool:
-        return self.is_settled and self.most == self.start
+        return self.is_settled and self.most == self.start and not self.has_started
 
     def text(self) -> str:
         """The total float: a number, or what the time has left open."""
+        if self.has_started:
+            return "started"
         least, most = self.least - self.start, self.most - self.start
         return f"{least}" if self.is_settled else f"{least} to {most}"
 
@@ -47,6 +52,7 @@ class TotalFloat:
 
     project: Project
     starts: tuple[int, ...]
+    started: Collection[int]
     psprove: Psprove
     found: dict[int, Latest] = field(default_factory=dict)
     lock: threading.Lock = field(default_factory=threading.Lock)
@@ -54,7 +60,7 @@ class TotalFloat:
     def __post_init__(self) -> None:
         for activity, most in self.by_lags().items():
             start = self.starts[activity]
-            self.found[activity] = Latest(start, start, max(start, most), self.starts)
+            self.found[activity] = Latest(start, start, max(start, most), self.starts, has_started=activity in self.started)
 
     def limited(self, arcs: tuple[Arc, ...] = ()) -> Project:
         """The schedules that are no longer than this one. Their end waits for the same time, so each is a shortest one. Where
@@ -119,6 +125,8 @@ class TotalFloat:
         """For each activity the project that asks for a later start with the record that it has no schedule, and a schedule
         with the latest start that is known."""
         for activity, latest in self.found.items():
+            if latest.has_started:
+                continue
             spelled = Spelled(self.limited())
             starts = starts_text(spelled.inward(latest.schedule))
             write_whole(os.path.join(folder, f"{activity}.starts"), starts)
@@ -128,8 +136,8 @@ class TotalFloat:
                 write_whole(os.path.join(folder, f"{activity}.record"), latest.record)
 
 
-def total_float(project: Project, starts: tuple[int, ...], psprove: Psprove, jobs: int) -> TotalFloat:
-    found = TotalFloat(project, starts, psprove)
+def total_float(opened: ProjectFile, starts: tuple[int, ...], psprove: Psprove, jobs: int) -> TotalFloat:
+    found = TotalFloat(opened.project, starts, opened.progress.started, psprove)
     found.run(jobs)
     found.tell()
     return found

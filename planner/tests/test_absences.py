@@ -4,8 +4,8 @@ import json
 from .brute import small
 from .helpers import InFolder, plan
 
-# By hand: one crane, 3 + 2 + 4 = 9 days. Away from 3 to 5 (days 3 and 4), whatever the order, one job must wait: with 3 first, then
-# the pause, 3 + 2 + 2 + 4 = 11.
+# By hand: one crane, 3 + 2 + 4 = 9 days. Away from 3 to 5 (days 3 and 4), whatever the order, one job must wait: with 3
+# first, then the pause, 3 + 2 + 2 + 4 = 11.
 TABLE = "activity,days,crane (1),crew (2)\na,3,1,\nb,2,1,\nc,4,1,\n"
 AWAY = "resource,from,to,units\ncrane,3,5,\n"
 
@@ -26,12 +26,13 @@ class Absences(InFolder):
                 self.assertEqual(self.solved(TABLE, "resource,from,to,units\n" + away), wanted)
 
     def test_dates(self) -> None:
-        """By hand, from Monday 2 March on: away on Thursday and Friday is from 3 to 5, and a second crew comes on the 9th, so a and b
-        run one after the other until 6, and c from then on."""
+        """By hand, from Monday 2 March on: away on Thursday and Friday is from 3 to 5, and a second crew comes on the 9th, so
+        a and b run one after the other until 6, and c from then on."""
         words = ("--from", "2026-03-02", "--workdays", "mon-fri")
         self.assertEqual(self.solved(TABLE, "resource,from,to\ncrane,2026-03-05,08.03.2026\n", *words), "optimal 11")
         table = "activity,days,crew (2)\na,3,1\nb,3,1\nc,3,2\n"
-        self.assertEqual(self.solved(table, "resource,from,to,units,notes\ncrew,,2026-03-06,1,the second crew\n", *words), "optimal 9")
+        self.assertEqual(self.solved(table, "resource,from,to,units,notes\ncrew,,2026-03-06,1,the second crew\n", *words),
+                         "optimal 9")
 
     def test_all_starts(self) -> None:
         """The same as by trying all starts, for the makespan and for the lateness."""
@@ -80,7 +81,8 @@ class Absences(InFolder):
         self.file("p.csv", TABLE)
         for text, told in (("crain,1,2,\n", "row 2, column A (resource): no resource 'crain'; did you mean 'crane'?"),
                            ("crane,5,2,\n", "column C (to): '2' is before '5'"), ("crane,1,2,2\n", "2 of crane can't be away"),
-                           ("crane,1,5,\ncrane,4,6,\n", "row 3, column A (resource): with the rows above 2 of crane are away at 4"),
+                           ("crane,1,5,\ncrane,4,6,\n",
+                            "row 3, column A (resource): with the rows above 2 of crane are away at 4"),
                            ("crane,soon,2,\n", "column B (from): 'soon': not a date"), ("crane,1,2,x\n", "column D (units)")):
             with self.subTest(text):
                 away = self.file("away.csv", "resource,from,to,units\n" + text)

@@ -42,17 +42,19 @@ class Answers(InFolder):
         """The period and the date of a row say the same, or the row is told."""
         text = plan("write", self.table, self.file("a.csv", "name,start\nlift,0\nbolt,3\ndone,5\n")).stdout
         self.assertEqual(self.checked(text), "feasible 5\n")
-        self.fault(text.replace("3,2,5,2026-03-11", "3,2,5,2026-03-10"), "a.csv: row 3, column C (start): 3 is 2026-03-11, and its "
+        self.fault(text.replace("3,2,5,2026-03-11", "3,2,5,2026-03-10"),
+                   "a.csv: row 3, column C (start): 3 is 2026-03-11, and its "
                    "date says 2026-03-10; correct one of them")
         self.fault(text.replace("bolt,3", "bolt,4"), "row 3, column C (start): 4 is 2026-03-12, and its date says 2026-03-11")
         self.assertEqual(self.checked(text.replace("bolt,3,", "bolt,,")), "feasible 5\n")
 
     def test_dates_that_can_not_be(self) -> None:
-        for date, told in (("2026-03-07", "no period of work begins at 2026-03-07"), ("soon", "neither a whole number nor a date"),
+        for date, told in (("2026-03-07", "no period of work begins at 2026-03-07"),
+                           ("soon", "neither a whole number nor a date"),
                            ("3/6/2026", "the day or the month may stand first"), ("2026-02-30", "there is no such date"),
                            ("2026-03-05", "no period of work begins at"), ("Mon 2026-03-06", "that day is a Friday")):
             with self.subTest(date):
-                self.fault(f"name,start\nlift,{date}\nbolt,3\ndone,5\n", f"a.csv: row 2, column B (start)", told)
+                self.fault(f"name,start\nlift,{date}\nbolt,3\ndone,5\n", "a.csv: row 2, column B (start)", told)
         plain = self.file("plain.csv", TABLE.partition("workdays,mon-fri\n")[2])
         answer = self.file("a.csv", "name,start\nlift,2026-03-06\nbolt,3\ndone,5\n")
         self.refused(plan("check", plain, answer), 2, "'2026-03-06' is a date, and nothing says when the project begins")

@@ -1,8 +1,8 @@
 """Lags in calendar days, which go on over days off."""
 from .helpers import InFolder, plan
 
-# By hand, Monday to Friday: what ends on a Friday evening has waited for three days on Monday evening, so Tuesday it is, one day of
-# work later. From Monday evening on, Tuesday to Thursday are three days of work.
+# By hand, Monday to Friday: what ends on a Friday evening has waited for three days on Monday evening, so Tuesday it is, one
+# day of work later. From Monday evening on, Tuesday to Thursday are three days of work.
 HEADS = "activity,days,after,at least,at most\n"
 WEEK = ("--from", "2026-03-02", "--workdays", "mon-fri")
 
@@ -18,7 +18,8 @@ class CalendarDays(InFolder):
         one of them, since the first activity stays on the Friday."""
         first, told = self.solved("pour,5,,,\nstrip,1,pour,3 cd,\n", *WEEK)
         self.assertEqual(first, "optimal 9")
-        self.assertIn("row 3: 'strip' starts at least 3 calendar days after 'pour': 3 periods of work keep that from any day on, and "
+        self.assertIn("row 3: 'strip' starts at least 3 calendar days after 'pour': 3 periods of work keep that from any day "
+                      "on, and "
                       "on some days 1 would do, so it may cost 2\n", told)
         self.assertIn("row 3: with 'pour' where it is, 1 periods of work keep the 3 calendar days, in place of 3\n", told)
         self.assertIn("one more run with these gives optimal 7, 2 less; to have it, write these numbers", told)
@@ -27,21 +28,24 @@ class CalendarDays(InFolder):
         """By hand: seven days are five of work from any day on; without days off, and from the start of pouring."""
         for rows, words, wanted in (
             ("pour,1,,,\nstrip,1,pour,7 cd,\n", WEEK, "optimal 7"), ("pour,1,,,\nstrip,1,pour,3 cd,\n", WEEK[:2], "optimal 5"),
-            ("pour,1,,,\nstrip,1,start of pour,3 cd,\n", WEEK, "optimal 4"), ("pour,0,,,\nstrip,1,pour,3 cd,\n", WEEK, "optimal 4"),
+            ("pour,1,,,\nstrip,1,start of pour,3 cd,\n", WEEK, "optimal 4"),
+            ("pour,0,,,\nstrip,1,pour,3 cd,\n", WEEK, "optimal 4"),
             ("pour,1,,,\nstrip,1,pour,,3 cd\nwait,4,,,\n", WEEK, "optimal 4"),
         ):
             with self.subTest(rows=rows, words=words):
                 self.assertEqual(self.solved(rows, *words)[0], wanted)
 
     def test_at_most(self) -> None:
-        """By hand: at most 3 calendar days after a Friday evening is Tuesday, one day of work later at most, so that is planned."""
+        """By hand: at most 3 calendar days after a Friday evening is Tuesday, one day of work later at most, so that is
+        planned."""
         for least, told in ((1, "optimal 3"), (2, "no schedule")):
             self.assertEqual(self.solved(f"pour,1,,,\nstrip,1,pour,{least},3 cd\n", *WEEK)[0], told)
 
     def test_holidays(self) -> None:
-        """By hand: from Thursday 2 April 2026 on, the days to the 6th are off. Of at most 5 calendar days only one is work there, and
-        of at least 5 calendar days four are from a Monday on."""
-        words = ("--from", "2026-04-02", "--workdays", "mon-fri", "--holidays", self.file("free.txt", "2026-04-03\n2026-04-06\n"))
+        """By hand: from Thursday 2 April 2026 on, the days to the 6th are off. Of at most 5 calendar days only one is work
+        there, and of at least 5 calendar days four are from a Monday on."""
+        words = ("--from", "2026-04-02", "--workdays", "mon-fri", "--holidays",
+                 self.file("free.txt", "2026-04-03\n2026-04-06\n"))
         self.assertEqual(self.solved("pour,1,,,\nstrip,1,pour,1,5 cd\n", *words)[0], "optimal 3")
         self.assertEqual(self.solved("pour,1,,,\nstrip,1,pour,2,5 cd\n", *words)[0], "no schedule")
         self.assertEqual(self.solved("pour,1,,,\nstrip,1,pour,5 cd,\n", *words)[0], "optimal 6")

@@ -1,4 +1,6 @@
 """Dates and periods are those of the table, on the working days of the calendar."""
+import unittest
+import zoneinfo
 from xml.etree import ElementTree
 
 from .helpers import EXAMPLES, INPUTS, InFolder, Ran, plan
@@ -34,6 +36,17 @@ class Dates(InFolder):
             with self.subTest(unit=unit, words=words):
                 self.read(unit)
                 self.assertEqual(self.written(*words)[1 : 1 + len(wanted)], wanted)
+
+    @unittest.skipUnless("Europe/Berlin" in zoneinfo.available_timezones(), "no time zones here")
+    def test_a_time_zone(self) -> None:
+        """By hand: in Berlin clocks go forward at 02:00 on 29 March 2026, and back at 03:00 on 25 October: three hours from
+        midnight on end at 04:00 and at 02:00. Without a zone they end at 03:00."""
+        self.read("hours")
+        for day, zone, end in (("2026-03-29", ("--zone", "Europe/Berlin"), "04:00"), ("2026-03-29", (), "03:00"),
+                               ("2026-10-25", ("--zone", "Europe/Berlin"), "02:00"), ("2026-10-24", (), "03:00")):
+            with self.subTest(day=day, zone=zone):
+                self.assertEqual(self.written("--from", day, *zone)[1], [f"{day} 00:00", f"{day} {end}"])
+        self.refused(self.ran("write", "--from", "2026-03-29", "--zone", "Mars/Base"), 2, "zone Mars/Base: no time zone")
 
     def test_a_period_that_is_said_once(self) -> None:
         self.read("periods", "--from", "2026-03-02T06:00", "--period", "hours")
@@ -98,7 +111,8 @@ class Dates(InFolder):
         self.assertEqual(plan("read", self.folder / "p.csv").returncode, 0)
         self.file("p.st", STARTS)
         out = self.folder / "out.csv"
-        for words, begin in ((["--excel"], "activity;name;start;takes;end"), (["--excel", "--separator", "tab"], "activity\tname"),
+        for words, begin in ((["--excel"], "activity;name;start;takes;end"),
+                             (["--excel", "--separator", "tab"], "activity\tname"),
                              (["--excel", "--separator", "comma"], "activity,name")):
             with self.subTest(words):
                 self.assertEqual(self.ran("write", *words, "--out", out).returncode, 0)

@@ -3,8 +3,8 @@ import json
 
 from .helpers import InFolder, plan
 
-# By hand: one machine. c, due by 2, goes first and ends at 2; then a, due by 5, at 5; then b, due by 6, at 9: 3 late. Any other order
-# is later: b before a leaves a at 9, 4 late. For the makespan of 9 any order will do.
+# By hand: one machine. c, due by 2, goes first and ends at 2; then a, due by 5, at 5; then b, due by 6, at 9: 3 late. Any
+# other order is later: b before a leaves a at 9, 4 late. For the makespan of 9 any order will do.
 TABLE = "activity,days,machine (1),due\na,3,1,5\nb,4,1,6\nc,2,1,2\nd,1,,\n"
 
 
@@ -53,7 +53,8 @@ class Due(InFolder):
         self.assertEqual(ran.stdout.splitlines()[:2],
                          ["As it is: optimal lateness 3.", "  optimal lateness 0: one more of machine, of which there is 1"])
         told = plan("why", self.table, *self.late, "--within", 2).stdout
-        self.assertIn("There is no schedule with a lateness of 2 or less.\nThis is impossible, by a proof of psprove; without it "
+        self.assertIn("There is no schedule with a lateness of 2 or less.\nThis is impossible, by a proof of psprove; "
+                      "without it "
                       "there is a schedule:\n  machine, of which there is 1\n", told)
         told = plan("why", self.table, *self.late, "--within", -1).stdout
         self.assertIn("3 (c) is due by 2", told)

@@ -7,7 +7,8 @@ HEADS = "activity,days,after,at least,not before,end by\n"
 # By hand, from Monday 2 March 2026 on, Mo-Fr: the dates, what a cell has, and when a job of two days starts.
 MONDAY = ("--from", "02.03.2026", "--workdays", "Mo-Fr")
 DATED = (
-    (",,2026-03-05,", 3), (",,05.03.2026,", 3), (",,5.3.26,", 3), (",,Thu 5.3.26,", 3), (",,13/3/2026,", 9), (",,3/13/2026,", 9),
+    (",,2026-03-05,", 3), (",,05.03.2026,", 3), (",,5.3.26,", 3), (",,Thu 5.3.26,", 3), (",,13/3/2026,", 9),
+    (",,3/13/2026,", 9),
     (",,2026-03-07,", 5),  # a Saturday: the Monday after
     (",,2026-02-20,", 0), (",,4,", 4), (",,2026-03-05 06:00,", 4),  # Thursday has begun by then
     ("2026-03-05,,,", 3), ("2026-03-05,2,,", 5), ("05.03.2026,1,,", 4),
@@ -55,7 +56,8 @@ class Dates(InFolder):
                             (",,soon,", "'soon': not a date such as"), (",,2026-02-30,", "there is no such date"),
                             (",,,31.4.2026", "there is no such date"), (",,Tue 5.3.26,", "that day is a Thursday")):
             with self.subTest(cells):
-                self.refused(plan("solve", self.file("p.csv", f"{HEADS}job,2,{cells}\n"), *MONDAY), 2, "p.csv: row 2, column", told)
+                self.refused(plan("solve", self.file("p.csv", f"{HEADS}job,2,{cells}\n"), *MONDAY), 2, "p.csv: row 2, column",
+                             told)
         table = self.file("p.csv", f"{HEADS}job,2,,,2026-03-05,\n")
         self.refused(plan("solve", table), 2, "row 2, column E (not before): '2026-03-05': a date needs --from")
 
@@ -82,11 +84,12 @@ class Lengths(InFolder):
         shift = ("--from", "2026-03-02", "--workdays", "mon-fri", "--shift", "07:00-12:00,13:00-16:00")
         days = "a period is one of"
         for rows, words, wanted, said in (
-            ("a,2 d\n", (), "2", ""), ("a,3\n", (), "3", ""), ("a,1 w\n", ("--from", "2026-03-02", "--workdays", "mon-fri"), "5", ""),
+            ("a,2 d\n", (), "2", ""), ("a,3\n", (), "3", ""), ("a,1 w\n", shift[:4], "5", ""),
             ("a,1 week\n", (), "7", ""), ("a,2 Tage\n", (), "2", ""), ("a,2 days?\n", (), "2", ""),
             ("a,\"1,5 d\"\n", shift, "12", f"{days} hours"), ("a,1.5\n", shift, "12", f"{days} hours"),
             ("a,4 h\n", shift, "4", f"{days} hours"), ("a,2.5 h\n", shift, "5", f"{days} 30 minutes"),
-            ("a,40 min\n", shift, "2", f"{days} 20 minutes"), ("a,2 d\n", shift, "2", ""), ("a,0.5 w\n", shift, "20", f"{days} hours"),
+            ("a,40 min\n", shift, "2", f"{days} 20 minutes"), ("a,2 d\n", shift, "2", ""),
+            ("a,0.5 w\n", shift, "20", f"{days} hours"),
         ):
             with self.subTest(rows=rows, words=words):
                 found, told = self.told("activity,days", rows, *words)

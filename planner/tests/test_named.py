@@ -65,7 +65,7 @@ class Named(InFolder):
         for answer in self.answers:
             for command in (("write",), ("solve", "--start")):
                 ran = plan(command[0], self.project, *command[1:], answer)
-                self.refused(ran, 2, "1 (close) must start at least 0 after 2 (mend) ends, and starts 2 before it does",
+                self.refused(ran, 2, "1 (close) must start no sooner than 2 (mend) ends, and starts 2 before it does",
                              "at 7, 2 units of pit are in use, of which there is 1: 1 (close), 2 (mend)", faults=2)
 
     def test_a_name_twice(self) -> None:
@@ -101,7 +101,8 @@ class Named(InFolder):
                          {"names": ["strip", "mend", "close"], "durations": [3, 4, 2]})
 
     def test_faults_of_tables(self) -> None:
-        for text, fault in (("activity,name,start\n1,strip,x\n", "row 2, column C (start): 'x' is neither a whole number nor a date"),
+        for text, fault in (("activity,name,start\n1,strip,x\n",
+                             "row 2, column C (start): 'x' is neither a whole number nor a date"),
                             ("activity,name,start\n1,strip,0\n1,mend,3\n", "row 3: a second start of activity 1"),
                             ("activity,start\nstrip,\n", "row 2, column B (start): a whole number or a date is missing"),
                             ('optimal 9 {"names": 3}\n0 0\n', "line 1: what it says of the activities can't be read")):

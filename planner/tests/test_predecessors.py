@@ -1,11 +1,12 @@
 """Tables as planning tools write them: numbers, predecessors, summary rows, titles."""
 from .helpers import InFolder, plan, psmax
 
-# By hand, as lags from start to start. 12FS+2: the end of 12, which takes 5, and 2 more. 14SS: its start. 9FF-1 d: 9 takes 3 and this one
-# 4, so it starts at least 3 - 1 - 4 = -2 after it. 3SF: it ends at the earliest when 3 starts, so 4 before at the earliest.
-LINKS = (("12FS+2", "12", 7), ("12", "12", 5), ("12FS", "12", 5), ("12FS-1", "12", 4), ("12 FS + 1 d", "12", 6), ("14SS", "14", 0),
-         ("14SS+3", "14", 3), ("9FF-1 d", "9", -2), ("9FF", "9", -1), ("3SF", "3", -4), ("3SF+6 days", "3", 2), ("12EA+2 Tage", "12", 7),
-         ("14aa", "14", 0), ("12FS+1 w", "12", 12))
+# By hand, as lags from start to start. 12FS+2: the end of 12, which takes 5, and 2 more. 14SS: its start. 9FF-1 d: 9 takes 3
+# and this one 4, so it starts at least 3 - 1 - 4 = -2 after it. 3SF: it ends at the earliest when 3 starts, so 4 before at
+# the earliest.
+LINKS = (("12FS+2", "12", 7), ("12", "12", 5), ("12FS", "12", 5), ("12FS-1", "12", 4), ("12 FS + 1 d", "12", 6),
+         ("14SS", "14", 0), ("14SS+3", "14", 3), ("9FF-1 d", "9", -2), ("9FF", "9", -1), ("3SF", "3", -4),
+         ("3SF+6 days", "3", 2), ("12EA+2 Tage", "12", 7), ("14aa", "14", 0), ("12FS+1 w", "12", 12))
 HEADS = "ID,Task Name,Duration,Predecessors\n"
 OTHERS = "12,dig,5 d,\n14,drain,2 d,\n9,shore,3 d,\n3,fence,1 d,\n"
 NUMBER = {"12": 1, "14": 2, "9": 3, "3": 4}
@@ -34,8 +35,10 @@ class Predecessors(InFolder):
                 self.assertEqual(self.arcs(cell), [(1, 7), (2, 0), (3, -2)])
 
     def test_faults(self) -> None:
-        for cell, told in (("13", "'13': no activity 13"), ("20", "can't come after itself"), ("12FS+50%", "'+50%' is not a number"),
-                           ("12XX", "no activity 12XX"), ("12FS+1,5", "the comma may stand in a number or between two predecessors"),
+        for cell, told in (("13", "'13': no activity 13"), ("20", "can't come after itself"),
+                           ("12FS+50%", "'+50%' is not a number"),
+                           ("12XX", "no activity 12XX"),
+                           ("12FS+1,5", "the comma may stand in a number or between two predecessors"),
                            ("dig", "'dig': no activity dig"), ("12FF+1 cd", "calendar days are for lags to a start")):
             with self.subTest(cell):
                 table = self.file("p.csv", f'{HEADS}{OTHERS}20,pour,4 d,"{cell}"\n')
@@ -92,8 +95,10 @@ WBS;ID;Task Name;Duration;Predecessors
         self.assertTrue(psmax("earliest", given=(self.folder / "q.sch").read_bytes()).startswith("earliest 9\n"))
 
     def test_lags_of_a_group(self) -> None:
-        for old, new, told in (("5;Columns;4 d;3", "5;Columns;4 d;1", "row 8, column E (Predecessors): 1 is the group 'Earthworks', which"),
-                               ("4;Frame;4 d;", "4;Frame;4 d;3", "row 7, column E (Predecessors): a group has no lags, dates or")):
+        for old, new, told in (("5;Columns;4 d;3", "5;Columns;4 d;1",
+                                "row 8, column E (Predecessors): 1 is the group 'Earthworks', which"),
+                               ("4;Frame;4 d;", "4;Frame;4 d;3",
+                                "row 7, column E (Predecessors): a group has no lags, dates or")):
             with self.subTest(new):
                 self.refused(plan("solve", self.file("p.csv", self.TABLE.replace(old, new))), 2, told)
 
@@ -102,7 +107,8 @@ class Names(InFolder):
     HEADS = "activity,days,after\n"
 
     def test_did_you_mean(self) -> None:
-        for after, told in (("excavate", "no activity 'excavate'; did you mean 'Excavate'?"), ("Exavate", "did you mean 'Excavate'?"),
+        for after, told in (("excavate", "no activity 'excavate'; did you mean 'Excavate'?"),
+                            ("Exavate", "did you mean 'Excavate'?"),
                             ("start of EXCAVATE", "no activity 'EXCAVATE'; did you mean 'Excavate'?")):
             with self.subTest(after):
                 table = self.file("p.csv", f"{self.HEADS}Excavate,1,\nb,1,{after}\n")
@@ -115,4 +121,5 @@ class Names(InFolder):
         answer = self.folder / "a.csv"
         self.assertEqual(plan("solve", table, "--out", answer).stdout, "optimal 6\n")
         self.assertIn("1,wash; rinse,0,2,2\n", answer.read_text())
-        self.refused(plan("solve", self.file("q.csv", self.HEADS + '"wash; rinse",2,\ndry,3,wash; rinse\n')), 2, "no activity 'wash'")
+        self.refused(plan("solve", self.file("q.csv", self.HEADS + '"wash; rinse",2,\ndry,3,wash; rinse\n')), 2,
+                     "no activity 'wash'")

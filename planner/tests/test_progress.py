@@ -34,7 +34,8 @@ class Progress(InFolder):
         self.assertIn("old.csv, repaired", self.told)
 
     def test_done(self) -> None:
-        """Shares of the duration: of the roof a half is left on day 7, which is two days, and a third of 4 is rounded up to 3."""
+        """Shares of the duration: of the roof a half is left on day 7, which is two days, and a third of 4 is rounded up to
+        3."""
         for share, roof in (("50 %", "5+4"), ("25", "5+5"), ('"33,3 %"', "5+5"), ("0", "5+6")):
             with self.subTest(share):
                 _, found = self.solved((0, "100%", 3, "100 %", 5, share, "", "0 %"), 7, heads="started,done")
@@ -69,24 +70,32 @@ class Progress(InFolder):
         words = (self.folder / "p.csv", "--status", 5)
         self.assertNotIn("starts", plan("whatif", *words).stdout.partition("None of")[0])
         self.assertIn("and has one that long", plan("verify", *words, self.folder / "rec").stdout)
+        lines = plan("float", *words, self.folder / "new.csv", "--total").stdout.splitlines()
+        self.assertEqual([line.split()[4] for line in lines[1:]], ["started", "started", "0", "0"])
+        self.assertEqual([line.endswith("critical") for line in lines[1:]], [False, False, True, True])
         ran = plan("check", *words, self.file("a.csv", "name,start\nlift,0\nbolt,3\nroof,4\ncover,9\n"))
         self.assertEqual((ran.returncode, ran.stdout), (4, "3 (roof) must start at 5 or later, and starts at 4\n"
-                                                           "3 (roof) must start no sooner than 2 (bolt) ends, and starts 2 before it "
+                                                           "3 (roof) must start no sooner than 2 (bolt) ends, and starts 2 "
+                                                           "before it "
                                                            "does\n"))
 
     def test_faults(self) -> None:
-        for cells, status, told in (((0, 0, 7, "", "", "", "", ""), 6, "row 3, column E (started): '7' is behind the status date"),
-                                    ((0, 0, 1, "", "", "", "", ""), 6, "row 3, column E (started): it has started, and would have"),
+        for cells, status, told in (((0, 0, 7, "", "", "", "", ""), 6,
+                                     "row 3, column E (started): '7' is behind the status date"),
+                                    ((0, 0, 1, "", "", "", "", ""), 6,
+                                     "row 3, column E (started): it has started, and would have"),
                                     ((0, 0, "", 1, "", "", "", ""), 6, "row 3, column F (remaining): what has no start")):
             with self.subTest(told):
                 table = self.file("p.csv", TABLE.format(*cells))
                 self.refused(plan("solve", table, "--status", status), 2, told)
         self.refused(plan("solve", table), 2, "needs --status", faults=len(plan("solve", table).stderr.splitlines()))
         table = self.file("p.csv", TABLE.format(0, 3, "", "", 1, 3, "", ""))
-        self.refused(plan("solve", table, "--status", 2), 2, "has started, but at 1, 2 units of crane are in use, of which there is 1")
+        self.refused(plan("solve", table, "--status", 2), 2,
+                     "has started, but at 1, 2 units of crane are in use, of which there is 1")
         done = self.file("d.csv", TABLE.replace("started,remaining", "started,done").format(0, "0.5", *("",) * 6))
         self.refused(plan("solve", done, "--status", 2), 2, "'0.5' may be a share of 1 or of 100; write it with %")
         old = self.file("old.csv", OLD)
         self.refused(plan("solve", done, "--status", 2, "--start", old, "--frozen", 2), 2, "0.5")
         table = self.file("p.csv", TABLE.format(*("",) * 8))
-        self.refused(plan("solve", table, "--status", 2, "--start", old, "--frozen", 2), 2, "--frozen is for tables without a status")
+        self.refused(plan("solve", table, "--status", 2, "--start", old, "--frozen", 2), 2,
+                     "--frozen is for tables without a status")

@@ -45,7 +45,8 @@ class Replanning(InFolder):
         ran = self.replanned(4)
         self.assertEqual((ran.returncode, ran.stdout), (0, "optimal 13\n"), ran.stderr)
         self.assertIn("2 of 4 activities start before 4 in", ran.stderr)
-        self.assertIn("old.csv: 3 (lift roof) must start no sooner than 2 (bolt beams) ends, and starts 2 before it does", ran.stderr)
+        self.assertIn("old.csv: 3 (lift roof) must start no sooner than 2 (bolt beams) ends, and starts 2 before it does",
+                      ran.stderr)
         self.assertIn("old.csv, repaired", ran.stderr)
         self.assertEqual(self.starts(self.new), {"lift beams": 0, "bolt beams": 3, "lift roof": 7, "cover roof": 11})
 
@@ -83,9 +84,11 @@ class Replanning(InFolder):
     def test_a_contradiction_in_what_has_started(self) -> None:
         """What has started can't be moved, so what no longer fits there is told by name."""
         self.read(TABLE.replace("lift beams,,0", "lift beams,1,2"))
-        self.refused(self.replanned(4), 2, "has started, but 2 (bolt beams) must start at least 1 after 1 (lift beams) ends, and starts 0 after")
+        self.refused(self.replanned(4), 2,
+                     "has started, but 2 (bolt beams) must start at least 1 after 1 (lift beams) ends, and starts 0 after")
         self.read(TABLE.replace("bolt beams,2,", "bolt beams,2,1").replace("lift beams,3", "lift beams,5"))
-        self.refused(self.replanned(4), 2, "2 (bolt beams) must start no sooner than 1 (lift beams) ends", "2 units of crane are in use", faults=2)
+        self.refused(self.replanned(4), 2, "2 (bolt beams) must start no sooner than 1 (lift beams) ends",
+                     "2 units of crane are in use", faults=2)
 
     def test_what_keeps_the_rest_from_starting(self) -> None:
         """By hand: bolting is due on day 3, and on day 5 it has not started."""

@@ -1,4 +1,5 @@
-"""Every command takes the table itself, which is read anew each time. A project text that is older than its table is refused."""
+"""Every command takes the table itself, which is read anew each time. A project text that is older than its table is
+refused."""
 import pathlib
 
 from .helpers import InFolder, plan
@@ -21,7 +22,8 @@ class Table(InFolder):
     def test_each_command_takes_it(self) -> None:
         """And none writes a project text or a page that nobody asked for."""
         record, page = self.folder / "plan.rec", self.folder / "page.html"
-        for words, told in ((("solve", self.table, "--record", record), "optimal 7\n"), (("check", self.table, self.answer), "7"),
+        for words, told in ((("solve", self.table, "--record", record), "optimal 7\n"),
+                            (("check", self.table, self.answer), "7"),
                             (("verify", self.table, record), "has one that long"), (("write", self.table, self.answer), "roof"),
                             (("gantt", self.table, self.answer), "####"), (("float", self.table, self.answer), "free"),
                             (("report", self.table, self.answer, "--out", page), ""),

@@ -7,8 +7,8 @@ from unittest import mock
 from .brute import NAMES, small
 from .helpers import INPUTS, TOP, InFolder, plan, psmax
 
-# By hand: one crane, on which a (3) and b (4) take 7, and c (2) runs alone. Each of a and b may come second, so a can start at 4
-# and b at 3, and none is critical, though neither can move while the other stays. c can start at 5.
+# By hand: one crane, on which a (3) and b (4) take 7, and c (2) runs alone. Each of a and b may come second, so a can start
+# at 4 and b at 3, and none is critical, though neither can move while the other stays. c can start at 5.
 TABLE = "activity,days,crane (1)\na,3,1\nb,4,1\nc,2,\n"
 
 

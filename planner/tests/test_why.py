@@ -19,7 +19,8 @@ class Why(InFolder):
     def test_positive_cycle(self) -> None:
         """By hand: 2 at least 5 after 1, and at most 4 after it: 5 - 4 is 1 too much. Without the second there is one
         of 9: 1 from 0 to 3, 2 from 5 to 9."""
-        self.told(INPUTS / "two-jobs-positive-cycle.sch", "There is no schedule.", f"{ALONE}  2 starts at most 1 after 1 ends\n",
+        self.told(INPUTS / "two-jobs-positive-cycle.sch", "There is no schedule.",
+                  f"{ALONE}  2 starts at most 1 after 1 ends\n",
                   "2 starts at least 2 after 1 ends", "Together they ask for 1 period more than there is.",
                   "Allow 2 to start 1 period later, or let 2 start 1 period sooner after 1.",
                   "a schedule of 9: 2 starts at most 1 after 1 ends")
