@@ -1,4 +1,6 @@
 """Tables of absences: which units of a resource are away from when until when."""
+from dataclasses import replace
+
 from .cells import Faults, fault_at
 from .columns import HEADS, Column, Columns
 from .csv_text import cell, read_sheet
@@ -28,7 +30,7 @@ def read_absences(path: str, project: Project, names: Names, terms: Terms) -> li
                                "units and notes")
     columns = Columns(sheet.heads)
     for number, cells in sheet.numbered():
-        row = Row(Terms(path, columns, terms.scale, terms.calendar, terms.order, terms.own), number, cells)
+        row = Row(replace(terms, file=path, columns=columns), number, cells)
         with faults.kept():
             one = read_absence(row, {head: cell(cells, place) for head, place in places.items()}, places, project, names)
             found += [one] if one.ends is None or one.begins < one.ends else []

@@ -12,6 +12,7 @@ from .given import read_answer
 from .opened import ProjectFile
 from .psmax import Psmax
 from .psprove import Psprove
+from .replan import Start, begin_with
 from .total import TotalFloat, total_float
 from .window import Window, windows
 from .write import Sheet, rows
@@ -26,6 +27,7 @@ class Total:
 
     seconds: int
     jobs: int
+    start: Start
 
 
 def table(opened: ProjectFile, answer: Answer, found: dict[int, Window], total: TotalFloat | None) -> list[list[object]]:
@@ -74,7 +76,9 @@ def width(head: str, opened: ProjectFile) -> int:
 
 
 def floats(opened: ProjectFile, given: str | None, sheet: Sheet, chart: Chart, wanted: Total | None) -> int:
-    guard([sheet.out if wanted is None else None, chart.svg], opened.inputs() | {"the answer": given or STANDARD_INPUT})
+    start = wanted.start if wanted is not None else Start(None, None)
+    inputs = opened.inputs() | start.inputs() | {"the answer": given or STANDARD_INPUT}
+    guard([sheet.out if wanted is None else None, chart.svg], inputs)
     chart.must_fit()
     must_be_empty(sheet.out if wanted is not None else None)
     psmax = Psmax(Clock(), opened.path)
@@ -84,7 +88,7 @@ def floats(opened: ProjectFile, given: str | None, sheet: Sheet, chart: Chart, w
     if wanted is not None:
         clock = Clock(wanted.seconds)
         clock.listen()
-        total = total_float(opened, known.starts, Psprove(clock, opened.path), wanted.jobs)
+        total = total_float(begin_with(opened, start), known.starts, Psprove(clock, opened.path), wanted.jobs)
     if sheet.out is not None and total is not None:
         os.makedirs(sheet.out, exist_ok=True)
         total.write(sheet.out)

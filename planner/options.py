@@ -174,10 +174,11 @@ def add_float(one: argparse.ArgumentParser) -> None:
     one.add_argument("--chart", action="store_true", help="draw a chart instead of a table")
     one.add_argument("--total", action="store_true",
                      help="prove the latest start in any schedule that is no longer; --out is then a new folder, for records")
+    add_start(one)
     add_limits(one)
     one.set_defaults(run=lambda o: floats.floats(
         opened(o), o.answer, table(o), gantt.Chart(o.svg, o.width, o.chart or o.svg is not None),
-        floats.Total(o.seconds, o.jobs) if o.total else None))
+        floats.Total(o.seconds, o.jobs, start(o)) if o.total else None))
 
 
 def add_chart(one: argparse.ArgumentParser) -> None:
@@ -285,37 +286,38 @@ COMMANDS = (
     ("solve", add_solve, "find a shortest schedule, with a proof",
      """Reads a project. Searches until it has proved a shortest schedule, or until a
 limit. Prints the answer on standard output, and its progress on standard error.""",
-     "site.sch --seconds 600 --out plan.csv --record plan.rec"),
-    ("read", add_read, "make a project from a table in CSV, or clean a PSPLIB file",
-     "Reads a table or a .sch file. Writes a project, and a page with its names.",
-     "site.csv --from 2026-03-02 --workdays mon-fri"),
+     "site.csv --seconds 600 --out plan.csv --record plan.rec"),
+    ("verify", add_verify, "say what a record proves of a project",
+     "Reads a project and a record. Prints what it proves, or its first wrong line.", "site.csv plan.rec"),
     ("write", add_write, "write a schedule as a table in CSV",
-     "Reads a project and an answer. Writes a row for each activity, with its dates.", "site.sch plan.csv"),
+     "Reads a project and an answer. Writes a row for each activity, with its dates.", "site.csv plan.csv"),
     ("gantt", add_gantt, "draw a schedule as a chart",
-     "Reads a project and an answer. Draws a chart, with every violation.", "site.sch plan.csv --svg site.svg"),
+     "Reads a project and an answer. Draws a chart, with every violation.", "site.csv plan.csv --svg site.svg"),
     ("float", add_float, "show when each activity may start, and which are critical",
      """Reads a project and an answer. Prints the earliest and the latest start of each
-activity while the others stay as they are.""", "site.sch plan.csv"),
+activity while the others stay; with --total the latest start in any schedule that
+is no longer, proved.""", "site.csv plan.csv --total"),
+    ("compare", add_compare, "show what moved from one schedule to another",
+     "Reads a project and two answers. Prints what moved, what is new and what is gone.", "site.csv old.csv new.csv --why"),
     ("report", add_report, "write a schedule as a page of HTML, with what is proved",
      """Reads a project and an answer. Writes one page with a chart, lags, resources and
-float.""",
-     "site.sch plan.csv --record plan.rec --out site.html"),
-    ("compare", add_compare, "show what moved from one schedule to another",
-     "Reads two answers. Prints what moved, what is new and what is gone.", "old.csv new.csv --names site.md"),
-    ("verify", add_verify, "say what a record proves of a project",
-     "Reads a project and a record. Prints what it proves, or its first wrong line.", "site.sch plan.rec"),
+floats, which prints on paper.""", "site.csv plan.csv --record plan.rec --out site.html"),
     ("check", add_check, "check a schedule, and list its violations",
-     "Reads a project and an answer. Prints 'feasible C', or each violation by name.", "site.sch plan.csv"),
+     "Reads a project and an answer. Prints 'feasible C', or each violation by name.", "site.csv plan.csv"),
     ("why", add_why, "explain why a project has no schedule",
-     """Reads a project. Prints a smallest set of maximum lags and resources that
-contradict each other, and which maximum lag would open a schedule.""", "site.sch --within 30"),
-    ("whatif", add_whatif, "show which resource or maximum lag would give a shorter schedule",
-     """Reads a project. Prints the makespan with one unit more of each resource, and
-with each maximum lag longer by one period or dropped. The shortest comes first.""", "site.sch --seconds 60"),
+     """Reads a project. Prints a smallest set of maximum lags, resources and absences
+that are impossible together, and which maximum lag would open a schedule.""", "site.csv --within 30"),
+    ("whatif", add_whatif, "show which resource, absence or maximum lag would give a shorter schedule",
+     """Reads a project. Prints the makespan with one unit more of each resource, without
+each absence, and with each maximum lag longer by one period or dropped. The shortest
+comes first.""", "site.csv --seconds 60"),
+    ("read", add_read, "make a project text from a table in CSV, or clean a PSPLIB file",
+     "Reads a table or a .sch file. Writes a project text, and a page with its names.", "site.csv"),
     ("where", add_where, "locate the fault in a project text",
      """Reads a project text. Prints the line and column of its fault, and what should
 stand there.""", "site.sch"),
     ("batch", add_batch, "search all projects of a folder, and make a table",
-     """Reads the .sch files of a folder. Writes a row for each project once it is known.
-The same command continues a batch that was cut off.""", "projects --seconds 20 --csv all.csv"),
+     """Reads the .sch files of a folder, and its tables that have none. Writes a row for each
+project once it is known. The same command continues a batch that was cut off.""",
+     "projects --seconds 20 --csv all.csv"),
 )

@@ -32,6 +32,7 @@ class Beginning:
     schedules: list[tuple[tuple[int, ...], str]] = field(default_factory=list)  # each with what it is called
     repairs: list[Project] = field(default_factory=list)  # it with more lags, of which a schedule is like an old one
     frozen: tuple[Arc, ...] = ()  # that keep what has started, and the rest from starting before that
+    started: frozenset[int] = frozenset()
     told: list[str] = field(default_factory=list)
 
     def must_keep(self, there: Answer, path: str) -> None:
@@ -51,7 +52,7 @@ def begin_with(opened: ProjectFile, start: Start) -> Beginning:
         raise BadInput("--frozen is for tables without a status date: this one says itself what has started")
     must_be_possible(opened, opened.path, progress.started)
     if start.answer is None:
-        return Beginning(opened.project)
+        return Beginning(opened.project, started=frozenset(progress.started))
     given = read_answer(start.answer).must_have_starts()
     if start.frozen is None and progress.now is None:
         known = feasible(opened, given, Psmax(Clock(), opened.path))
@@ -91,7 +92,7 @@ def from_old(opened: ProjectFile, given: Given, tied: Tied, progress: Progress, 
         schedules += [] if broken else [(starts, given.called)]
     for circle in circles(limited, psmax):
         told += in_words(circle, words)
-    return Beginning(limited, schedules, repairs(limited, old), arcs, told)
+    return Beginning(limited, schedules, repairs(limited, old), arcs, frozenset(progress.started), told)
 
 
 def repairs(project: Project, old: dict[int, int]) -> list[Project]:

@@ -18,7 +18,7 @@ from .opened import ProjectFile
 from .project import Arc, Goal
 from .psmax import Psmax
 from .psprove import Psprove
-from .replan import Start
+from .replan import Start, begin_with
 from .total import TotalFloat, total_float
 from .verify import Verdict, verdict
 from .window import windows
@@ -186,7 +186,7 @@ def report(opened: ProjectFile, given: str | None, start: Start, options: Option
         raise BadInput(found.sentence())
     clock = Clock(options.seconds)
     clock.listen()
-    total = total_float(opened, answer.starts, Psprove(clock, opened.path), options.jobs)
+    total = total_float(begin_with(opened, start), answer.starts, Psprove(clock, opened.path), options.jobs)
     write_whole(options.out, page_of(opened, answer, found, total, options.paper, psmax).encode("utf-8", "replace"))
     return 3 if total.open() else 0
 

@@ -1,6 +1,7 @@
 """A row of a table of activities, and what its cells say."""
+import datetime
 import re
-from dataclasses import dataclass
+from dataclasses import dataclass, field
 
 from .calendars import Calendar
 from .cells import CellFault, fault_at
@@ -24,6 +25,7 @@ class Terms:
     calendar: Calendar | None
     order: str | None  # of the numbers of a date with slashes
     own: Unit  # of a bare number
+    rounded: list[str] = field(default_factory=list)  # what is said of dates within a period
 
 
 @dataclass(frozen=True)
@@ -103,12 +105,25 @@ class Row:
     def begin(self, column: int | Column, text: str) -> int:
         """The first time that is not before a date."""
         found, calendar = self.time_in(column, text), self.terms.calendar
-        return found if isinstance(found, int) else calendar.from_on(found.at) if calendar is not None else 0
+        if isinstance(found, int) or calendar is None:
+            return found if isinstance(found, int) else 0
+        self.tell_rounded(text, found.at, calendar, "its end")
+        return calendar.from_on(found.at)
 
     def close(self, column: int | Column, text: str) -> int:
         """The last time by which a date is over."""
         found, calendar = self.time_in(column, text), self.terms.calendar
-        return found if isinstance(found, int) else calendar.by(found.next()) if calendar is not None else 0
+        if isinstance(found, int) or calendar is None:
+            return found if isinstance(found, int) else 0
+        self.tell_rounded(text, found.next(), calendar, "its begin")
+        return calendar.by(found.next())
+
+    def tell_rounded(self, text: str, moment: datetime.datetime, calendar: Calendar, side: str) -> None:
+        """A moment within a period counts as one of its sides, which is told once."""
+        if moment > calendar.begins(0) and calendar.from_on(moment) > calendar.by(moment):
+            told = f"row {self.number}: {short(text)} is within a period, and counts as {side}"
+            if told not in self.terms.rounded:
+                self.terms.rounded.append(told)
 
     def is_said(self, column: Column) -> bool:
         text = self.cell(column).lower()

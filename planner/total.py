@@ -9,10 +9,10 @@ from dataclasses import dataclass, field, replace
 
 from .clock import tell
 from .files import write_whole
-from .opened import ProjectFile
 from .project import Arc, Goal, Project
 from .psmax import starts_text
 from .psprove import Limits, Psprove
+from .replan import Beginning
 from .spelled import Spelled
 
 FIRST, GROWTH = 1, 4  # seconds for an answer in the first round, and how many times as many in the next
@@ -136,8 +136,8 @@ class TotalFloat:
                 write_whole(os.path.join(folder, f"{activity}.record"), latest.record)
 
 
-def total_float(opened: ProjectFile, starts: tuple[int, ...], psprove: Psprove, jobs: int) -> TotalFloat:
-    found = TotalFloat(opened.project, starts, opened.progress.started, psprove)
+def total_float(begun: Beginning, starts: tuple[int, ...], psprove: Psprove, jobs: int) -> TotalFloat:
+    found = TotalFloat(begun.project, starts, begun.started, psprove)
     found.run(jobs)
     found.tell()
     return found

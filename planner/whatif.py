@@ -9,7 +9,7 @@ from .csv_text import Text
 from .files import guard
 from .known import Known
 from .opened import ProjectFile
-from .project import MOST_UNITS, Kind, Project, parts, with_lag, without
+from .project import MOST_UNITS, Goal, Kind, Project, parts, with_lag, without
 from .psprove import Limits, Psprove, Solved
 from .search import Search
 from .wording import Words, are
@@ -101,6 +101,7 @@ def text(base: Known, outcomes: list[Outcome]) -> list[str]:
     told += [f"  {one.known.first_line()}: {one.change.text}" for one in [*better, *may]]
     others = len(outcomes) - len(better) - len(may) - len(late)
     if others:
-        says = "opens a schedule" if base.value is None else f"gives one below {base.goal.words(base.value)}"
+        less = "shorter than" if base.goal is Goal.MAKESPAN else "of a lateness below"
+        says = "opens a schedule" if base.value is None else f"gives one {less} {base.value}"
         told.append(f"None of {others} other changes {says}, which is proved.")
     return [*told, f"For {len(late)} changes there was no time."] if late else told

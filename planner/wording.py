@@ -40,20 +40,21 @@ class Words:
         if arc.lag < 0 or arc.head == 0:
             return self.greatest(arc, verb)
         if arc.head == self.project.end:
-            return self.of_end(arc)
+            return self.of_end(arc, verb)
         name = self.names.activity(arc.head)
         if arc.tail == 0:
-            return f"{name} {verb} {self.at(arc.lag)} or later"
+            return f"{name} {verb} {on(self.opened.times(arc.head, arc.lag)[0])} or later"
         return f"{name} {verb} {self.distance('at least', arc.lag, arc.tail)}"
 
-    def of_end(self, arc: Arc) -> str:
+    def of_end(self, arc: Arc, verb: str) -> str:
         """Why the end can't be sooner."""
+        ends = "must end" if verb == "must start" else "ends"
         name, beyond = self.names.activity(arc.tail), arc.lag - self.project.durations[arc.tail]
         if self.project.goal is Goal.LATENESS and arc.tail in self.project.due:
             return f"{name} is due by {self.by(self.project.due[arc.tail])}"
         if arc.tail == 0:
-            return f"the project ends {self.at(arc.lag)} or later"
-        return f"the project ends no sooner than {name}" + (f", and {beyond} after it" if beyond else "")
+            return f"the project {ends} {self.at(arc.lag)} or later"
+        return f"the project {ends} " + (f"at least {beyond} after {name}" if beyond else f"no sooner than {name}")
 
     def greatest(self, arc: Arc, verb: str = "starts") -> str:
         """A lag that is at most 0, or one to the start, as the maximum lag that it is."""
@@ -62,7 +63,7 @@ class Words:
             return self.deadline(-arc.lag) if arc.head == 0 else f"the project ends {far}"
         name = self.names.activity(arc.tail)
         if arc.head == self.project.end:
-            return self.of_end(arc)
+            return self.of_end(arc, verb)
         if arc.head == 0:
             must = "must end" if verb == "must start" else "ends"
             return f"{name} {must} by {self.by(self.project.durations[arc.tail] - arc.lag)}"
