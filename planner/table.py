@@ -235,8 +235,8 @@ class Reading:
             if not due:
                 raise BadInput(f"{file}: to minimize the lateness some activity needs a date in a column 'due'")
             project = replace(project, goal=Goal.LATENESS)
-        notes = [*self.said_of_period(), *self.terms.rounded, *(said_of_days(one, lags.arcs[one.place], called) for one in lags.by_calendar),
-                 *(said_of_history(arc, called) for arc in broken)]
+        days = [said_of_days(one, lags.arcs[one.place], called) for one in lags.by_calendar]
+        notes = [*self.said_of_period(), *self.terms.rounded, *days, *(said_of_history(arc, called) for arc in broken)]
         return Table(project, page, self.settings, self.terms.calendar, found, lags.activities.mornings, by_calendar,
                      progress, tuple(notes))
 

@@ -37,7 +37,8 @@ class Shifts(InFolder):
                 self.assertEqual(self.rows(f"{heads}a,2,{cells}\n", *WORDS)[0][0], start)
         told = plan("solve", self.file("p.csv", f"{heads}a,2,2026-03-04 10:30,\n"), *WORDS).stderr
         self.assertIn("row 2: 2026-03-04 10:30 is within a period, and counts as its end\n", told)
-        self.assertNotIn("within", plan("solve", self.file("p.csv", f"{heads}a,2,2026-03-04 12:00,2026-03-05\n"), *WORDS).stderr)
+        self.assertNotIn("within", plan("solve", self.file("p.csv", f"{heads}a,2,2026-03-04 12:00,2026-03-05\n"),
+                                        *WORDS).stderr)
         for cell, told in (("2026-03-02", "optimal 8"), ("2026-03-02 15:00", "no schedule"), ("2026-03-02 16:00", "optimal 8")):
             with self.subTest(cell):
                 ran = plan("solve", self.file("p.csv", f"{heads}a,8,,{cell}\n"), *WORDS)
