@@ -94,7 +94,7 @@ class Tables(InFolder):
         self.assertEqual(psmax("earliest", given=(self.folder / "t.sch").read_bytes()).split()[0], "positive")
 
     def test_kept_projects_are_those_of_their_tables(self) -> None:
-        tables = sorted(PROJECTS.glob("*.csv"))
+        tables = [path.with_suffix(".csv") for path in sorted(PROJECTS.glob("*.sch"))]
         self.assertEqual(len(tables), 10)
         for table in tables:
             with self.subTest(table.name):
