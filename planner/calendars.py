@@ -3,12 +3,10 @@ import datetime
 from bisect import bisect_left
 from collections.abc import Sequence
 
-from .errors import BadInput
-
 MINUTES = {"minutes": 1, "hours": 60, "days": 24 * 60, "weeks": 7 * 24 * 60}  # of each kind of period
 DAY = datetime.timedelta(days=1)
 MOST_DAYS = 4_000_000  # more than there are until the year 9999
-BEYOND = "the schedule goes beyond the years 1 to 9999"
+BEYOND = "the schedule goes beyond the years 1 to 9999"  # told where a date overflows
 
 
 class Calendar:
@@ -73,17 +71,14 @@ class Days(Calendar):
 
     def day(self, place: int) -> datetime.date:
         """The working day of this place; the first one has the place 0."""
-        try:
-            if abs(place) > MOST_DAYS:
-                raise OverflowError
-            while len(self.days) <= place:
-                self.days.append(self.working(self.days[-1] + DAY, DAY))
-            day = self.days[max(place, 0)]
-            for _ in range(-place):
-                day = self.working(day - DAY, -DAY)
-            return day
-        except OverflowError:
-            raise BadInput(BEYOND) from None
+        if abs(place) > MOST_DAYS:
+            raise OverflowError
+        while len(self.days) <= place:
+            self.days.append(self.working(self.days[-1] + DAY, DAY))
+        day = self.days[max(place, 0)]
+        for _ in range(-place):
+            day = self.working(day - DAY, -DAY)
+        return day
 
     def place(self, day: datetime.date) -> int:
         """The place of the first working day that is not before this one; 0 for one before the project."""
@@ -137,10 +132,7 @@ class Moments(Calendar):
         return moment.replace(tzinfo=self.zone).astimezone(datetime.UTC)
 
     def begins(self, time: int) -> datetime.datetime:
-        try:
-            return (self.first + time * self.length).astimezone(self.zone).replace(tzinfo=None)
-        except OverflowError:
-            raise BadInput(BEYOND) from None
+        return (self.first + time * self.length).astimezone(self.zone).replace(tzinfo=None)
 
     def ended(self, time: int) -> datetime.datetime:
         return self.begins(time)

@@ -9,8 +9,6 @@ from .rows import Row
 @dataclass(frozen=True)
 class Group:
     name: str
-    level: int
-    row: int
     activities: range  # by their numbers, which stand one after another
 
 
@@ -47,5 +45,5 @@ def groups(rows: Sequence[Row], depth: Sequence[int], summaries: Sequence[bool])
                          if (depth[other] <= depth[place] if by_depth else summaries[other])), len(rows))
             first = 1 + sum(not one for one in summaries[:place])
             count = sum(not one for one in summaries[place:stop])
-            found.append(Group(row.cell(Column.NAME), depth[place], row.number, range(first, first + count)))
+            found.append(Group(row.cell(Column.NAME), range(first, first + count)))
     return found

@@ -17,7 +17,6 @@ from .letters import short
 FILES = {"holidays": "the file of holidays", "absences": "the table of absences"}  # the settings that name files
 PERIOD = re.compile(r"([1-9][0-9]{0,5}) minutes")
 GOALS = ("makespan", "lateness")
-ORDER_OF_DATES = "dates"
 
 
 @dataclass(frozen=True)
@@ -127,7 +126,7 @@ def shift(settings: Settings, minutes: int) -> tuple[tuple[int, int], ...]:
 
 def workdays(settings: Settings) -> frozenset[int]:
     try:
-        return read_workdays(settings.workdays or "mon-sun")
+        return read_workdays("mon-sun" if settings.workdays is None else settings.workdays)
     except ValueError as fault:
         raise BadInput(str(fault)) from None
 

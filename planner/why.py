@@ -23,7 +23,7 @@ class Causes:
         self.words = Words(opened)
         limited = project if deadline is None else within(project, deadline)
         if limited is None:
-            raise BadInput(f"a deadline of {deadline} has no room in {opened.path}; it is at most {MOST_UNITS:,}")
+            raise BadInput(f"a deadline of {deadline} has no room in {opened.path}; it is from 0 to {MOST_UNITS:,}")
         self.project = limited
         self.fixed = {Part(Kind.LAG, place) for place in range(opened.changeable(), len(limited.arcs))}
         self.late = "" if deadline is None else f" that ends by {deadline}"

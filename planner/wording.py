@@ -71,7 +71,7 @@ class Words:
 
     def deadline(self, value: int) -> str:
         if self.project.goal is Goal.LATENESS:
-            return f"nothing is more than {self.many(value)} late"
+            return f"nothing is more than {self.many(value)} late" if value >= 0 else f"all is {self.many(-value)} early"
         return f"the project ends by {self.by(value)}"
 
     def distance(self, limit: str, lag: int, before: int) -> str:
