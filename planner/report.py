@@ -4,6 +4,7 @@ import hashlib
 import json
 import pathlib
 import re
+from collections.abc import Collection
 from dataclasses import dataclass
 from html import escape
 
@@ -43,7 +44,8 @@ class Options:
 class Chart:
     """The rows of the picture, and where a time stands on them."""
 
-    def __init__(self, shown: Drawing, starts: tuple[int, ...], words: Words, width: int) -> None:
+    def __init__(self, shown: Drawing, starts: tuple[int, ...], words: Words, width: int, started: Collection[int]) -> None:
+        self.started = started
         self.shown, self.starts, self.words, self.arcs = shown, starts, words, words.project.arcs
         self.scale = min(WIDEST, width / (shown.ends - shown.begins))
         self.width = round(self.scale * (shown.ends - shown.begins)) + 24
@@ -93,7 +95,7 @@ class Chart:
             return "".join(inside)
         if bar.window is not None and bar.window.float:
             inside.append(self.box(bar.window.earliest, bar.window.latest + bar.ends - bar.begins, 9, 4, "float"))
-        kind = "critical" if bar.is_critical else "bar"
+        kind = "past" if bar.activity in self.started else "critical" if bar.is_critical else "bar"
         inside.append(self.box(bar.begins, bar.ends, 4, ROW - 8, kind) if bar.ends > bar.begins else
                       f'<path class="{kind}" d="M{x},3 l8,8 l-8,8 l-8,-8 z"/>')
         if bar.due is not None and self.shown.begins <= bar.due <= self.shown.ends:
@@ -196,7 +198,7 @@ def page_of(opened: ProjectFile, answer: Answer, found: Verdict | None, total: T
     words, project = Words(opened), opened.project
     spans = windows(project, answer.starts, psmax)
     shown = drawing.make(opened, answer.starts, "", (), spans, total.critical())
-    chart = Chart(shown, answer.starts, words, WIDTH[paper])
+    chart = Chart(shown, answer.starts, words, WIDTH[paper], total.started)
     ends = max([0, *project.ends(answer.starts)])
     first, last = words.time(0), words.by(ends)
     activities = sorted((bar for bar in shown.bars if bar.activity is not None), key=lambda bar: (bar.begins, bar.activity))

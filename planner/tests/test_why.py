@@ -56,6 +56,27 @@ class Why(InFolder):
     def test_there_is_one(self) -> None:
         self.told(EXAMPLES / "building-site.sch", "There is a schedule: psprove has found one of 36.")
 
+    def test_dates(self) -> None:
+        """By hand, from Monday 2 March on, Monday to Friday: trusses come on the 6th, lifting takes two days, and the roof is
+        due by the 9th: it ends on the 10th at the soonest, a day too late. The circle begins at the start, and ends with its
+        limit."""
+        table = self.file("p.csv", "activity,days,after,not before,end by\ntrusses,0,,2026-03-06,\nlift,2,trusses,,\n"
+                          "roof,1,lift,,2026-03-09\n")
+        ran = plan("why", table, "--from", "2026-03-02", "--workdays", "mon-fri")
+        self.assertEqual(ran.stdout, """There is no schedule.
+This is impossible, by a proof of psprove; without it there is a schedule:
+  3 (roof) ends by 2026-03-09
+These lags contradict each other:
+  1 (trusses) starts on 2026-03-06 or later
+  2 (lift) starts no sooner than 1 (trusses) starts
+  3 (roof) starts no sooner than 2 (lift) ends
+  3 (roof) ends by 2026-03-09
+  Together they ask for 1 day more than there is.
+  Allow 3 (roof) to end 1 day later, or let 1 (trusses) start 1 day sooner.
+Without this lag there is a schedule of 7: 3 (roof) ends by 2026-03-09.
+  This is enough in its place, and less is not: 3 (roof) ends by 2026-03-10.
+""")
+
     def test_within(self) -> None:
         """By hand: two jobs of 3 and 4 on one machine take 7, so 6 is too early by the machine, and 3 by a lag."""
         lags = "The minimum lags alone contradict each other, by a proof of psprove.\nThese lags contradict"
