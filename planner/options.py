@@ -96,17 +96,18 @@ def opened(options: argparse.Namespace) -> ProjectFile:
 
 def add_settings(one: argparse.ArgumentParser) -> None:
     """Of the project. Rows above the table, or else the page of names, say what these options do not."""
-    one.add_argument("--from", dest="first", metavar="DATE", help="the day or the moment at which the project starts")
-    one.add_argument("--period", metavar="P", help="the unit of time: minutes, hours, days, weeks, or '30 minutes' for example "
-                     "(default: as the table says)")
-    one.add_argument("--workdays", metavar="DAYS", help="the days with work, such as mon-fri or Mo-Fr (default: every day)")
-    one.add_argument("--holidays", metavar="FILE", help="a file of days without work, one date a line")
-    one.add_argument("--shift", metavar="HOURS", help="the hours of work of a day, such as 07:00-12:00,13:00-16:00")
-    one.add_argument("--zone", metavar="ZONE", help="the time zone of periods around the clock, such as Europe/Berlin")
-    one.add_argument("--dates", choices=ORDERS, help="what stands first in a date such as 3/2/2026: the day or the month")
-    one.add_argument("--absences", metavar="FILE", help="a table of what is away when: resource, from, to, units")
-    one.add_argument("--status", metavar="DATE", help="the day at which the table says how far the project has come")
-    one.add_argument("--minimize", choices=GOALS, help="what is minimized (default: makespan)")
+    project = one.add_argument_group("settings of the project, which rows above the table may say too")
+    project.add_argument("--from", dest="first", metavar="DATE", help="the day or the moment at which the project starts")
+    project.add_argument("--period", metavar="P", help="the unit of time: minutes, hours, days, weeks, or '30 minutes' for "
+                         "example (default: as the table says)")
+    project.add_argument("--workdays", metavar="DAYS", help="the days with work, such as mon-fri or Mo-Fr (default: every day)")
+    project.add_argument("--holidays", metavar="FILE", help="a file of days without work, one date a line")
+    project.add_argument("--shift", metavar="HOURS", help="the hours of work of a day, such as 07:00-12:00,13:00-16:00")
+    project.add_argument("--zone", metavar="ZONE", help="the time zone of periods around the clock, such as Europe/Berlin")
+    project.add_argument("--dates", choices=ORDERS, help="what stands first in a date such as 3/2/2026: the day or the month")
+    project.add_argument("--absences", metavar="FILE", help="a table of what is away when: resource, from, to, units")
+    project.add_argument("--status", metavar="DATE", help="the day at which the table says how far the project has come")
+    project.add_argument("--minimize", choices=GOALS, help="what is minimized (default: makespan)")
 
 
 def settings(options: argparse.Namespace) -> Settings:

