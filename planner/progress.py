@@ -25,7 +25,7 @@ class Progress:
         """Takes the real starts, and changes the durations of what has started."""
         for number, row in enumerate(rows, 1):
             with faults.kept():
-                told = [column for column in TOLD if row.cell(column) and not is_nothing(row, column)]
+                told = [column for column in TOLD if row.cell(column) and not is_nothing(row, column, durations[number - 1])]
                 if told and self.now is None:
                     raise row.fault(told[0], "how far the project has come needs --status, the date at which that is so")
                 if told and Column.STARTED not in told:
@@ -41,9 +41,11 @@ class Progress:
         return fixed + [Arc(0, i, self.now) for i in range(1, count + 1) if i not in self.started and self.now]
 
 
-def is_nothing(row: Row, column: Column) -> bool:
-    """A share of 0 says that an activity has not started."""
-    return column is Column.DONE and not row.cell(Column.STARTED) and share(row) == 0
+def is_nothing(row: Row, column: Column, planned: int) -> bool:
+    """Nothing done and all remaining say that an activity has not started."""
+    if row.cell(Column.STARTED):
+        return False
+    return share(row) == 0 if column is Column.DONE else column is Column.REMAINING and row.duration(column) == planned
 
 
 def so_far(row: Row, now: int, planned: int) -> tuple[int, int]:

@@ -12,7 +12,7 @@ from .given import answer_sheet
 from .letters import printable
 from .names import MADE, page, read_page
 from .opened import PROJECT, ProjectFile, of_table, page_of
-from .project import too_needy
+from .project import Goal, too_needy
 from .psmax import Psmax
 from .settings import Settings, from_rows
 from .spelled import Spelled
@@ -101,8 +101,8 @@ def what_is_clear(least: int | None, opened: ProjectFile) -> str:
         return "\n".join(f"Activity {Words(opened).needs(activity)}, so there is no schedule." for activity in needy)
     if least is None:
         return "The lags contradict each other, so there is no schedule; `plan why` says which do."
-    value = opened.project.goal.words(least)
-    return (f"By the lags alone it takes {value}; `plan solve` says whether there is a schedule that keeps the resources "
+    value = f"it takes {least}" if opened.project.goal is Goal.MAKESPAN else f"the lateness is {least}"
+    return (f"By the lags alone {value}; `plan solve` says whether there is a schedule that keeps the resources "
             "too.")
 
 

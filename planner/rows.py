@@ -12,6 +12,7 @@ from .letters import short
 from .project import MOST_UNITS
 from .quantities import Length, Scale, Unit, number, read_length
 
+DATED = (Column.STARTED, Column.FINISHED, Column.NOT_BEFORE, Column.END_BY, Column.DUE)
 YES, NO = ("yes", "y", "x", "true", "ja", "1"), ("", "no", "n", "false", "nein", "0")
 
 
@@ -37,7 +38,8 @@ class Row:
     cells: list[str]
 
     def cell(self, column: Column) -> str:
-        return cell(self.cells, self.terms.columns.places.get(column))
+        text = cell(self.cells, self.terms.columns.places.get(column))
+        return "" if column in DATED and text.upper() in ("NA", "N/A") else text
 
     def fault(self, column: int | Column, text: str) -> CellFault:
         place = column if isinstance(column, int) else self.terms.columns.places[column]

@@ -55,6 +55,13 @@ class Progress(InFolder):
         _, found = self.solved(("2026-03-02", 0, "06.03.2026", "1 d", "", "", "", ""), "2026-03-09", *words)
         self.assertEqual(found, {"lift": "0+3", "bolt": "4+2", "roof": "6+4", "cover": "10+2"})
 
+    def test_as_planning_tools_write_it(self) -> None:
+        """No date is NA there, and what has not started has all of its duration left, and 0 % done."""
+        table = self.file("p.csv", "Task Name,Duration,Actual Start,Actual Finish,Remaining Duration,% Complete\n"
+                          "dig,3 days,2026-03-02,2026-03-04,0 days,100%\npour,2 days,NA,NA,2 days,0%\n")
+        ran = plan("solve", table, "--from", "2026-03-02", "--status", "2026-03-09")
+        self.assertEqual(ran.stdout, "optimal 9\n0 0\n1 0\n2 7\n3 9\n", ran.stderr)
+
     def test_nothing_starts_in_the_past(self) -> None:
         self.assertEqual(self.solved(("",) * 8, 4)[1]["lift"], "4+3")
 
