@@ -6,8 +6,6 @@ from .calendars import Calendar
 from .opened import ProjectFile
 from .window import Stretch, Window, away, stretches
 
-HATCHED = "away"  # what the hatched part of a resource's row says
-
 
 @dataclass(frozen=True)
 class Bar:
@@ -45,6 +43,11 @@ class Drawing:
     bars: tuple[Bar, ...]
     loads: tuple[Load, ...]
     calendar: Calendar | None = None
+
+    def span(self, begins: int, ends: int) -> str:
+        """From when to when something is, in dates where there is a calendar."""
+        first, last = self.calendar.times(begins, ends) if self.calendar else (f"{begins}", f"{ends}")
+        return f"{first} to {last}"
 
     def mark(self, time: int, is_first: bool) -> str:
         """A time on the ruler: a short date, but for the first one."""
