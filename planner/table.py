@@ -1,4 +1,5 @@
 """Tables of activities in CSV: docs/PLANNER.md says what the columns are. Faults name the row and the column."""
+import difflib
 from collections.abc import Iterable, Sequence
 from contextlib import suppress
 from dataclasses import dataclass, replace
@@ -6,7 +7,7 @@ from dataclasses import dataclass, replace
 from .absences import read_absences
 from .calendar_days import CalendarLag
 from .calendars import Calendar
-from .cells import Faults
+from .cells import Faults, fault_at
 from .columns import LAGS, Column, Columns, is_head, read_heads, resource
 from .csv_text import Sheet, cell, read_sheet
 from .dates import is_dated
@@ -40,7 +41,7 @@ class Table:
 def read_table(file: str, text: str, words: Settings, folder: str, page: Settings = Settings()) -> Table:
     """The words of the command go over the rows above the table, and these over the page of names."""
     sheet, faults = read_sheet(file, text, is_head), Faults()
-    settings = checked(words.over(settings_above(sheet, folder)).over(page))
+    settings = checked(words.over(settings_above(file, sheet, folder)).over(page))
     columns = read_heads(file, sheet, faults)
     terms = terms_of(file, sheet, columns, settings)
     reading = Reading(terms, settings, faults)
@@ -49,13 +50,19 @@ def read_table(file: str, text: str, words: Settings, folder: str, page: Setting
     return reading.table(sheet)
 
 
-def settings_above(sheet: Sheet, folder: str) -> Settings:
-    """Rows above the columns whose first cell is the name of a setting, with or without a colon."""
-    found = {}
-    for row in sheet.above:
-        name = row[0].rstrip(" :").lower() if row else ""
-        if name in NAMES and any(row[1:]):
-            found[name] = next(text for text in row[1:] if text)
+def settings_above(file: str, sheet: Sheet, folder: str) -> Settings:
+    """Rows above the columns whose first cell is the name of a setting, with or without a colon. The cells behind it are its
+    value, since a comma in that may have split it. What is nearly such a name is a fault, and no title."""
+    found: dict[str, str] = {}
+    for number, row in enumerate(sheet.above, 1):
+        name, *values = [row[0].rstrip(" :").lower(), *filter(None, row[1:])] if row else [""]
+        near = difflib.get_close_matches(name, NAMES, 1, 0.9)
+        if values and name not in NAMES and near:
+            raise fault_at(file, number, 0, "", f"no setting '{short(name)}'; did you mean '{near[0]}'?")
+        if values and name in found:
+            raise fault_at(file, number, 0, "", f"a second row for '{name}'")
+        if values and name in NAMES:
+            found[name] = ",".join(values)
     return from_rows(found, folder)
 
 

@@ -73,6 +73,12 @@ class Table(InFolder):
         table = self.file("above.csv", above + TABLE)
         self.assertIn("2,lift roof,3,4,7,2026-03-11,2026-03-16", plan("write", table, self.answer).stdout)
         self.assertIn("2026-03-14", plan("write", table, self.answer, "--workdays", "mon-sun", "--from", "2026-03-08").stdout)
+        for rows, told in (("shifts,07:00-12:00\n", "row 1, column A: no setting 'shifts'; did you mean 'shift'?"),
+                           ("from,2026-03-06\nFrom:,2026-03-07\n", "row 2, column A: a second row for 'from'")):
+            self.refused(plan("solve", self.file("bad.csv", rows + TABLE)), 2, told)
+        split = self.file("split.csv", "from,2026-03-02\nworkdays,mon,wed,fri\nshift,08:00-12:00,13:00-17:00\n"
+                          "activity,hours\na,20\n")
+        self.assertIn("2026-03-02 08:00,2026-03-06 12:00", plan("write", split, self.file("s.csv", "name,start\na,0\n")).stdout)
         self.refused(plan("solve", self.file("bad.csv", above + TABLE.replace("beams,3", "beams,x"))), 2, "row 6, column B")
 
     def test_a_batch_of_tables(self) -> None:
