@@ -52,27 +52,25 @@ def table(opened: ProjectFile, answer: Answer, found: dict[int, Window], total: 
 
 def text(opened: ProjectFile, answer: Answer, found: dict[int, Window], total: TotalFloat | None) -> str:
     """The same to be read, a line for each activity."""
-    names = opened.names.activities
-    wide = max([len(names.get(i, "")) for i in found] + [0])
     heads = ["start", "earliest", "latest", "free"] if total is None else ["start", "latest", "total", "free"]
-    lines = [f"     {'':{wide}}  " + "  ".join(f"{head:>{width(head, opened)}}" for head in heads)]
-    for activity in sorted(found, key=lambda i: (answer.starts[i], i)):
-        one, start = found[activity], answer.starts[activity]
-        if total is None:
-            cells = [opened.times(activity, time)[0] for time in (start, one.earliest, one.latest)] + [f"{one.float}"]
-        else:
-            latest = total.found[activity]
-            cells = [opened.times(activity, time)[0] for time in (start, latest.least)] + [latest.text(), f"{one.float}"]
-        line = "  ".join(f"{cell:>{width(head, opened)}}" for head, cell in zip(heads, cells))
-        is_critical = total is not None and total.found[activity].is_critical
-        lines.append(f"{activity:4} {names.get(activity, ''):{wide}}  {line}" + (f"  {CRITICAL}" if is_critical else ""))
-    return "".join(line.rstrip() + "\n" for line in lines)
+    order = sorted(found, key=lambda i: (answer.starts[i], i))
+    lines = [heads, *(cells(opened, answer.starts, i, found[i], total) for i in order)]
+    widths = [max(map(len, column)) for column in zip(*lines)]
+    names = ["", *(opened.names.activities.get(i, "") for i in order)]
+    labels = ["    ", *(f"{i:4}" for i in order)]
+    wide, critical = max(map(len, names)), set() if total is None else total.critical()
+    told = []
+    for label, name, line, activity in zip(labels, names, lines, [0, *order]):
+        columns = "  ".join(f"{cell:>{width}}" for cell, width in zip(line, widths))
+        told.append(f"{label} {name:{wide}}  {columns}" + (f"  {CRITICAL}" if activity in critical else ""))
+    return "".join(line.rstrip() + "\n" for line in told)
 
 
-def width(head: str, opened: ProjectFile) -> int:
-    if head in ("free", "total"):
-        return 7
-    return 16 if opened.calendar is not None and opened.calendar.heads[0] == "from" else 10
+def cells(opened: ProjectFile, starts: tuple[int, ...], activity: int, window: Window, total: TotalFloat | None) -> list[str]:
+    latest = None if total is None else total.found[activity]
+    times = [starts[activity], *((window.earliest, window.latest) if latest is None else (latest.least,))]
+    spare = [] if latest is None else [latest.text()]
+    return [*(opened.times(activity, time)[0] for time in times), *spare, f"{window.float}"]
 
 
 def floats(opened: ProjectFile, given: str | None, sheet: Sheet, chart: Chart, wanted: Total | None) -> int:

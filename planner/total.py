@@ -45,7 +45,9 @@ class Latest:
         if self.has_started:
             return "started"
         least, most = self.least - self.start, self.most - self.start
-        return f"{least}" if self.is_settled else f"{least} to {most}"
+        if self.is_settled:
+            return f"{least}"
+        return f"{least} to {most}" if least < most else f"{least}, unproved"
 
 
 @dataclass

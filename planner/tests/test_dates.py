@@ -80,7 +80,7 @@ class Dates(InFolder):
         self.read("days")
         self.assertEqual(self.written()[1:], wanted)
         self.assertIn("2026-04-08", self.ran("gantt").stdout)
-        self.assertIn("2026-04-09  2026-04-09  2026-04-09        0\n", self.ran("float").stdout)
+        self.assertIn("2026-04-09  2026-04-09  2026-04-09     0\n", self.ran("float").stdout)
         self.assertEqual(self.written("--from", "2026-04-08")[1], ["2026-04-08", "2026-04-10"])
         self.assertEqual(plan("solve", self.folder / "p.sch", "--svg", self.folder / "s.svg").returncode, 0)
         self.assertIn("build: 2026-04-02 to 2026-04-08", (self.folder / "s.svg").read_text())

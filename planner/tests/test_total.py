@@ -75,6 +75,7 @@ class Total(InFolder):
         self.assertEqual(ran.returncode, 3)
         self.assertIn("the total float of 3 of 3 activities is known as an interval alone", ran.stderr)
         self.assertIn("0 to 4", ran.stdout)
+        self.assertIn("0, unproved", ran.stdout)
         self.assertNotIn("critical", ran.stdout)
 
     def test_what_has_started(self) -> None:
