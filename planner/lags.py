@@ -1,7 +1,7 @@
 """The lags of a table: what its columns `after`, `at least`, `at most` and `predecessors` say, as arcs from start to start."""
 import difflib
 import re
-from collections.abc import Sequence
+from collections.abc import Collection, Sequence
 from dataclasses import dataclass, field
 
 from . import calendar_days
@@ -108,14 +108,14 @@ class Lags:
 
     def read_link(self, row: Row, activity: int, text: str) -> None:
         """One predecessor, such as 12, 14SS or 9FF-1 d."""
-        column, found = Column.PREDECESSORS, LINK.fullmatch(text)
-        before = self.activities.ids.get((found[1] if found else text).casefold())
-        if found is None or before is None:
-            raise row.fault(column, no_predecessor(self.activities, row, text, found[1] if found else text))
+        column, ids = Column.PREDECESSORS, self.activities.ids
+        number, kind, told = parts_of(text, ids)
+        before = ids.get(number.casefold())
+        if before is None:
+            raise row.fault(column, no_predecessor(self.activities, row, text, number))
         if before == activity:
             raise row.fault(column, "an activity can't come after itself")
-        kind = GERMAN.get((found[2] or "FS").upper(), (found[2] or "FS").upper())
-        length = row.length(column, (found[3] or "0").replace(" ", "", 1) if found[3] else "0")
+        length = row.length(column, told)
         base = self.activities.length(before) if kind[0] == "F" else 0
         if kind[1] == "F" and length.unit is Unit.CALENDAR_DAYS:
             raise row.fault(column, f"'{short(text)}': calendar days are for lags to a start, FS or SS")
@@ -153,9 +153,10 @@ def find(activities: Activities, row: Row, text: str) -> tuple[int, int | None]:
     if is_dated(text):
         return 0, row.begin(Column.AFTER, text)
     begin = next((word for word in (START_OF, WITH) if lower.startswith(word)), "")
-    number = activities.names.get(text[len(begin) :].strip().strip('"'))
+    name = text[len(begin) :].strip()
+    number = activities.names.get(name)
     if number is None:
-        raise row.fault(Column.AFTER, no_activity(activities, text[len(begin) :].strip()))
+        raise row.fault(Column.AFTER, no_activity(activities, name))
     if begin == WITH and (row.cell(Column.AT_LEAST) or row.cell(Column.AT_MOST)):
         raise row.fault(Column.AFTER, "what starts with another has no other lags; they take a row of their own below")
     return number, {START_OF: 0, WITH: None}.get(begin, activities.length(number))
@@ -186,6 +187,15 @@ def links(row: Row) -> list[str]:
                         "write ';' between these, or a point in the number")
     parts = text.split(";") if ";" in text else DECIMAL.sub(r"\1.\2", text).split(",")
     return [part.strip() for part in parts if part.strip()]
+
+
+def parts_of(text: str, ids: Collection[str]) -> tuple[str, str, str]:
+    """The number of a predecessor, which two ends are tied, in English, and the lag."""
+    found = LINK.fullmatch(text)
+    if found is None or text.casefold() in ids:
+        return text, "FS", "0"
+    kind = (found[2] or "FS").upper()
+    return found[1], GERMAN.get(kind, kind), re.sub(r"^([-+])\s+", r"\1", found[3] or "0")
 
 
 def no_predecessor(activities: Activities, row: Row, text: str, number: str) -> str:

@@ -11,6 +11,7 @@ from .known import Known
 from .opened import ProjectFile
 from .project import MOST_UNITS, Goal, Kind, Project, parts, with_lag, without
 from .psprove import Limits, Psprove, Solved
+from .replan import Start, begin_with
 from .search import Search
 from .wording import Words, are
 from .write import Sheet
@@ -70,7 +71,7 @@ def whatif(opened: ProjectFile, seconds: int, jobs: int, sheet: Sheet) -> int:
     sheet.must_have(HEADS)
     clock = Clock(seconds / SHARE)
     clock.listen()
-    project = opened.project
+    project = begin_with(opened, Start(None, None)).project
     psprove, base = Psprove(clock, opened.path), Known(clock, project)
     Search(project, Psprove(clock, opened.path), base, jobs).run()
     clock.seconds = seconds

@@ -29,6 +29,10 @@ class Predecessors(InFolder):
             with self.subTest(cell):
                 self.assertEqual(self.arcs(cell), [(NUMBER[number], lag)])
 
+    def test_numbers_that_end_as_a_link_does(self) -> None:
+        table = self.file("p.csv", f"{HEADS}PASS,a,2 d,\n2,b,1 d,PASS\n3,c,1 d,PASSFS+1 d\n")
+        self.assertEqual(plan("solve", table).stdout.split(), "optimal 4 0 0 1 0 2 2 3 3 4 4".split())
+
     def test_several(self) -> None:
         for cell in ("12FS+2; 14SS;9FF-1 d", "12FS+2,14SS,9FF-1 d", "12FS+2 d, 14SS ,9FF-1"):
             with self.subTest(cell):
@@ -121,5 +125,8 @@ class Names(InFolder):
         answer = self.folder / "a.csv"
         self.assertEqual(plan("solve", table, "--out", answer).stdout, "optimal 6\n")
         self.assertIn("1,wash; rinse,0,2,2\n", answer.read_text())
+        other = self.file("o.csv", self.HEADS + '"wash; rinse",2,\n"say ""dry""",3,"""start of wash; rinse"""\n'
+                          'pack,1,"start of say ""dry"""\n')
+        self.assertEqual(plan("solve", other).stdout.partition("\n")[0], "optimal 3")
         self.refused(plan("solve", self.file("q.csv", self.HEADS + '"wash; rinse",2,\ndry,3,wash; rinse\n')), 2,
                      "no activity 'wash'")
