@@ -26,6 +26,7 @@ class Terms:
     calendar: Calendar | None
     order: str | None  # of the numbers of a date with slashes
     own: Unit  # of a bare number
+    head_row: int = 1  # the number of the row with the names of the columns
     rounded: list[str] = field(default_factory=list)  # what is said of dates within a period
 
 
@@ -110,7 +111,7 @@ class Row:
         if isinstance(found, int) or calendar is None:
             return found if isinstance(found, int) else 0
         self.tell_rounded(text, found.at, calendar, "its end")
-        return calendar.from_on(found.at)
+        return self.bounded(column, text, calendar.from_on(found.at))
 
     def close(self, column: int | Column, text: str) -> int:
         """The last time by which a date is over."""
@@ -118,7 +119,12 @@ class Row:
         if isinstance(found, int) or calendar is None:
             return found if isinstance(found, int) else 0
         self.tell_rounded(text, found.next(), calendar, "its begin")
-        return calendar.by(found.next())
+        return self.bounded(column, text, calendar.by(found.next()))
+
+    def bounded(self, column: int | Column, text: str, time: int) -> int:
+        if time > MOST_UNITS:
+            raise self.fault(column, f"{short(text)} is {time:,} periods after the start, and may be {MOST_UNITS:,}")
+        return time
 
     def tell_rounded(self, text: str, moment: datetime.datetime, calendar: Calendar, side: str) -> None:
         """A moment within a period counts as one of its sides, which is told once."""

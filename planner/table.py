@@ -47,7 +47,7 @@ def read_table(file: str, text: str, words: Settings, folder: str, page: Setting
     reading = Reading(terms, settings, faults)
     for number, cells in sheet.numbered():
         reading.add_row(Row(terms, number, cells))
-    return reading.table(sheet)
+    return reading.table()
 
 
 def settings_above(file: str, sheet: Sheet, folder: str) -> Settings:
@@ -71,7 +71,7 @@ def terms_of(file: str, sheet: Sheet, columns: Columns, settings: Settings) -> T
     own = columns.unit() if settings.period is None or PERIOD.fullmatch(settings.period) else Unit(settings.period)
     parts = None if settings.shift is None else shift(settings, 1)
     week = len(workdays(settings))
-    blank = Terms(file, columns, Scale(own, 0, None, week), None, settings.dates, own)
+    blank = Terms(file, columns, Scale(own, 0, None, week), None, settings.dates, own, sheet.head_row)
     rows = [Row(blank, number, cells) for number, cells in sheet.numbered()]
     units = {length.unit for length in lengths([row.cell(Column.DURATION) for row in rows], own) if length.value}
     if own is Unit.PERIODS and len(units) == 1:
@@ -93,102 +93,104 @@ def lengths(texts: Iterable[str], own: Unit) -> list[Length]:
 
 
 class Reading:
-    """A table as it is read, one row after another."""
+    """A table as it is read, one row after another, and then column by column."""
 
     def __init__(self, terms: Terms, settings: Settings, faults: Faults) -> None:
         self.terms, self.settings, self.faults = terms, settings, faults
-        self.rows: list[Row] = []  # with a name
+        self.named: list[Row] = []  # activities and groups
         self.more: list[tuple[Row, int]] = []  # rows that say more about the one of these above, by its place
+        self.rows: list[Row] = []  # of the activities
+        self.groups: dict[int, Row] = {}  # of these, by their places
+        self.depth: list[int] = []
+        self.names: dict[str, int] = {}  # the number of each activity
+        self.durations: list[int] = []
+        self.demands: list[tuple[int, ...]] = []
 
     def add_row(self, row: Row) -> None:
         with self.faults.kept():
             if row.cell(Column.NAME):
-                self.rows.append(row)
+                self.named.append(row)
             else:
-                check_continuation(row, bool(self.rows))
-                self.more.append((row, len(self.rows) - 1))
+                check_continuation(row, bool(self.named))
+                self.more.append((row, len(self.named) - 1))
             beyond = next((k for k in range(len(row.terms.columns.heads), len(row.cells)) if row.cells[k]), None)
             if beyond is not None:
                 raise row.fault(beyond, "a cell beyond the last column; names in one cell have ';' between them")
 
-    def table(self, sheet: Sheet) -> Table:
-        depth: list[int] = [0] * len(self.rows)
+    def table(self) -> Table:
+        self.part()
+        for row in self.rows:
+            self.add_activity(row)
+        progress = Progress(None if self.settings.status is None else time_of(self.settings.status, "status", self.settings,
+                                                                              self.terms.calendar))
+        progress.read(self.rows, self.durations, self.faults)
+        lags, due = self.lags(), self.due()
+        self.faults.tell()
+        arcs, broken = without_history(lags.arcs, progress)
+        called = {number: name for name, number in self.names.items()}
+        project, names = self.project((*arcs, *progress.arcs(len(self.rows))), due, called)
+        by_calendar = tuple(replace(one, place=arcs.index(lags.arcs[one.place])) for one in lags.by_calendar
+                            if lags.arcs[one.place] in arcs)
+        days = [said_of_days(one, lags.arcs[one.place], called) for one in lags.by_calendar]
+        notes = [*self.said_of_period(), *self.terms.rounded, *days, *(said_of_history(arc, called) for arc in broken)]
+        found = tuple(groups(self.named, self.depth, [place in self.groups for place in range(len(self.named))]))
+        return Table(project, names, self.settings, self.terms.calendar, found, lags.activities.mornings, by_calendar, progress,
+                     tuple(notes))
+
+    def part(self) -> None:
+        """What is an activity, and what a group."""
+        self.depth = [0] * len(self.named)
         with self.faults.kept():
-            depth = levels(self.rows)
-        summaries = [False] * len(self.rows)
-        with self.faults.kept():
-            summaries = [is_summary(self.rows, depth, place) for place in range(len(self.rows))]
-        inner = [row for row, is_one in zip(self.rows, summaries) if not is_one]
-        if not inner:
+            self.depth = levels(self.named)
+            self.groups = {place: row for place, row in enumerate(self.named) if is_summary(self.named, self.depth, place)}
+        self.rows = [row for place, row in enumerate(self.named) if place not in self.groups]
+        if not self.rows:
             self.faults.tell()
-            raise BadInput(f"{self.terms.file}: no activity stands below row {sheet.head_row}")
-        names, durations, demands = self.activities(inner)
-        progress = self.progress(inner, durations)
-        lags = Lags(Activities(names, self.ids(inner), self.summary_names(summaries), durations))
-        number = 0
-        for place, row in enumerate(self.rows):
-            number += not summaries[place]
+            raise BadInput(f"{self.terms.file}: no activity stands below row {self.terms.head_row}")
+
+    def add_activity(self, row: Row) -> None:
+        """A name that can't be one counts all the same, so that rows which come after it have no fault for that."""
+        name, units = row.cell(Column.NAME), [0] * len(row.terms.columns.resources)
+        with self.faults.kept():
+            if name in self.names:
+                raise row.fault(Column.NAME, f"a second activity '{short(name)}'")
+            if len(self.durations) == MOST_ACTIVITIES:
+                raise row.fault(Column.NAME, f"a project has at most {MOST_ACTIVITIES:,} activities")
+        self.durations.append(0)
+        self.names.setdefault(name, len(self.durations))
+        with self.faults.kept():
+            self.durations[-1] = row.duration(Column.DURATION)
+        for place, column in enumerate(row.terms.columns.resources):
+            with self.faults.kept():
+                units[place] = row.units(column)
+        self.demands.append(tuple(units))
+        with self.faults.kept():
+            if why_no_name(name):
+                raise row.fault(Column.NAME, f"'{short(name)}' can't be the name of an activity: {why_no_name(name)}")
+
+    def lags(self) -> Lags:
+        keys = {row.cell(column).casefold() if column is Column.ID else row.cell(column): row.cell(Column.NAME)
+                for row in self.groups.values() for column in (Column.NAME, Column.ID)}
+        summaries = {key: name for key, name in keys.items() if key}
+        lags, number = Lags(Activities(self.names, self.ids(), summaries, self.durations)), 0
+        for place, row in enumerate(self.named):
+            number += place not in self.groups
             for one in [row, *(more for more, above in self.more if above == place)]:
-                if summaries[place]:
+                if place in self.groups:
                     self.no_lags(one)
                 else:
                     lags.read(one, number, self.faults)
                     self.limit(lags, one, number)
-        due = self.due(inner)
-        self.faults.tell()
-        return self.made(sheet, names, durations, demands, lags, due, progress,
-                         tuple(groups(self.rows, depth, summaries)))
+        return lags
 
-    def activities(self, rows: Sequence[Row]) -> tuple[dict[str, int], list[int], list[tuple[int, ...]]]:
-        """The number of each name, the durations and the demands. A name that can't be one counts all the same, so that rows
-        which come after it have no fault for that."""
-        names: dict[str, int] = {}
-        durations: list[int] = []
-        demands: list[tuple[int, ...]] = []
-        for row in rows:
-            name = row.cell(Column.NAME)
-            with self.faults.kept():
-                if name in names:
-                    raise row.fault(Column.NAME, f"a second activity '{short(name)}'")
-                if len(durations) == MOST_ACTIVITIES:
-                    raise row.fault(Column.NAME, f"a project has at most {MOST_ACTIVITIES:,} activities")
-            names.setdefault(name, len(durations) + 1)
-            durations.append(0)
-            with self.faults.kept():
-                durations[-1] = row.duration(Column.DURATION)
-            units = [0] * len(row.terms.columns.resources)
-            for place, column in enumerate(row.terms.columns.resources):
-                with self.faults.kept():
-                    units[place] = row.units(column)
-            demands.append(tuple(units))
-            with self.faults.kept():
-                if why_no_name(name):
-                    raise row.fault(Column.NAME, f"'{short(name)}' can't be the name of an activity: {why_no_name(name)}")
-        return names, durations, demands
-
-    def ids(self, rows: Sequence[Row]) -> dict[str, int]:
+    def ids(self) -> dict[str, int]:
         found: dict[str, int] = {}
-        for number, row in enumerate(rows, 1):
+        for number, row in enumerate(self.rows, 1):
             text = row.cell(Column.ID).casefold()
             with self.faults.kept():
                 if text in found:
                     raise row.fault(Column.ID, f"a second activity of the number {short(text)}")
             found |= {text: number} if text else {}
-        return found
-
-    def summary_names(self, summaries: Sequence[bool]) -> dict[str, str]:
-        found: dict[str, str] = {}
-        for row, is_one in zip(self.rows, summaries):
-            if is_one:
-                found |= {row.cell(column).casefold() if column is Column.ID else row.cell(column): row.cell(Column.NAME)
-                          for column in (Column.NAME, Column.ID) if row.cell(column)}
-        return found
-
-    def progress(self, rows: Sequence[Row], durations: list[int]) -> Progress:
-        now = None if self.settings.status is None else time_of(self.settings.status, "status", self.settings,
-                                                                self.terms.calendar)
-        found = Progress(now)
-        found.read(rows, durations, self.faults)
         return found
 
     def limit(self, lags: Lags, row: Row, activity: int) -> None:
@@ -204,9 +206,9 @@ class Reading:
             if row.cell(Column.END_BY):
                 lags.arcs.append(Arc(activity, 0, length - row.close(Column.END_BY, row.cell(Column.END_BY))))
 
-    def due(self, rows: Sequence[Row]) -> dict[int, int]:
+    def due(self) -> dict[int, int]:
         found = {}
-        for number, row in enumerate(rows, 1):
+        for number, row in enumerate(self.rows, 1):
             with self.faults.kept():
                 if row.cell(Column.DUE):
                     found[number] = row.close(Column.DUE, row.cell(Column.DUE))
@@ -221,31 +223,22 @@ class Reading:
                 with self.faults.kept():
                     raise row.fault(column, "a group has no lags, dates or demands of its own; its activities have them")
 
-    def made(self, sheet: Sheet, names: dict[str, int], durations: list[int], demands: list[tuple[int, ...]], lags: Lags,
-             due: dict[int, int], progress: Progress, found: tuple[Group, ...]) -> Table:
-        file, columns = self.terms.file, self.terms.columns
-        told = [resource(columns.heads[place]) for place in columns.resources]
-        none = (0,) * len(told)
-        called = {number: name for name, number in names.items()}
-        arcs, broken = without_history(lags.arcs, progress)
-        project = Project((0, *durations, 0), (none, *demands, none), tuple(int(units) for _, units in told),
-                          (*arcs, *progress.arcs(len(durations))), (), due)
-        by_calendar = tuple(replace(one, place=arcs.index(lags.arcs[one.place])) for one in lags.by_calendar
-                            if lags.arcs[one.place] in arcs)
-        if len(project.arcs) > MOST_ARCS:
-            raise BadInput(f"{file}: {len(project.arcs):,} lags, and a project has at most {MOST_ARCS:,}")
-        unit = self.terms.scale.name()
-        page = Names(called, [name for name, _ in told], unit, source=printable(file))
-        if self.settings.absences is not None:
-            project = replace(project, absences=tuple(read_absences(self.settings.absences, project, page, self.terms)))
-        if self.settings.minimize == Goal.LATENESS.value:
-            if not due:
-                raise BadInput(f"{file}: to minimize the lateness some activity needs a date in a column 'due'")
-            project = replace(project, goal=Goal.LATENESS)
-        days = [said_of_days(one, lags.arcs[one.place], called) for one in lags.by_calendar]
-        notes = [*self.said_of_period(), *self.terms.rounded, *days, *(said_of_history(arc, called) for arc in broken)]
-        return Table(project, page, self.settings, self.terms.calendar, found, lags.activities.mornings, by_calendar,
-                     progress, tuple(notes))
+    def project(self, arcs: tuple[Arc, ...], due: dict[int, int], called: dict[int, str]) -> tuple[Project, Names]:
+        """With its absences, and with what is minimized."""
+        file, settings = self.terms.file, self.settings
+        if len(arcs) > MOST_ARCS:
+            raise BadInput(f"{file}: {len(arcs):,} lags, and a project has at most {MOST_ARCS:,}")
+        goal = Goal.MAKESPAN if settings.minimize is None else Goal(settings.minimize)
+        if goal is Goal.LATENESS and not due:
+            raise BadInput(f"{file}: to minimize the lateness some activity needs a date in a column 'due'")
+        resources = [resource(self.terms.columns.heads[place]) for place in self.terms.columns.resources]
+        none = (0,) * len(resources)
+        capacities = tuple(int(units) for _, units in resources)
+        found = Project((0, *self.durations, 0), (none, *self.demands, none), capacities, arcs, (), due, goal)
+        names = Names(called, [name for name, _ in resources], self.terms.scale.name(), source=printable(file))
+        if settings.absences is not None:
+            found = replace(found, absences=tuple(read_absences(settings.absences, found, names, self.terms)))
+        return found, names
 
     def said_of_period(self) -> list[str]:
         """What a period is, where it is no unit of the table's own."""

@@ -62,4 +62,7 @@ class Shifts(InFolder):
         self.assertIn("30 minutes", plan("read", path, *odd).stdout)
         self.refused(plan("solve", path, *odd[:4], "--period", "60 minutes"), 2, "--period '30 minutes' has")
         self.refused(plan("solve", path, "--shift", "07:00-12:00"), 2, "--shift needs --from")
+        far = self.file("far.csv", "activity,minutes,not before\na,6,2040-01-01\n")
+        self.refused(plan("solve", far, "--from", "2026-03-02"), 2,
+                     "row 2, column C (not before): 2040-01-01 is 7,276,320 periods")
         self.refused(plan("solve", path, "--from", "2026-03-02", "--workdays", "mon-fri"), 2, "with --shift, the hours of work")
