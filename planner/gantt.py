@@ -40,7 +40,7 @@ def keys(shown: Drawing) -> list[str]:
     """What signs mean that not every chart has."""
     return [key for key, is_there in (
         ("9 stands for the whole of a resource of more than 9 units", any(load.capacity > 9 for load in shown.loads)),
-        ("/ units are away", any(load.away for load in shown.loads)),
+        ("/ units are away, and none is in use", any(load.away for load in shown.loads)),
         ("+ the last period before the due date is over", any(bar.due is not None for bar in shown.bars)),
         ("- where it may run too, while the others stay as they are", any(bar.window for bar in shown.bars)),
         ("* critical: any later, and no schedule is as short", any(bar.is_critical for bar in shown.bars)),

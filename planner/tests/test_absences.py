@@ -57,7 +57,7 @@ class Absences(InFolder):
         self.assertIn("11, and has one that long", plan("verify", words[0], self.folder / "rec", *words[2:]).stdout)
         lines = plan("gantt", *words).stdout.splitlines()
         crane = next(line for line in lines if "crane" in line)
-        self.assertEqual((crane.split()[-1], lines[-1].strip()), ("111//111111", "/ units are away"))
+        self.assertEqual((crane.split()[-1], lines[-1].strip()), ("111//111111", "/ units are away, and none is in use"))
         self.assertEqual(plan("gantt", *words, "--svg", self.folder / "a.svg").returncode, 0)
         self.assertEqual((self.folder / "a.svg").read_text().count('class="away"'), 1)
 
