@@ -46,11 +46,9 @@ install:
 	install -d $(DESTDIR)$(PREFIX)/share/psmax/planner
 	install -m 644 $(MODULES) planner/report.html $(DESTDIR)$(PREFIX)/share/psmax/planner
 	install -m 755 tests/verify.py tests/verify_lemmas.py $(DESTDIR)$(PREFIX)/share/psmax
-	install -d $(addprefix $(DESTDIR)$(PREFIX)/share/,man/man1 doc/psmax/docs doc/psmax/examples)
+	install -d $(DESTDIR)$(PREFIX)/share/man/man1
 	install -m 644 docs/psmax.1 docs/psprove.1 docs/plan.1 $(DESTDIR)$(PREFIX)/share/man/man1
-	install -m 644 README.md $(DESTDIR)$(PREFIX)/share/doc/psmax
-	install -m 644 docs/*.md docs/*.svg $(DESTDIR)$(PREFIX)/share/doc/psmax/docs
-	install -m 644 examples/*.md examples/*.sch examples/*.starts examples/hall* $(DESTDIR)$(PREFIX)/share/doc/psmax/examples
+	python3 docs/install.py $(DESTDIR)$(PREFIX)/share/doc/psmax
 
 clean:
 	rm -rf build crates/*/out

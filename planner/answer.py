@@ -3,12 +3,13 @@ import os
 import sys
 from dataclasses import dataclass
 
+from .dates import read_moment
 from .errors import BadInput
-from .given import Given
-from .letters import at_most, printable
+from .given import Begin, Given
+from .letters import at_most, printable, short
 from .opened import ProjectFile
-from .project import Project, parse
-from .psmax import Psmax, starts_text
+from .project import Project, least_end
+from .psmax import Psmax
 from .wording import Words
 
 
@@ -19,12 +20,14 @@ class Answer:
     project: Project
     starts: tuple[int, ...]
     said: str  # the first line of the answer that was handed in, if it had one
-    makespan: int | None  # by `check`, where the starts are a feasible schedule
+    value: int | None  # what is minimized, by `check`, where the starts are a feasible schedule
     violations: tuple[str, ...]  # in words
 
+    def verdict(self) -> str:
+        return "not feasible" if self.value is None else f"feasible {self.project.goal.words(self.value)}"
+
     def title(self) -> str:
-        verdict = "not feasible" if self.makespan is None else f"feasible {self.makespan}"
-        return f"check: {verdict}" + (f"   (the answer says: {self.said})" if self.said else "")
+        return f"check: {self.verdict()}" + (f"   (the answer says: {self.said})" if self.said else "")
 
 
 @dataclass(frozen=True)
@@ -34,61 +37,91 @@ class Tied:
     starts: dict[int, int]
     new: list[int]
     gone: dict[int, str]  # by their numbers in the answer, what they are called
+    pairs: dict[int, int]  # the project's number of each activity of the answer that it has
 
 
 def judged(opened: ProjectFile, given: Given, psmax: Psmax) -> Answer:
     """The starts of this answer, judged by psmax. What is no project, or has no start for an activity, is told."""
-    psmax.earliest(opened.text)
-    project = parse(opened.text)
-    if given.instead:
-        raise BadInput(f"{given.called}: {given.instead}")
-    tied = tie(opened, project, given)
-    words = Words(project, opened.names)
+    project, tied, words = opened.project, tie(opened, given.must_have_starts()), Words(opened)
     faults = [f"no start for activity {words.names.activity(number)}" for number in tied.new]
     faults += [f"{name} is no activity of {opened.path}" for name in tied.gone.values()]
     if faults:
         raise BadInput(*(f"{given.called}: {fault}" for fault in at_most(faults)))
     starts = tuple(tied.starts[activity] for activity in range(project.end + 1))
-    found = psmax.check(opened.text, starts_text(starts))
-    violations = tuple(words.violation(violation, starts) for violation in found.violations)
-    return Answer(project, starts, given.said, found.makespan, violations)
+    found = psmax.check(project, starts)
+    return Answer(project, starts, given.said, found.value, tuple(words.violation(one, starts) for one in found.violations))
 
 
 def feasible(opened: ProjectFile, given: Given, psmax: Psmax) -> Answer:
     """The same where psmax finds it feasible; whatever else is told as a fault."""
     known = judged(opened, given, psmax)
-    if known.makespan is None:
+    if known.value is None:
         raise BadInput(*(f"{given.called}: not a schedule: {told}" for told in at_most([*known.violations])))
     return known
 
 
-def tie(opened: ProjectFile, project: Project, given: Given) -> Tied:
-    """Finds the activities of an answer by their names; by their numbers where the answer or the project has none."""
+def tie(opened: ProjectFile, given: Given) -> Tied:
+    """Finds the activities of an answer by their names; by their numbers where the answer or the project has none. The end
+    starts when the others let it, but where starts without names say more."""
+    project = opened.project
+    inner = range(1, project.end)
     if given.names and opened.names.activities:
-        return by_name(project, given, opened.names.activities)
-    numbers = range(1, project.end) if given.is_table else range(project.end + 1)
+        pairs = same_names(given.names, {number: opened.names.activities.get(number, "") for number in inner})
+        gone = {number: f"{number} ({name})" if name else f"activity {number}"
+                for number, name in given.names.items() if number not in pairs}
+    else:
+        by_number(opened, given)
+        pairs = {number: number for number in inner}
+        known = inner if given.is_table else range(project.end + 1)
+        gone = {number: f"activity {number}" for number in given.starts if number not in known}
+    starts = {0: time(opened, 0, given.starts[0], given) if 0 in given.starts else 0}
+    starts |= {pairs[was]: time(opened, pairs[was], begin, given) for was, begin in given.starts.items() if was in pairs}
+    starts[project.end] = end_of(opened, given, starts)
+    return Tied(starts, [number for number in inner if number not in starts], gone, pairs)
+
+
+def end_of(opened: ProjectFile, given: Given, starts: dict[int, int]) -> int:
+    """An answer of psmax says when the end starts, which is later where somebody wants it so."""
+    least, said = least_end(opened.project, starts), given.starts.get(opened.project.end)
+    by_number_alone = not given.is_table and not (given.names and opened.names.activities)
+    is_whole = by_number_alone and opened.table is None and said is not None
+    return said.period if is_whole and said is not None and said.period is not None else least
+
+
+def by_number(opened: ProjectFile, given: Given) -> None:
+    """An answer without names has a start for each activity, and is no older than the project."""
+    numbers = range(1, opened.project.end) if given.is_table else range(opened.project.end + 1)
     is_whole = sorted(given.starts) == [*range(numbers.start, numbers.start + len(given.starts))]
     if is_whole and len(given.starts) != len(numbers):
         raise BadInput(f"{given.called}: starts of {len(given.starts)} activities, and {opened.path} has {len(numbers)}"
                        f"{'' if given.is_table else ' with its start and end'}; without names nobody can say which they are")
-    may_be_older(opened, given)
-    starts = dict(given.starts)
-    if given.is_table:
-        starts |= {0: 0, project.end: least_end(project, starts)}
-    gone = {number: f"activity {number}" for number in given.starts if number not in numbers}
-    return Tied(starts, [number for number in numbers if number not in given.starts], gone)
+    if opened.table is not None and os.path.isfile(given.called):
+        if os.stat(given.called).st_mtime < os.stat(opened.path).st_mtime:
+            text = f"{given.called} has no names and is older than {opened.path}: its activities are taken by their numbers"
+            print("plan: " + printable(text), file=sys.stderr)
 
 
-def by_name(project: Project, given: Given, names: dict[int, str]) -> Tied:
-    """The end of the project starts when the others let it."""
-    inner = range(1, project.end)
-    now = {number: names.get(number, "") for number in inner}
-    pairs = same_names(given.names, now)
-    starts = {0: given.starts.get(0, 0)} | {pairs[was]: given.starts[was] for was in pairs if was in given.starts}
-    gone = {number: f"{number} ({name})" if name else f"activity {number}"
-            for number, name in given.names.items() if number not in pairs}
-    starts[project.end] = least_end(project, starts)
-    return Tied(starts, [number for number in inner if number not in starts], gone)
+def time(opened: ProjectFile, activity: int, begin: Begin, given: Given) -> int:
+    """When an activity starts, where the number of its period and its date say the same."""
+    if not begin.date:
+        return begin.period or 0
+    if opened.calendar is None:
+        raise BadInput(f"{begin.place}: '{short(begin.date)}' is a date, and nothing says when the project begins; --from does")
+    try:
+        moment = read_moment(begin.date, opened.settings.dates)
+    except ValueError as fault:
+        raise BadInput(f"{begin.place}: '{short(begin.date)}': {fault}") from None
+    told = moment.at.isoformat(" ", "minutes")
+    times = [begin.period] if begin.period is not None else [opened.calendar.from_on(moment.at),
+                                                             opened.calendar.by(moment.next())]
+    for place in times:
+        said = opened.times(activity, place)[0]
+        if said == told or (said[:10] == told[:10] and (moment.is_day or (len(said) == 10 and told.endswith("00:00")))):
+            return place
+    if begin.period is None:
+        raise BadInput(f"{begin.place}: no period of work begins at {short(begin.date)}")
+    raise BadInput(f"{begin.place}: {begin.period} is {opened.times(activity, begin.period)[0]}, and its date says "
+                   f"{short(begin.date)}; correct one of them, or leave one out")
 
 
 def same_names(was: dict[int, str], now: dict[int, str]) -> dict[int, int]:
@@ -107,16 +140,3 @@ def places(names: dict[int, str]) -> dict[str, list[int]]:
     for number, name in sorted(names.items()):
         found.setdefault(name, []).append(number)
     return found
-
-
-def least_end(project: Project, starts: dict[int, int]) -> int:
-    """The least start of the end that the starts of the others leave."""
-    return max([starts[arc.tail] + arc.lag for arc in project.rules() if arc.head == project.end and arc.tail in starts])
-
-
-def may_be_older(opened: ProjectFile, given: Given) -> None:
-    """Says where an answer without names may be one of a table that has changed since."""
-    if opened.names.source and os.path.isfile(given.called):
-        if os.stat(given.called).st_mtime < os.stat(opened.path).st_mtime:
-            text = f"{given.called} has no names and is older than {opened.path}: its activities are taken by their numbers"
-            print("plan: " + printable(text), file=sys.stderr)

@@ -14,6 +14,8 @@ from .clock import Clock, tell
 from .csv_text import cell, read_sheet, write_sheet
 from .errors import BadInput, Failed
 from .files import guard, read_text, write_whole
+from .letters import escaped
+from .opened import has_activities
 from .programs import GLANCE
 from .write import put
 
@@ -43,13 +45,13 @@ def batch(wanted: Batch) -> int:
     if wanted.out is not None and not os.path.isdir(wanted.out):
         raise Failed(f"cannot write into {wanted.out}: it is no folder")
     done = read_rows(wanted.csv) if wanted.csv is not None and os.path.exists(wanted.csv) else {}
-    left = [path for path in projects if done.get(path.name, {}).get("status", FAULT) == FAULT]
+    left = [path for path in projects if done.get(escaped(path.name), {}).get("status", FAULT) == FAULT]
     clock = Clock(float("inf"))
     clock.listen()
     if wanted.csv is None:
         print(write_sheet([HEADS]), end="", flush=True)
     found = run(wanted, left, clock)
-    rows = {path.name: {**done, **found}.get(path.name) for path in projects}
+    rows = {escaped(path.name): {**done, **found}.get(escaped(path.name)) for path in projects}
     counts = Counter(row["status"] for row in rows.values() if row is not None)
     tell(clock, f"{sum(counts.values())} of {len(projects)} projects: "
          + ", ".join(f"{count} {status}" for status, count in sorted(counts.items())))
@@ -61,11 +63,18 @@ def chosen(wanted: Batch) -> list[pathlib.Path]:
     folder = pathlib.Path(wanted.folder)
     if not folder.is_dir():
         raise Failed(f"cannot read {folder}: it is no folder")
-    projects = sorted(path for path in folder.iterdir() if path.suffix.lower() == ".sch" and path.is_file())
+    projects = sorted(path for path in folder.iterdir() if path.is_file() and is_project(path))
     if not projects:
-        raise BadInput(f"{folder}: no project in it, which is a file whose name ends in .sch")
+        raise BadInput(f"{folder}: no project in it, which is a file whose name ends in .sch, or a table of activities in CSV")
     first, step = wanted.part
     return projects[first - 1 :: step]
+
+
+def is_project(path: pathlib.Path) -> bool:
+    """A project text, or a table of activities of which none was made."""
+    if path.suffix.lower() == ".csv" and not path.with_suffix(".sch").exists():
+        return has_activities(str(path))
+    return path.suffix.lower() == ".sch"
 
 
 def run(wanted: Batch, left: Sequence[pathlib.Path], clock: Clock) -> Rows:
@@ -96,7 +105,7 @@ def row_of(path: pathlib.Path, wanted: Batch, clock: Clock) -> Row | None:
     out_of_it = answer_of(child, clock)
     if out_of_it is None:
         return None
-    row = dict.fromkeys(HEADS, "") | {"project": path.name, "limit": f"{wanted.seconds}"}
+    row = dict.fromkeys(HEADS, "") | {"project": escaped(path.name), "limit": f"{wanted.seconds}"}
     if child.returncode not in (0, 3):
         faults = [line.removeprefix("plan: ") for line in out_of_it[1].splitlines() if line.startswith("plan: ")]
         return row | {"status": FAULT, "fault": "; ".join(faults) or f"exit status {child.returncode}"}

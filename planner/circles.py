@@ -1,7 +1,7 @@
 """Lags that contradict each other: circles around which they add up to more than 0."""
 from collections.abc import Iterator
 
-from .project import Arc, Project, lags_only
+from .project import Arc, Goal, Project, lags_only
 from .psmax import Psmax
 from .wording import Words
 
@@ -14,19 +14,48 @@ def circles(project: Project, psmax: Psmax) -> Iterator[list[Arc]]:
     arcs = project.rules()
     for _ in range(MOST):
         circle = [Arc(*arc) for arc in positive_cycle([(*arc,) for arc in arcs], len(project.durations))]
-        if not circle or psmax.earliest(lags_only(project, circle).text()) is not None:
+        if not circle or psmax.earliest(lags_only(project, circle)) is not None:
             return
         yield circle
         arcs.remove(min((arc for arc in circle if arc in project.arcs), key=lambda arc: arc.lag))
 
 
 def in_words(circle: list[Arc], words: Words) -> list[str]:
+    circle = as_read(circle)
     over = sum(arc.lag for arc in circle)
-    change = (f"Something that is at most must be {over} more, or something that is at least {over} less."
-              if any(arc.lag < 0 for arc in circle) else "Each of them waits for the others, so one of these lags must go.")
-    return ["These lags contradict each other:", *(f"  {words.lag(arc)}" for arc in circle),
-            f"  Around that circle they add up to {over}, and at most 0 can be kept.",
-            f"  {change}"]
+    lead = "These lags contradict each other:" if len(circle) > 1 else "This lag contradicts itself:"
+    return [lead, *(f"  {words.lag(arc)}" for arc in circle),
+            f"  Together they ask for {words.many(over)} more than there {'is' if over == 1 else 'are'}.",
+            f"  {change(circle, over, words)}"]
+
+
+def as_read(circle: list[Arc]) -> list[Arc]:
+    """The circle from the start of the project on where it comes by there, and with a maximum lag last."""
+    places = range(len(circle))
+    first = min(places, key=lambda place: (circle[place].tail != 0, circle[place].lag < 0, circle[place - 1].lag >= 0))
+    return circle[first:] + circle[:first]
+
+
+def change(circle: list[Arc], over: int, words: Words) -> str:
+    """What would help, in a sentence: each maximum lag so much longer, or the longest minimum lag so much shorter."""
+    many, end = words.many(over), words.project.end
+    ways = [allowed(arc, many, words) for arc in circle if arc.lag < 0 or arc.head == 0]
+    if not ways:
+        ways.append("Let one of them go, since each waits for the others")
+    longest = max((arc for arc in circle if arc.head not in (0, end)), key=lambda arc: arc.lag, default=None)
+    if longest is not None and longest.lag >= over:
+        after = f" after {words.names.activity(longest.tail)}" if longest.tail else ""
+        ways.append(f"let {words.names.activity(longest.head)} start {many} sooner{after}")
+    return ", or ".join(ways) + "."
+
+
+def allowed(arc: Arc, many: str, words: Words) -> str:
+    """A maximum lag, and so much more."""
+    if arc.tail == words.project.end:
+        return f"Allow {'a lateness of' if words.project.goal is Goal.LATENESS else 'the project to end'} {many} " + (
+            "more" if words.project.goal is Goal.LATENESS else "later")
+    verb = "end" if arc.head == 0 else "start"
+    return f"Allow {words.names.activity(arc.tail)} to {verb} {many} later"
 
 
 def positive_cycle(arcs: list[tuple[int, int, int]], count: int) -> list[tuple[int, int, int]]:

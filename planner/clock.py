@@ -5,6 +5,8 @@ import sys
 import time
 from typing import NoReturn
 
+from .letters import printable
+
 ENDS = (signal.SIGINT, signal.SIGTERM, signal.SIGHUP)  # Ctrl-C, a request to end, a terminal that closes
 
 
@@ -62,6 +64,6 @@ def tell(clock: Clock, text: str) -> None:
     """A line of progress, written at once, since several threads tell; where nobody reads them any more, the search goes on
     without."""
     try:
-        print(f"{clock.elapsed():7.2f} s  {text}\n", end="", file=sys.stderr, flush=True)
+        print(f"{clock.elapsed():7.2f} s  {printable(text)}\n", end="", file=sys.stderr, flush=True)
     except OSError:
         pass

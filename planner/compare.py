@@ -1,76 +1,92 @@
-"""`plan compare`: what has moved from one schedule to another."""
+"""`plan compare`: what has moved from one schedule of a project to another."""
 from collections.abc import Callable
 
-from . import dates
-from .answer import same_names
-from .dates import Calendar, Wanted
+from .answer import Tied, same_names, tie
 from .errors import BadInput
-from .files import read_bytes
 from .given import Given, read_answer
-from .names import Names, read_page
+from .letters import short
 from .opened import ProjectFile
-
-
-def compare(old: str, new: str, wanted: Wanted, page: str | None, why: Callable[[int], int] | None) -> int:
-    """Where the new schedule is later it asks why none ends as soon as the old one."""
-    names = read_page(read_bytes(page)) if page is not None else Names()
-    calendar = dates.chosen(wanted, ProjectFile(old, b"", names, page or old))
-    was, now = read_answer(old), read_answer(new)
-    for given in (was, now):
-        if given.instead:
-            raise BadInput(f"{given.called}: {given.instead}")
-    before, after = Side(was, names), Side(now, names)
-    print(*differences(before, after, calendar), sep="\n")
-    return why(before.makespan) if why is not None and after.makespan > before.makespan else 0
+from .project import Goal
 
 
 class Side:
-    """The starts of one schedule by the numbers of its activities, with names from itself or else from the page."""
+    """One schedule, by the numbers that its activities have in its answer. Ends follow from the starts: by how long the answer
+    says that an activity took, else by how long it takes today."""
 
-    def __init__(self, given: Given, page: Names) -> None:
-        last = max(given.starts, default=0)
-        self.starts = {i: start for i, start in given.starts.items() if given.is_table or 0 < i < last}
-        self.makespan = max(given.ends.values(), default=0) if given.is_table else given.starts.get(last, 0)
-        self.ends = {i: given.ends.get(i, start + 1) for i, start in self.starts.items()}
-        self.names = {i: (given.names or page.activities).get(i, "") for i in self.starts}
+    def __init__(self, given: Given, opened: ProjectFile) -> None:
+        self.opened = opened
+        tied: Tied = tie(opened, given.must_have_starts())
+        self.now = {was: now for was, now in tied.pairs.items() if was in given.starts}
+        self.starts = {was: tied.starts[now] for was, now in self.now.items()}
+        for was, name in tied.gone.items():
+            begin = given.starts[was]
+            if begin.period is None:
+                raise BadInput(f"{begin.place}: {short(name)} is no activity of {opened.path}, so its start has to be the "
+                               "number of a period")
+            self.starts[was] = begin.period
+        names = given.names or {was: opened.names.activities.get(now, "") for was, now in self.now.items()}
+        self.names = {was: names.get(was, "") for was in self.starts}
+        takes = {was: opened.project.durations[now] for was, now in self.now.items()} | given.takes
+        unknown = [name for was, name in tied.gone.items() if was not in takes]
+        if unknown:
+            raise BadInput(f"{given.called}: {short(unknown[0])} is no activity of {opened.path}, and no column 'takes' says "
+                           "how long it took")
+        self.ends = {was: start + takes[was] for was, start in self.starts.items()}
+        due = {was: opened.project.due[now] for was, now in self.now.items() if now in opened.project.due}
+        is_whole = opened.table is None and not tied.gone and not tied.new  # of a text that may end behind all of them
+        self.makespan = max([0, *self.ends.values(), *([tied.starts[opened.project.end]] if is_whole else [])])
+        self.lateness = max([self.ends[was] - due[was] for was in due], default=0)
 
-    def when(self, number: int, calendar: Calendar | None) -> str:
-        start = self.starts[number]
-        return calendar.times(start, self.ends[number])[0] if calendar else f"{start}"
+    @property
+    def value(self) -> int:
+        return self.makespan if self.opened.project.goal is Goal.MAKESPAN else self.lateness
 
-    def called(self, number: int) -> str:
-        return self.names[number] or f"activity {number}"
+    def when(self, was: int) -> str:
+        """When an activity starts."""
+        if was in self.now:
+            return self.opened.times(self.now[was], self.starts[was])[0]
+        calendar = self.opened.calendar
+        return calendar.times(self.starts[was], self.ends[was])[0] if calendar else f"{self.starts[was]}"
+
+    def called(self, was: int) -> str:
+        return self.names[was] or f"activity {was}"
+
+
+def compare(opened: ProjectFile, old: str, new: str, why: Callable[[int], int] | None) -> int:
+    """Where the new schedule is later it asks why none ends as soon as the old one."""
+    before, after = Side(read_answer(old), opened), Side(read_answer(new), opened)
+    print(*differences(before, after), sep="\n")
+    return why(before.value) if why is not None and after.value > before.value else 0
 
 
 def same_activities(was: Side, now: Side) -> dict[int, int]:
     """Which activity of the new schedule each one of the old is: by name, or by number where one side has no names."""
     if any(was.names.values()) and any(now.names.values()):
         return same_names(was.names, now.names)
-    if was.starts.keys() != now.starts.keys():
-        raise BadInput(f"{len(was.starts)} activities and {len(now.starts)}; "
-                       "without names nobody can say which are the same")
-    return {i: i for i in was.starts}
+    return {i: i for i in was.starts if i in now.starts}
 
 
-def differences(was: Side, now: Side, calendar: Calendar | None) -> list[str]:
+def differences(was: Side, now: Side) -> list[str]:
     """What moved, what is new and what is gone, each in the order of the starts."""
     pairs = same_activities(was, now)
     moved = [(i, j) for i, j in pairs.items() if was.starts[i] != now.starts[j]]
     new = [i for i in now.starts if i not in pairs.values()]
     gone = [i for i in was.starts if i not in pairs]
     wide = max([len(now.called(i)) for i in [*new, *(j for _, j in moved)]] + [len(was.called(i)) for i in gone] + [0])
-    told = [f"makespan {was.makespan} -> {now.makespan}{late(now.makespan - was.makespan)}{ends(was, now, calendar)}"]
+    told = [f"makespan {was.makespan} -> {now.makespan}{late(now.makespan - was.makespan)}{ends(was, now)}"]
+    if now.opened.project.due:
+        told.append(f"lateness {was.lateness} -> {now.lateness}{late(now.lateness - was.lateness)}")
     for i, j in sorted(moved, key=lambda pair: (now.starts[pair[1]], pair[1])):
-        change = f"{was.when(i, calendar)} -> {now.when(j, calendar)}{late(now.starts[j] - was.starts[i])}"
-        told.append(f"  {now.called(j):{wide}}  {change}")
+        told.append(f"  {now.called(j):{wide}}  {was.when(i)} -> {now.when(j)}{late(now.starts[j] - was.starts[i])}")
     for side, numbers, says in ((now, new, "new, at"), (was, gone, "gone, was at")):
         for i in sorted(numbers, key=side.starts.__getitem__):
-            told.append(f"  {side.called(i):{wide}}  {says} {side.when(i, calendar)}")
+            told.append(f"  {side.called(i):{wide}}  {says} {side.when(i)}")
     return [*told, f"{len(pairs) - len(moved)} of {len(now.starts)} start as before"]
 
 
-def ends(was: Side, now: Side, calendar: Calendar | None) -> str:
+def ends(was: Side, now: Side) -> str:
     """The dates of both ends."""
+    calendar = now.opened.calendar
     if calendar is None:
         return ""
     before, after = (calendar.times(side.makespan, side.makespan)[1] for side in (was, now))

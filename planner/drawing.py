@@ -1,20 +1,29 @@
 """What a chart shows, whether as text or as SVG: a bar for each activity, the use of each resource over time."""
-from collections.abc import Mapping
+from collections.abc import Collection, Mapping
 from dataclasses import dataclass
 
-from .dates import Calendar
-from .names import Names
-from .project import Project
-from .window import Stretch, Window, stretches
+from .calendars import Calendar
+from .opened import ProjectFile
+from .window import Stretch, Window, away, stretches
 
 
 @dataclass(frozen=True)
 class Bar:
-    activity: int
+    """An activity, or a group, which has no number."""
+
+    activity: int | None
     name: str
     begins: int
     ends: int
-    window: Window | None = None  # in which it may start
+    first: str  # when it begins and ends, in dates where there is a calendar
+    last: str
+    window: Window | None = None  # in which it may start while the others stay
+    is_critical: bool = False
+    due: int | None = None
+
+    @property
+    def label(self) -> str:
+        return f"{self.activity} {self.name}".rstrip() if self.activity is not None else self.name
 
 
 @dataclass(frozen=True)
@@ -22,6 +31,7 @@ class Load:
     name: str
     capacity: int
     stretches: tuple[Stretch, ...]
+    away: tuple[Stretch, ...] = ()
 
 
 @dataclass(frozen=True)
@@ -34,9 +44,10 @@ class Drawing:
     loads: tuple[Load, ...]
     calendar: Calendar | None = None
 
-    def begin(self, bar: Bar) -> str:
-        """When an activity starts: a date where there is a calendar."""
-        return self.calendar.times(bar.begins, bar.ends)[0] if self.calendar else f"{bar.begins}"
+    def span(self, begins: int, ends: int) -> str:
+        """From when to when something is, in dates where there is a calendar."""
+        first, last = self.calendar.times(begins, ends) if self.calendar else (f"{begins}", f"{ends}")
+        return f"{first} to {last}"
 
     def mark(self, time: int, is_first: bool) -> str:
         """A time on the ruler: a short date, but for the first one."""
@@ -45,15 +56,34 @@ class Drawing:
         return self.calendar.times(time, time + 1)[0] if is_first else self.calendar.mark(time)
 
 
-def make(project: Project, starts: tuple[int, ...], names: Names, title: str, notes: tuple[str, ...] = (),
-         calendar: Calendar | None = None, windows: Mapping[int, Window] | None = None) -> Drawing:
-    found = windows or {}
-    bars = tuple(Bar(i, names.activities.get(i, ""), starts[i], starts[i] + project.durations[i], found.get(i))
-                 for i in range(1, project.end))
-    capacities = enumerate(project.capacities)
-    loads = tuple(Load(names.resource(k), units, stretches(project, starts, k)) for k, units in capacities)
-    ends = max([starts[project.end], *(bar.ends for bar in bars)])
-    return Drawing(title, notes, min(0, *starts), max(ends, min(0, *starts) + 1), bars, loads, calendar)
+def make(opened: ProjectFile, starts: tuple[int, ...], title: str, notes: tuple[str, ...] = (),
+         windows: Mapping[int, Window] | None = None, critical: Collection[int] = ()) -> Drawing:
+    project = opened.project
+    begins = min(0, *starts[:-1])
+    due = [time for time in project.due.values() if time > 0]
+    ends = max([begins + 1, starts[-1], *project.ends(starts), *due])
+    bars: list[Bar] = []
+    for i in range(1, project.end):
+        bars += [bracket(opened, starts, group.name, group.activities) for group in opened.groups
+                 if group.activities.start == i and len(group.activities)]
+        bars.append(Bar(i, opened.names.activities.get(i, ""), starts[i], starts[i] + project.durations[i],
+                        *opened.times(i, starts[i]), (windows or {}).get(i), i in critical, project.due.get(i)))
+    loads = tuple(Load(opened.names.resource(k), units, stretches(project, starts, k), cut(away(project, k, ends), ends))
+                  for k, units in enumerate(project.capacities))
+    return Drawing(title, notes, begins, ends, tuple(bars), loads, opened.calendar)
+
+
+def bracket(opened: ProjectFile, starts: tuple[int, ...], name: str, activities: range) -> Bar:
+    """A group, from the first start to the last end of its activities."""
+    first = min(activities, key=lambda i: starts[i])
+    last = max(activities, key=lambda i: starts[i] + opened.project.durations[i])
+    ends = starts[last] + opened.project.durations[last]
+    return Bar(None, name, starts[first], ends, opened.times(first, starts[first])[0], opened.times(last, starts[last])[1])
+
+
+def cut(found: tuple[Stretch, ...], ends: int) -> tuple[Stretch, ...]:
+    """What of it a chart has room for."""
+    return tuple(Stretch(one.begins, min(one.ends, ends), one.units) for one in found if one.begins < ends)
 
 
 def round_step(least: float) -> int:

@@ -8,6 +8,7 @@ from collections.abc import Mapping, Sequence
 from .errors import BadInput, Failed
 
 STANDARD_INPUT = "/dev/stdin"  # where an answer comes from that is in no file
+MARK = b"\xef\xbb\xbf"  # the byte order mark of UTF-8
 LARGEST = 16_777_216  # bytes; psmax reads no longer text, so one byte more is enough to know
 
 
@@ -66,6 +67,19 @@ def guard(outputs: Sequence[str | None], inputs: Mapping[str, str]) -> None:
                 raise BadInput(f"{output} is {what}, which would be lost")
         if any(same_file(output, other) for other in named[:place]):
             raise BadInput(f"{output} can't hold two outputs at once")
+
+
+def must_be_like(path: str | None, begin: bytes, what: str) -> None:
+    """Tells before anything is done that a file which would be replaced is none of its kind, but a plan, for example."""
+    there = read_bytes(path) if path is not None and os.path.isfile(path) else b""
+    if there.strip() and not there.removeprefix(MARK).startswith(begin):
+        raise BadInput(f"{path} is there, and no {what}, and would be lost; name another file")
+
+
+def must_be_empty(folder: str | None) -> None:
+    """A folder for records is a new one, or has nothing in it."""
+    if folder is not None and os.path.exists(folder) and not (os.path.isdir(folder) and not os.listdir(folder)):
+        raise BadInput(f"{folder} is no empty folder; name a new one with --out")
 
 
 def same_file(one: str, other: str) -> bool:

@@ -1,15 +1,15 @@
 """`plan gantt`: a schedule as a chart, in plain text or as SVG."""
 from dataclasses import dataclass
 
-from . import dates, drawing, svg
+from . import drawing, svg
 from .answer import judged
 from .clock import Clock
-from .dates import Wanted
 from .drawing import Bar, Drawing, Load
-from .files import STANDARD_INPUT, guard, write_whole
+from .files import STANDARD_INPUT, guard, must_be_like, write_whole
 from .given import read_answer
-from .opened import open_project
+from .opened import ProjectFile
 from .psmax import Psmax
+from .window import Stretch
 
 MARK = 10  # columns from one number of the ruler to the next
 LONGEST_NAME = 40
@@ -22,21 +22,29 @@ def text(shown: Drawing, width: int) -> str:
     first = shown.begins // (MARK * scale) * MARK * scale
     columns = -(-(shown.ends - first) // scale)
     wide = max([len(short(label)) for label in labels(shown)] + [0])
-    starts = [shown.begin(bar) for bar in shown.bars]
-    when = max([NUMBER, *map(len, starts)])
+    when = max([NUMBER, *(len(bar.first) for bar in shown.bars)])
     lines = [shown.title + (f"   (a column is {scale} periods)" if scale > 1 else "")]
     margin = " " * (wide + when + 7)
     lines += [margin + line for line in ruler(shown, first, scale, columns)]
-    for bar, start in zip(shown.bars, starts):
-        lines.append(f"{bar.activity:4} {short(bar.name):{wide}} {start:>{when}} {bar_cells(bar, first, scale, columns)}")
+    for bar in shown.bars:
+        number = "" if bar.activity is None else f"{bar.activity}"
+        lines.append(f"{number:>4} {short(bar.name):{wide}} {bar.first:>{when}} {bar_cells(bar, first, scale, columns)}")
     for load in shown.loads:
         label = short(load.name)
         lines.append(f"     {label:{wide}} {'of ' + str(load.capacity):>{when}} {load_cells(load, first, scale, columns)}")
-    if any(load.capacity > 9 for load in shown.loads):
-        lines.append(margin + "9 stands for the whole of a resource of more than 9 units")
-    if any(bar.window for bar in shown.bars):
-        lines.append(margin + "- where it may run too, while the others stay as they are; * none of that: critical")
+    lines += [margin + line for line in keys(shown)]
     return "".join(line.rstrip() + "\n" for line in [*lines, *shown.notes])
+
+
+def keys(shown: Drawing) -> list[str]:
+    """What signs mean that not every chart has."""
+    return [key for key, is_there in (
+        ("9 stands for the whole of a resource of more than 9 units", any(load.capacity > 9 for load in shown.loads)),
+        ("/ units are away, and none is in use", any(load.away for load in shown.loads)),
+        ("+ the last period before the due date is over", any(bar.due is not None for bar in shown.bars)),
+        ("- where it may run too, while the others stay as they are", any(bar.window for bar in shown.bars)),
+        ("* critical: any later, and no schedule is as short", any(bar.is_critical for bar in shown.bars)),
+    ) if is_there]
 
 
 def labels(shown: Drawing) -> list[str]:
@@ -58,14 +66,20 @@ def ruler(shown: Drawing, first: int, scale: int, columns: int) -> list[str]:
 
 
 def bar_cells(bar: Bar, first: int, scale: int, columns: int) -> str:
-    """A # for each column in which the activity runs, * where it is critical; a | where it takes no time."""
+    """A # for each column in which the activity runs, * where it is critical; a | where it takes no time; a group in
+    brackets."""
     cells = ["."] * columns
     if bar.window is not None and bar.window.float:
         fill(cells, "-", bar.window.earliest, bar.window.latest + bar.ends - bar.begins, first, scale)
-    is_critical = bar.window is not None and not bar.window.float
-    if bar.begins == bar.ends:
-        cells[min((bar.begins - first) // scale, columns - 1)] = "*" if is_critical else "|"
-    fill(cells, "*" if is_critical else "#", bar.begins, bar.ends, first, scale)
+    sign = "=" if bar.activity is None else "*" if bar.is_critical else "#"
+    fill(cells, sign, bar.begins, bar.ends, first, scale)
+    begin, end = (min((time - first) // scale, columns - 1) for time in (bar.begins, max(bar.begins, bar.ends - 1)))
+    if bar.activity is None:
+        cells[begin], cells[end] = "[", "]" if end > begin else "["
+    elif bar.begins == bar.ends:
+        cells[begin] = "*" if bar.is_critical else "|"
+    if bar.due is not None and 0 < bar.due and (bar.due - 1 - first) // scale < columns:
+        cells[(bar.due - 1 - first) // scale] = "+"
     return "".join(cells)
 
 
@@ -75,12 +89,25 @@ def fill(cells: list[str], sign: str, begins: int, ends: int, first: int, scale:
 
 
 def load_cells(load: Load, first: int, scale: int, columns: int) -> str:
-    """The greatest use in each column: the units, or ninths of a larger capacity; ! above the capacity."""
-    most = [0] * columns
+    """The greatest use in each column: the units, or ninths of a larger capacity; ! above what is there, / where units are
+    away and none is in use."""
+    most, gone, over = [0] * columns, [0] * columns, [False] * columns
+    for found, into in ((load.stretches, most), (load.away, gone)):
+        for stretch in found:
+            for column in covered(stretch, first, scale):
+                into[column] = max(into[column], stretch.units)
     for stretch in load.stretches:
-        for column in range((stretch.begins - first) // scale, -(-(stretch.ends - first) // scale)):
-            most[column] = max(most[column], stretch.units)
-    return "".join(use_sign(units, load.capacity) for units in most)
+        for absent in [one for one in load.away if one.begins < stretch.ends and stretch.begins < one.ends]:
+            if stretch.units + absent.units > load.capacity:
+                both = Stretch(max(stretch.begins, absent.begins), min(stretch.ends, absent.ends), 0)
+                for column in covered(both, first, scale):
+                    over[column] = True
+    return "".join("!" if is_over else "/" if absent and not units else use_sign(units, load.capacity)
+                   for units, absent, is_over in zip(most, gone, over))
+
+
+def covered(stretch: Stretch, first: int, scale: int) -> range:
+    return range((stretch.begins - first) // scale, -(-(stretch.ends - first) // scale))
 
 
 def use_sign(units: int, capacity: int) -> str:
@@ -99,6 +126,10 @@ class Chart:
     width: int
     is_wanted: bool = True
 
+    def must_fit(self) -> None:
+        """A file that is there and no picture stays."""
+        must_be_like(self.svg, svg.BEGIN, "picture")
+
     def show(self, shown: Drawing) -> None:
         if self.svg is not None:
             write_whole(self.svg, svg.draw(shown).encode())
@@ -106,15 +137,14 @@ class Chart:
             print(text(shown, self.width), end="")
 
 
-def gantt(path: str, given: str | None, page: str | None, wanted: Wanted, chart: Chart) -> int:
+def gantt(opened: ProjectFile, given: str | None, chart: Chart) -> int:
     """Draws starts that are no feasible schedule too, with their violations."""
-    opened = open_project(path, page)
-    guard([chart.svg], opened.inputs() | {"the answer": given or STANDARD_INPUT} | wanted.inputs())
-    calendar = dates.chosen(wanted, opened)
-    answer, psmax = read_answer(given), Psmax(Clock(), path)
+    guard([chart.svg], opened.inputs() | {"the answer": given or STANDARD_INPUT})
+    chart.must_fit()
+    answer = read_answer(given)
     if answer.instead:
         print(answer.instead)
         return 0
-    known = judged(opened, answer, psmax)
-    chart.show(drawing.make(known.project, known.starts, opened.names, known.title(), known.violations, calendar))
+    known = judged(opened, answer, Psmax(Clock(), opened.path))
+    chart.show(drawing.make(opened, known.starts, known.title(), known.violations))
     return 0

@@ -4,7 +4,9 @@ import re
 from collections.abc import Mapping
 from dataclasses import dataclass, field
 
+from .columns import is_head
 from .csv_text import Sheet, cell, letters, read_sheet
+from .dates import is_dated
 from .errors import BadInput
 from .files import LARGEST, read_input
 from .letters import short
@@ -14,11 +16,14 @@ LINE = re.compile(r"[ \t]*([0-9]{1,4})[ \t]+(-?[0-9]{1,10})[ \t\r]*")
 START = re.compile(r"-?[0-9]{1,10}")
 PROJECT = re.compile(r"\d+[ \t]+\d+[ \t]+0[ \t]+0\s")  # the beginning of a project
 KEYS = {"bound", "makespan", "starts", "status"}  # of an answer in JSON (docs/FORMAT.md)
+NAMED = {"activity", "name", "task name", "task"}  # columns by which an activity is known
 VIOLATIONS = "these are violations that `check` found, and no starts"
-SAYS_WHAT = {  # the beginning of an answer without starts, and what it means
+WITHOUT = {  # the beginning of an answer without starts, and what it means
     "no schedule": "there is none to show; `plan why` says why",
-    "unknown bound ": "no schedule was found before the search stopped, so there is none to show",
+    "unknown ": "no schedule was found before the search stopped, so there is none to show",
     "positive cycle ": "the lags contradict each other, so there is no schedule to show; `plan why` says which",
+}
+NO_ANSWER = {  # the beginning of what is no answer, and what it is
     "start ": VIOLATIONS,
     "lag ": VIOLATIONS,
     "overload ": VIOLATIONS,
@@ -26,6 +31,22 @@ SAYS_WHAT = {  # the beginning of an answer without starts, and what it means
     "record ": "this is the record of a search, which `psmax verify` checks, and no starts",
     "psmax: ": "this is a fault that psmax told, and no answer",
 }
+HEADS = {  # of an answer's columns
+    "activity": ("activity",),
+    "name": ("name", "task name", "task"),
+    "start": ("start",),
+    "day": ("first day", "from"),
+    "takes": ("takes",),
+}
+
+
+@dataclass(frozen=True)
+class Begin:
+    """When an activity starts, as an answer says it: the number of a period, or a date, or both."""
+
+    period: int | None
+    date: str
+    place: str = ""  # of these in the file, for faults
 
 
 @dataclass(frozen=True)
@@ -33,12 +54,17 @@ class Given:
     """Starts by the numbers that the activities had then, and by the same numbers their names, where it has them."""
 
     called: str  # in faults
-    starts: dict[int, int] = field(default_factory=dict)
+    starts: dict[int, Begin] = field(default_factory=dict)
     names: dict[int, str] = field(default_factory=dict)
-    ends: dict[int, int] = field(default_factory=dict)  # the same, where they are known
+    takes: dict[int, int] = field(default_factory=dict)  # how long the activities took then, where the answer says so
     said: str = ""  # the first line of the answer, if it has one
     instead: str = ""  # a sentence for an answer without starts
     is_table: bool = False  # which has neither the start nor the end of the project
+
+    def must_have_starts(self) -> "Given":
+        if self.instead:
+            raise BadInput(f"{self.called}: {self.instead}")
+        return self
 
 
 def read_answer(path: str | None) -> Given:
@@ -50,11 +76,11 @@ def answer_of(data: bytes, called: str) -> Given:
     if len(data) > LARGEST:
         raise BadInput(f"{called}: too long")
     text = data.decode("utf-8-sig", "replace")
-    sheet = answer_sheet(text)
-    if sheet is not None:
+    sheet = named_sheet(text)
+    if sheet is not None and "start" in map(str.lower, sheet.heads):
         return from_sheet(sheet, called)
-    if named_sheet(text) is not None:
-        return Given(called, instead="This is a table without a column `start`, and no answer.")
+    if sheet is not None:
+        raise BadInput(f"{called}: This is a table without a column `start`, and no answer.")
     if text.lstrip().startswith("{"):
         return from_json(text, called)
     return from_lines(text, called, {})
@@ -64,19 +90,23 @@ def from_lines(text: str, called: str, activities: Mapping[str, object]) -> Give
     """The lines of psmax, or of a file of starts. What else is known of the activities stands in the first line, as JSON."""
     lines = text.split("\n")
     said, brace, told = lines[0].strip().partition(" {")
-    instead = sentence(text.strip())
+    instead = sentence(text.strip(), called)
     if instead:
         return Given(called, instead=instead)
     if not text.startswith(WITH_STARTS):
-        return Given(called, starts_in(lines, 1, called))
+        return Given(called, begins(starts_in(lines, 1, called)))
     if brace:
         activities = json_object("{" + told)
     names, durations = activities.get("names", []), activities.get("durations", [])
     if not isinstance(names, list) or not isinstance(durations, list) or not all(type(one) is int for one in durations):
         raise BadInput(f"{called}: line 1: what it says of the activities can't be read")
     starts = starts_in(lines[1:], 2, called)
-    ends = {i: starts[i] + length for i, length in enumerate(durations, 1) if i in starts}
-    return Given(called, starts, {i: f"{name}" for i, name in enumerate(names, 1)} if any(names) else {}, ends, short(said))
+    named = {i: f"{name}" for i, name in enumerate(names, 1)} if any(names) else {}
+    return Given(called, begins(starts), named, {i: length for i, length in enumerate(durations, 1)}, short(said))
+
+
+def begins(starts: dict[int, int]) -> dict[int, Begin]:
+    return {activity: Begin(start, "") for activity, start in starts.items()}
 
 
 def starts_in(lines: list[str], number: int, called: str) -> dict[int, int]:
@@ -93,17 +123,21 @@ def starts_in(lines: list[str], number: int, called: str) -> dict[int, int]:
     return found
 
 
-def sentence(text: str) -> str:
-    """A sentence for an answer without starts; empty where there are starts to read."""
+def sentence(text: str, called: str) -> str:
+    """A sentence for an answer without starts; empty where there are starts to read. What is no answer is a fault."""
     first, _, rest = text.partition("\n")
     first = first.partition(" {")[0].strip()
     if not first:
-        return "The answer is empty."
+        raise BadInput(f"{called}: The answer is empty.")
     if PROJECT.match(text):
-        return "This is a project, and no answer."
+        raise BadInput(f"{called}: This is a project, and no answer.")
+    no_answer = next((meaning for begin, meaning in NO_ANSWER.items() if first.startswith(begin)), "")
+    if no_answer:
+        raise BadInput(f"{called}: The answer is `{short(first)}`: {no_answer}.")
     if first.startswith(WITH_STARTS) and not rest:
-        return f"The answer is `{short(first)}`: there are no starts below it, so there is no schedule to show."
-    meaning = next((meaning for begin, meaning in SAYS_WHAT.items() if first.startswith(begin)), "")
+        raise BadInput(f"{called}: The answer is `{short(first)}`: there are no starts below it, so there is no schedule to "
+                       "show.")
+    meaning = next((meaning for begin, meaning in WITHOUT.items() if first.startswith(begin)), "")
     return meaning and f"The answer is `{short(first)}`: {meaning}."
 
 
@@ -127,38 +161,47 @@ def json_object(text: str) -> dict[str, object]:
 
 def first_line(told: dict[str, object]) -> str | None:
     """The first line of the plain answer, or none where this is no answer."""
-    bound, makespan = told["bound"], told["makespan"]
+    bound = told["bound"]
+    lateness = told.get("lateness")
+    value = told["makespan"] if lateness is None else f"lateness {lateness}"
     lines = {
-        "optimal": f"optimal {makespan}",
+        "optimal": f"optimal {value}",
         "no schedule": "no schedule",
-        "feasible": f"feasible {makespan} bound {bound}",
+        "feasible": f"feasible {value} bound {bound}",
         "unknown": f"unknown bound {bound}",
     }
     return lines.get(str(told["status"]))
 
 
 def answer_sheet(text: str) -> Sheet | None:
-    """The rows of an answer in CSV, as `plan write` makes it; none where the text is none."""
+    """The rows of an answer in CSV, as `plan write` makes it; none where the text is none, or is a table of activities."""
     sheet = named_sheet(text)
-    return sheet if sheet is not None and "start" in map(str.lower, sheet.heads) else None
+    has_starts = sheet is not None and "start" in map(str.lower, sheet.heads)
+    return sheet if sheet is not None and has_starts and not is_head(sheet.heads) else None
 
 
 def named_sheet(text: str) -> Sheet | None:
     """The rows of a table in which activities have names or numbers; none where the text is none."""
     first = text[:10_000].lower()
-    if "activity" not in first and "name" not in first:
+    if not any(head in first for head in NAMED):
         return None
     try:
-        sheet = read_sheet("", text)
+        sheet = read_sheet("", text, is_answer_head)
     except BadInput:
         return None
-    return sheet if {"activity", "name"} & {head.lower() for head in sheet.heads} else None
+    return sheet if NAMED & {head.lower() for head in sheet.heads} else None
+
+
+def is_answer_head(row: list[str]) -> bool:
+    heads = {head.lower() for head in row}
+    return bool(NAMED & heads) and "start" in heads
 
 
 def from_sheet(sheet: Sheet, called: str) -> Given:
-    """A table with a row for each activity. A column `activity` has numbers, or names where there is no other."""
+    """A table with a row for each activity. A column `activity` has numbers, or names where there is no other. The end is not
+    read: it follows from the start."""
     heads = [head.lower() for head in sheet.heads]
-    columns = {head: heads.index(head) for head in ("activity", "name", "start", "end") if head in heads}
+    columns = {kind: heads.index(head) for kind, known in HEADS.items() for head in known if head in heads}
     given = Given(called, is_table=True)
     for number, row in sheet.numbered():
         key = cell(row, columns.get("activity"))
@@ -167,17 +210,23 @@ def from_sheet(sheet: Sheet, called: str) -> Given:
         if activity in given.starts:
             raise BadInput(f"{called}: row {number}: a second start of activity {activity}")
         given.names[activity] = cell(row, columns.get("name")) or ("" if has_number else key)
-        given.starts[activity] = whole(sheet, called, number, row, columns["start"])
-        if cell(row, columns.get("end")):
-            given.ends[activity] = whole(sheet, called, number, row, columns["end"])
+        given.starts[activity] = begin(sheet, called, number, row, columns)
+        if START.fullmatch(cell(row, columns.get("takes"))):
+            given.takes[activity] = int(cell(row, columns.get("takes")))
     if not any(given.names.values()):
         given.names.clear()
     return given
 
 
-def whole(sheet: Sheet, called: str, number: int, row: list[str], column: int) -> int:
-    text = cell(row, column)
-    if not START.fullmatch(text):
-        fault = f"'{short(text)}' is not a whole number" if text else "a whole number is missing"
-        raise BadInput(f"{called}: row {number}, column {letters(column)} ({short(sheet.heads[column])}): {fault}")
-    return int(text)
+def begin(sheet: Sheet, called: str, number: int, row: list[str], columns: dict[str, int]) -> Begin:
+    """The start in a row. A date in its own column says the same once more."""
+    column, text, day = columns["start"], cell(row, columns["start"]), cell(row, columns.get("day"))
+    place = f"{called}: row {number}, column {letters(column)} ({short(sheet.heads[column])})"
+    if START.fullmatch(text):
+        return Begin(int(text), day, place)
+    if is_dated(text):
+        return Begin(None, text, place)
+    if not text and day:
+        return Begin(None, day, place)
+    raise BadInput(f"{place}: " + (f"'{short(text)}' is neither a whole number nor a date" if text
+                                   else "a whole number or a date is missing"))

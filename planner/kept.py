@@ -10,11 +10,10 @@ from .files import read_bytes, write_whole
 from .given import answer_of
 from .known import Known
 from .opened import ProjectFile
-from .project import parse
 from .psmax import Psmax
 from .write import rows
 
-WITHOUT_STARTS = (b"no schedule", b"unknown bound ")  # the beginnings of answers of a search
+WITHOUT_STARTS = (b"no schedule", b"unknown ")  # the beginnings of answers of a search
 
 
 class Kept:
@@ -37,10 +36,8 @@ class Kept:
         before it was changed."""
         if not data.strip() or data.startswith(WITHOUT_STARTS):
             return None
-        psmax = Psmax(Clock(), self.opened.path)
-        psmax.earliest(self.opened.text)
         try:
-            return feasible(self.opened, answer_of(data, self.path), psmax)
+            return feasible(self.opened, answer_of(data, self.path), Psmax(Clock(), self.opened.path))
         except BadInput as fault:
             told = f"{self.path} is no schedule of {self.opened.path}, and would be lost; name another file with --out"
             raise BadInput(told, *fault.args) from None
@@ -51,7 +48,7 @@ class Kept:
             return False
         there = self.look()
         if there is not None and there.starts[-1] < known.starts[-1]:
-            tell(known.clock, f"{self.path} holds a schedule of {there.starts[-1]} by now, which stays")
+            tell(known.clock, f"{self.path} holds a schedule of {known.goal.words(there.starts[-1])} by now, which stays")
             return False
         data = answer_text(known, self.opened, self.path.lower().endswith(".csv"))
         if data != self.written:
@@ -71,8 +68,7 @@ def answer_text(known: Known, opened: ProjectFile, as_table: bool) -> bytes:
     """What is known, with the names of the activities: as a table, or in the lines of psmax, the first of which, which
     psmax passes over, has the names."""
     if as_table and known.starts is not None:
-        answer = Answer(parse(opened.text), known.starts, "", known.makespan, ())
-        return write_sheet(rows(answer, opened.names, None)).encode()
+        return write_sheet(rows(opened, known.starts, with_dates=False)).encode()
     first, _, rest = known.answer().decode().partition("\n")
     activities = activities_of(opened)
     told = f" {json.dumps(activities, ensure_ascii=False)}" if any(activities["names"]) else ""
@@ -81,5 +77,5 @@ def answer_text(known: Known, opened: ProjectFile, as_table: bool) -> bytes:
 
 def activities_of(opened: ProjectFile) -> dict[str, list[object]]:
     """The names of the activities in their order, empty where one has none, and how long each takes."""
-    durations = parse(opened.text).durations[1:-1]
+    durations = opened.project.durations[1:-1]
     return {"names": [opened.names.activities.get(i, "") for i in range(1, len(durations) + 1)], "durations": [*durations]}

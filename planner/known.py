@@ -3,16 +3,19 @@ from collections.abc import Callable, Sequence
 
 from .clock import Clock, tell
 from .errors import Failed
+from .project import Project
 from .psmax import starts_text
 from .psprove import Claim, Solved
+from .spelled import Spelled
 
 
 class Known(Claim):
-    def __init__(self, clock: Clock) -> None:
+    def __init__(self, clock: Clock, project: Project) -> None:
         self.clock = clock
+        self.goal, self.project = project.goal, project
         self.better: Callable[[], None] = lambda: None  # what is done each time the schedule gets shorter
-        self.bound = 0
-        self.makespan = None
+        self.bound = Spelled(project).value(0)
+        self.value = None
         self.starts: tuple[int, ...] | None = None
         self.record = b""  # that proves the bound, or that there is no schedule
         self.conflicts = 0  # of all searches
@@ -20,8 +23,8 @@ class Known(Claim):
     def learn(self, answer: Solved, by: str) -> None:
         """Takes what psprove has proved."""
         self.conflicts += answer.conflicts
-        most = self.makespan if answer.makespan is None else answer.makespan
-        least = None if answer.bound is None else max(answer.bound, self.bound or 0)
+        most = self.value if answer.value is None else answer.value
+        least = answer.bound if answer.bound is None or self.bound is None else max(answer.bound, self.bound)
         if most is not None and (least is None or least > most):
             raise Failed(f"psprove contradicts itself: a schedule of {most}, and {answer.first_line()}, by {by}")
         if least != self.bound or answer.settled:
@@ -33,14 +36,14 @@ class Known(Claim):
 
     def offer(self, starts: Sequence[int], by: str) -> None:
         """Takes starts that are a feasible schedule, by what is said of them."""
-        tell(self.clock, f"schedule {starts[-1]}: {by}")
+        tell(self.clock, f"schedule {self.goal.words(starts[-1])}: {by}")
         self.take(tuple(starts))
 
     def take(self, starts: tuple[int, ...]) -> None:
-        if self.makespan is None or starts[-1] < self.makespan:
-            self.makespan, self.starts = starts[-1], starts
+        if self.value is None or starts[-1] < self.value:
+            self.value, self.starts = starts[-1], starts
             self.better()
 
     def answer(self) -> bytes:
         """What is known, in the words of psmax; `psmax check` and `plan gantt` read it."""
-        return starts_text(self.starts or (), self.first_line())
+        return starts_text(self.project.plain(self.starts) if self.starts else (), self.first_line())

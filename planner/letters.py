@@ -9,6 +9,12 @@ def printable(text: str) -> str:
     return "".join(sign if sign.isprintable() else "?" for sign in text)
 
 
+def escaped(name: str) -> str:
+    """The name of a file, with what can't be printed and what is no UTF-8 as a backslash and its number."""
+    return "".join(sign if sign.isprintable() else sign.encode("ascii", "backslashreplace").decode() if ord(sign) > 127
+                   else f"\\x{ord(sign):02x}" for sign in name)
+
+
 def short(text: str) -> str:
     """The same, cut where it is long."""
     return printable(text[:LONGEST]) + (".." if len(text) > LONGEST else "")

@@ -5,10 +5,11 @@ import sys
 from collections.abc import Sequence
 from typing import NoReturn
 
+from .calendars import BEYOND
 from .clock import end_at_once, interrupt_once
 from .errors import BadInput, Failed, TimeUp
 from .letters import printable
-from .options import parser
+from .options import parsed
 
 INTERRUPTED = 130
 
@@ -37,8 +38,7 @@ def answered(words: Sequence[str]) -> int:
         if isinstance(stream, io.TextIOWrapper):
             stream.reconfigure(errors="replace")
     try:
-        options = parser().parse_args(words)
-        status: int = options.run(options)
+        status = run_command(words)
         sys.stdout.flush()
         return status
     except BadInput as fault:
@@ -56,6 +56,15 @@ def answered(words: Sequence[str]) -> int:
         return failed(1, f"{fault.strerror or fault}" + (f": {fault.filename}" if fault.filename else ""))
     except Exception as fault:
         return failed(1, f"a fault of plan itself: {type(fault).__name__}: {fault}")
+
+
+def run_command(words: Sequence[str]) -> int:
+    options = parsed(words)
+    try:
+        status: int = options.run(options)
+    except OverflowError:  # of dates
+        raise BadInput(BEYOND) from None
+    return status
 
 
 def failed(status: int, *texts: str) -> int:

@@ -4,10 +4,11 @@ import re
 from dataclasses import dataclass, field, replace
 
 from .project import Project
+from .settings import NAMES as SETTINGS
 
 CELL = re.compile(r"(?<!\\)\|")
 MADE = "Made by `plan read` from `{}`; change that, and not this page."
-SETTINGS = ("period", "from", "workdays", "holidays")  # rows of the second table
+DIGEST = "The SHA-256 of that table is {}."
 
 
 @dataclass
@@ -15,8 +16,9 @@ class Names:
     activities: dict[int, str] = field(default_factory=dict)
     resources: list[str] = field(default_factory=list)
     unit: str = ""  # what a period is, as the column of durations is called
-    settings: dict[str, str] = field(default_factory=dict)  # of the calendar
+    settings: dict[str, str] = field(default_factory=dict)  # rows of the second table
     source: str = ""  # the table that the project was made from
+    digest: str = ""  # of that, by SHA-256
 
     def activity(self, number: int) -> str:
         """The number of an activity, with its name where it has one."""
@@ -45,6 +47,8 @@ def read_page(data: bytes) -> Names:
             found.settings[row[0]] = row[1]
     made = re.search(re.escape(MADE).replace(r"\{\}", "(.+)"), text)
     found.source = made[1] if made else ""
+    digest = re.search(DIGEST.format("([0-9a-f]{64})"), text)
+    found.digest = digest[1] if digest else ""
     return found
 
 
@@ -55,7 +59,8 @@ def cell_text(cell: str) -> str:
 
 def page(title: str, project: Project, names: Names) -> str:
     """The page of a project that was read from a table."""
-    lines = [f"# {title}", "", f"The numbers, names and demands of `{title}.sch`. {MADE.format(names.source)}", ""]
+    lines = [f"# {title}", "", f"The numbers, names and demands of `{title}.sch`. {MADE.format(names.source)}",
+             DIGEST.format(names.digest), ""]
     lines.append(table_row(["", "Activity", names.unit.capitalize(), *names.resources]))
     lines.append("|" + "---|" * (3 + len(names.resources)))
     for activity in range(1, project.end):

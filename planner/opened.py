@@ -1,78 +1,165 @@
-"""A project as it lies in a folder: its text, its page of names, and the table that both were made from."""
+"""A project as it is opened: a table, which is read anew each time, or a .sch file with its page of names."""
+import hashlib
 import os
-from dataclasses import dataclass
+import re
+from dataclasses import dataclass, field, replace
 
+from .calendars import Calendar
+from .clock import Clock
+from .columns import is_head
 from .csv_text import read_sheet
 from .errors import BadInput
 from .files import read_bytes, read_text
 from .given import WITH_STARTS, answer_sheet
 from .names import Names, read_page
-from .table import is_known
+from .outline import Group
+from .progress import Progress
+from .project import Project, parse
+from .psmax import Psmax
+from .settings import Settings, calendar, checked, from_rows, time_of
+from .spelled import Spelled
+from .table import Table, read_table
+
+PROJECT = re.compile(rb"\s*\d+[ \t]+\d+[ \t]+0[ \t]+0\s")
 
 
 @dataclass(frozen=True)
 class ProjectFile:
     path: str
-    text: bytes
+    project: Project
     names: Names
-    page: str  # where the names come from, or would
+    settings: Settings
+    calendar: Calendar | None
+    sources: dict[str, str]  # what it was read from, and what else lies there as its own, by what that is
+    table: Table | None = None
+    separator: str = ","
+    mornings: dict[int, list[int]] = field(default_factory=dict)
 
-    def tables(self) -> list[str]:
-        """The table that the page names, and the one that lies beside the project."""
-        named = [os.path.join(os.path.dirname(self.page), self.names.source)] if self.names.source else []
-        beside = os.path.splitext(self.path)[0] + ".csv"
-        return named + ([] if is_answer(beside) else [beside])
+    @property
+    def groups(self) -> tuple[Group, ...]:
+        return self.table.groups if self.table is not None else ()
+
+    @property
+    def progress(self) -> Progress:
+        return self.table.progress if self.table is not None else Progress(None)
+
+    @property
+    def notes(self) -> tuple[str, ...]:
+        return self.table.notes if self.table is not None else ()
 
     def inputs(self) -> dict[str, str]:
         """What no output may replace."""
-        pages = {"the page of names": self.page, "the page beside the project": page_of(self.path)}
-        if "holidays" in self.names.settings:
-            pages["the file of holidays"] = os.path.join(os.path.dirname(self.page), self.names.settings["holidays"])
-        tables = zip(("the table of the project", "the table beside the project"), self.tables())
-        return {"the project": self.path} | pages | dict(tables)
+        return self.sources | self.settings.files()
 
-    def separator(self) -> str:
-        """The one of the table that the project was made from; a comma where it isn't there."""
-        for table in self.tables():
-            if os.path.isfile(table):
-                return read_sheet(table, read_text(table)).separator
-        return ","
+    def times(self, activity: int, begins: int) -> tuple[str, str]:
+        """When an activity begins and ends, where it begins at this time: as dates, or else as the numbers of periods."""
+        ends = begins + self.project.durations[activity]
+        if self.calendar is None:
+            return f"{begins}", f"{ends}"
+        return self.calendar.times(begins, ends, begins in self.mornings.get(activity, ()))
+
+    def changeable(self) -> int:
+        """How many of the project's arcs are lags that one could change; those behind keep what has started."""
+        return len(self.project.arcs) - len(self.progress.arcs(self.project.end - 1))
+
+    def time(self, text: str, name: str) -> int:
+        """A date or the number of a period, as a word of the command says it."""
+        return time_of(text, name, self.settings, self.calendar)
 
 
 def page_of(project: str) -> str:
     return os.path.splitext(project)[0] + ".md"
 
 
+def open_project(path: str, words: Settings = Settings(), page: str | None = None) -> ProjectFile:
+    """The project in a file, with the names of the page that is named, which must be there, or of the one beside it."""
+    data = read_bytes(path)
+    if data.startswith(b"PK\x03\x04"):
+        raise BadInput(f"{path}: this is a spreadsheet file, and no project; save its table as CSV")
+    text = data.decode("utf-8-sig", "replace")
+    if text.startswith(WITH_STARTS) or (not is_table(path, text) and answer_sheet(text) is not None):
+        raise BadInput(f"{path}: this is an answer, and no project")
+    if is_table(path, text):
+        return open_table(path, words, page)
+    return open_text(path, data, words, page)
+
+
+def is_table(path: str, text: str) -> bool:
+    """Whether a file has activities with names and durations, or is called as one that should have."""
+    if PROJECT.match(text.encode("utf-8", "replace")):
+        return False
+    try:
+        sheet = read_sheet(path, text, is_head)
+        return is_head(sheet.heads) or (path.lower().endswith(".csv") and answer_sheet(text) is None)
+    except BadInput:
+        return path.lower().endswith(".csv")
+
+
+def has_activities(path: str) -> bool:
+    """Whether a file is a table of activities, by its columns."""
+    try:
+        return is_head(read_sheet(path, read_bytes(path).decode("utf-8", "replace"), is_head).heads)
+    except BadInput:
+        return False
+
+
+def open_table(path: str, words: Settings, page: str | None = None) -> ProjectFile:
+    """The page beside a table is no part of it; one that is named says what the words and the table don't."""
+    if page is not None:
+        words = words.over(from_rows(read_page(read_bytes(page)).settings, os.path.dirname(page)))
+    text = read_text(path)
+    found = read_table(path, text, words, os.path.dirname(path))
+    sources = {"the table": path} | ({} if page is None else {"the page of names": page})
+    separator = read_sheet(path, text, is_head).separator
+    return of_table(path, found, sources, separator)
+
+
+def of_table(path: str, found: Table, sources: dict[str, str], separator: str) -> ProjectFile:
+    return ProjectFile(path, found.project, found.names, found.settings, found.calendar, sources, found, separator,
+                       found.mornings)
+
+
+def open_text(path: str, data: bytes, words: Settings, page: str | None) -> ProjectFile:
+    """A .sch file. Where its page says which table it was made of, and that is there, the table is read too."""
+    at = page if page is not None else page_of(path)
+    names = read_page(read_bytes(at)) if page is not None or os.path.isfile(at) else Names()
+    told = from_rows(names.settings, os.path.dirname(at))
+    table = os.path.join(os.path.dirname(at), names.source) if names.source else None
+    sources = {"the project": path, "the page of names": at, "the page beside the project": page_of(path)}
+    beside = os.path.splitext(path)[0] + ".csv"
+    sources |= {} if table is None else {"the table of the project": table}
+    sources |= {} if is_answer(beside) else {"the table beside the project": beside}
+    if table is not None and os.path.isfile(table):
+        return made_of(path, data, names, told, words, table, sources)
+    settings = checked(words.over(told))
+    for name in ("absences", "status", "minimize"):
+        if getattr(settings, name) is not None:
+            raise BadInput(f"{path}: --{name} needs the table of the project" + (f", {table}" if table is not None else ""))
+    Psmax(Clock(), path).earliest_of_text(data)
+    found = calendar(settings, names.unit)
+    separator = read_sheet(beside, read_text(beside)).separator if os.path.isfile(beside) and not is_answer(beside) else ","
+    return ProjectFile(path, parse(data), names, settings, found, sources, separator=separator)
+
+
+def made_of(path: str, data: bytes, names: Names, told: Settings, words: Settings, table: str,
+            sources: dict[str, str]) -> ProjectFile:
+    """What the table says, once it is sure that the project is what `plan read` makes of it."""
+    advice = f"give the table itself, or make the project again by `plan read {table}`"
+    if names.digest and hashlib.sha256(read_bytes(table)).hexdigest() != names.digest:
+        raise BadInput(f"{path} is older than its table {table}, which was changed; {advice}")
+    text, folder = read_text(table), os.path.dirname(table)
+    found = read_table(table, text, Settings(), folder, told)
+    if Spelled(found.project).text.split() != data.split():
+        raise BadInput(f"{path} is not what `plan read` makes of {table} today; {advice}")
+    project = found.project
+    if words != Settings():
+        found = read_table(table, text, words, folder, told)
+        if replace(found.project, goal=project.goal) != project:
+            raise BadInput(f"{path} was made with another calendar; {advice}")
+    separator = read_sheet(table, text, is_head).separator
+    return of_table(path, replace(found, names=replace(found.names, source=names.source)), sources, separator)
+
+
 def is_answer(path: str) -> bool:
     """Whether a file is an answer in CSV, which is no table of activities."""
     return os.path.isfile(path) and answer_sheet(read_bytes(path).decode("utf-8", "replace")) is not None
-
-
-def open_project(path: str, page: str | None = None) -> ProjectFile:
-    """The project in a file, with the names of the page that is named, which must be there, or of the one beside it."""
-    text = read_bytes(path)
-    instead = what_instead(path, text)
-    if instead:
-        raise BadInput(f"{path}: {instead}")
-    beside = page_of(path)
-    if page is not None:
-        names = read_page(read_bytes(page))
-    else:
-        names = read_page(read_bytes(beside)) if os.path.isfile(beside) else Names()
-    return ProjectFile(path, text, names, page if page is not None else beside)
-
-
-def what_instead(path: str, data: bytes) -> str:
-    """What a file is that can't be a project; empty where it may be one."""
-    text = data.decode("utf-8-sig", "replace")
-    if text.startswith(WITH_STARTS):
-        return "this is an answer, and no project"
-    if data.startswith(b"PK\x03\x04"):
-        return "this is a spreadsheet file, and no project; save its table as CSV, and make a project of that by `plan read`"
-    try:
-        heads = read_sheet(path, text).heads if text.strip() and not text.lstrip()[0].isdigit() else []
-    except BadInput:
-        return ""
-    if any(head and is_known(head) for head in heads):
-        return f"this is a table, and no project; `plan read {path}` makes one of it"
-    return ""

@@ -1,6 +1,7 @@
-"""A project as numbers, and the projects that are made of it."""
+"""A project as numbers: activities and resources, what of these is away when, and what is minimized."""
 from collections.abc import Collection, Mapping
-from dataclasses import dataclass, replace
+from dataclasses import dataclass, field, replace
+from enum import Enum
 from itertools import combinations
 from typing import NamedTuple
 
@@ -20,44 +21,78 @@ class Arc(NamedTuple):
     lag: int
 
 
-class Part(NamedTuple):
-    """A maximum lag, by its place among the arcs, or a resource, by its number."""
+class Absence(NamedTuple):
+    """Units of a resource that are away from one time until another; until ever where there is none."""
 
-    is_lag: bool
+    resource: int
+    begins: int
+    ends: int | None
+    units: int
+
+
+class Goal(Enum):
+    """What is minimized: when the last activity ends, or how late the latest is behind its due date."""
+
+    MAKESPAN = "makespan"
+    LATENESS = "lateness"
+
+    def words(self, value: object) -> str:
+        return f"{value}" if self is Goal.MAKESPAN else f"{self.value} {value}"
+
+
+class Kind(Enum):
+    """Of what can be left out of a project: a maximum lag, a resource, or an absence."""
+
+    LAG = 0
+    RESOURCE = 1
+    ABSENCE = 2
+
+
+class Part(NamedTuple):
+    """One of these, by its place among the arcs, the resources or the absences."""
+
+    kind: Kind
     number: int
 
 
 @dataclass(frozen=True)
 class Project:
+    """The start of its end is what is minimized: the makespan, or the greatest lateness, which may be below 0."""
+
     durations: tuple[int, ...]  # of the activities 0, the start, to n + 1, the end
     demands: tuple[tuple[int, ...], ...]
     capacities: tuple[int, ...]
     arcs: tuple[Arc, ...]
+    absences: tuple[Absence, ...] = ()
+    due: Mapping[int, int] = field(default_factory=dict)  # when activities should have ended
+    goal: Goal = Goal.MAKESPAN
 
     @property
     def end(self) -> int:
         return len(self.durations) - 1
 
+    def ends(self, starts: "tuple[int, ...] | list[int]") -> list[int]:
+        """When each activity ends, but for the start and the end."""
+        return [starts[i] + self.durations[i] for i in range(1, self.end)]
+
+    def plain(self, starts: "tuple[int, ...]") -> "tuple[int, ...]":
+        """The starts as psmax has them: the end starts when the last activity ends."""
+        return starts if self.goal is Goal.MAKESPAN else (*starts[:-1], max([0, *self.ends(starts)]))
+
+    def goal_arcs(self) -> list[Arc]:
+        """The least start of the end that each activity leaves."""
+        if self.goal is Goal.LATENESS:
+            return [Arc(i, self.end, self.durations[i] - due) for i, due in sorted(self.due.items())]
+        return [Arc(0, self.end, 0), *(Arc(i, self.end, self.durations[i]) for i in range(1, self.end))]
+
     def rules(self) -> list[Arc]:
         """The given arcs, and those that every project has: each activity after the start and before the end."""
-        inner = range(1, self.end)
-        before = (Arc(0, i, 0) for i in (*inner, self.end))
-        return [*self.arcs, *before, *(Arc(i, self.end, self.durations[i]) for i in inner)]
+        return [*self.arcs, *(Arc(0, i, 0) for i in range(1, self.end)), *self.goal_arcs()]
 
-    def text(self) -> bytes:
-        """The project as a text that psmax reads."""
-        rows = [[f"{self.end - 1}", f"{len(self.capacities)}", "0", "0"]]
-        leaving: list[list[Arc]] = [[] for _ in self.durations]
-        for arc in self.arcs:
-            leaving[arc.tail].append(arc)
-        for activity, arcs in enumerate(leaving):
-            heads, lags = (f"{arc.head}" for arc in arcs), (f"[{arc.lag}]" for arc in arcs)
-            rows.append([f"{activity}", "1", f"{len(arcs)}", *heads, *lags])
-        for activity, (duration, demands) in enumerate(zip(self.durations, self.demands)):
-            rows.append([f"{activity}", "1", f"{duration}", *map(str, demands)])
-        if self.capacities:
-            rows.append([*map(str, self.capacities)])
-        return "".join("\t".join(row) + "\n" for row in rows).encode()
+    def away(self, resource: int, time: int) -> int:
+        """How many units of a resource are away at a time."""
+        return sum(one.units for one in self.absences if one.resource == resource and one.begins <= time
+                   and (one.ends is None or time < one.ends))
 
 
 def parse(data: bytes) -> Project:
@@ -91,26 +126,33 @@ def are_rivals(project: Project, i: int, j: int) -> bool:
 
 
 def within(project: Project, deadline: int) -> Project | None:
-    """The project that must end by the deadline: one arc more, from the end to the start. None where the format
+    """The project whose end starts by the deadline: one arc more, from the end to the start. None where the format
     has no such arc: its lag would be too large, or there are as many arcs already as may be."""
-    if not 0 <= deadline <= MOST_UNITS or len(project.arcs) >= MOST_ARCS:
+    is_late = deadline < 0 and project.goal is Goal.MAKESPAN
+    if is_late or abs(deadline) > MOST_UNITS or len(project.arcs) >= MOST_ARCS:
         return None
     return replace(project, arcs=(*project.arcs, Arc(project.end, 0, -deadline)))
 
 
 def parts(project: Project) -> list[Part]:
-    """Each resource, and each lag that is a greatest one. A lag of 0 after the end of a milestone is a least one."""
+    """Each resource, each absence, and each lag that is a greatest one. A lag of 0 after the end of a milestone is a least
+    one."""
     lags = [place for place, (tail, head, lag) in enumerate(project.arcs) if tail != head
             and (lag < 0 or lag == 0 and (project.durations[tail] > 0 or tail == project.end))]
-    return [*(Part(False, k) for k in range(len(project.capacities))), *(Part(True, place) for place in lags)]
+    return [*(Part(Kind.RESOURCE, k) for k in range(len(project.capacities))),
+            *(Part(Kind.ABSENCE, place) for place in range(len(project.absences))),
+            *(Part(Kind.LAG, place) for place in lags)]
 
 
 def without(project: Project, gone: Collection[Part]) -> Project:
     """The project with fewer parts: each schedule of it is one of this project too."""
-    arcs = tuple(arc for place, arc in enumerate(project.arcs) if Part(True, place) not in gone)
-    kept = [k for k in range(len(project.capacities)) if Part(False, k) not in gone]
+    arcs = tuple(arc for place, arc in enumerate(project.arcs) if Part(Kind.LAG, place) not in gone)
+    kept = [k for k in range(len(project.capacities)) if Part(Kind.RESOURCE, k) not in gone]
     demands = tuple(tuple(row[k] for k in kept) for row in project.demands)
-    return Project(project.durations, demands, tuple(project.capacities[k] for k in kept), arcs)
+    absences = tuple(one._replace(resource=kept.index(one.resource)) for place, one in enumerate(project.absences)
+                     if one.resource in kept and Part(Kind.ABSENCE, place) not in gone)
+    capacities = tuple(project.capacities[k] for k in kept)
+    return replace(project, demands=demands, capacities=capacities, arcs=arcs, absences=absences)
 
 
 def with_lag(project: Project, place: int, lag: int) -> Project:
@@ -130,3 +172,21 @@ def lags_only(project: Project, arcs: list[Arc]) -> Project:
     """As many activities, without duration or demand, and these arcs alone."""
     count = len(project.durations)
     return Project((0,) * count, ((),) * count, (), tuple(arcs))
+
+
+def least_starts(project: Project) -> list[int] | None:
+    """The least start of each activity by the lags alone; none where they contradict each other."""
+    least: list[float] = [0, *[-float("inf")] * project.end]
+    for _ in least:
+        is_done = True
+        for tail, head, lag in project.rules():
+            if least[tail] + lag > least[head]:
+                least[head], is_done = least[tail] + lag, False
+        if is_done:
+            return [int(start) for start in least]
+    return None
+
+
+def least_end(project: Project, starts: Mapping[int, int]) -> int:
+    """The least start of the end that the starts of the others leave."""
+    return max([starts[arc.tail] + arc.lag for arc in project.rules() if arc.head == project.end and arc.tail in starts])

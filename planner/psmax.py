@@ -1,39 +1,73 @@
 """What psmax says of a project without a search: its least starts by the lags alone, and whether starts are feasible."""
 import re
 from collections.abc import Sequence
-from dataclasses import dataclass
+from dataclasses import dataclass, replace
+from typing import NamedTuple
 
+from .errors import Failed
 from .programs import Program
+from .project import Goal, Project
+from .spelled import Spelled
 
 
 @dataclass(frozen=True)
 class Checked:
-    """The makespan where the starts are a feasible schedule, and otherwise every violation."""
+    """What is minimized where the starts are a feasible schedule, and otherwise every violation."""
 
-    makespan: int | None
-    violations: tuple[str, ...]
+    value: int | None
+    violations: tuple["Violation", ...]
+
+
+class Violation(NamedTuple):
+    """A start of activity 0 that isn't 0; a lag that isn't kept, as its arc; or an overload: a time, a resource, a use."""
+
+    kind: str
+    numbers: tuple[int, ...]
 
 
 class Psmax(Program):
     name = "psmax"
 
-    def earliest(self, project: bytes) -> int | None:
-        """The makespan by the lags alone; none where they contradict each other."""
-        status, out = self.call(["earliest"], project)
+    def earliest(self, project: Project) -> int | None:
+        """What is minimized, by the lags alone; none where they contradict each other."""
+        spelled = Spelled(project)
+        found = self.earliest_of_text(spelled.text)
+        return None if found is None else spelled.value(found)
+
+    def earliest_of_text(self, text: bytes) -> int | None:
+        status, out = self.call(["earliest"], text)
         found = re.match(rb"(earliest|positive cycle) (\d+)\n", out)
         if status != 0 or found is None:
             raise self.odd("earliest")
         return int(found[2]) if found[1] == b"earliest" else None
 
-    def check(self, project: bytes, starts: bytes) -> Checked:
-        """What psmax says of the starts; the project is one that it has read."""
-        status, out = self.judge("check", project, starts)
+    def check(self, project: Project, starts: tuple[int, ...]) -> Checked:
+        """What psmax says of the starts. Whatever is minimized, a schedule is feasible by its lags and resources."""
+        if project.goal is Goal.LATENESS:
+            known = self.check(replace(project, goal=Goal.MAKESPAN), project.plain(starts))
+            return known if known.value is None else Checked(starts[-1], ())
+        spelled = Spelled(project)
+        status, out = self.judge("check", spelled.text, starts_text(spelled.inward(starts)))
         found = re.fullmatch(rb"feasible (-?\d+)\n", out)
         if status == 0 and found is not None:
-            return Checked(int(found[1]), ())
+            return Checked(starts[-1], ())
         if status == 4 and out:
-            return Checked(None, tuple(out.decode("utf-8", "replace").splitlines()))
+            lines = out.decode("utf-8", "replace").splitlines()
+            return Checked(None, tuple(violation(line, spelled) for line in lines))
         raise self.odd("check")
+
+
+def violation(line: str, spelled: Spelled) -> Violation:
+    """A line of `check`, in the numbers of the project."""
+    found = re.fullmatch(r"(start|lag|overload)((?: -?\d+)+)", line)
+    numbers = tuple(int(word) for word in found[2].split()) if found else ()
+    if found is None or len(numbers) != {"start": 1, "lag": 3, "overload": 3}[found[1]]:
+        raise Failed(f"psmax check gave an answer that plan does not know: {line}")
+    if found[1] == "lag":
+        tail, head, lag = numbers
+        lag += (spelled.offset if tail == spelled.end else 0) - (spelled.offset if head == spelled.end else 0)
+        numbers = (spelled.shown(tail), spelled.shown(head), lag)
+    return Violation(found[1], numbers)
 
 
 def starts_text(starts: Sequence[int], first: str = "") -> bytes:

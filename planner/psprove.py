@@ -1,13 +1,16 @@
 """Searches by psprove. Whatever it answers, its proved checker has found in the record of the search."""
 import json
 import os
+import re
 import tempfile
-from collections.abc import Callable, Sequence
+from collections.abc import Callable
 from dataclasses import dataclass
 
 from .errors import TimeUp
 from .programs import Program
+from .project import Goal, Project
 from .psmax import starts_text
+from .spelled import Spelled
 
 GRACE = 60.0  # seconds that psprove may take beyond its limit, besides as many as the limit, for the record
 
@@ -27,9 +30,11 @@ class Limits:
 
 
 class Claim:
-    """What is known of a project: the shortest schedule, and a bound, none where there is no schedule."""
+    """What is known of a project: the least value of what is minimized that was found, and a bound, none where there is no
+    schedule."""
 
-    makespan: int | None
+    goal: Goal
+    value: int | None
     bound: int | None
 
     @property
@@ -38,62 +43,72 @@ class Claim:
 
     @property
     def settled(self) -> bool:
-        return self.makespan == self.bound or self.none
+        return self.value == self.bound or self.none
 
     def status(self) -> str:
         if self.none:
             return "no schedule"
-        if self.makespan is None:
+        if self.value is None:
             return "unknown"
         return "optimal" if self.settled else "feasible"
 
     def first_line(self) -> str:
         """The same in the words of psmax."""
-        makespan = {"optimal": f" {self.makespan}", "feasible": f" {self.makespan} bound {self.bound}"}
-        return self.status() + makespan.get(self.status(), "" if self.none else f" bound {self.bound}")
+        if self.none:
+            return self.status()
+        if self.value is None:
+            return f"{self.status()} {self.goal.words(f'bound {self.bound}')}"
+        return f"{self.status()} {self.goal.words(self.value)}" + ("" if self.settled else f" bound {self.bound}")
 
 
 @dataclass(frozen=True)
 class Solved(Claim):
     """An answer of psprove, with the record that proves the bound."""
 
-    makespan: int | None
+    value: int | None
     starts: tuple[int, ...] | None
     bound: int | None
     conflicts: int
     record: bytes
-
-
-UNKNOWN = Solved(None, None, 0, 0, b"")
+    goal: Goal
+    was_asked: bool = True  # and not out of time before that
 
 
 class Psprove(Program):
     name = "psprove"
 
-    def solve(self, project: bytes, limits: Limits, start: Sequence[int] | None = None,
+    def solve(self, project: Project, limits: Limits, start: tuple[int, ...] | None = None,
               hear: Callable[[str], None] = lambda line: None) -> Solved:
         """A search within limits, from starts that are feasible where there are some."""
         if limits.seconds < 1:
             raise TimeUp
+        spelled = Spelled(project)
         with tempfile.TemporaryDirectory(prefix="plan-") as folder:
             record, first = os.path.join(folder, "record"), os.path.join(folder, "start")
             words = ["solve", "--json", "--progress", *limits.words(), "--record", record]
-            if start is not None:
+            if start is not None and max([0, *project.ends(start)]) <= start[-1] + spelled.offset:
                 with open(first, "wb") as file:
-                    file.write(starts_text(start))
+                    file.write(starts_text(spelled.inward(start)))
                 words += ["--start", first]
-            _, out = self.call(words, project, 2 * limits.seconds + GRACE, hear)
+            _, out = self.call(words, spelled.text, 2 * limits.seconds + GRACE, lambda line: hear(told(line, spelled)))
             try:
-                told = json.loads(out)
-                starts = None if told["starts"] is None else tuple(told["starts"])
+                answer = json.loads(out)
+                starts = None if answer["starts"] is None else spelled.outward(tuple(answer["starts"]))
+                value, bound = (None if answer[key] is None else spelled.value(answer[key]) for key in ("makespan", "bound"))
                 with open(record, "rb") as file:
-                    return Solved(told["makespan"], starts, told["bound"], told["conflicts"], file.read())
+                    return Solved(value, starts, bound, answer["conflicts"], file.read(), project.goal)
             except (ValueError, KeyError, TypeError, OSError):
                 raise self.odd("solve") from None
 
-    def ask(self, project: bytes, limits: Limits, start: Sequence[int] | None = None) -> Solved:
+    def ask(self, project: Project, limits: Limits, start: tuple[int, ...] | None = None) -> Solved:
         """The same where the time may be over, so that nothing becomes known."""
         try:
             return self.solve(project, limits, start)
         except TimeUp:
-            return UNKNOWN
+            return Solved(None, None, Spelled(project).value(0), 0, b"", project.goal, was_asked=False)
+
+
+def told(line: str, spelled: Spelled) -> str:
+    """A line of progress, with what is minimized in place of when the text's end starts."""
+    found = re.fullmatch(r"(\d+ s: (?:schedule|bound) )(\d+)", line)
+    return f"{found[1]}{spelled.value(int(found[2]))}" if found else line

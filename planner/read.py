@@ -1,20 +1,21 @@
 """`plan read`: a table to a project and its page of names, or a project file of PSPLIB to one that psmax reads."""
+import hashlib
 import os
 import pathlib
 import re
 import sys
 
-from . import dates
 from .clock import Clock
-from .dates import Wanted
 from .errors import BadInput
 from .files import guard, read_bytes, read_text, write_whole
 from .given import answer_sheet
 from .letters import printable
 from .names import MADE, page, read_page
-from .opened import page_of
-from .project import Project, too_needy
+from .opened import PROJECT, ProjectFile, of_table, page_of
+from .project import Goal, too_needy
 from .psmax import Psmax
+from .settings import Settings, from_rows
+from .spelled import Spelled
 from .table import read_table
 from .wording import Words
 
@@ -27,35 +28,53 @@ OTHER_SET = ("a PSPLIB file of another problem: the sets j30, j60, j90, j120 (.s
 MODES = f"; a PSPLIB set with several modes for an activity (MRCPSP/max) is another problem; {OURS}"
 
 
-def read(path: str, out: str | None, wanted: Wanted) -> int:
+def read(path: str, out: str | None, words: Settings) -> int:
     if pathlib.Path(path).suffix.lower() in PSPLIB:
         return read_sch(path, out)
-    return read_activities(path, out, wanted)
+    return read_activities(path, out, words)
 
 
-def read_activities(path: str, out: str | None, wanted: Wanted) -> int:
+def read_activities(path: str, out: str | None, words: Settings) -> int:
     """The table to a .sch file beside it, or to the one that is named, and the page of names beside that."""
-    table = read_text(path)
-    if answer_sheet(table) is not None:
+    text = read_text(path)
+    if answer_sheet(text) is not None:
         raise BadInput(f"{path}: this is an answer, and no table of activities")
     target = out if out is not None else os.path.splitext(path)[0] + ".sch"
     if os.path.basename(target) in ("", ".", "..") or target.endswith(".md"):
         raise BadInput(f"the project can't be written to '{target}'; name a .sch file with --out")
     named = page_of(target)
-    guard([target, named], {"the table": path} | wanted.inputs())
-    project, names = read_table(path, table)
-    names.source = printable(os.path.relpath(path, os.path.dirname(named) or "."))
+    guard([target, named], {"the table": path} | words.files())
+    source = printable(os.path.relpath(path, os.path.dirname(named) or "."))
     there = read_bytes(named) if os.path.exists(named) else None
-    must_be_ours(target, named, names.source, there, out is not None)
-    names.settings = settings(there, wanted, named, names.unit)
-    text = project.text()
-    least = Psmax(Clock(), path).earliest(text)
-    write_whole(target, text)
-    write_whole(named, page(printable(pathlib.Path(target).stem), project, names).encode())
-    sizes = f"{project.end - 1} activities, {len(project.capacities)} resources, {len(project.arcs)} lags"
-    print(f"{target}: {sizes}; names in {named}")
-    print(what_is_clear(least, project, Words(project, names)))
+    must_be_ours(target, named, source, there, out is not None)
+    told = Settings() if there is None else from_rows(read_page(there).settings, os.path.dirname(named))
+    words = words.over(told)
+    found = read_table(path, text, words, os.path.dirname(path))
+    opened = of_table(path, found, {}, ",")
+    spelled = Spelled(opened.project)
+    names = found.names
+    names.source, names.digest = source, hashlib.sha256(read_bytes(path)).hexdigest()
+    names.settings = words.rows(os.path.dirname(named))
+    least = Psmax(Clock(), path).earliest(opened.project)
+    write_whole(target, spelled.text)
+    write_whole(named, page(printable(pathlib.Path(target).stem), opened.project, names).encode())
+    sizes = [f"{opened.project.end - 1} activities", many(len(opened.project.capacities), "resource"),
+             many(len(opened.project.arcs), "lag")]
+    sizes += [many(len(opened.project.absences), "absence")] if opened.project.absences else []
+    print(f"{target}: {', '.join(sizes)}; names in {named}")
+    print(*found.notes, *said_of_text(spelled), what_is_clear(least, opened), sep="\n")
     return 0
+
+
+def many(count: int, what: str) -> str:
+    return f"{count} {what}" + ("" if count == 1 else "s")
+
+
+def said_of_text(spelled: Spelled) -> list[str]:
+    """What its own numbers mean, where they aren't those of the table."""
+    hidden, goal = len(spelled.project.absences), spelled.project.goal.value
+    told = [f"Its last {many(hidden, 'activity') if hidden == 1 else f'{hidden} activities'} before the end are absences."]
+    return (told if hidden else []) + ([f"Its end starts {spelled.offset} after the {goal}."] if spelled.offset else [])
 
 
 def must_be_ours(target: str, named: str, source: str, there: bytes | None, is_named: bool) -> None:
@@ -65,36 +84,39 @@ def must_be_ours(target: str, named: str, source: str, there: bytes | None, is_n
     for path in (named, target):
         if os.path.exists(path) and not ours and (path == named or not is_named):
             raise BadInput(f"{path} is there, and was not made from {source}; move it, or name another file with --out")
+    must_be_project(target)
 
 
-def settings(there: bytes | None, wanted: Wanted, named: str, unit: str) -> dict[str, str]:
-    """The calendar for the page: what the words say, and else what the page that stands there says."""
-    kept = read_page(there).settings if there is not None else {}
-    found = kept | wanted.settings(named)
-    dates.calendar({"from": "2000-01-01", "period": unit} | found, os.path.dirname(named))
-    return found
+def must_be_project(path: str) -> None:
+    """A plan, a record or a table that is there stays."""
+    there = read_bytes(path) if os.path.isfile(path) else b""
+    if there.strip() and not PROJECT.match(there.removeprefix(MARK)):
+        raise BadInput(f"{path} is there, and no project, and would be lost; name another file with --out")
 
 
-def what_is_clear(least: int | None, project: Project, words: Words) -> str:
+def what_is_clear(least: int | None, opened: ProjectFile) -> str:
     """What is known at once, before anything is searched."""
-    needy = too_needy(project)
+    needy = too_needy(opened.project)
     if needy:
-        return "\n".join(f"Activity {words.needs(activity)}, so there is no schedule." for activity in needy)
+        return "\n".join(f"Activity {Words(opened).needs(activity)}, so there is no schedule." for activity in needy)
     if least is None:
         return "The lags contradict each other, so there is no schedule; `plan why` says which do."
-    return (f"By the lags alone it takes {least}; `plan solve` says whether there is a schedule that keeps the "
-            "resources too.")
+    value = f"it takes {least}" if opened.project.goal is Goal.MAKESPAN else f"the lateness is {least}"
+    return (f"By the lags alone {value}; `plan solve` says whether there is a schedule that keeps the resources "
+            "too.")
 
 
 def read_sch(path: str, out: str | None) -> int:
     """The file without byte order mark and Ctrl-Z, once psmax has read it so; to standard output if none is named."""
     guard([out], {"the project": path})
+    if out is not None:
+        must_be_project(out)
     data = read_bytes(path)
     if b"PRECEDENCE RELATIONS" in data or re.match(rb"\s*\*{10}", data.removeprefix(MARK)):
         raise BadInput(f"{path}: {OTHER_SET}")
     clean = data.removeprefix(MARK).rstrip(b" \t\r\n" + CTRL_Z) + b"\n"
     try:
-        Psmax(Clock(), path).earliest(clean)
+        Psmax(Clock(), path).earliest_of_text(clean)
     except BadInput as fault:
         raise BadInput(f"{fault}{MODES if is_other_modes(fault) else ''}") from None
     if out is not None:

@@ -9,24 +9,25 @@ from concurrent.futures import ThreadPoolExecutor
 from .clock import tell
 from .errors import TimeUp
 from .known import Known
+from .project import Project
 from .psprove import Limits, Psprove
 
 FIRST = 1  # seconds of the first slice
 GROWTH = 3  # each one takes so many times the seconds of the one before, and the last what is left
 REPAIR = Limits(10, conflicts=10_000)
-TOLD = re.compile(r"\d+ s: (schedule|bound) (\d+)|(psprove: the search stopped: .*)")
+TOLD = re.compile(r"\d+ s: (schedule|bound) (-?\d+)|(psprove: the search stopped: .*)")
 
 
 class Search:
-    def __init__(self, text: bytes, psprove: Psprove, known: Known, jobs: int) -> None:
-        self.text = text
+    def __init__(self, project: Project, psprove: Psprove, known: Known, jobs: int) -> None:
+        self.project = project
         self.psprove = psprove
         self.known = known
         self.jobs = jobs
         self.lock = threading.Lock()  # of what is known
         self.told: dict[str, int] = {}  # the shortest schedule that was reported, and the greatest bound, below 0
 
-    def run(self, repairs: Sequence[bytes] = (), called: str = "") -> None:
+    def run(self, repairs: Sequence[Project] = (), called: str = "") -> None:
         """Runs until everything is known or the time is over; what is known stands in `known`."""
         clock = self.psprove.clock
         if self.known.starts is None:
@@ -42,10 +43,10 @@ class Search:
         if not self.known.settled and clock.over():
             tell(clock, clock.why_over())
 
-    def repair(self, texts: Sequence[bytes], called: str) -> None:
+    def repair(self, projects: Sequence[Project], called: str) -> None:
         """A schedule of the first of these that has one. Each is the project with more lags."""
-        for text in texts:
-            answer = self.psprove.ask(text, REPAIR)
+        for project in projects:
+            answer = self.psprove.ask(project, REPAIR)
             if answer.starts is not None:
                 return self.known.offer(answer.starts, f"{called}, repaired")
 
@@ -61,7 +62,7 @@ class Search:
 
     def ask(self, limits: Limits) -> None:
         try:
-            answer = self.psprove.solve(self.text, limits, self.known.starts, self.hear)
+            answer = self.psprove.solve(self.project, limits, self.known.starts, self.hear)
         except TimeUp:
             return
         with self.lock:
@@ -78,4 +79,4 @@ class Search:
             rank = int(found[2]) if found[1] == "schedule" else -int(found[2])
             if rank < self.told.get(found[1], math.inf):
                 self.told[found[1]] = rank
-                tell(self.known.clock, f"{found[1]} {found[2]}, unproved")
+                tell(self.known.clock, f"{found[1]} {self.known.goal.words(found[2])}, unproved")

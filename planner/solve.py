@@ -5,20 +5,20 @@ import sys
 from dataclasses import dataclass
 from functools import partial
 
-from . import __version__, dates, drawing, svg
+from . import __version__, drawing, svg
+from .again import once_more
 from .clock import Clock, tell
-from .dates import Calendar
 from .errors import Failed
-from .files import guard, write_whole
+from .files import guard, must_be_like, write_whole
 from .kept import Kept, activities_of
 from .known import Known
-from .opened import ProjectFile, open_project
-from .project import parse
+from .opened import ProjectFile
+from .project import Goal
 from .psmax import Psmax
 from .psprove import Psprove
 from .replan import Start, begin_with
 from .search import Search
-from .verify import must_be_record
+from .verify import RECORD
 
 
 @dataclass(frozen=True)
@@ -33,13 +33,12 @@ class Options:
     json: bool
 
 
-def solve(path: str, start: Start, options: Options) -> int:
-    opened = open_project(path)
+def solve(opened: ProjectFile, start: Start, options: Options) -> int:
     guard([options.out, options.svg, options.record], opened.inputs() | start.inputs())
-    must_be_record(options.record)
-    calendar = dates.chosen(start.wanted, opened) if options.svg or start.frozen else None
+    must_be_like(options.record, RECORD, "record")
+    must_be_like(options.svg, svg.BEGIN, "picture")
     kept = None if options.out is None else Kept(options.out, opened)
-    beginning = begin_with(opened, start, calendar)
+    beginning = begin_with(opened, start)
     schedules = list(beginning.schedules)
     there = kept.look() if kept is not None else None
     if kept is not None and there is not None:
@@ -47,24 +46,25 @@ def solve(path: str, start: Start, options: Options) -> int:
         schedules.append((there.starts, kept.path))
     clock = Clock(options.seconds)
     clock.listen()
-    for line in beginning.told:
+    for line in [*opened.notes, *beginning.told]:
         tell(clock, line)
-    known = Known(clock)
+    known = Known(clock, beginning.project)
     if kept is not None:
         known.better = partial(kept.put_if_possible, known)
     for starts, called in schedules:
         known.offer(starts, f"{called}, by check")
     try:
-        Search(beginning.text, Psprove(clock, path), known, options.jobs).run(beginning.repairs, start.answer or "")
+        Search(beginning.project, Psprove(clock, opened.path), known, options.jobs).run(beginning.repairs, start.answer or "")
     except Failed:
         if known.starts is not None:
-            give(known, opened, options, kept, calendar)
+            give(known, opened, options, kept)
         raise
-    give(known, opened, options, kept, calendar)
+    give(known, opened, options, kept)
+    once_more(known, opened, beginning.project)
     return 0 if known.settled else 3
 
 
-def give(known: Known, opened: ProjectFile, options: Options, kept: Kept | None, calendar: Calendar | None) -> None:
+def give(known: Known, opened: ProjectFile, options: Options, kept: Kept | None) -> None:
     """Prints what is known, and writes what was asked for. A schedule that can't be written is printed."""
     plain = known.answer().decode()
     try:
@@ -72,20 +72,23 @@ def give(known: Known, opened: ProjectFile, options: Options, kept: Kept | None,
             plain = known.first_line() + "\n"
     finally:
         sys.stdout.write(as_json(known, opened) if options.json else plain)
+        sys.stdout.flush()
     if options.record is not None and known.record:
         write_whole(options.record, known.record)
     if options.svg is not None and known.starts is not None:
-        drawn = drawing.make(parse(opened.text), known.starts, opened.names, known.first_line(), (), calendar)
-        write_whole(options.svg, svg.draw(drawn).encode())
+        write_whole(options.svg, svg.draw(drawing.make(opened, known.starts, known.first_line())).encode())
 
 
 def as_json(known: Known, opened: ProjectFile) -> str:
-    """What is known as one line, with the keys of psmax first."""
+    """What is known as one line, with the keys of psmax first. Where the lateness is minimized, the bound is one of it."""
+    starts = None if known.starts is None else opened.project.plain(known.starts)
+    lateness = {"lateness": known.value} if known.goal is Goal.LATENESS else {}
     told: dict[str, object] = {
         "bound": known.bound,
-        "makespan": known.makespan,
-        "starts": known.starts,
+        "makespan": None if starts is None else starts[-1],
+        "starts": starts,
         "status": known.status(),
+        **lateness,
         **activities_of(opened),
         "conflicts": known.conflicts,
         "seconds": round(known.clock.elapsed(), 3),

@@ -1,235 +1,293 @@
 """Tables of activities in CSV: docs/PLANNER.md says what the columns are. Faults name the row and the column."""
-import re
-from dataclasses import dataclass, field
+import difflib
+from collections.abc import Iterable, Sequence
+from contextlib import suppress
+from dataclasses import dataclass, replace
 
-from .cells import Columns, Faults, Row
+from .absences import read_absences
+from .calendar_days import CalendarLag
+from .calendars import Calendar
+from .cells import Faults, fault_at
+from .columns import LAGS, Column, Columns, is_head, read_heads, resource
 from .csv_text import Sheet, cell, read_sheet
+from .dates import is_dated
 from .errors import BadInput
-from .letters import short
+from .lags import START, START_OF, WITH, Activities, Lags, lengths_in
+from .letters import printable, short
 from .names import Names
-from .project import MOST_ACTIVITIES, MOST_ARCS, MOST_RESOURCES, MOST_UNITS, Arc, Project
-
-NAME = ("activity", "name")
-DURATION = ("duration", "weeks", "days", "hours", "minutes", "periods")
-LAGS = ("after", "at least", "at most")
-NOTE = ("note", "notes", "remark", "remarks", "comment", "comments")
-RESOURCE = re.compile(r"(.*\S)\s*\(\s*(\d+)\s*\)")
-START = "start"  # the start of the project, as something to come after
-START_OF = "start of "  # before a name: its start, and not its end
-WITH = "with "  # before a name: start to start, with lags 0 and 0
-ANY = "any"  # no minimum lag
+from .outline import Group, groups, is_summary, levels
+from .progress import Progress
+from .project import MOST_ACTIVITIES, MOST_ARCS, Arc, Goal, Project
+from .quantities import Length, Scale, Unit, read_length, scale_of
+from .rows import Row, Terms
+from .settings import NAMES, PERIOD, Settings, calendar, checked, from_rows, minutes_of, shift, time_of, workdays
 
 
-@dataclass
-class Plan:
-    """The activities of a table as they are read, one after another."""
+@dataclass(frozen=True)
+class Table:
+    """What a table of activities says."""
 
-    names: dict[str, int] = field(default_factory=dict)  # the number of each
-    durations: list[int] = field(default_factory=list)
-    demands: list[tuple[int, ...]] = field(default_factory=list)
-    after: list[tuple[Row, int]] = field(default_factory=list)  # rows that say what an activity comes after
-    arcs: list[Arc] = field(default_factory=list)
+    project: Project
+    names: Names
+    settings: Settings
+    calendar: Calendar | None
+    groups: tuple[Group, ...]
+    mornings: dict[int, list[int]]  # times at which a date says that an activity without duration may be, by activity
+    by_calendar: tuple[CalendarLag, ...]
+    progress: Progress
+    notes: tuple[str, ...]  # what is to be said of it before anything is done with it
 
 
-def is_known(head: str) -> bool:
-    """Whether a column of this name is one of a table of activities."""
-    return bool(head) and kind_of(head) is not None
-
-
-def read_table(file: str, text: str) -> tuple[Project, Names]:
-    """The project of a table, and its names."""
-    sheet, faults = read_sheet(file, text), Faults()
+def read_table(file: str, text: str, words: Settings, folder: str, page: Settings = Settings()) -> Table:
+    """The words of the command go over the rows above the table, and these over the page of names."""
+    sheet, faults = read_sheet(file, text, is_head), Faults()
+    settings = checked(words.over(settings_above(file, sheet, folder)).over(page))
     columns = read_heads(file, sheet, faults)
-    plan = Plan()
+    terms = terms_of(file, sheet, columns, settings)
+    reading = Reading(terms, settings, faults)
     for number, cells in sheet.numbered():
-        with faults.kept():
-            read_row(plan, Row(file, number, cells, columns), faults)
-    for row, activity in plan.after:
-        with faults.kept():
-            plan.arcs += read_lags(plan, row, activity)
-    faults.tell()
-    if not plan.names:
-        raise BadInput(f"{file}: no activity stands below row 1")
-    if len(plan.arcs) > MOST_ARCS:
-        raise BadInput(f"{file}: {len(plan.arcs):,} lags, and a project has at most {MOST_ARCS:,}")
-    resources = [found for found in (RESOURCE.fullmatch(columns.heads[k]) for k in columns.resources) if found]
-    none = (0,) * len(resources)
-    capacities = tuple(int(found[2]) for found in resources)
-    project = Project((0, *plan.durations, 0), (none, *plan.demands, none), capacities, tuple(plan.arcs))
-    unit = columns.heads[columns.places["duration"]].lower()
-    names = {number: name for name, number in plan.names.items()}
-    return project, Names(names, [found[1] for found in resources], "periods" if unit == "duration" else unit)
+        reading.add_row(Row(terms, number, cells))
+    return reading.table()
 
 
-def read_heads(file: str, sheet: Sheet, faults: Faults) -> Columns:
-    columns = Columns(sheet.heads)
-    row = Row(file, 1, sheet.heads, columns)
-    for column, head in enumerate(sheet.heads):
-        kind = kind_of(head)
-        with faults.kept():
-            if kind is None:
-                raise row.fault(column, "not a column that plan knows; a resource has its capacity, as in 'crew (5)', "
-                                "and a column of your own words is called notes")
-            if kind in columns.places and kind != "note":
-                raise row.fault(column, f"a second column for the {kind}")
-            if kind == "resource":
-                add_resource(row, column)
-            elif kind:
-                columns.places[kind] = column
-    missing = [f"{file}: row 1 has no column for the {kind}, such as '{example}'"
-               for kind, example in (("name", "activity"), ("duration", "days")) if kind not in columns.places]
-    if missing:
-        raise BadInput(*(str(fault) for fault in faults.found), *missing)
-    return columns
+def settings_above(file: str, sheet: Sheet, folder: str) -> Settings:
+    """Rows above the columns whose first cell is the name of a setting, with or without a colon. The cells behind it are its
+    value, since a comma in that may have split it. What is nearly such a name is a fault, and no title."""
+    found: dict[str, str] = {}
+    for number, row in enumerate(sheet.above, 1):
+        name, *values = [row[0].rstrip(" :").lower(), *filter(None, row[1:])] if row else [""]
+        near = difflib.get_close_matches(name, NAMES, 1, 0.9)
+        if values and name not in NAMES and near:
+            raise fault_at(file, number, 0, "", f"no setting '{short(name)}'; did you mean '{near[0]}'?")
+        if values and name in found:
+            raise fault_at(file, number, 0, "", f"a second row for '{name}'")
+        if values and name in NAMES:
+            found[name] = ",".join(values)
+    return from_rows(found, folder)
 
 
-def kind_of(head: str) -> str | None:
-    """What a column of this name has: empty where it has no name, none where plan does not know it."""
-    lower = head.lower()
-    if lower in LAGS or not lower:
-        return lower
-    for kind, heads in (("name", NAME), ("duration", DURATION), ("note", NOTE)):
-        if lower in heads:
-            return kind
-    return "resource" if RESOURCE.fullmatch(head) else None
+def terms_of(file: str, sheet: Sheet, columns: Columns, settings: Settings) -> Terms:
+    """By the lengths of all cells: the period that divides them, and so the calendar."""
+    own = columns.unit() if settings.period is None or PERIOD.fullmatch(settings.period) else Unit(settings.period)
+    parts = None if settings.shift is None else shift(settings, 1)
+    week = len(workdays(settings))
+    blank = Terms(file, columns, Scale(own, 0, None, week), None, settings.dates, own, sheet.head_row)
+    rows = [Row(blank, number, cells) for number, cells in sheet.numbered()]
+    units = {length.unit for length in lengths([row.cell(Column.DURATION) for row in rows], own) if length.value}
+    if own is Unit.PERIODS and len(units) == 1:
+        [own] = units  # a column `duration` with one unit in all of its cells
+    found = lengths([text for row in rows for text in lengths_in(row)], own)
+    scale = scale_of(found, own, parts, week)
+    if settings.period is not None and PERIOD.fullmatch(settings.period):
+        scale = replace(scale, period=Unit.MINUTES, minutes=minutes_of(settings.period))
+    return replace(blank, own=own, scale=scale, calendar=calendar(replace(settings, period=None), scale.name()))
 
 
-def add_resource(row: Row, column: int) -> None:
-    found = RESOURCE.fullmatch(row.cells[column])
-    resources = row.columns.resources
-    others = [RESOURCE.fullmatch(row.cells[other]) for other in resources]
-    if len(resources) == MOST_RESOURCES:
-        raise row.fault(column, f"a project has at most {MOST_RESOURCES} resources")
-    if found and (len(found[2]) > 9 or int(found[2]) > MOST_UNITS):
-        raise row.fault(column, f"a capacity is at most {MOST_UNITS:,}")
-    if found and found[1] in [other[1] for other in others if other]:
-        raise row.fault(column, f"a second resource '{short(found[1])}'")
-    resources.append(column)
+def lengths(texts: Iterable[str], own: Unit) -> list[Length]:
+    """Those that are lengths; what is none is a fault that is told where the cell is read."""
+    found = []
+    for text in texts:
+        with suppress(ValueError):
+            found.append(read_length(text, own))
+    return found
 
 
-def read_row(plan: Plan, row: Row, faults: Faults) -> None:
-    """An activity, or, where the name is empty, one more thing that the activity above comes after."""
-    if row.cell("name"):
-        add_activity(plan, row, faults)
-    else:
-        check_continuation(plan, row)
-    beyond = next((k for k in range(len(row.columns.heads), len(row.cells)) if row.cells[k]), None)
-    if beyond is not None:
-        raise row.fault(beyond, "a cell beyond the last column; names in one cell have ';' between them")
-    if row.cell("after"):
-        plan.after.append((row, len(plan.names)))
-    else:
-        for kind in ("at least", "at most"):
-            if row.cell(kind):
-                raise row.fault(kind, "a lag, but nothing that it comes after")
+class Reading:
+    """A table as it is read, one row after another, and then column by column."""
+
+    def __init__(self, terms: Terms, settings: Settings, faults: Faults) -> None:
+        self.terms, self.settings, self.faults = terms, settings, faults
+        self.named: list[Row] = []  # activities and groups
+        self.more: list[tuple[Row, int]] = []  # rows that say more about the one of these above, by its place
+        self.rows: list[Row] = []  # of the activities
+        self.groups: dict[int, Row] = {}  # of these, by their places
+        self.depth: list[int] = []
+        self.names: dict[str, int] = {}  # the number of each activity
+        self.durations: list[int] = []
+        self.demands: list[tuple[int, ...]] = []
+
+    def add_row(self, row: Row) -> None:
+        with self.faults.kept():
+            if row.cell(Column.NAME):
+                self.named.append(row)
+            else:
+                check_continuation(row, bool(self.named))
+                self.more.append((row, len(self.named) - 1))
+            beyond = next((k for k in range(len(row.terms.columns.heads), len(row.cells)) if row.cells[k]), None)
+            if beyond is not None:
+                raise row.fault(beyond, "a cell beyond the last column; names in one cell have ';' between them")
+
+    def table(self) -> Table:
+        self.part()
+        for row in self.rows:
+            self.add_activity(row)
+        progress = Progress(None if self.settings.status is None else time_of(self.settings.status, "status", self.settings,
+                                                                              self.terms.calendar))
+        progress.read(self.rows, self.durations, self.faults)
+        lags, due = self.lags(), self.due()
+        self.faults.tell()
+        arcs, broken = without_history(lags.arcs, progress)
+        called = {number: name for name, number in self.names.items()}
+        project, names = self.project((*arcs, *progress.arcs(len(self.rows))), due, called)
+        by_calendar = tuple(replace(one, place=arcs.index(lags.arcs[one.place])) for one in lags.by_calendar
+                            if lags.arcs[one.place] in arcs)
+        days = [said_of_days(one, lags.arcs[one.place], called) for one in lags.by_calendar]
+        notes = [*self.said_of_period(), *self.terms.rounded, *days, *(said_of_history(arc, called) for arc in broken)]
+        found = tuple(groups(self.named, self.depth, [place in self.groups for place in range(len(self.named))]))
+        return Table(project, names, self.settings, self.terms.calendar, found, lags.activities.mornings, by_calendar, progress,
+                     tuple(notes))
+
+    def part(self) -> None:
+        """What is an activity, and what a group."""
+        self.depth = [0] * len(self.named)
+        with self.faults.kept():
+            self.depth = levels(self.named)
+            self.groups = {place: row for place, row in enumerate(self.named) if is_summary(self.named, self.depth, place)}
+        self.rows = [row for place, row in enumerate(self.named) if place not in self.groups]
+        if not self.rows:
+            self.faults.tell()
+            raise BadInput(f"{self.terms.file}: no activity stands below row {self.terms.head_row}")
+
+    def add_activity(self, row: Row) -> None:
+        """A name that can't be one counts all the same, so that rows which come after it have no fault for that."""
+        name, units = row.cell(Column.NAME), [0] * len(row.terms.columns.resources)
+        with self.faults.kept():
+            if name in self.names:
+                raise row.fault(Column.NAME, f"a second activity '{short(name)}'")
+            if len(self.durations) == MOST_ACTIVITIES:
+                raise row.fault(Column.NAME, f"a project has at most {MOST_ACTIVITIES:,} activities")
+        self.durations.append(0)
+        self.names.setdefault(name, len(self.durations))
+        with self.faults.kept():
+            self.durations[-1] = row.duration(Column.DURATION)
+        for place, column in enumerate(row.terms.columns.resources):
+            with self.faults.kept():
+                units[place] = row.units(column)
+        self.demands.append(tuple(units))
+        with self.faults.kept():
+            if why_no_name(name):
+                raise row.fault(Column.NAME, f"'{short(name)}' can't be the name of an activity: {why_no_name(name)}")
+
+    def lags(self) -> Lags:
+        keys = {row.cell(column).casefold() if column is Column.ID else row.cell(column): row.cell(Column.NAME)
+                for row in self.groups.values() for column in (Column.NAME, Column.ID)}
+        summaries = {key: name for key, name in keys.items() if key}
+        lags, number = Lags(Activities(self.names, self.ids(), summaries, self.durations)), 0
+        for place, row in enumerate(self.named):
+            number += place not in self.groups
+            for one in [row, *(more for more, above in self.more if above == place)]:
+                if place in self.groups:
+                    self.no_lags(one)
+                else:
+                    lags.read(one, number, self.faults)
+                    self.limit(lags, one, number)
+        return lags
+
+    def ids(self) -> dict[str, int]:
+        found: dict[str, int] = {}
+        for number, row in enumerate(self.rows, 1):
+            text = row.cell(Column.ID).casefold()
+            with self.faults.kept():
+                if text in found:
+                    raise row.fault(Column.ID, f"a second activity of the number {short(text)}")
+            found |= {text: number} if text else {}
+        return found
+
+    def limit(self, lags: Lags, row: Row, activity: int) -> None:
+        """The lags from the start that dates make."""
+        length = lags.activities.length(activity)
+        with self.faults.kept():
+            if row.cell(Column.NOT_BEFORE):
+                begin = row.begin(Column.NOT_BEFORE, row.cell(Column.NOT_BEFORE))
+                lags.arcs += [Arc(0, activity, begin)] if begin else []
+                if not length and is_dated(row.cell(Column.NOT_BEFORE)):
+                    lags.activities.mornings.setdefault(activity, []).append(begin)
+        with self.faults.kept():
+            if row.cell(Column.END_BY):
+                lags.arcs.append(Arc(activity, 0, length - row.close(Column.END_BY, row.cell(Column.END_BY))))
+
+    def due(self) -> dict[int, int]:
+        found = {}
+        for number, row in enumerate(self.rows, 1):
+            with self.faults.kept():
+                if row.cell(Column.DUE):
+                    found[number] = row.close(Column.DUE, row.cell(Column.DUE))
+        return found
+
+    def no_lags(self, row: Row) -> None:
+        """A group has what its activities have, and nothing of its own."""
+        places = [row.terms.columns.places.get(column) for column in (*LAGS, Column.NOT_BEFORE, Column.END_BY, Column.DUE)]
+        for column in [*(place for place in places if place is not None), *row.terms.columns.resources]:
+            text = cell(row.cells, column)
+            if text and text != "0":
+                with self.faults.kept():
+                    raise row.fault(column, "a group has no lags, dates or demands of its own; its activities have them")
+
+    def project(self, arcs: tuple[Arc, ...], due: dict[int, int], called: dict[int, str]) -> tuple[Project, Names]:
+        """With its absences, and with what is minimized."""
+        file, settings = self.terms.file, self.settings
+        if len(arcs) > MOST_ARCS:
+            raise BadInput(f"{file}: {len(arcs):,} lags, and a project has at most {MOST_ARCS:,}")
+        goal = Goal.MAKESPAN if settings.minimize is None else Goal(settings.minimize)
+        if goal is Goal.LATENESS and not due:
+            raise BadInput(f"{file}: to minimize the lateness some activity needs a date in a column 'due'")
+        resources = [resource(self.terms.columns.heads[place]) for place in self.terms.columns.resources]
+        none = (0,) * len(resources)
+        capacities = tuple(int(units) for _, units in resources)
+        found = Project((0, *self.durations, 0), (none, *self.demands, none), capacities, arcs, (), due, goal)
+        names = Names(called, [name for name, _ in resources], self.terms.scale.name(), source=printable(file))
+        if settings.absences is not None:
+            found = replace(found, absences=tuple(read_absences(settings.absences, found, names, self.terms)))
+        return found, names
+
+    def said_of_period(self) -> list[str]:
+        """What a period is, where it is no unit of the table's own."""
+        scale = self.terms.scale
+        if scale.period in (self.terms.own, Unit.PERIODS) or scale.name() == self.terms.own.value:
+            return []
+        day = f"; a day has {scale.day // scale.minutes} of them" if scale.period is Unit.MINUTES and scale.day else ""
+        return [f"a period is one of {scale.name()}, which divide all lengths of {self.terms.file}{day}"]
 
 
-def add_activity(plan: Plan, row: Row, faults: Faults) -> None:
-    """A name that can't be one counts all the same, so that rows which come after it have no fault for that."""
-    name = row.cell("name")
-    if name in plan.names:
-        raise row.fault("name", f"a second activity '{short(name)}'")
-    if len(plan.names) == MOST_ACTIVITIES:
-        raise row.fault("name", f"a project has at most {MOST_ACTIVITIES:,} activities")
-    plan.names[name] = len(plan.names) + 1
-    plan.durations.append(0)
-    with faults.kept():
-        plan.durations[-1] = row.units(row.columns.places["duration"])
-    demands = [0] * len(row.columns.resources)
-    for place, column in enumerate(row.columns.resources):
-        with faults.kept():
-            demands[place] = row.units(column, 0)
-    plan.demands.append(tuple(demands))
-    with faults.kept():
-        if why_no_name(name):
-            raise row.fault("name", f"'{short(name)}' can't be the name of an activity: {why_no_name(name)}")
+def without_history(arcs: Sequence[Arc], progress: Progress) -> tuple[list[Arc], list[Arc]]:
+    """The lags but for those between two that have started where they weren't kept, and these. Both starts are real, so such
+    a lag says nothing of what comes."""
+    starts = progress.started | {0: 0}
+    broken = [arc for arc in arcs if arc.tail in starts and arc.head in starts
+              and starts[arc.head] < starts[arc.tail] + arc.lag]
+    return [arc for arc in arcs if arc not in broken], broken
+
+
+def said_of_days(one: CalendarLag, arc: Arc, called: dict[int, str]) -> str:
+    before, after = (arc.tail, arc.head) if one.is_least else (arc.head, arc.tail)
+    return one.text(called[after], called[before])
+
+
+def said_of_history(arc: Arc, called: dict[int, str]) -> str:
+    if arc.tail and arc.head:
+        return f"'{called[arc.tail]}' and '{called[arc.head]}' have started, and a lag between them was not kept"
+    return f"'{called[arc.tail or arc.head]}' has started, and a date of its row was not kept"
 
 
 def why_no_name(name: str) -> str:
     lower = name.lower()
     if lower in (START, "end"):
         return f"it stands for the {lower} of the project"
+    if is_dated(name):
+        return "it is a date"
     for begin, meaning in ((START_OF, "what comes after the start of an activity"), (WITH, "what starts with an activity")):
         if lower.startswith(begin):
             return f"'{begin.strip()}' stands before the name of another, for {meaning}"
-    if ";" in name:
-        return "a ';' separates names"
     return "" if name.isprintable() else "it has a sign that can't be printed"
 
 
-def check_continuation(plan: Plan, row: Row) -> None:
+def check_continuation(row: Row, has_activity: bool) -> None:
     """A row without a name has nothing but lags, and stands below an activity."""
-    columns = row.columns
-    if any(cell(row.cells, column) for column in (columns.places["duration"], *columns.resources)):
-        raise row.fault("name", "a duration or a demand, but no name of an activity")
-    if not plan.names and any(row.cell(kind) for kind in LAGS):
-        raise row.fault("name", "the name of the activity is missing")
-
-
-def read_lags(plan: Plan, row: Row, activity: int) -> list[Arc]:
-    """The arcs of a row: for each activity that it comes after, the minimum and the maximum lag."""
-    least, most = (kind if kind in row.columns.places else "after" for kind in ("at least", "at most"))
-    low, high = read_limits(row)
-    arcs = []
-    for text in row.cell("after").split(";"):
-        before, base = find(plan, row, text.strip())
-        if before == activity:
-            raise row.fault("after", "an activity can't come after itself")
-        if base is None:
-            arcs += [Arc(before, activity, 0), Arc(activity, before, 0)]
-            continue
-        if low is not None:
-            arcs.append(Arc(before, activity, bounded(row, least, base + low)))
-        if high is not None:
-            arcs.append(Arc(activity, before, -bounded(row, most, base + high)))
-    return arcs
-
-
-def read_limits(row: Row) -> tuple[int | None, int | None]:
-    """The minimum and the maximum lag of a row; one that is not there is none."""
-    low, high = lag(row, "at least", 0), lag(row, "at most", None)
-    if low is None and high is None:
-        raise row.fault("at least", f"'{ANY}' without a maximum lag says nothing")
-    if low is not None and high is not None and high < low:
-        raise row.fault("at most", f"at most {high} is less than at least {low}")
-    return low, high
-
-
-def find(plan: Plan, row: Row, text: str) -> tuple[int, int | None]:
-    """The activity that a text names, and how long after its start the lag begins to count; none with `with`."""
-    lower = text.lower()
-    if lower == START:
-        return 0, 0
-    begin = next((word for word in (START_OF, WITH) if lower.startswith(word)), "")
-    number = plan.names.get(text[len(begin) :].strip())
-    if number is None:
-        raise row.fault("after", no_activity(plan, text[len(begin) :].strip()))
-    if begin == WITH and (row.cell("at least") or row.cell("at most")):
-        raise row.fault("after", "what starts with another has no other lags; they take a row of their own below")
-    return number, {START_OF: 0, WITH: None}.get(begin, plan.durations[number - 1])
-
-
-def no_activity(plan: Plan, name: str) -> str:
-    if not name:
-        return "a name is missing beside a ';'"
-    if all(part.strip() in plan.names for part in name.split(",")):
-        return f"no activity '{short(name)}'; between names stands ';', and not ','"
-    return f"no activity '{short(name)}'"
-
-
-def lag(row: Row, kind: str, empty: int | None) -> int | None:
-    """The lag in a cell: a whole number, perhaps negative; what `empty` says where there is none; none for 'any'."""
-    text = row.cell(kind)
-    if not text:
-        return empty
-    if text.lower() == ANY and kind == "at least":
-        return None
-    if not re.fullmatch(r"-?[0-9]{1,9}", text):
-        raise row.fault(kind, f"'{short(text)}' is not a whole number")
-    return int(text)
-
-
-def bounded(row: Row, kind: str, lag: int) -> int:
-    if abs(lag) > MOST_UNITS:
-        raise row.fault(kind, f"a lag of {lag:,} from start to start; it is at most {MOST_UNITS:,}")
-    return lag
+    columns = row.terms.columns
+    if any(cell(row.cells, place) for place in (columns.places[Column.DURATION], *columns.resources)):
+        raise row.fault(Column.NAME, "a duration or a demand, but no name of an activity")
+    if not has_activity and any(row.cell(column) for column in LAGS):
+        raise row.fault(Column.NAME, "the name of the activity is missing")
+    other = [column for column in Column if column not in (*LAGS, Column.NOTE, Column.COMPUTED) and row.cell(column)]
+    if other and has_activity:
+        raise row.fault(other[0], "a row without a name has nothing but lags of the activity above")

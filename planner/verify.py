@@ -1,16 +1,16 @@
 """`plan verify`: what a record proves of a project, and who has checked it."""
-import os
 import re
 from dataclasses import dataclass
 
-from . import dates
 from .clock import Clock
-from .errors import BadInput, Failed
+from .errors import Failed
 from .files import read_bytes
-from .opened import ProjectFile, open_project
+from .opened import ProjectFile
+from .project import Goal
 from .psmax import Psmax
 from .psprove import Psprove
 from .replan import Start, begin_with
+from .spelled import Spelled
 
 RECORD = b"record "  # how one begins
 OF_PSMAX = b"record 1\n"
@@ -29,19 +29,23 @@ class Verdict:
     script: str  # that judges the record without the program
     told: str
     wrong: bool
+    spelled: Spelled
 
     @property
     def bound(self) -> int | None:
+        """A lower bound of what is minimized; none where there is no schedule."""
         found = re.fullmatch(r"proved (?:bound|optimal) (\d+)", self.told)
-        return int(found[1]) if found else None
+        return self.spelled.value(int(found[1])) if found else None
 
     def sentence(self) -> str:
         if self.wrong:
             return f"{self.record} proves nothing of {self.which}: {self.told}"
         if self.bound is None:
             return f"{self.record} proves that there is no schedule of {self.which}."
-        ends = ", and has one that long" if "optimal" in self.told else ""
-        return f"{self.record} proves that no schedule of {self.which} is shorter than {self.bound}{ends}."
+        is_late = self.spelled.project.goal is Goal.LATENESS
+        ends = f", and has one that {'late' if is_late else 'long'}" if "optimal" in self.told else ""
+        least = f"has a lateness below {self.bound}" if is_late else f"is shorter than {self.bound}"
+        return f"{self.record} proves that no schedule of {self.which} {least}{ends}."
 
     def judges(self) -> str:
         return (f"`{self.program} verify`, which is proved itself, has judged each line; "
@@ -50,25 +54,19 @@ class Verdict:
 
 def verdict(opened: ProjectFile, record: str, start: Start) -> Verdict:
     """The verdict on a record of the project, or of it with what has started kept."""
-    beginning = begin_with(opened, start, dates.chosen(start.wanted, opened) if start.frozen else None)
-    Psmax(Clock(), opened.path).earliest(opened.text)
+    spelled = Spelled(begin_with(opened, start).project)
     data = read_bytes(record, LARGEST)
     program, script = (Psmax, "verify.py") if data.startswith(OF_PSMAX) else (Psprove, "verify_lemmas.py")
-    status, told = program(Clock(), record).verify(beginning.text, data)
+    status, told = program(Clock(), record).verify(spelled.text, data)
     if status != WRONG and not re.fullmatch(r"proved (no schedule|(bound|optimal) \d+)", told):
         raise Failed(f"{program.name} verify gave an answer that plan does not know: {told}")
     keeps = "" if start.frozen is None else f" that keeps what {start.answer} starts before {start.frozen}"
-    return Verdict(record, data, f"{opened.path}{keeps}", program.name, script, told, status == WRONG)
+    return Verdict(record, data, f"{opened.path}{keeps}", program.name, script, told, status == WRONG,
+                   spelled)
 
 
-def must_be_record(path: str | None) -> None:
-    """A file that an output would replace, and that is there and is no record, stays."""
-    if path is not None and os.path.isfile(path) and not (read_bytes(path) or RECORD).startswith(RECORD):
-        raise BadInput(f"{path} is no record, and would be lost; name another file with --record")
-
-
-def verify(path: str, record: str, start: Start) -> int:
-    found = verdict(open_project(path), record, start)
+def verify(opened: ProjectFile, record: str, start: Start) -> int:
+    found = verdict(opened, record, start)
     print(found.sentence())
     if not found.wrong:
         print(found.judges())

@@ -1,13 +1,15 @@
 """`plan where`: the line, the column and the activity of a fault that psmax finds in a project text."""
+import os
 import re
 
 from .clock import Clock
 from .errors import BadInput
-from .files import LARGEST
+from .files import LARGEST, read_bytes
+from .given import WITH_STARTS
 from .layout import Place, Word, layout, words
 from .letters import short
-from .names import Names
-from .opened import open_project
+from .names import Names, read_page
+from .opened import is_table, open_project, page_of
 from .psmax import Psmax
 
 NUMBER = re.compile(rb"-?[0-9]{1,9}")
@@ -20,15 +22,26 @@ ROW_FAULTS = {  # the end of psmax's text, and the kinds of place that it is abo
 
 
 def where(path: str) -> int:
-    opened = open_project(path)
+    data = read_bytes(path)
+    must_be_text(path, data)
     try:
-        Psmax(Clock(), path).earliest(opened.text)
+        Psmax(Clock(), path).earliest_of_text(data)
     except BadInput as fault:
         text = str(fault).removeprefix(f"{path}: ")
-        print(f"{path}: {text}", *details(opened.text, text, opened.names), sep="\n")
+        page = page_of(path)
+        names = read_page(read_bytes(page)) if os.path.isfile(page) else Names()
+        print(f"{path}: {text}", *details(data, text, names), sep="\n")
         return 2
     print(f"{path}: psmax reads it whole")
     return 0
+
+
+def must_be_text(path: str, data: bytes) -> None:
+    """A table, an answer or a spreadsheet file is no project text; where it has faults these are told."""
+    text = data.decode("utf-8-sig", "replace")
+    if is_table(path, text) or text.startswith(WITH_STARTS) or data.startswith(b"PK"):
+        open_project(path)
+        raise BadInput(f"{path}: this is a table without faults, and no project text")
 
 
 def details(data: bytes, fault: str, called: Names) -> list[str]:

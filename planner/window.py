@@ -1,10 +1,10 @@
-"""Float: from when to when an activity may start while the others stay as they are, and the makespan too."""
+"""Free float: from when to when an activity may start while the others stay as they are, and what is minimized too."""
 from collections.abc import Iterable, Sequence
 from dataclasses import dataclass
 
 from .errors import Failed
 from .project import Project
-from .psmax import Psmax, starts_text
+from .psmax import Psmax
 
 
 @dataclass(frozen=True)
@@ -30,11 +30,23 @@ class Window:
 
 def stretches(project: Project, starts: Sequence[int], resource: int) -> tuple[Stretch, ...]:
     """The use of one resource, from one start or end to the next, where it is above 0."""
+    return steps([(start, start + duration, demands[resource])
+                  for start, duration, demands in zip(starts, project.durations, project.demands)])
+
+
+def away(project: Project, resource: int, until: int) -> tuple[Stretch, ...]:
+    """The units of a resource that are away, up to a time."""
+    return steps([(one.begins, until if one.ends is None else one.ends, one.units)
+                  for one in project.absences if one.resource == resource])
+
+
+def steps(uses: Iterable[tuple[int, int, int]]) -> tuple[Stretch, ...]:
+    """What so many units from one time until another come to."""
     changes: dict[int, int] = {}
-    for start, duration, demands in zip(starts, project.durations, project.demands):
-        if duration and demands[resource]:
-            changes[start] = changes.get(start, 0) + demands[resource]
-            changes[start + duration] = changes.get(start + duration, 0) - demands[resource]
+    for begins, ends, units in uses:
+        if begins < ends and units:
+            changes[begins] = changes.get(begins, 0) + units
+            changes[ends] = changes.get(ends, 0) - units
     found, units = [], 0
     times = sorted(changes)
     for time, until in zip(times, times[1:]):
@@ -44,22 +56,30 @@ def stretches(project: Project, starts: Sequence[int], resource: int) -> tuple[S
     return tuple(found)
 
 
-def windows(project: Project, starts: tuple[int, ...], text: bytes, psmax: Psmax) -> dict[int, Window]:
+def windows(project: Project, starts: tuple[int, ...], psmax: Psmax) -> dict[int, Window]:
     """The window of each activity of a feasible schedule. psmax confirms the first and the last start of each."""
-    used = [stretches(project, starts, resource) for resource in range(len(project.capacities))]
+    used = [used_or_away(project, starts, resource) for resource in range(len(project.capacities))]
     found = by_lags(project, starts)
     for activity in range(1, project.end):
         found[activity] = by_resources(project, starts, activity, found[activity], used)
         for start in {found[activity].earliest, found[activity].latest} - {starts[activity]}:
             moved = (*starts[:activity], start, *starts[activity + 1 :])
-            if psmax.check(text, starts_text(moved)).makespan is None:
+            if psmax.check(project, moved).value is None:
                 raise Failed(f"psmax does not confirm that activity {activity} may start at {start}")
     return found
 
 
+def used_or_away(project: Project, starts: Sequence[int], resource: int) -> tuple[Stretch, ...]:
+    """The use of a resource, with what is away, also after the last activity."""
+    until = max([*starts, *project.ends([*starts])]) + max(project.durations) + 1
+    absent = [(one.begins, one.ends, one.units) for one in away(project, resource, until)]
+    return steps([*((one.begins, one.ends, one.units) for one in stretches(project, starts, resource)), *absent])
+
+
 def by_lags(project: Project, starts: tuple[int, ...]) -> dict[int, Window]:
     """The windows that the lags alone leave."""
-    least, most = [0] * len(starts), [starts[-1]] * len(starts)
+    last = max([0, *starts, *project.ends(starts)])
+    least, most = [0] * len(starts), [last - length for length in project.durations]
     for tail, head, lag in project.rules():
         if tail != head:
             least[head] = max(least[head], starts[tail] + lag)

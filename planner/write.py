@@ -1,21 +1,22 @@
 """`plan write`: a schedule as a table in CSV, with names and, from a first day on, with dates."""
+import os
 import sys
 from dataclasses import dataclass
 
-from . import dates
-from .answer import Answer, feasible
+from .answer import feasible
 from .clock import Clock
-from .csv_text import SEPARATORS, write_sheet
-from .dates import Calendar, Wanted
-from .files import STANDARD_INPUT, guard, write_whole
+from .csv_text import SEPARATORS, Text, read_sheet, write_sheet
+from .errors import BadInput
+from .files import STANDARD_INPUT, guard, read_bytes, write_whole
 from .given import read_answer
-from .names import Names
-from .opened import ProjectFile, open_project
+from .opened import ProjectFile
 from .psmax import Psmax
+
+HEADS = ["activity", "name", "start", "takes", "end"]
 
 
 @dataclass(frozen=True)
-class Table:
+class Sheet:
     """What the words of a command say of a table that is written."""
 
     out: str | None
@@ -24,33 +25,52 @@ class Table:
 
     def text(self, table: list[list[object]], opened: ProjectFile) -> str:
         """The separator is the one that is named; for a spreadsheet else that of the table, since hers wrote it."""
+        return write_sheet(table, self.between(opened), self.excel)
+
+    def between(self, opened: ProjectFile) -> str:
         named = SEPARATORS[self.separator] if self.separator is not None else None
-        return write_sheet(table, named or (opened.separator() if self.excel else ","), self.excel)
+        return named or (opened.separator if self.excel else ",")
+
+    def must_have(self, heads: list[str]) -> None:
+        """A file that is there has a table of these columns, or nothing."""
+        there = read_bytes(self.out) if self.out is not None and os.path.isfile(self.out) else b""
+        if self.out is not None and there.strip():
+            try:
+                found = read_sheet(self.out, there.decode("utf-8", "replace")).heads
+            except BadInput:
+                found = []
+            if found != heads:
+                raise BadInput(f"{self.out} is there, and no table of these columns, and would be lost; name another file with "
+                               "--out")
+
+    def put(self, table: list[list[object]], opened: ProjectFile) -> None:
+        """Into the file that is named, where another of the same columns may be, or to standard output."""
+        self.must_have(list(map(str, table[0])))
+        put(self.text(table, opened), self.out)
 
 
-def rows(answer: Answer, names: Names, calendar: Calendar | None) -> list[list[object]]:
+def rows(opened: ProjectFile, starts: tuple[int, ...], with_dates: bool = True) -> list[list[object]]:
     """A row for each activity, in the order of their starts, below the names of the columns."""
-    table: list[list[object]] = [["activity", "name", "start", "end", *(calendar.heads if calendar else ())]]
-    for activity in sorted(range(1, answer.project.end), key=lambda i: (answer.starts[i], i)):
-        begins = answer.starts[activity]
-        ends = begins + answer.project.durations[activity]
-        times = calendar.times(begins, ends) if calendar else ()
-        table.append([activity, names.activities.get(activity, ""), begins, ends, *times])
+    project, calendar = opened.project, opened.calendar if with_dates else None
+    table: list[list[object]] = [[*HEADS, *(calendar.heads if calendar else ())]]
+    for activity in sorted(range(1, project.end), key=lambda i: (starts[i], i)):
+        begins, takes = starts[activity], project.durations[activity]
+        times = opened.times(activity, begins) if calendar else ()
+        name = Text(opened.names.activities.get(activity, ""))
+        table.append([activity, name, begins, takes, begins + takes, *times])
     return table
 
 
 def put(text: str, out: str | None) -> None:
     """Writes a text into a file, or to standard output where none is named."""
     if out is not None:
-        write_whole(out, text.encode())
+        write_whole(out, text.encode("utf-8", "replace"))
     else:
         sys.stdout.write(text)
 
 
-def write(path: str, given: str | None, page: str | None, wanted: Wanted, table: Table) -> int:
-    opened = open_project(path, page)
-    guard([table.out], opened.inputs() | {"the answer": given or STANDARD_INPUT} | wanted.inputs())
-    calendar = dates.chosen(wanted, opened)
-    known = feasible(opened, read_answer(given), Psmax(Clock(), path))
-    put(table.text(rows(known, opened.names, calendar), opened), table.out)
+def write(opened: ProjectFile, given: str | None, sheet: Sheet) -> int:
+    guard([sheet.out], opened.inputs() | {"the answer": given or STANDARD_INPUT})
+    known = feasible(opened, read_answer(given), Psmax(Clock(), opened.path))
+    sheet.put(rows(opened, known.starts), opened)
     return 0

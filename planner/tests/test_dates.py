@@ -1,4 +1,6 @@
 """Dates and periods are those of the table, on the working days of the calendar."""
+import unittest
+import zoneinfo
 from xml.etree import ElementTree
 
 from .helpers import EXAMPLES, INPUTS, InFolder, Ran, plan
@@ -35,6 +37,17 @@ class Dates(InFolder):
                 self.read(unit)
                 self.assertEqual(self.written(*words)[1 : 1 + len(wanted)], wanted)
 
+    @unittest.skipUnless("Europe/Berlin" in zoneinfo.available_timezones(), "no time zones here")
+    def test_a_time_zone(self) -> None:
+        """By hand: in Berlin clocks go forward at 02:00 on 29 March 2026, and back at 03:00 on 25 October: three hours from
+        midnight on end at 04:00 and at 02:00. Without a zone they end at 03:00."""
+        self.read("hours")
+        for day, zone, end in (("2026-03-29", ("--zone", "Europe/Berlin"), "04:00"), ("2026-03-29", (), "03:00"),
+                               ("2026-10-25", ("--zone", "Europe/Berlin"), "02:00"), ("2026-10-24", (), "03:00")):
+            with self.subTest(day=day, zone=zone):
+                self.assertEqual(self.written("--from", day, *zone)[1], [f"{day} 00:00", f"{day} {end}"])
+        self.refused(self.ran("write", "--from", "2026-03-29", "--zone", "Mars/Base"), 2, "zone Mars/Base: no time zone")
+
     def test_a_period_that_is_said_once(self) -> None:
         self.read("periods", "--from", "2026-03-02T06:00", "--period", "hours")
         self.read("periods")
@@ -67,7 +80,7 @@ class Dates(InFolder):
         self.read("days")
         self.assertEqual(self.written()[1:], wanted)
         self.assertIn("2026-04-08", self.ran("gantt").stdout)
-        self.assertIn("2026-04-09  2026-04-09  2026-04-09      0  critical", self.ran("float").stdout)
+        self.assertIn("2026-04-09  2026-04-09  2026-04-09     0\n", self.ran("float").stdout)
         self.assertEqual(self.written("--from", "2026-04-08")[1], ["2026-04-08", "2026-04-10"])
         self.assertEqual(plan("solve", self.folder / "p.sch", "--svg", self.folder / "s.svg").returncode, 0)
         self.assertIn("build: 2026-04-02 to 2026-04-08", (self.folder / "s.svg").read_text())
@@ -98,14 +111,15 @@ class Dates(InFolder):
         self.assertEqual(plan("read", self.folder / "p.csv").returncode, 0)
         self.file("p.st", STARTS)
         out = self.folder / "out.csv"
-        for words, begin in ((["--excel"], "activity;name;start;end"), (["--excel", "--separator", "tab"], "activity\tname"),
+        for words, begin in ((["--excel"], "activity;name;start;takes;end"),
+                             (["--excel", "--separator", "tab"], "activity\tname"),
                              (["--excel", "--separator", "comma"], "activity,name")):
             with self.subTest(words):
                 self.assertEqual(self.ran("write", *words, "--out", out).returncode, 0)
                 self.assertTrue(out.read_bytes().startswith(b"\xef\xbb\xbf" + begin.encode()))
                 self.assertIn(b"\r\n", out.read_bytes())
         self.assertEqual(plan("write", INPUTS / "two-jobs.sch", "--excel", given=b"0 0\n1 4\n2 0\n3 7\n").stdout,
-                         "\ufeffactivity,name,start,end\r\n2,,0,4\r\n1,,4,7\r\n")
+                         "\ufeffactivity,name,start,takes,end\r\n2,,0,4,4\r\n1,,4,3,7\r\n")
 
     def test_tables_of_a_spreadsheet(self) -> None:
         """A line that tells the separator, which a spreadsheet doesn't show, and columns of notes."""

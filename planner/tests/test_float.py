@@ -29,12 +29,12 @@ class Float(InFolder):
         ran = plan("float", self.project, self.answer)
         self.assertEqual((ran.returncode, ran.stderr), (0, ""))
         self.assertEqual([line.split() for line in ran.stdout.splitlines()], [
-            ["start", "earliest", "latest", "float"],
-            ["2", "b", "0", "0", "0", "0", "critical"],
+            ["start", "earliest", "latest", "free"],
+            ["2", "b", "0", "0", "0", "0"],
             ["5", "paint", "2", "0", "6", "6"],
             ["1", "a", "4", "3", "4", "1"],
-            ["3", "c", "5", "5", "5", "0", "critical"],
-            ["4", "end", "of", "lifting", "7", "7", "7", "0", "critical"]])
+            ["3", "c", "5", "5", "5", "0"],
+            ["4", "end", "of", "lifting", "7", "7", "7", "0"]])
 
     def test_csv(self) -> None:
         out = self.folder / "float.csv"
@@ -42,19 +42,19 @@ class Float(InFolder):
         self.assertEqual(plan("float", self.project, self.answer, *words).stdout, "")
         rows = [*csv.DictReader(io.StringIO(out.read_text()))]
         self.assertEqual(rows[1], {
-            "activity": "5", "name": "paint", "start": "2", "end": "3", "first day": "2026-03-04", "last day": "2026-03-04",
-            "earliest": "0", "latest": "6", "float": "6", "critical": "", "earliest day": "2026-03-02",
+            "activity": "5", "name": "paint", "start": "2", "takes": "1", "end": "3", "first day": "2026-03-04",
+            "last day": "2026-03-04", "earliest": "0", "latest": "6", "free float": "6", "earliest day": "2026-03-02",
             "latest day": "2026-03-10"})
-        self.assertEqual([row["name"] for row in rows if row["critical"]], ["b", "c", "end of lifting"])
-        self.assertEqual(plan("check", self.project, out).stdout, "feasible 7\n")
+        self.assertEqual([row["name"] for row in rows if row["free float"] == "0"], ["b", "c", "end of lifting"])
+        self.assertEqual(plan("check", self.project, out, *words[2:]).stdout, "feasible 7\n")
 
     def test_charts(self) -> None:
         lines = plan("float", self.project, self.answer, "--chart").stdout.splitlines()
-        self.assertEqual([line.split()[-1] for line in lines[3:8]], ["...-#..", "***....", ".....**", "......*", "--#----"])
+        self.assertEqual([line.split()[-1] for line in lines[3:8]], ["...-#..", "###....", ".....##", "......|", "--#----"])
         self.assertEqual(plan("float", self.project, self.answer, "--svg", self.folder / "f.svg").stdout, "")
         picture = ElementTree.parse(self.folder / "f.svg")
         boxes = [node.get("class") for node in picture.iter("{http://www.w3.org/2000/svg}rect")]
-        self.assertEqual([boxes.count(kind) for kind in ("critical", "float", "bar")], [2, 2, 2])
+        self.assertEqual([boxes.count(kind) for kind in ("critical", "float", "bar")], [0, 2, 4])
 
     def test_every_start_between_is_one(self) -> None:
         """psmax finds each start of a window feasible at this makespan, and the one before and the one behind not."""

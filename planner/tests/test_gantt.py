@@ -51,7 +51,7 @@ class Charts(InFolder):
         self.assertIn("at 2, 2 units of resource 0 are in use, of which there is 1: 1, 2", text)
         self.assertIn("11!111", text)
         at_once = "".join(f"{activity} 0\n" for activity in range(15))
-        wanted = "2 (excavate) must start at least 2 after 1 (survey and set out) starts (0 after it ends), and starts 0 "
+        wanted = "2 (excavate) must start no sooner than 1 (survey and set out) ends, and starts 2 before it does"
         self.assertIn(wanted, self.drawn(EXAMPLES / "building-site.sch", at_once))
 
     def test_odd_starts(self) -> None:
@@ -62,18 +62,19 @@ class Charts(InFolder):
         self.assertIn("feasible 0", self.drawn(INPUTS / "empty-project.sch", "0 0\n1 0\n"))
 
     def test_answers_without_starts(self) -> None:
-        """Each answer of psmax that has none (docs/FORMAT.md, docs/RECORD.md), and those of `plan solve --out`."""
+        """Each answer of psmax that has none (docs/FORMAT.md, docs/RECORD.md) is told; what is no answer is a fault."""
         none = '{"bound":null,"makespan":null,"starts":null,"status":"no schedule"}\n'
         unknown = '{"bound":7,"makespan":null,"starts":null,"status":"unknown"}\n'
-        for answer in ("no schedule\n", "unknown bound 7\n", "positive cycle 2\n", "", " \n\n", "psmax: too long\n",
-                       "start 1\nlag 0 1 0\n", "lag 2 3 4\n", "overload 2 0 2\n", "feasible 7\n", "optimal 7\n",
-                       "feasible 9 bound 7\n", "proved optimal 7\n", "proved no schedule\n",
-                       "record 1\noptimal 7\nstarts 0 0 3 7\ncut\n", none, unknown):
+        for answer in ("no schedule\n", "unknown bound 7\n", "positive cycle 2\n", none, unknown):
             with self.subTest(answer):
                 text = self.drawn(INPUTS / "two-jobs.sch", answer)
                 self.assertTrue(text.startswith("The answer is ") and len(text.splitlines()) == 1, text)
                 self.refused(plan("write", INPUTS / "two-jobs.sch", given=answer.encode()), 2, text.strip())
-        self.assertEqual(self.drawn(INPUTS / "two-jobs.sch", TWO_JOBS), "This is a project, and no answer.\n")
+        for other in ("", " \n\n", "psmax: too long\n", "start 1\nlag 0 1 0\n", "lag 2 3 4\n", "overload 2 0 2\n",
+                      "feasible 7\n", "optimal 7\n", "feasible 9 bound 7\n", "proved optimal 7\n", "proved no schedule\n",
+                      "record 1\noptimal 7\nstarts 0 0 3 7\ncut\n", TWO_JOBS, "\0\1\2\n", "\ufffd\ufffd"):
+            with self.subTest(other):
+                self.refused(plan("gantt", INPUTS / "two-jobs.sch", given=other.encode()), 2, "standard input: ")
 
     def test_answers_of_psmax(self) -> None:
         """By hand, as above; plain and in JSON, of a whole search, of one that was stopped, and of `earliest`."""

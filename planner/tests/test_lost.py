@@ -8,7 +8,7 @@ import time
 
 from planner.clock import ENDS
 
-from .helpers import CALLED, EXAMPLES, INPUTS, PLAN, PSPROVE, TWO_JOBS, InFolder, plan, psmax, started, told_until
+from .helpers import CALLED, EXAMPLES, INPUTS, PLAN, TWO_JOBS, InFolder, plan, psmax, started, told_until
 
 TABLE = "activity,days,crane (1)\na,3,1\nb,4,1\n"
 STARTS = "0 0\n1 0\n2 3\n3 7\n"
@@ -75,7 +75,7 @@ class Inputs(InFolder):
         project, out = self.file("x.sch", TWO_JOBS), self.folder / "x.csv"
         for _ in range(2):
             self.assertEqual(plan("write", project, self.folder / "w.st", "--out", out).returncode, 0)
-        self.assertEqual(out.read_text().splitlines()[0], "activity,name,start,end")
+        self.assertEqual(out.read_text().splitlines()[0], "activity,name,start,takes,end")
 
 
 class Results(InFolder):
@@ -101,13 +101,14 @@ class Results(InFolder):
 
     def test_a_shorter_one_of_somebody_else(self) -> None:
         """One search finds a schedule while another puts a shorter one into the same file; the file keeps that."""
-        path, best, short = self.hard(), self.folder / "best", self.folder / "short"
-        self.assertEqual(plan("solve", path, "--out", short, "--seconds", "3").returncode, 3)
-        copy = f"cp {short} {best}.copy; mv {best}.copy {best}"
-        long = self.program("long", f"{copy}\nexec {PSPROVE} \"$@\"")
-        ran = plan("solve", path, "--out", best, "--seconds", "1", "--jobs", "1", psprove=long)
+        best, short = self.folder / "best", self.file("short", STARTS)
+        answer = '{"bound":0,"conflicts":1,"makespan":9,"starts":[0,0,5,9],"status":"feasible"}'
+        long = self.program("long", f"""cp {short} {best}
+            for file; do case $before in --record) echo > $file; esac; before=$file; done
+            echo '{answer}'; exit 3""")
+        ran = plan("solve", INPUTS / "two-jobs.sch", "--out", best, "--seconds", "1", "--jobs", "1", psprove=long)
         self.assertEqual(ran.returncode, 3, ran.stderr)
-        self.assertIn("by now, which stays", ran.stderr)
+        self.assertIn("holds a schedule of 7 by now, which stays", ran.stderr)
         self.assertEqual(best.read_bytes(), short.read_bytes())
 
     def test_what_is_no_schedule_of_this_project(self) -> None:

@@ -12,7 +12,7 @@ close,2,1,mend,,1
 """
 INSERTED = TABLE.replace("mend,4,1,strip,,\n", "paint,0,,,,\nmend,4,1,strip,,\n")
 MOVED = "activity,days,pit (1),after,at least,at most\nclose,2,1,mend,,1\nmend,4,1,strip,,\nstrip,3,1,,,\n"
-ROWS = ["activity,name,start,end", "3,strip,0,3", "2,mend,3,7", "1,close,7,9"]
+ROWS = ["activity,name,start,takes,end", "3,strip,0,3,3", "2,mend,3,4,7", "1,close,7,2,9"]
 
 
 class Named(InFolder):
@@ -25,8 +25,8 @@ class Named(InFolder):
             self.assertEqual(plan("solve", self.project, "--out", out).stdout, "optimal 9\n")
         self.json = self.file("old.json", plan("solve", self.project, "--json").stdout)
         self.excel = self.folder / "excel.csv"
-        self.assertEqual(plan("write", self.project, self.starts, "--excel", "--separator", "semicolon", "--from",
-                              "2026-03-02", "--out", self.excel).returncode, 0)
+        self.assertEqual(plan("write", self.project, self.starts, "--excel", "--separator", "semicolon",
+                              "--out", self.excel).returncode, 0)
         self.answers = (self.starts, self.sheet, self.json, self.excel)
 
     def read(self, table: str) -> None:
@@ -55,7 +55,7 @@ class Named(InFolder):
     def test_rows_that_are_gone(self) -> None:
         self.read(INSERTED)
         text = (self.folder / "old.csv").read_text()
-        self.file("more.csv", text + "4,varnish,0,1\n")
+        self.file("more.csv", text + "4,varnish,0,1,1\n")
         ran = plan("write", self.project, self.folder / "more.csv")
         self.refused(ran, 2, "no start for activity 2 (paint)", "4 (varnish) is no activity of", faults=2)
 
@@ -65,7 +65,7 @@ class Named(InFolder):
         for answer in self.answers:
             for command in (("write",), ("solve", "--start")):
                 ran = plan(command[0], self.project, *command[1:], answer)
-                self.refused(ran, 2, "1 (close) must start at least 6 after 2 (mend) starts (0 after it ends), and starts 4 ",
+                self.refused(ran, 2, "1 (close) must start no sooner than 2 (mend) ends, and starts 2 before it does",
                              "at 7, 2 units of pit are in use, of which there is 1: 1 (close), 2 (mend)", faults=2)
 
     def test_a_name_twice(self) -> None:
@@ -101,9 +101,10 @@ class Named(InFolder):
                          {"names": ["strip", "mend", "close"], "durations": [3, 4, 2]})
 
     def test_faults_of_tables(self) -> None:
-        for text, fault in (("activity,name,start\n1,strip,x\n", "row 2, column C (start): 'x' is not a whole number"),
+        for text, fault in (("activity,name,start\n1,strip,x\n",
+                             "row 2, column C (start): 'x' is neither a whole number nor a date"),
                             ("activity,name,start\n1,strip,0\n1,mend,3\n", "row 3: a second start of activity 1"),
-                            ("activity,start\nstrip,\n", "row 2, column B (start): a whole number is missing"),
+                            ("activity,start\nstrip,\n", "row 2, column B (start): a whole number or a date is missing"),
                             ('optimal 9 {"names": 3}\n0 0\n', "line 1: what it says of the activities can't be read")):
             with self.subTest(text):
                 self.refused(plan("check", self.project, self.file("bad", text)), 2, fault)

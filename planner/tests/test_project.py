@@ -2,7 +2,8 @@ import unittest
 from dataclasses import replace
 
 from planner.circles import positive_cycle
-from planner.project import Arc, Part, in_order, lags_only, parse, parts, with_lag, within, without
+from planner.project import Arc, Kind, Part, in_order, lags_only, parse, parts, with_lag, within, without
+from planner.spelled import Spelled
 
 from .helpers import EXAMPLES, INPUTS, TWO_JOBS
 
@@ -13,7 +14,7 @@ class Arcs(unittest.TestCase):
         limited = within(parse(TWO_JOBS.encode()), 6)
         assert limited is not None
         by_hand = (INPUTS / "two-jobs-deadline-6.sch").read_bytes()
-        self.assertEqual(limited.text().split(), by_hand.split())
+        self.assertEqual(Spelled(limited).text.split(), by_hand.split())
         self.assertEqual(limited.arcs, (Arc(3, 0, -6),))
 
     def test_no_arc_beyond_the_format(self) -> None:
@@ -28,7 +29,7 @@ class Arcs(unittest.TestCase):
         for path in sorted(INPUTS.glob("*.sch")):
             with self.subTest(path.name):
                 project = parse(path.read_bytes())
-                self.assertEqual(parse(project.text()), project)
+                self.assertEqual(parse(Spelled(project).text), project)
 
 
 class Parts(unittest.TestCase):
@@ -37,16 +38,16 @@ class Parts(unittest.TestCase):
         milestone 3, is a minimum lag."""
         project = parse(b"3 1 0 0\n0 1 0\n1 1 2 2 2 [3] [0]\n2 1 2 1 1 [-5] [0]\n3 1 1 2 [0]\n4 1 1 0 [-9]\n"
                         b"0 1 0 0\n1 1 3 1\n2 1 4 1\n3 1 0 0\n4 1 0 0\n1\n")
-        told = [project.arcs[part.number] for part in parts(project) if part.is_lag]
+        told = [project.arcs[part.number] for part in parts(project) if part.kind is Kind.LAG]
         self.assertEqual(told, [Arc(1, 2, 0), Arc(2, 1, -5), Arc(2, 1, 0), Arc(4, 0, -9)])
-        self.assertEqual([part for part in parts(project) if not part.is_lag], [Part(False, 0)])
+        self.assertEqual([part for part in parts(project) if part.kind is not Kind.LAG], [Part(Kind.RESOURCE, 0)])
 
     def test_without(self) -> None:
         project = parse((EXAMPLES / "building-site.sch").read_bytes())
-        eased = without(project, {Part(False, 0), Part(False, 1)})
+        eased = without(project, {Part(Kind.RESOURCE, 0), Part(Kind.RESOURCE, 1)})
         self.assertEqual((eased.capacities, eased.demands[9], eased.demands[2]), ((1,), (1,), (0,)))
         self.assertEqual((eased.arcs, eased.durations), (project.arcs, project.durations))
-        eased = without(project, {Part(True, 0), Part(True, 2)})
+        eased = without(project, {Part(Kind.LAG, 0), Part(Kind.LAG, 2)})
         self.assertEqual(eased.arcs, (project.arcs[1], *project.arcs[3:]))
         self.assertEqual(with_lag(project, 1, -9).arcs[1], project.arcs[1]._replace(lag=-9))
 

@@ -94,7 +94,7 @@ class Tables(InFolder):
         self.assertEqual(psmax("earliest", given=(self.folder / "t.sch").read_bytes()).split()[0], "positive")
 
     def test_kept_projects_are_those_of_their_tables(self) -> None:
-        tables = sorted(PROJECTS.glob("*.csv"))
+        tables = [path.with_suffix(".csv") for path in sorted(PROJECTS.glob("*.sch"))]
         self.assertEqual(len(tables), 10)
         for table in tables:
             with self.subTest(table.name):
@@ -122,7 +122,6 @@ class Faults(InFolder):
             ("blinding,1,2,,excavate", "blinding,1,2,,blinding", 3, "E (after)"),
             ("blinding,1,2,,excavate", "excavate,1,2,,excavate", 3, "A (activity)"),
             ("blinding,1,2,,excavate", "start,1,2,,excavate", 3, "A (activity)"),
-            ("blinding,1,2,,excavate", "a;b,1,2,,excavate", 3, "A (activity)"),
             ("excavate,,2", "excavate,3,2", 3, "G (at most)"),
             ("excavate,,2", "excavate,any,", 3, "F (at least)"),
             ("excavate,,2", "excavate,,any", 3, "G (at most)"),

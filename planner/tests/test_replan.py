@@ -33,7 +33,7 @@ class Replanning(InFolder):
 
     def late(self) -> pathlib.Path:
         """The old schedule, with the roof three days later."""
-        text = self.old.read_text().replace("lift roof,5,9", "lift roof,8,12").replace("9,11", "12,14")
+        text = self.old.read_text().replace("lift roof,5,4,9", "lift roof,8,4,12").replace("9,2,11", "12,2,14")
         return self.file("late.csv", text)
 
     def replanned(self, day: object, *words: object) -> Ran:
@@ -45,8 +45,8 @@ class Replanning(InFolder):
         ran = self.replanned(4)
         self.assertEqual((ran.returncode, ran.stdout), (0, "optimal 13\n"), ran.stderr)
         self.assertIn("2 of 4 activities start before 4 in", ran.stderr)
-        self.assertIn("old.csv: 3 (lift roof) must start at least 4 after 2 (bolt beams) starts (0 after it ends), "
-                      "and starts 2 ", ran.stderr)
+        self.assertIn("old.csv: 3 (lift roof) must start no sooner than 2 (bolt beams) ends, and starts 2 before it does",
+                      ran.stderr)
         self.assertIn("old.csv, repaired", ran.stderr)
         self.assertEqual(self.starts(self.new), {"lift beams": 0, "bolt beams": 3, "lift roof": 7, "cover roof": 11})
 
@@ -84,16 +84,18 @@ class Replanning(InFolder):
     def test_a_contradiction_in_what_has_started(self) -> None:
         """What has started can't be moved, so what no longer fits there is told by name."""
         self.read(TABLE.replace("lift beams,,0", "lift beams,1,2"))
-        self.refused(self.replanned(4), 2, "has started, but 2 (bolt beams) must start at least 4 after 1 (lift beams)")
+        self.refused(self.replanned(4), 2,
+                     "has started, but 2 (bolt beams) must start at least 1 after 1 (lift beams) ends, and starts 0 after")
         self.read(TABLE.replace("bolt beams,2,", "bolt beams,2,1").replace("lift beams,3", "lift beams,5"))
-        self.refused(self.replanned(4), 2, "2 (bolt beams) must start at least 5", "2 units of crane are in use", faults=2)
+        self.refused(self.replanned(4), 2, "2 (bolt beams) must start no sooner than 1 (lift beams) ends",
+                     "2 units of crane are in use", faults=2)
 
     def test_what_keeps_the_rest_from_starting(self) -> None:
         """By hand: bolting is due on day 3, and on day 5 it has not started."""
         old = self.file("held.csv", "activity,start\nlift beams,0\nbolt beams,6\nlift roof,8\ncover roof,12\n")
         ran = plan("solve", self.project, "--start", old, "--frozen", 5)
         self.assertEqual((ran.returncode, ran.stdout), (0, "no schedule\n"))
-        self.assertIn("2 (bolt beams) starts at most 3 after 1 (lift beams) starts (0 after it ends)", ran.stderr)
+        self.assertIn("2 (bolt beams) starts no later than 1 (lift beams) ends", ran.stderr)
 
     def test_the_file_keeps_what_is_shorter(self) -> None:
         """A schedule of the project that is shorter than what keeps the past isn't replaced by that."""
@@ -115,22 +117,36 @@ class Replanning(InFolder):
 
 
 class Comparing(InFolder):
-    OLD = "activity,name,start,end\n1,dig,0,2\n2,pour,2,3\n3,cure,3,9\n4,strip,9,10\n"
-    NEW = "activity,name,start,end\n1,dig,0,2\n2,shore,2,4\n3,cure,5,11\n4,pour,4,5\n"
+    """By hand, of a project in which pouring takes a day and curing six."""
 
-    def test_by_hand(self) -> None:
-        ran = plan("compare", self.file("old.csv", self.OLD), self.file("new.csv", self.NEW))
-        self.assertEqual((ran.returncode, ran.stdout), (0, """makespan 10 -> 11, 1 later
+    TABLE = "activity,days\ndig,2\nshore,2\ncure,6\npour,1\n"
+    OLD = "activity,name,start,takes\n1,dig,0,2\n2,pour,2,1\n3,cure,3,6\n4,strip,9,1\n"
+    NEW = "activity,name,start\n1,dig,0\n2,shore,2\n3,cure,5\n4,pour,4\n"
+    TOLD = """makespan 10 -> 11, 1 later
   pour   2 -> 4, 2 later
   cure   3 -> 5, 2 later
   shore  new, at 2
   strip  gone, was at 9
 1 of 4 start as before
-"""))
+"""
+
+    def compared(self, old: str, new: str, *words: object) -> Ran:
+        return plan("compare", self.file("p.csv", self.TABLE), self.file("old.csv", old), self.file("new.csv", new), *words)
+
+    def test_by_hand(self) -> None:
+        ran = self.compared(self.OLD, self.NEW)
+        self.assertEqual((ran.returncode, ran.stdout), (0, self.TOLD))
+
+    def test_ends_are_computed(self) -> None:
+        """An end that is old, or missing, says nothing: cure ends 6 after its start, and strip a day after its."""
+        new = self.NEW.replace("start\n", "start,end\n").replace("cure,5", "cure,5,7").replace("dig,0", "dig,0,99")
+        old = self.OLD.replace("takes\n", "takes,end\n").replace("9,1\n", "9,1,12\n")
+        self.assertEqual(self.compared(old, new).stdout, self.TOLD)
+        self.refused(self.compared(self.OLD.replace("takes", "end"), self.NEW), 2, "old.csv: 4 (strip) is no activity of",
+                     "no column 'takes' says how long it took")
 
     def test_dates(self) -> None:
-        ran = plan("compare", self.file("old.csv", self.OLD), self.file("new.csv", self.NEW), "--from", "2026-03-05",
-                   "--workdays", "mon-fri")
+        ran = self.compared(self.OLD, self.NEW, "--from", "2026-03-05", "--workdays", "mon-fri")
         self.assertIn("  pour   2026-03-09 -> 2026-03-11, 2 later\n", ran.stdout)
         self.assertIn("makespan 10 -> 11, 1 later (2026-03-18 -> 2026-03-19)\n", ran.stdout)
 
@@ -139,26 +155,33 @@ class Comparing(InFolder):
         for name, day in (("old", 3), ("new", 4)):
             first = f'feasible {day} bound 1 {{"names": ["dig", "done"], "durations": [2, 0]}}'
             self.file(name, f"{first}\n0 0\n1 0\n2 {day}\n3 {day}\n")
-        ran = plan("compare", self.folder / "old", self.folder / "new", "--from", "2026-03-02")
+        table = self.file("m.csv", "activity,days\ndig,2\ndone,0\n")
+        ran = plan("compare", table, self.folder / "old", self.folder / "new", "--from", "2026-03-02")
         self.assertIn("  done  2026-03-04 -> 2026-03-05, 1 later\n", ran.stdout)
 
     def test_numbers(self) -> None:
         """Answers of psmax, which have no names; those of a page go with them."""
+        path = INPUTS / "two-jobs.sch"
         old, new = self.file("old", "optimal 7\n0 0\n1 0\n2 3\n3 7\n"), self.file("new", "0 0\n1 4\n2 0\n3 7\n")
         told = "makespan 7 -> 7\n  {}  3 -> 0, 3 earlier\n  {}  0 -> 4, 4 later\n0 of 2 start as before\n"
-        self.assertEqual(plan("compare", old, new).stdout, told.format("activity 2", "activity 1"))
+        self.assertEqual(plan("compare", path, old, new).stdout, told.format("activity 2", "activity 1"))
         page = self.file("page.md", "| 1 | a | 3 |\n| 2 | b | 4 |\n")
-        self.assertEqual(plan("compare", old, new, "--names", page).stdout, told.format("b", "a"))
+        self.assertEqual(plan("compare", path, old, new, "--names", page).stdout, told.format("b", "a"))
         more = self.file("more", "0 0\n1 4\n2 0\n3 7\n4 7\n")
-        self.refused(plan("compare", old, more), 2, "2 activities and 3; without names nobody can say")
-        self.refused(plan("compare", old, self.file("none", "no schedule\n")), 2, "no schedule")
+        self.refused(plan("compare", path, old, more), 2, "starts of 5 activities, and", "without names nobody can say")
+        self.refused(plan("compare", path, old, self.file("none", "no schedule\n")), 2, "no schedule")
 
     def test_why(self) -> None:
-        """By hand: two jobs of 3 and 4 on one machine take 7, so not 6, and one after the other 9, where 7 will do."""
-        for end, told in ((6, "There is no schedule that ends by 6."),
-                          (7, "There is a schedule that ends by 7: psprove has found one of 7.")):
-            old, new = self.file("old", f"0 0\n1 0\n2 2\n3 {end}\n"), self.file("new", "0 0\n1 0\n2 5\n3 9\n")
-            ran = plan("compare", old, new, "--why", INPUTS / "two-jobs.sch")
-            self.assertEqual((ran.returncode, ran.stdout.splitlines()[3]), (0, told), ran.stderr)
-            ran = plan("compare", new, old, "--why", INPUTS / "two-jobs.sch")
-            self.assertNotIn("There is", ran.stdout)
+        """By hand: two jobs of 3 and 4 on one machine take 7, and one after the other with a gap 9, where 7 will do. Once 1 has
+        started at 2, they take 9."""
+        path = INPUTS / "two-jobs.sch"
+        old, new = self.file("old", "0 0\n1 0\n2 3\n3 7\n"), self.file("new", "0 0\n1 0\n2 5\n3 9\n")
+        ran = plan("compare", path, old, new, "--why")
+        told = "There is a schedule that ends by 7: psprove has found one of 7."
+        self.assertEqual((ran.returncode, ran.stdout.splitlines()[3]), (0, told), ran.stderr)
+        self.assertNotIn("There is", plan("compare", path, new, old, "--why").stdout)
+        late, later = self.file("late", "0 0\n1 1\n2 4\n3 8\n"), self.file("later", "0 0\n1 1\n2 5\n3 9\n")
+        ran = plan("compare", path, late, later, "--why", "--frozen", 2)
+        self.assertIn("There is a schedule that ends by 8: psprove has found one of 8.", ran.stdout, ran.stderr)
+        ran = plan("why", path, "--start", late, "--frozen", 2, "--within", 7)
+        self.assertIn("There is no schedule that ends by 7.", ran.stdout, ran.stderr)

@@ -14,12 +14,12 @@ pour {{title}},1,1,dig <b>,,
 '''
 ASK = """<script>
 const all = (selector) => [...document.querySelectorAll(selector)];
-all("tbody tr")[2].click();
-all("th button")[2].click();
+all("#rows tr")[2].click();
+all("th [role=button]")[2].click();
 document.body.textContent = JSON.stringify({
   sideways: document.documentElement.scrollWidth > window.innerWidth,
-  rows: all("tbody tr").map((row) => row.cells[0].textContent),
-  shown: all(".lag.shown").length, chosen: all(".names .chosen").map((one) => one.textContent),
+  rows: all("#rows tr").map((row) => row.cells[0].textContent),
+  shown: all(".lag.shown").length, chosen: all(".line.chosen th").map((one) => one.textContent),
   lags: all("#lags li").map((one) => one.textContent),
 });
 </script></body>"""
@@ -80,13 +80,66 @@ class Report(InFolder):
         self.assertIn("default-src 'none'", page)
         self.assertIn("From 2026-03-02 to 2026-03-09", page)
 
+    def test_floats(self) -> None:
+        """By hand: of two jobs on one machine neither is critical, though neither can move alone; what has started is
+        neither."""
+        table = self.file("p.csv", "activity,days,crane (1),started,done\na,3,1,,\nb,4,1,,\n")
+        answer = self.file("a.csv", "name,start\na,0\nb,3\n")
+        page = self.page(table, answer)
+        cells = re.findall(r'<tr class="activity" data-a="(.)">.*?</td>.*?</td><td data-key="[^"]*">(.*?)</td>', page)
+        self.assertEqual(cells, [("1", "4"), ("2", "critical")])
+        table.write_text(table.read_text().replace("a,3,1,,", "a,3,1,0,0"))
+        answer = self.file("a.csv", "name,start\na,0\nb,4\n")
+        page = self.page(table, answer, "--status", 1)
+        cells = re.findall(r'<tr class="activity" data-a="(.)">.*?</td>.*?</td><td data-key="[^"]*">(.*?)</td>', page)
+        self.assertEqual(cells, [("1", "started"), ("2", "critical")])
+        self.assertEqual(page.count('class="past"'), 1)
+
     def test_what_is_drawn(self) -> None:
         """Of the building site: a row for each of 13 activities in the chart and in the table, and its three resources."""
         answer = self.file("best", psmax("solve", given=(EXAMPLES / "building-site.sch").read_bytes()))
         page = self.page(EXAMPLES / "building-site.sch", answer)
-        self.assertEqual((page.count('<g data-a="'), page.count("<tr data-a="), page.count('class="load"')), (13, 13, 3))
-        named = plan("float", EXAMPLES / "building-site.sch", answer).stdout
+        self.assertEqual((page.count('<tr class="line"'), page.count('<tr class="activity"'), page.count('class="load"')),
+                         (13, 13, 3))
+        named = plan("float", EXAMPLES / "building-site.sch", answer, "--total").stdout
         self.assertEqual(page.count('data-key="0">critical'), named.count("critical"))
+
+    def test_on_paper(self) -> None:
+        """A4 or A3 on its side, with the title and the number of the page on each; a row of a table for each activity, below
+        times that each page has; the last time ends before the edge; one of something is no plural."""
+        page = self.hostile()
+        self.assertIn("@page { size: A4 landscape;", page)
+        self.assertIn('@top-left { content: "p";', page)
+        self.assertIn("thead { display: table-header-group } tr, .facts, .proof, .keys { break-inside: avoid }", page)
+        self.assertIn("<b>1</b>resource<", page)
+        self.assertIn("<b>3</b>activities<", page)
+        self.assertEqual(page.count('<tr class="line"'), 3)
+        starts = self.file("starts", plan("solve", self.folder / "p.sch").stdout)
+        self.assertIn("@page { size: A3 landscape;", self.page(self.folder / "p.sch", starts, "--paper", "A3"))
+        answer = self.file("best", psmax("solve", given=(EXAMPLES / "building-site.sch").read_bytes()))
+        page = self.page(EXAMPLES / "building-site.sch", answer)
+        width = int(re.findall(r'<svg width="([1-9][0-9]+)"', page)[0])
+        times = re.findall(r'<text x="([0-9.]+)" y="16"( text-anchor="end")?>', page)
+        self.assertTrue(times and all(is_left or float(place) + 120 <= width for place, is_left in times), times)
+
+    @unittest.skipUnless(CHROMIUM and shutil.which("pdftotext"), "Chromium or pdftotext isn't here")
+    def test_pages(self) -> None:
+        """Each page has the title, the first has the facts, and none is empty; each activity is on one."""
+        assert CHROMIUM is not None
+        table, answer = PROJECTS / "twin-towers.csv", self.folder / "a.csv"
+        self.assertEqual(plan("solve", table, "--out", answer).returncode, 0)
+        path, out = self.file("t.html", self.page(table, answer)), self.folder / "t.pdf"
+        words = ["--headless", "--no-sandbox", "--disable-gpu", f"--user-data-dir={self.folder}/chromium",
+                 "--no-pdf-header-footer"]
+        subprocess.run([CHROMIUM, *words, f"--print-to-pdf={out}", path.as_uri()], capture_output=True, timeout=60)
+        text = subprocess.run(["pdftotext", "-layout", out, "-"], capture_output=True, text=True, timeout=60).stdout
+        pages = text.removesuffix("\f").split("\f")
+        for number, one in enumerate(pages, 1):
+            self.assertIn(f"page {number} of {len(pages)}", one)
+            self.assertTrue("twin-towers" in one and len(one.splitlines()) > 8, one)
+        self.assertIn("activities", pages[0])
+        for line in plan("write", table, answer).stdout.splitlines()[1:]:
+            self.assertIn(" ".join(line.split(",")[:2]), re.sub(" +", " ", text))
 
     def asked(self, page: str, width: int) -> str:
         """What a browser of this width makes of the page, once something is chosen and sorted."""
@@ -105,16 +158,15 @@ class Report(InFolder):
             self.assertIn('"sideways":false', told)
             self.assertIn('"rows":["1","2","3"]', told)
             self.assertIn('"shown":2,"chosen":["3 cure & \\"wait\\""]', told)
-            self.assertIn('"lags":["3 (cure & \\"wait\\") starts at least 1 after 2 (pour {{title}}) starts '
-                          '(0 after it ends): tight', told)
+            self.assertIn('"lags":["3 (cure & \\"wait\\") starts no sooner than 2 (pour {{title}}) ends: tight', told)
 
     @unittest.skipUnless(CHROMIUM, "Chromium isn't here")
     def test_sorted(self) -> None:
         """By float: the order is that of `plan float`."""
         path = PROJECTS / "paint-line.sch"
         answer = self.file("best", psmax("solve", given=path.read_bytes()))
-        rows = [line.split() for line in plan("float", path, answer).stdout.splitlines()[1:]]
-        spare = {row[0]: int(row[-1] if row[-1] != "critical" else row[-2]) for row in rows}
+        rows = [line.split() for line in plan("float", path, answer, "--total").stdout.splitlines()[1:]]
+        spare = {row[0]: int(row[-2] if row[-1] != "critical" else row[-3]) for row in rows}
         found = re.search(r'"rows":\[(.*?)\]', self.asked(self.page(path, answer), 1280))
         assert found is not None
         told = [spare[number.strip('"')] for number in found[1].split(",")]

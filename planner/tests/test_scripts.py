@@ -169,6 +169,7 @@ class Installed(InFolder):
         pages = ("man/man1/plan.1", "man/man1/psmax.1", "man/man1/psprove.1")
         for name in (*pages, "doc/psmax/README.md", "doc/psmax/docs/PLANNER.md"):
             self.assertTrue((share / name).is_file(), name)
+        self.no_dead_links(share / "doc" / "psmax")
         record = self.folder / "record"
         answer = psmax("solve", "--record", record, given=site.read_bytes())
         self.assertEqual(self.run_there("bin/plan", "check", site, self.file("best", answer)).stdout, "feasible 36\n")
@@ -180,6 +181,19 @@ class Installed(InFolder):
             ran = self.run_there(*verify, *given)
             self.assertIn(ran.returncode, (1, 2))
             self.assertEqual((ran.stdout, len(ran.stderr.splitlines())), ("", 1), ran.stderr)
+
+    def no_dead_links(self, documents: pathlib.Path) -> None:
+        """Each relative link of an installed document leads to an installed file; those of the manual pages too."""
+        pages = sorted(documents.rglob("*.md"))
+        self.assertGreater(len(pages), 10)
+        for page in pages:
+            for text, target in re.findall(r"\[((?:[^\[\]]|\[[^\]]*\])*)\]\(([^)\s]+)\)", page.read_text()):
+                name = target.partition("#")[0]
+                if name and not re.match(r"\w+:", name):
+                    self.assertTrue((page.parent / name).exists(), f"{page}: [{text}]({target})")
+        for page in (documents.parents[1] / "man" / "man1").iterdir():
+            for name in re.findall(r"docs/[A-Z-]+\.md", page.read_text()):
+                self.assertTrue((documents / name).is_file(), f"{page}: {name}")
 
     def test_package(self) -> None:
         """Name, version, entry point, Python 3.11 and no dependency; its entry point is `plan`."""

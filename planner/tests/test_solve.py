@@ -192,7 +192,8 @@ class Records(InFolder):
     def test_what_is_no_record_stays(self) -> None:
         for text in ("my own words\n", "optimal 7\n"):
             mine = self.file("mine", text)
-            self.refused(plan("solve", INPUTS / "two-jobs.sch", "--record", mine), 2, "mine is no record, and would be lost")
+            self.refused(plan("solve", INPUTS / "two-jobs.sch", "--record", mine), 2,
+                         "mine is there, and no record, and would be lost")
             self.assertEqual(mine.read_text(), text)
 
 

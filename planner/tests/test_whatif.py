@@ -20,10 +20,9 @@ class WhatIf(InFolder):
         self.assertEqual((ran.returncode, first), (0, "As it is: no schedule."))
         self.assertEqual(sorted(lines), [
             "  optimal 4: one more of resource 0, of which there is 1",
-            "  optimal 7: 1 starts at most 0 after 2 starts (4 before it ends): dropped",
-            "  optimal 7: 2 starts at most 2 after 1 starts (1 before it ends): at most 3 after 1 starts (0 after it ends) "
-            "in its place",
-            "  optimal 7: 2 starts at most 2 after 1 starts (1 before it ends): dropped",
+            "  optimal 7: 1 starts no later than 2 starts: dropped",
+            "  optimal 7: 2 starts at most 2 after 1 starts: dropped",
+            "  optimal 7: 2 starts at most 2 after 1 starts: one later",
             "None of 1 other changes opens a schedule, which is proved."])
 
     def test_table(self) -> None:
@@ -45,7 +44,7 @@ class WhatIf(InFolder):
 
     def test_a_stopped_search(self) -> None:
         """No claim but a bound where the time is over."""
-        ran = plan("whatif", self.hard(), "--seconds", "2")
+        ran = plan("whatif", self.hard(), "--seconds", "2", "--jobs", "1")
         self.assertEqual(ran.returncode, 3)
         self.assertRegex(ran.stdout, r"^As it is: (feasible \d+|unknown) bound \d+\.\n")
         self.assertNotIn("which is proved", ran.stdout)

@@ -1,0 +1,212 @@
+"""Which day, or which moment, a period of a project is. Time t is the end of period t - 1 and the begin of period t."""
+import datetime
+from bisect import bisect_left
+from collections.abc import Sequence
+
+MINUTES = {"minutes": 1, "hours": 60, "days": 24 * 60, "weeks": 7 * 24 * 60}  # of each kind of period
+DAY = datetime.timedelta(days=1)
+MOST_DAYS = 4_000_000  # more than there are until the year 9999
+BEYOND = "the schedule goes beyond the years 1 to 9999"  # told where a date overflows
+
+
+class Calendar:
+    """What times are called. They may be asked for from before the first one to long after the last."""
+
+    heads: tuple[str, str]
+
+    def begins(self, time: int) -> datetime.datetime:
+        """When the period that begins at this time begins."""
+        raise NotImplementedError
+
+    def ended(self, time: int) -> datetime.datetime:
+        """When the period that ends at this time has ended."""
+        raise NotImplementedError
+
+    def from_on(self, moment: datetime.datetime) -> int:
+        """The first time that is not before the moment; 0 for one before the project."""
+        raise NotImplementedError
+
+    def by(self, moment: datetime.datetime) -> int:
+        """The last time at which all has ended by the moment; below 0 for one before the project."""
+        raise NotImplementedError
+
+    def times(self, begins: int, ends: int, is_morning: bool = False) -> tuple[str, str]:
+        """The first and the last day of work, or the moments. What takes no time stands at the end of the work before it, or
+        where the next begins."""
+        raise NotImplementedError
+
+    def mark(self, time: int) -> str:
+        """A period in few letters."""
+        raise NotImplementedError
+
+    def without_holidays(self) -> "Calendar":
+        return self
+
+    def round(self) -> int:
+        """After so many periods the days of the week are the same again."""
+        return 1
+
+    def holidays_of(self) -> list[datetime.datetime]:
+        return []
+
+
+class Days(Calendar):
+    """Periods of a working day each, or of so many."""
+
+    heads = ("first day", "last day")
+
+    def __init__(self, first: datetime.date, step: int, workdays: frozenset[int],
+                 holidays: frozenset[datetime.date]) -> None:
+        self.first = first
+        self.step = step
+        self.workdays = workdays
+        self.holidays = holidays
+        self.days = [self.working(first, DAY)]
+
+    def working(self, day: datetime.date, step: datetime.timedelta) -> datetime.date:
+        """The first working day from this one on, forward or back."""
+        while day.weekday() not in self.workdays or day in self.holidays:
+            day += step
+        return day
+
+    def day(self, place: int) -> datetime.date:
+        """The working day of this place; the first one has the place 0."""
+        if abs(place) > MOST_DAYS:
+            raise OverflowError
+        while len(self.days) <= place:
+            self.days.append(self.working(self.days[-1] + DAY, DAY))
+        day = self.days[max(place, 0)]
+        for _ in range(-place):
+            day = self.working(day - DAY, -DAY)
+        return day
+
+    def place(self, day: datetime.date) -> int:
+        """The place of the first working day that is not before this one; 0 for one before the project."""
+        while self.days[-1] < day:
+            self.day(len(self.days))
+        return bisect_left(self.days, day)
+
+    def begins(self, time: int) -> datetime.datetime:
+        return at_midnight(self.day(self.step * time))
+
+    def ended(self, time: int) -> datetime.datetime:
+        return at_midnight(self.day(self.step * time - 1)) + DAY
+
+    def from_on(self, moment: datetime.datetime) -> int:
+        is_later = moment > at_midnight(moment.date())
+        return -(-self.place(moment.date() + DAY * is_later) // self.step)
+
+    def by(self, moment: datetime.datetime) -> int:
+        return -1 if moment.date() < self.days[0] else self.place(moment.date()) // self.step
+
+    def times(self, begins: int, ends: int, is_morning: bool = False) -> tuple[str, str]:
+        last = self.day(self.step * ends - 1) if ends > 0 and not (is_morning and begins == ends) else \
+            self.day(self.step * ends)
+        first = self.day(self.step * begins) if ends > begins else last
+        return first.isoformat(), last.isoformat()
+
+    def mark(self, time: int) -> str:
+        return self.day(self.step * time).strftime("%m-%d")
+
+    def without_holidays(self) -> Calendar:
+        return Days(self.first, self.step, self.workdays, frozenset())
+
+    def round(self) -> int:
+        return len(self.workdays)
+
+    def holidays_of(self) -> list[datetime.datetime]:
+        return [at_midnight(day) for day in sorted(self.holidays)]
+
+
+class Moments(Calendar):
+    """Periods of so many minutes, around the clock. In a time zone a day on which clocks change has an hour less or more."""
+
+    heads = ("from", "until")
+
+    def __init__(self, first: datetime.datetime, minutes: int, zone: datetime.tzinfo = datetime.UTC) -> None:
+        self.zone = zone
+        self.first = self.absolute(first)
+        self.length = datetime.timedelta(minutes=minutes)
+
+    def absolute(self, moment: datetime.datetime) -> datetime.datetime:
+        return moment.replace(tzinfo=self.zone).astimezone(datetime.UTC)
+
+    def begins(self, time: int) -> datetime.datetime:
+        return (self.first + time * self.length).astimezone(self.zone).replace(tzinfo=None)
+
+    def ended(self, time: int) -> datetime.datetime:
+        return self.begins(time)
+
+    def from_on(self, moment: datetime.datetime) -> int:
+        return max(0, -((self.first - self.absolute(moment)) // self.length))
+
+    def by(self, moment: datetime.datetime) -> int:
+        return max(-1, (self.absolute(moment) - self.first) // self.length)
+
+    def times(self, begins: int, ends: int, is_morning: bool = False) -> tuple[str, str]:
+        return self.begins(begins).isoformat(" ", "minutes"), self.begins(ends).isoformat(" ", "minutes")
+
+    def mark(self, time: int) -> str:
+        return self.begins(time).strftime("%d %H:%M")
+
+
+class Shifts(Calendar):
+    """Periods of so many minutes, each within the hours of work of a working day."""
+
+    heads = ("from", "until")
+
+    def __init__(self, first: datetime.datetime, minutes: int, days: Days, shift: Sequence[tuple[int, int]]) -> None:
+        self.first, self.minutes, self.days, self.shift = first, minutes, days, shift
+        self.slots = [begins for part in shift for begins in range(part[0], part[1], minutes)]
+        early = [slot for slot in self.slots if at_midnight(days.day(0)) + minutes_of(slot) < first]
+        self.skipped = len(early)  # periods of the first day that are over when the project begins
+
+    def slot(self, time: int) -> datetime.datetime:
+        day, slot = divmod(time + self.skipped, len(self.slots))
+        return at_midnight(self.days.day(day)) + minutes_of(self.slots[slot])
+
+    def begins(self, time: int) -> datetime.datetime:
+        return self.slot(time)
+
+    def ended(self, time: int) -> datetime.datetime:
+        return self.slot(time - 1) + minutes_of(self.minutes)
+
+    def from_on(self, moment: datetime.datetime) -> int:
+        return max(0, self.passed(moment, 0))
+
+    def by(self, moment: datetime.datetime) -> int:
+        return max(-1, self.passed(moment, self.minutes - 1) if moment >= self.slot(0) else -1)
+
+    def passed(self, moment: datetime.datetime, minutes: int) -> int:
+        """How many periods begin so many minutes before the moment, or sooner."""
+        place = self.days.place(moment.date())
+        is_workday = self.days.day(place) == moment.date()
+        of_day = (moment - at_midnight(moment.date())) / datetime.timedelta(minutes=1)
+        today = bisect_left(self.slots, of_day - minutes) if is_workday else 0
+        return place * len(self.slots) + today - self.skipped
+
+    def times(self, begins: int, ends: int, is_morning: bool = False) -> tuple[str, str]:
+        last = self.begins(ends) if ends <= 0 or is_morning and begins == ends else self.ended(ends)
+        first = self.begins(begins) if ends > begins else last
+        return first.isoformat(" ", "minutes"), last.isoformat(" ", "minutes")
+
+    def mark(self, time: int) -> str:
+        return self.begins(time).strftime("%d %H:%M")
+
+    def without_holidays(self) -> Calendar:
+        days = Days(self.days.first, 1, self.days.workdays, frozenset())
+        return Shifts(self.first, self.minutes, days, self.shift)
+
+    def round(self) -> int:
+        return len(self.slots) * len(self.days.workdays)
+
+    def holidays_of(self) -> list[datetime.datetime]:
+        return self.days.holidays_of()
+
+
+def at_midnight(day: datetime.date) -> datetime.datetime:
+    return datetime.datetime(day.year, day.month, day.day)
+
+
+def minutes_of(count: int) -> datetime.timedelta:
+    return datetime.timedelta(minutes=count)

@@ -1,0 +1,123 @@
+"""Lengths of time as people write them, and the period that divides them all."""
+import re
+from collections.abc import Iterable
+from dataclasses import dataclass
+from enum import Enum
+from fractions import Fraction
+from functools import reduce
+from math import gcd
+
+NUMBER = r"[-+]?(?:[0-9]{1,9}(?:[.,][0-9]{1,6})?|[.,][0-9]{1,6})"
+LENGTH = re.compile(rf"({NUMBER})\s*([^\W\d_]*)[.?]*")
+
+
+class Unit(Enum):
+    """What a number counts. A period is whatever the table's own column means by it."""
+
+    PERIODS = "periods"
+    MINUTES = "minutes"
+    HOURS = "hours"
+    DAYS = "days"
+    WEEKS = "weeks"
+    CALENDAR_DAYS = "calendar days"
+
+
+WORDS = {word: unit for unit, words in (
+    (Unit.MINUTES, "min mins minute minutes minuten"),
+    (Unit.HOURS, "h hr hrs hour hours std stunde stunden"),
+    (Unit.DAYS, "d dy dys day days t tag tage"),
+    (Unit.WEEKS, "w wk wks week weeks wo woche wochen"),
+    (Unit.CALENDAR_DAYS, "cd kt"),
+    (Unit.PERIODS, "period periods"),
+) for word in words.split()}
+
+
+@dataclass(frozen=True)
+class Length:
+    value: Fraction
+    unit: Unit
+
+    def __str__(self) -> str:
+        return f"{number(self.value)} {self.unit.value}"
+
+
+def number(value: Fraction) -> str:
+    return f"{value.numerator}" if value.denominator == 1 else f"{float(value):g}"
+
+
+def read_length(text: str, unit: Unit) -> Length:
+    """A number with its unit, or else with this one; ValueError where the text is none."""
+    found = LENGTH.fullmatch(text.strip())
+    word = found[2].lower() if found else ""
+    if found is None or (word and word not in WORDS):
+        raise ValueError
+    return Length(Fraction(found[1].replace(",", ".")), WORDS[word] if word else unit)
+
+
+@dataclass(frozen=True)
+class Scale:
+    """How many periods a length takes."""
+
+    period: Unit
+    minutes: int  # of a period, where it is one of so many minutes
+    day: int | None  # how many minutes of work it has, where they are known
+    week: int  # how many days of work it has
+
+    def periods(self, length: Length) -> int:
+        found = length.value * self.of(length.unit)
+        if found.denominator != 1:
+            raise ValueError
+        return int(found)
+
+    def of(self, unit: Unit) -> Fraction:
+        """How many periods one of these takes; ValueError where nothing says so."""
+        if unit is Unit.PERIODS or unit is self.period is not Unit.MINUTES:
+            return Fraction(1)
+        if self.period is Unit.DAYS and unit is Unit.WEEKS:
+            return Fraction(self.week)
+        minutes = in_minutes(unit, self.day, self.week)
+        if self.period in (Unit.PERIODS, Unit.WEEKS) or minutes is None or (self.period is Unit.DAYS and self.day is None):
+            raise ValueError
+        return Fraction(minutes, (self.day or 0) if self.period is Unit.DAYS else self.minutes)
+
+    def name(self) -> str:
+        """What the calendar calls a period."""
+        if self.period is not Unit.MINUTES:
+            return str(self.period.value)
+        return {1: "minutes", 60: "hours"}.get(self.minutes, f"{self.minutes} minutes")
+
+
+def in_minutes(unit: Unit, day: int | None, week: int) -> int | None:
+    """How many minutes of work one of these has."""
+    if unit is Unit.MINUTES or unit is Unit.HOURS:
+        return 60 if unit is Unit.HOURS else 1
+    return None if day is None else day * {Unit.DAYS: 1, Unit.WEEKS: week}[unit]
+
+
+def scale_of(lengths: Iterable[Length], own: Unit, shift: Iterable[tuple[int, int]] | None, week: int) -> Scale:
+    """The longest period that divides all lengths, and that is no longer than an hour where some are in hours, and so on; one
+    of minutes only where the table's own unit is that. Where it is shorter than a day it divides the hours of work too."""
+    lengths = [*lengths]
+    parts = None if shift is None else [ends - begins for begins, ends in shift]
+    day = None if parts is None else sum(parts)
+    units = {length.unit for length in lengths if length.value} - {Unit.CALENDAR_DAYS} | {own}
+    units = units - {Unit.PERIODS} or units
+    is_whole = all(length.value.denominator == 1 for length in lengths)
+    for unit in (Unit.PERIODS, Unit.WEEKS, Unit.DAYS):
+        others = {Unit.WEEKS} if unit is Unit.DAYS else set()
+        if is_whole and unit in units and units <= {unit} | others:
+            return Scale(unit, 0, day, week)
+    clocked = [unit for unit in units if unit is not Unit.PERIODS]
+    known: dict[Unit, int | None] = {unit: in_minutes(unit, day, week) for unit in clocked}
+    if not known or None in known.values():
+        return Scale(own, 0, day, week)
+    steps = [Fraction(known[unit] or 0) for unit in clocked if unit is not Unit.MINUTES or unit is own]
+    steps += [abs(length.value) * (known[length.unit] or 0) for length in lengths if length.unit in known]
+    step = reduce(common, [*steps, *map(Fraction, parts or ())])
+    return Scale(Unit.MINUTES, int(step) if step.denominator == 1 else 1, day, week)
+
+
+def common(one: Fraction, other: Fraction) -> Fraction:
+    """The greatest number of which both are multiples."""
+    return Fraction(gcd(one.numerator * other.denominator, other.numerator * one.denominator),
+                    one.denominator * other.denominator)

@@ -1,0 +1,110 @@
+"""A project as a text of psmax's. An absence is a fixed activity that nobody sees. The end of the text starts `offset` after
+what is minimized, so that neither an absence beyond the last activity nor a negative lateness changes what is shortest:
+
+    the start of the text's end = offset + the makespan, or offset + the greatest lateness
+
+for each schedule that is no longer than `horizon`. By docs/DECISIONS.md some shortest schedule isn't."""
+from functools import cached_property
+
+from .errors import BadInput
+from .project import MOST_ACTIVITIES, MOST_ARCS, MOST_UNITS, Arc, Goal, Project, least_starts
+
+
+class Spelled:
+    def __init__(self, project: Project) -> None:
+        self.project = project
+        self.end = project.end + len(project.absences)  # of the text: absences stand before it
+
+    @cached_property
+    def horizon(self) -> int:
+        """A schedule with a gap before which all lags are over can be pushed together there, so a shortest one has none."""
+        longest = [*self.project.durations]
+        for tail, _, lag in self.project.arcs:
+            longest[tail] = max(longest[tail], lag)
+        longest[0] = max([longest[0], *(one.begins for one in self.project.absences)])
+        return sum(longest) + sum(one.ends - one.begins for one in self.project.absences if one.ends is not None)
+
+    @cached_property
+    def absences(self) -> list[tuple[int, int]]:
+        """When each begins and ends. What is away for ever is away up to the horizon, and nobody needs it behind that."""
+        return [(one.begins, one.ends if one.ends is not None else max(one.begins, self.horizon))
+                for one in self.project.absences]
+
+    @cached_property
+    def offset(self) -> int:
+        least = least_starts(self.project)
+        if self.project.goal is Goal.LATENESS:
+            soonest = least[-1] if least is not None else 0
+            return max(self.horizon - soonest, *self.project.due.values())
+        last = max([ends for _, ends in self.absences], default=0)
+        return max(0, last - (least[-1] if least is not None else 0))
+
+    def arcs(self) -> list[Arc]:
+        """The arcs of the text, with those that keep absences where they are."""
+        project, found = self.project, []
+        for tail, head, lag in project.arcs:
+            by = (self.offset if head == project.end else 0) - (self.offset if tail == project.end else 0)
+            found.append(Arc(self.number(tail), self.number(head), lag + by))
+        if self.offset:
+            found += [Arc(arc.tail, self.end, arc.lag + self.offset) for arc in project.goal_arcs()]
+        for place, (begins, _) in enumerate(self.absences):
+            found += [Arc(0, project.end + place, begins), Arc(project.end + place, 0, -begins)]
+        for resource in {one.resource for one in project.absences if one.ends is None}:
+            found += [Arc(i, 0, project.durations[i] - self.horizon) for i in range(1, project.end)
+                      if project.demands[i][resource] and project.durations[i]]
+        return found
+
+    def number(self, activity: int) -> int:
+        return self.end if activity == self.project.end else activity
+
+    def shown(self, number: int) -> int:
+        """The project's number of an activity of the text that isn't an absence."""
+        return self.project.end if number == self.end else number
+
+    @cached_property
+    def text(self) -> bytes:
+        project, resources = self.project, len(self.project.capacities)
+        rows = [[f"{self.end - 1}", f"{resources}", "0", "0"]]
+        arcs = self.arcs()
+        if project.absences or self.offset:
+            self.must_fit(arcs)
+        leaving: list[list[Arc]] = [[] for _ in range(self.end + 1)]
+        for arc in arcs:
+            leaving[arc.tail].append(arc)
+        for activity, own in enumerate(leaving):
+            heads, lags = (f"{arc.head}" for arc in own), (f"[{arc.lag}]" for arc in own)
+            rows.append([f"{activity}", "1", f"{len(own)}", *heads, *lags])
+        for activity, (duration, demands) in enumerate(self.needs()):
+            rows.append([f"{activity}", "1", f"{duration}", *map(str, demands)])
+        if resources:
+            rows.append([*map(str, project.capacities)])
+        return "".join("\t".join(row) + "\n" for row in rows).encode()
+
+    def needs(self) -> list[tuple[int, tuple[int, ...]]]:
+        """The duration and the demands of each activity of the text."""
+        project, resources = self.project, range(len(self.project.capacities))
+        hidden = [(ends - begins, tuple(one.units if k == one.resource else 0 for k in resources))
+                  for one, (begins, ends) in zip(project.absences, self.absences)]
+        shown = [*zip(project.durations, project.demands)]
+        return [*shown[:-1], *hidden, shown[-1]]
+
+    def must_fit(self, arcs: list[Arc]) -> None:
+        """The format has its limits, which absences and due dates come nearer to."""
+        longest = max([abs(arc.lag) for arc in arcs] + [ends - begins for begins, ends in self.absences])
+        if longest > MOST_UNITS:
+            raise BadInput(f"with absences and due dates a lag of {longest:,} is needed, and one has at most {MOST_UNITS:,}; "
+                           "choose longer periods, or give an absence a last day")
+        if self.end - 1 > MOST_ACTIVITIES or len(arcs) > MOST_ARCS:
+            raise BadInput(f"with its absences the project has {self.end - 1:,} activities and {len(arcs):,} lags, and it has "
+                           f"at most {MOST_ACTIVITIES:,} and {MOST_ARCS:,}")
+
+    def value(self, end: int) -> int:
+        """What is minimized, where the text's end starts then. A makespan is never below 0."""
+        return max(0, end - self.offset) if self.project.goal is Goal.MAKESPAN else end - self.offset
+
+    def inward(self, starts: tuple[int, ...]) -> tuple[int, ...]:
+        """The starts of the text's activities, from those of the project's."""
+        return (*starts[:-1], *(begins for begins, _ in self.absences), starts[-1] + self.offset)
+
+    def outward(self, starts: tuple[int, ...]) -> tuple[int, ...]:
+        return (*starts[: self.project.end], self.value(starts[-1]))

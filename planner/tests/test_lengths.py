@@ -1,0 +1,115 @@
+"""Dates, lengths and days of the week as people write them, and lags that start at a date."""
+from planner.dates import read_moment, read_shift, read_workdays
+
+from .helpers import InFolder, plan
+
+HEADS = "activity,days,after,at least,not before,end by\n"
+# By hand, from Monday 2 March 2026 on, Mo-Fr: the dates, what a cell has, and when a job of two days starts.
+MONDAY = ("--from", "02.03.2026", "--workdays", "Mo-Fr")
+DATED = (
+    (",,2026-03-05,", 3), (",,05.03.2026,", 3), (",,5.3.26,", 3), (",,Thu 5.3.26,", 3), (",,13/3/2026,", 9),
+    (",,3/13/2026,", 9),
+    (",,2026-03-07,", 5),  # a Saturday: the Monday after
+    (",,2026-02-20,", 0), (",,4,", 4), (",,2026-03-05 06:00,", 4),  # Thursday has begun by then
+    ("2026-03-05,,,", 3), ("2026-03-05,2,,", 5), ("05.03.2026,1,,", 4),
+)
+
+
+class Dates(InFolder):
+    def start(self, cells: str, *words: object) -> int:
+        ran = plan("solve", self.file("p.csv", f"{HEADS}job,2,{cells}\n"), *words)
+        self.assertEqual((ran.returncode, ran.stdout.split()[0]), (0, "optimal"), ran.stderr)
+        return int(ran.stdout.splitlines()[2].split()[1])
+
+    def test_not_before(self) -> None:
+        for cells, start in DATED:
+            with self.subTest(cells):
+                self.assertEqual(self.start(cells, *MONDAY), start)
+        self.assertEqual(self.start(",,5/3/2026,", *MONDAY, "--dates", "dmy"), 3)
+        self.assertEqual(self.start(",,3/5/2026,", *MONDAY, "--dates", "mdy"), 3)
+
+    def test_end_by(self) -> None:
+        """By hand: two days by the 3rd or by period 2 start at 0 at the latest, and by the 2nd there is no schedule. The last
+        day is the one that `why` and `check` name."""
+        for cell, told in (("2026-03-03", "optimal 2"), ("2", "optimal 2"), ("2026-03-08", "optimal 2"), ("2026-03-02", None),
+                           ("2026-02-27", None), ("1", None)):
+            with self.subTest(cell):
+                table = self.file("p.csv", f"{HEADS}job,2,,,,{cell}\n")
+                first = plan("solve", table, *MONDAY).stdout.partition("\n")[0]
+                self.assertEqual(first, told or "no schedule")
+        late = self.file("late.csv", "name,start\njob,1\n")
+        ran = plan("check", self.file("p.csv", f"{HEADS}job,2,,,,2026-03-03\n"), late, *MONDAY)
+        self.assertEqual(ran.stdout, "1 (job) must end by 2026-03-03, and ends on 2026-03-04\n")
+
+    def test_a_milestone_at_a_date(self) -> None:
+        """It stands at the begin of its day where the date says so, and else at the end of the work before it."""
+        table = self.file("p.csv", f"{HEADS}dig,2,,,,\ndone,0,dig,,,\ndelivery,0,,,2026-03-05,\nlift,1,delivery,,,\n")
+        rows = plan("write", table, self.file("a.csv", "name,start\ndig,0\ndone,2\ndelivery,3\nlift,3\n"), *MONDAY).stdout
+        self.assertIn("2,done,2,0,2,2026-03-03,2026-03-03\n", rows)
+        self.assertIn("3,delivery,3,0,3,2026-03-05,2026-03-05\n", rows)
+        self.assertIn("4,lift,3,1,4,2026-03-05,2026-03-05\n", rows)
+        back = self.file("b.csv", "name,start\ndig,2026-03-02\ndone,2026-03-03\ndelivery,2026-03-05\nlift,2026-03-05\n")
+        self.assertEqual(plan("check", table, back, *MONDAY).stdout, "feasible 4\n")
+
+    def test_faults(self) -> None:
+        for cells, told in ((",,3/2/2026,", "'3/2/2026': the day or the month may stand first; say which by --dates dmy"),
+                            (",,soon,", "'soon': not a date such as"), (",,2026-02-30,", "there is no such date"),
+                            (",,,31.4.2026", "there is no such date"), (",,Tue 5.3.26,", "that day is a Thursday")):
+            with self.subTest(cells):
+                self.refused(plan("solve", self.file("p.csv", f"{HEADS}job,2,{cells}\n"), *MONDAY), 2, "p.csv: row 2, column",
+                             told)
+        table = self.file("p.csv", f"{HEADS}job,2,,,2026-03-05,\n")
+        self.refused(plan("solve", table), 2, "row 2, column E (not before): '2026-03-05': a date needs --from")
+
+    def test_texts(self) -> None:
+        self.assertEqual(f"{read_moment('Mo, 2.3.2026 7:30').at}", "2026-03-02 07:30:00")
+        for text in ("mon-fri", "Mo-Fr", "Montag - Freitag", "mo,di,mi,do,fr", "Mo\u2013Fr", "monday-friday"):
+            self.assertEqual(read_workdays(text), {0, 1, 2, 3, 4})
+        self.assertEqual(read_shift("07:00-12:00, 13:00-16:00"), ((420, 720), (780, 960)))
+        for text in ("7-12", "12:00-07:00", "22:00-06:00", "07:00-12:00,11:00-13:00", "07:00-25:00"):
+            self.assertRaises(ValueError, read_shift, text)
+
+
+class Lengths(InFolder):
+    def told(self, heads: str, rows: str, *words: object) -> tuple[str, str]:
+        ran = plan("read", self.file("p.csv", f"{heads}\n{rows}"), "--out", self.folder / "p.sch", *words)
+        self.assertEqual(ran.returncode, 0, ran.stderr)
+        (self.folder / "p.sch").unlink()
+        (self.folder / "p.md").unlink()
+        found = ran.stdout.partition("it takes ")[2].partition(";")[0]
+        return found, ran.stdout
+
+    def test_units(self) -> None:
+        """By hand: how many periods the jobs take, and what a period is. A day has eight hours of work, a week five days."""
+        shift = ("--from", "2026-03-02", "--workdays", "mon-fri", "--shift", "07:00-12:00,13:00-16:00")
+        days = "a period is one of"
+        for rows, words, wanted, said in (
+            ("a,2 d\n", (), "2", ""), ("a,3\n", (), "3", ""), ("a,1 w\n", shift[:4], "5", ""),
+            ("a,1 week\n", (), "7", ""), ("a,2 Tage\n", (), "2", ""), ("a,2 days?\n", (), "2", ""),
+            ("a,\"1,5 d\"\n", shift, "12", f"{days} hours"), ("a,1.5\n", shift, "12", f"{days} hours"),
+            ("a,4 h\n", shift, "4", f"{days} hours"), ("a,2.5 h\n", shift, "5", f"{days} 30 minutes"),
+            ("a,40 min\n", shift, "2", f"{days} 20 minutes"), ("a,2 d\n", shift, "2", ""),
+            ("a,0.5 w\n", shift, "20", f"{days} hours"),
+        ):
+            with self.subTest(rows=rows, words=words):
+                found, told = self.told("activity,days", rows, *words)
+                self.assertEqual(found, wanted)
+                self.assertIn(said, told)
+        self.assertEqual(self.told("activity,duration", "a,2 h\nb,30 min\n")[0], "4")
+
+    def test_lags(self) -> None:
+        """By hand: 8 hours, then at least an hour and a half, then 8 hours: 35 half hours."""
+        rows = "a,1,,\nb,1,a,\"1,5 h\"\n"
+        found, told = self.told("activity,days,after,at least", rows, "--from", "2026-03-02", "--shift", "08:00-16:00")
+        self.assertEqual(found, "35")
+        self.assertIn("a period is one of 30 minutes, which divide all lengths of", told)
+
+    def test_faults(self) -> None:
+        for rows, told in (("a,1.5\n", "'1.5 days' is not a whole number of periods, which are days; say the hours of work"),
+                           ("a,4 h\n", "'4 hours' is not a whole number of periods, which are days; say the hours of work"),
+                           ("a,2 moons\n", "'2 moons' is not a number, or one with min, h, d, w or cd"),
+                           ("a,2 cd\n", "calendar days are for lags alone"), ("a,-1 d\n", "-1 d is below 0")):
+            with self.subTest(rows):
+                self.refused(plan("solve", self.file("p.csv", f"activity,days\n{rows}")), 2, "row 2, column B (days)", told)
+        mixed = self.file("p.csv", "activity,duration\na,2 d\nb,3\n")
+        self.refused(plan("solve", mixed), 2, "row 3, column B (duration): 3 of what? Other cells have a unit, as in '2 d'")

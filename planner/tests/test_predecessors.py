@@ -1,0 +1,132 @@
+"""Tables as planning tools write them: numbers, predecessors, summary rows, titles."""
+from .helpers import InFolder, plan, psmax
+
+# By hand, as lags from start to start. 12FS+2: the end of 12, which takes 5, and 2 more. 14SS: its start. 9FF-1 d: 9 takes 3
+# and this one 4, so it starts at least 3 - 1 - 4 = -2 after it. 3SF: it ends at the earliest when 3 starts, so 4 before at
+# the earliest.
+LINKS = (("12FS+2", "12", 7), ("12", "12", 5), ("12FS", "12", 5), ("12FS-1", "12", 4), ("12 FS + 1 d", "12", 6),
+         ("14SS", "14", 0), ("14SS+3", "14", 3), ("9FF-1 d", "9", -2), ("9FF", "9", -1), ("3SF", "3", -4),
+         ("3SF+6 days", "3", 2), ("12EA+2 Tage", "12", 7), ("14aa", "14", 0), ("12FS+1 w", "12", 12))
+HEADS = "ID,Task Name,Duration,Predecessors\n"
+OTHERS = "12,dig,5 d,\n14,drain,2 d,\n9,shore,3 d,\n3,fence,1 d,\n"
+NUMBER = {"12": 1, "14": 2, "9": 3, "3": 4}
+
+
+class Predecessors(InFolder):
+    def arcs(self, cell: str) -> list[tuple[int, int]]:
+        """Which activities have an arc to the fifth, and with what lag."""
+        self.file("p.csv", f'{HEADS}{OTHERS}20,pour,4 d,"{cell}"\n')
+        ran = plan("read", self.folder / "p.csv")
+        self.assertEqual(ran.returncode, 0, ran.stderr)
+        found = []
+        for line in (self.folder / "p.sch").read_text().splitlines()[1:6]:
+            number, _, count, *rest = line.split()
+            found += [(int(number), int(lag.strip("[]"))) for head, lag in zip(rest, rest[int(count) :]) if head == "5"]
+        return found
+
+    def test_links(self) -> None:
+        for cell, number, lag in LINKS:
+            with self.subTest(cell):
+                self.assertEqual(self.arcs(cell), [(NUMBER[number], lag)])
+
+    def test_numbers_that_end_as_a_link_does(self) -> None:
+        table = self.file("p.csv", f"{HEADS}PASS,a,2 d,\n2,b,1 d,PASS\n3,c,1 d,PASSFS+1 d\n")
+        self.assertEqual(plan("solve", table).stdout.split(), "optimal 4 0 0 1 0 2 2 3 3 4 4".split())
+
+    def test_several(self) -> None:
+        for cell in ("12FS+2; 14SS;9FF-1 d", "12FS+2,14SS,9FF-1 d", "12FS+2 d, 14SS ,9FF-1"):
+            with self.subTest(cell):
+                self.assertEqual(self.arcs(cell), [(1, 7), (2, 0), (3, -2)])
+
+    def test_faults(self) -> None:
+        for cell, told in (("13", "'13': no activity 13"), ("20", "can't come after itself"),
+                           ("12FS+50%", "'+50%' is not a number"),
+                           ("12XX", "no activity 12XX"),
+                           ("12FS+1,5", "the comma may stand in a number or between two predecessors"),
+                           ("dig", "'dig': no activity dig"), ("12FF+1 cd", "calendar days are for lags to a start")):
+            with self.subTest(cell):
+                table = self.file("p.csv", f'{HEADS}{OTHERS}20,pour,4 d,"{cell}"\n')
+                self.refused(plan("solve", table), 2, "p.csv: row 6, column D (Predecessors): ", told)
+        table = self.file("p.csv", "Task Name,Duration,Predecessors\na,1 d,\nb,1 d,1\n")
+        self.refused(plan("solve", table), 2, "no column ID has these")
+        table = self.file("p.csv", f"{HEADS}1,a,1 d,\n1,b,1 d,\n")
+        self.refused(plan("solve", table), 2, "row 3, column A (ID): a second activity of the number 1")
+
+    def test_the_same_in_words(self) -> None:
+        """A decimal comma within a cell of several, and the columns `after` and `at least` for the same."""
+        table = self.file("p.csv", f'{HEADS}1,a,1 d,\n2,b,1 d,"1FS+1,5 d"\n3,c,1 d,"1FS+1,5 d; 2SS"\n')
+        other = self.file("q.csv", 'activity,days,after,at least\na,1,,\nb,1,a,"1,5"\nc,1,a,1.5\n,,start of b,\n')
+        shift = ("--from", "2026-03-02", "--shift", "08:00-16:00")
+        for path in (table, other):
+            self.assertEqual(plan("read", path, *shift).returncode, 0)
+        self.assertEqual((self.folder / "p.sch").read_text(), (self.folder / "q.sch").read_text())
+
+
+class Outlines(InFolder):
+    TABLE = """The hall;;;;
+printed on Monday;;;;
+WBS;ID;Task Name;Duration;Predecessors
+1;1;Earthworks;9 d;
+1.1;2;Dig;3 d;
+1.2;3;Drain;2 d;2
+2;4;Frame;4 d;
+2.1;5;Columns;4 d;3
+"""
+
+    def test_groups(self) -> None:
+        """Brackets in charts, from the first start to the last end, without a number; no activities, no lags."""
+        table = self.file("p.csv", self.TABLE)
+        answer = self.folder / "a.csv"
+        self.assertEqual(plan("solve", table, "--out", answer).stdout, "optimal 9\n")
+        lines = plan("gantt", table, answer).stdout.splitlines()
+        self.assertEqual([line.split() for line in lines[3:8]], [
+            ["Earthworks", "0", "[===]...."], ["1", "Dig", "0", "###......"], ["2", "Drain", "3", "...##...."],
+            ["Frame", "5", ".....[==]"], ["3", "Columns", "5", ".....####"]])
+        self.assertEqual(len(answer.read_text().splitlines()), 4)
+        self.assertEqual(plan("gantt", table, answer, "--svg", self.folder / "c.svg").returncode, 0)
+        self.assertIn(">Earthworks</text>", (self.folder / "c.svg").read_text())
+
+    def test_other_ways_to_say_it(self) -> None:
+        wanted = plan("read", self.file("p.csv", self.TABLE)).stdout.partition(":")[2].partition(";")[0]
+        levels = "level,activity,days,after\n1,Earthworks,,\n2,Dig,3,\n2,Drain,2,Dig\n1,Frame,,\n2,Columns,4,Drain\n"
+        summary = "activity,days,after,summary\nEarthworks,,,yes\nDig,3,,\nDrain,2,Dig,no\nFrame,,,x\nColumns,4,Drain,\n"
+        for text in (levels, summary):
+            ran = plan("read", self.file("q.csv", text))
+            self.assertEqual(ran.stdout.partition(":")[2].partition(";")[0], wanted, ran.stderr)
+            self.assertEqual((self.folder / "q.sch").read_text(), (self.folder / "p.sch").read_text())
+            answer = self.file("a.csv", "name,start\nDig,0\nDrain,3\nColumns,5\n")
+            self.assertIn("     Frame           5 .....[==]", plan("gantt", self.folder / "q.csv", answer).stdout)
+        self.assertTrue(psmax("earliest", given=(self.folder / "q.sch").read_bytes()).startswith("earliest 9\n"))
+
+    def test_lags_of_a_group(self) -> None:
+        for old, new, told in (("5;Columns;4 d;3", "5;Columns;4 d;1",
+                                "row 8, column E (Predecessors): 1 is the group 'Earthworks', which"),
+                               ("4;Frame;4 d;", "4;Frame;4 d;3",
+                                "row 7, column E (Predecessors): a group has no lags, dates or")):
+            with self.subTest(new):
+                self.refused(plan("solve", self.file("p.csv", self.TABLE.replace(old, new))), 2, told)
+
+
+class Names(InFolder):
+    HEADS = "activity,days,after\n"
+
+    def test_did_you_mean(self) -> None:
+        for after, told in (("excavate", "no activity 'excavate'; did you mean 'Excavate'?"),
+                            ("Exavate", "did you mean 'Excavate'?"),
+                            ("start of EXCAVATE", "no activity 'EXCAVATE'; did you mean 'Excavate'?")):
+            with self.subTest(after):
+                table = self.file("p.csv", f"{self.HEADS}Excavate,1,\nb,1,{after}\n")
+                self.refused(plan("solve", table), 2, "p.csv: row 3, column C (after): ", told)
+        self.assertNotIn("did you mean", plan("solve", self.file("p.csv", f"{self.HEADS}Excavate,1,\nb,1,paint\n")).stderr)
+
+    def test_a_semicolon_in_a_name(self) -> None:
+        """By hand: 2 and 3 one after the other, then 1: 6."""
+        table = self.file("p.csv", self.HEADS + '"wash; rinse",2,\ndry,3,"""wash; rinse"""\npack,1,"""wash; rinse""; dry"\n')
+        answer = self.folder / "a.csv"
+        self.assertEqual(plan("solve", table, "--out", answer).stdout, "optimal 6\n")
+        self.assertIn("1,wash; rinse,0,2,2\n", answer.read_text())
+        other = self.file("o.csv", self.HEADS + '"wash; rinse",2,\n"say ""dry""",3,"""start of wash; rinse"""\n'
+                          'pack,1,"start of say ""dry"""\n')
+        self.assertEqual(plan("solve", other).stdout.partition("\n")[0], "optimal 3")
+        self.refused(plan("solve", self.file("q.csv", self.HEADS + '"wash; rinse",2,\ndry,3,wash; rinse\n')), 2,
+                     "no activity 'wash'")
