@@ -110,7 +110,7 @@ def timed(words: list[str], source: str, seconds: float, schedule: str) -> Found
 
 def psprove(program: str, source: str, project: Project, seconds: float) -> Found:
     words = [program, "solve", "--progress", "--seconds", str(round(seconds))]
-    return timed(words, source, seconds, r"^\d+ s: schedule \d+$")
+    return timed(words, source, seconds, r"^\d+ s: schedule \d+, ")
 
 
 def plan(program: str, source: str, project: Project, seconds: float) -> Found:

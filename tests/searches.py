@@ -4,7 +4,9 @@
 Has both programs solve N small seeded projects (2,000 by default), every fifth with two jobs of psprove, and wants one
 verdict of both. The starts of psprove have to pass `psmax check`, and its record has to prove the verdict, by `psprove verify`
 and, below 100,000 bytes, by tests/verify_lemmas.py. Then psprove alone solves N projects of 62 to 250 activities (40 by
-default), of which psmax can prove few. The last line counts the projects."""
+default), of which psmax can prove few. Ten projects are solved twice by the same words, which have to give the same bytes.
+Three projects, of which one has no schedule, are solved with all times multiplied by 997. The last line counts the
+projects."""
 import functools
 import pathlib
 from collections.abc import Sequence
@@ -17,11 +19,18 @@ from harness import Verdicts
 
 MOST_BYTES = 100_000
 
+# Seeds of small projects whose times are multiplied, the first without a schedule; and by how much.
+STRETCHED, FACTOR = (128, 7, 36), 997
 
-def text_of(seed: int) -> bytes:
+
+def small(seed: int) -> projects.Project:
     """A project of 4 to 13 activities; every second has resources in which few are rivals."""
     n = 4 + seed % 10
-    return (projects.wide(n, seed) if seed % 2 else projects.project(n, seed, 3, 2 + 2 * (seed // 2 % 2))).text()
+    return projects.wide(n, seed) if seed % 2 else projects.project(n, seed, 3, 2 + 2 * (seed // 2 % 2))
+
+
+def text_of(seed: int) -> bytes:
+    return small(seed).text()
 
 
 def large_text_of(seed: int) -> bytes:
@@ -76,13 +85,44 @@ def wrong_large(programs: tuple[str, str], folder: pathlib.Path, seed: int) -> s
     return search.wrong_answer(answer) if told in (0, 3) else f"psprove ends with {told}"
 
 
+def wrong_again(programs: tuple[str, str], folder: pathlib.Path, seed: int) -> str | None:
+    """What differs where psprove solves a large project twice by the same words, or None."""
+    search = Search(*programs, folder, f"again{seed}", large_text_of(seed))
+    told = [(search.solve("--conflicts", "2000", "--seed", str(seed)), search.record.read_bytes()) for _ in range(2)]
+    return None if told[0] == told[1] else "the same words give other bytes"
+
+
+def stretched(project: projects.Project) -> projects.Project:
+    """The project with all times multiplied."""
+    durations = [FACTOR * duration for duration in project.durations]
+    return project._replace(durations=durations, arcs=[(i, j, FACTOR * lag) for i, j, lag in project.arcs])
+
+
+def wrong_stretched(programs: tuple[str, str], folder: pathlib.Path, place: int) -> str | None:
+    """What is wrong with what psprove says of a small project with all times multiplied, or None."""
+    project = small(STRETCHED[place])
+    search = Search(*programs, folder, f"stretched{place}", stretched(project).text())
+    wanted = run([search.psmax, "solve"], project.text())[1].split(b"\n")[0].split(b" ")
+    if wanted[0] == b"optimal":
+        wanted[1] = b"%d" % (FACTOR * int(wanted[1]))
+    told, answer = search.solve()
+    if told != 0 or answer.split(b"\n")[0] != b" ".join(wanted):
+        return f"psprove says {told} {answer!r}, not {wanted}"
+    return search.wrong_answer(answer)
+
+
 def verdicts(words: Sequence[str]) -> Verdicts:
     parser = harness.Words(__doc__, "psmax", "psprove")
     parser.add_argument("--seeded", type=int, default=2_000)
     parser.add_argument("--large", type=int, default=40)
     o = parser.parse_args(words)
     with harness.new_folder() as folder:
-        for title, wrong, count in ("small", wrong_small, o.seeded), ("large", wrong_large, o.large):
+        for title, wrong, count in (
+            ("small", wrong_small, o.seeded),
+            ("large", wrong_large, o.large),
+            ("again", wrong_again, 10),
+            ("stretched", wrong_stretched, len(STRETCHED)),
+        ):
             look = functools.partial(wrong, (o.psmax, o.psprove), folder)
             for seed, found in enumerate(harness.side_by_side(look, range(count))):
                 yield f"{title} {seed}", found

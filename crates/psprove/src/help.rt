@@ -25,14 +25,12 @@ follows.
   feasible C bound B  the search stopped; no feasible schedule is shorter than B
   unknown bound B     the search stopped before it found a schedule; B is as above
 
-Limits: psprove looks at the clock after each turn of a search. A makespan above 1,000,000, or
-lemmas that fill the memory, also stop a search; standard error then says so.
-Large projects: from 61 activities on, the searches for large projects get most of the time, and
-above 120 nearly all.
+Limits: psprove looks at the clock after every 256 conflicts and decisions. Lemmas that fill the
+memory also stop a search; standard error then says so.
 Repeated runs: the same --seed and --conflicts give the same answer and record with one job, if
 neither the clock nor the memory stops the search.
---jobs runs searches with different seeds and different parts switched off. A schedule that one
-finds is an upper bound for all. The first that ends gives the record.
+--jobs runs searches with different seeds. A schedule that one finds is an upper bound for all. The
+first that ends gives the record.
 --start reads the starts after the project. If they are not a feasible schedule, psprove prints
 their violations as 'psmax check' does, and does not search.
 --record empties FILE first. After the answer it writes the record into FILE, even if the search

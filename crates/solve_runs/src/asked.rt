@@ -3,9 +3,8 @@
 ghost use Rattle.std.specs.Prelude.{◌≡◌};
 ghost use Rattle.solve_runs.specs.Story.{job_of};
 
-use crate::turns::SMALL;
-use lemma_search::{Chosen, Options};
 use runs::{Job, ONE_WORKER};
+use strategies::Limits;
 
 /// How many searches can go on side by side.
 pub const MAX_JOBS: u64 = 64;
@@ -45,18 +44,11 @@ impl Asked {
         }
     }
 
-    /// The options of a search for so many activities. Every second job leaves dives out, which slow proofs down. Two
-    /// of four leave energy out, which seldom tells more than the time table. Cliques with an order raise bounds,
-    /// which pays where proofs are rare.
-    pub(crate) fn options(self, activities: usize, job: u64) -> Options {
-        Options {
-            seed: self.seed.wrapping_add(job),
+    /// How far a job's search goes, and from where it breaks ties.
+    pub(crate) fn limits(self, job: u64) -> Limits {
+        Limits {
             memory: self.memory,
-            propagators: Chosen {
-                energy: job % 4 < 2,
-                ordered_cliques: activities > SMALL,
-            },
-            dives: job % 2 == 0,
+            seed: self.seed.wrapping_add(job),
         }
     }
 }

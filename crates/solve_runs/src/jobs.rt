@@ -3,16 +3,15 @@
 use crate::asked::Asked;
 use crate::board::Board;
 use crate::progress::Watch;
-use crate::report::raised;
+use crate::report::{Report, is_of_bound, raised};
 use crate::searching::{Run, search_beside};
-use lemma_search::State;
-use lemma_text::text_of;
 use network::Project;
 use std::alloc::{AllocError, Global};
 use std::sync::{Mutex, Wait};
 use std::thread;
 use std::thread::{JoinHandle, Threads};
 use std::time::Clock;
+use strategies::State;
 
 /// What searches say that they found.
 #[derive(Drop)]
@@ -75,11 +74,12 @@ fn search_all<R: Clock + Eprint + Threads + Wait + Sync>(
     )
 }
 
-/// Tells on standard error why a search stopped, where no limit of time or conflicts stopped it.
-fn tell_stop<R: Eprint>(rt: &R, state: State) {
+/// Tells on standard error why a search stopped, where no limit of time or conflicts stopped it. One that has ended with a
+/// bound alone has no schedule that is short enough for a record.
+fn tell_stop<R: Eprint>(rt: &R, state: State, is_of_bound: bool) {
     let why = match state {
         State::Full => "its lemmas fill the memory that they may take",
-        State::TooLong => "a makespan is above 1,000,000",
+        State::Ended if is_of_bound => "a makespan is above 1,000,000",
         State::Going | State::Ended => return,
     };
     let _ = eprintln!(rt; "psprove: the search stopped: {why}");
@@ -104,17 +104,18 @@ pub(crate) fn searched<R: Clock + Eprint + Threads + Wait + Sync>(
     search_all(rt, alloc, run)?;
     let board = board.into_inner();
     let (conflicts, decisions) = (board.conflicts, board.decisions);
-    let (best, report) = board.into_parts()?;
-    tell_stop(rt, report.state);
-    let Some(shown) = report.shown else {
+    let (best, report) = board.into_parts(alloc)?;
+    let Report { state, record, .. } = report;
+    let Some(record) = record else {
         return Err(SearchFault::NoRecord);
     };
-    let claim = raised(alloc, shown.claim, best.as_deref())?;
+    tell_stop(rt, state, is_of_bound(alloc, &record)?);
+    let text = raised(alloc, record, best.as_deref())?;
     Ok(Found {
         best,
         conflicts,
         decisions,
         seconds: watch.seconds(rt).unwrap_or(0),
-        text: text_of(alloc, &claim, &shown.lines)?,
+        text,
     })
 }

@@ -15,8 +15,6 @@ mod report;
 mod running;
 mod searching;
 mod solving;
-mod team;
-mod turns;
 
 pub use asked::{Asked, MAX_JOBS};
 pub use running::solve;

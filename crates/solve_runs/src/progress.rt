@@ -1,6 +1,7 @@
 //! The clock of a search, and its reports while it goes on.
 
 use std::time::{Clock, Instant};
+use strategies::Finder;
 
 /// A clock that knows when the search began.
 #[derive(Clone, Copy)]
@@ -23,6 +24,17 @@ impl Watch {
     }
 }
 
+/// How a schedule was found.
+fn name_of(finder: Finder) -> &'static str {
+    match finder {
+        Finder::Other => "handed in",
+        Finder::Dive => "by a dive",
+        Finder::Whole => "by the whole search",
+        Finder::Probe => "by a probe",
+        Finder::Neighbourhood => "by a neighbourhood",
+    }
+}
+
 /// What was told last, in periods.
 #[derive(Clone, Copy)]
 pub(crate) struct Told {
@@ -37,18 +49,20 @@ impl Told {
         bound: 0,
     };
 
-    /// Tells another makespan, and a greater bound, on standard error.
+    /// Tells another makespan with who found it, and a greater bound, on standard error.
     pub(crate) fn tell<R: Eprint>(
         &mut self,
         rt: &R,
         makespan: Option<i64>,
+        finder: Finder,
         bound: i64,
         seconds: u64,
     ) {
         if makespan != self.makespan {
             self.makespan = makespan;
             if let Some(makespan) = makespan {
-                let _ = eprintln!(rt; "{seconds} s: schedule {makespan}");
+                let name = name_of(finder);
+                let _ = eprintln!(rt; "{seconds} s: schedule {makespan}, {name}");
             }
         }
         if bound > self.bound {

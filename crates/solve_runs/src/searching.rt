@@ -4,12 +4,12 @@ use crate::asked::Asked;
 use crate::board::Board;
 use crate::progress::Watch;
 use crate::report::Report;
-use crate::team::Team;
-use lemma_search::State;
+use instance::Instance;
 use network::Project;
 use std::alloc::{AllocError, Global};
 use std::sync::{Mutex, Wait};
 use std::time::Clock;
+use strategies::{Solver, State};
 
 /// What the searches of a run have in common.
 #[derive(Clone, Copy)]
@@ -20,26 +20,32 @@ pub(crate) struct Run<'a> {
     pub(crate) board: &'a Mutex<Board>,
 }
 
+/// How many steps a search makes between two looks at the clock and the board: conflicts and decisions.
+const STEPS: u64 = 256;
+
 /// Searches until the search ends, or another has ended, or as far as the limits let it.
 fn search_within<R: Clock + Eprint + Wait>(
     rt: &R,
     alloc: Global,
     run: Run<'_>,
-    team: &mut Team,
+    solver: &mut Solver<'_>,
 ) -> Result<(), AllocError> {
     for _ in 0..u64::MAX {
         let seconds = run.watch.seconds(rt).unwrap_or(u64::MAX);
-        let left = run.asked.conflicts.saturating_sub(team.counts().conflicts);
-        if seconds >= run.asked.seconds || left == 0 || team.state() != State::Going {
+        let left = run
+            .asked
+            .conflicts
+            .saturating_sub(solver.counts().conflicts);
+        if seconds >= run.asked.seconds || left == 0 || solver.state() != State::Going {
             break;
         }
-        team.advance(alloc, run.project, left)?;
+        solver.advance(left.min(STEPS))?;
         let mut board = run.board.lock(rt);
-        team.exchange(alloc, &mut board)?;
+        board.exchange(alloc, solver)?;
         if run.asked.progress {
-            board.tell(rt, run.watch, team.bound());
+            board.tell(rt, run.watch, i64::from(solver.bound()));
         }
-        if team.state() == State::Ended {
+        if solver.state() == State::Ended {
             board.is_over = true;
         }
         if board.is_over {
@@ -50,14 +56,14 @@ fn search_within<R: Clock + Eprint + Wait>(
 }
 
 /// Leaves a record on the board, where it shows more than the one that is there.
-fn hand_in<R: Wait>(rt: &R, alloc: Global, run: Run<'_>, team: Team) -> Result<(), AllocError> {
-    let (state, bound) = (team.state(), team.bound());
-    if run.board.lock(rt).leave(team.counts(), state, bound) {
-        let shown = team.into_record(alloc, run.project)?;
+fn hand_in<R: Wait>(rt: &R, run: Run<'_>, solver: Solver<'_>) -> Result<(), AllocError> {
+    if run.board.lock(rt).leave(&solver) {
+        let (state, bound) = (solver.state(), i64::from(solver.bound()));
+        let record = solver.into_record()?;
         run.board.lock(rt).report(Report {
             state,
             bound,
-            shown,
+            record,
         });
     }
     Ok(())
@@ -70,10 +76,11 @@ fn search<R: Clock + Eprint + Wait>(
     run: Run<'_>,
     job: u64,
 ) -> Result<(), AllocError> {
-    let mut team = Team::new(alloc, run.asked, run.project, job)?;
-    team.exchange(alloc, &mut run.board.lock(rt))?;
-    search_within(rt, alloc, run, &mut team)?;
-    hand_in(rt, alloc, run, team)
+    let instance = Instance::new(alloc, run.project)?;
+    let mut solver = Solver::new(alloc, &instance, run.asked.limits(job))?;
+    run.board.lock(rt).exchange(alloc, &mut solver)?;
+    search_within(rt, alloc, run, &mut solver)?;
+    hand_in(rt, run, solver)
 }
 
 /// A search within limits, one of several side by side.

@@ -2,6 +2,7 @@
 
 use crate::span::{Span, narrow};
 use std::alloc::{AllocError, Global};
+use std::mem;
 
 /// A list that answers at each place: past its end it holds `rest`, and takes nothing.
 #[derive(Drop)]
@@ -99,6 +100,21 @@ impl<T: Copy> Table<T> {
         Span { from: to, to: at }
     }
 
+    /// A place before another one, which moves up with all after it.
+    pub fn insert(&mut self, at: usize, value: T) -> Result<(), AllocError> {
+        if at <= self.items.len() && self.items.insert(at, value).is_err() {
+            return Err(AllocError);
+        }
+        Ok(())
+    }
+
+    /// Takes a place away. Those after it move down.
+    pub fn remove(&mut self, at: usize) {
+        if at < self.items.len() {
+            self.items.remove(at);
+        }
+    }
+
     /// Takes the last place away.
     #[inline(always)]
     pub fn pop(&mut self) -> Option<T> {
@@ -108,6 +124,12 @@ impl<T: Copy> Table<T> {
     /// Leaves the first places.
     pub fn truncate(&mut self, count: usize) {
         self.items.truncate(count);
+    }
+
+    /// Takes all places out of the table, which is empty then.
+    pub fn replace(&mut self, alloc: Global) -> Table<T> {
+        let rest = self.rest;
+        mem::replace(self, Table::new(alloc, rest))
     }
 
     /// No place is left.

@@ -1,0 +1,19 @@
+//! A search for schedules by lazy clause generation (Ohrimenko, Stuckey and Codish 2009; Schutt, Feydy, Stuckey and
+//! Wallace 2013), on literals that bound starts and order rivals.
+//!
+//! A strategy is a list of first decisions. All lemmas are true of the project under the ceiling, whatever was decided
+//! first. Nothing here needs to be trusted: whoever takes a schedule or a proof has it checked.
+#![tactic(auto)]
+
+mod analysis;
+mod choices;
+mod explain;
+mod heap;
+mod marks;
+mod pace;
+mod search;
+mod state;
+
+pub use pace::Pace;
+pub use search::{Found, Run};
+pub use state::{Counts, Engine, Options};

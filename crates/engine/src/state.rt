@@ -1,0 +1,364 @@
+//! The state of a search: the trail, the propagators that read it, lemmas, choices, and the log of the proof.
+
+use crate::choices::Choices;
+use crate::marks::Marks;
+use instance::{Instance, Rivals, Settled, Walks, greedy_cliques, paired, start_sequence};
+use literals::{Lemmas, Literal, Stop, Trail};
+use proof_log::Log;
+use propagation::{Cliques, Edges, TimeTable};
+use std::alloc::{AllocError, Global};
+use tables::{Rows, Table};
+
+/// What a search is made with.
+#[derive(Clone, Copy, Debug)]
+pub struct Options {
+    /// Whether the log of its proof is kept.
+    pub has_log: bool,
+    /// Whether it looks at cliques.
+    pub has_cliques: bool,
+    /// Shakes the first weights.
+    pub seed: u64,
+}
+
+/// How much was done.
+#[derive(Clone, Copy, PartialEq, Eq, Debug)]
+pub struct Counts {
+    pub conflicts: u64,
+    pub decisions: u64,
+    pub restarts: u64,
+    /// Events that were followed: the unit of effort.
+    pub events: u64,
+}
+
+impl Counts {
+    /// Nothing was done.
+    pub const NOTHING: Counts = Counts {
+        conflicts: 0,
+        decisions: 0,
+        restarts: 0,
+        events: 0,
+    };
+
+    /// What was done in two searches.
+    pub fn plus(self, other: Counts) -> Counts {
+        Counts {
+            conflicts: self.conflicts.saturating_add(other.conflicts),
+            decisions: self.decisions.saturating_add(other.decisions),
+            restarts: self.restarts.saturating_add(other.restarts),
+            events: self.events.saturating_add(other.events),
+        }
+    }
+}
+
+/// The first reduction of the store comes after so many conflicts, each further one so many later than the one before.
+const FIRST_REDUCTION: u64 = 2_000;
+
+const NEXT_REDUCTION: u64 = 200;
+
+/// When lemmas are forgotten.
+#[derive(Clone, Copy, Debug)]
+pub(crate) struct Reductions {
+    /// The count of conflicts at which the next ones go.
+    pub(crate) next: u64,
+    step: u64,
+}
+
+impl Reductions {
+    /// Lemmas were forgotten at so many conflicts.
+    pub(crate) fn put_off(&mut self, conflicts: u64) {
+        self.step = self.step.wrapping_add(NEXT_REDUCTION);
+        self.next = conflicts.wrapping_add(self.step);
+    }
+}
+
+/// A search of a project for schedules below a ceiling.
+#[derive(Drop)]
+pub struct Engine<'a> {
+    pub(crate) alloc: Global,
+    pub(crate) instance: &'a Instance,
+    pub(crate) trail: Trail,
+    pub(crate) edges: Edges,
+    pub(crate) table: TimeTable,
+    pub(crate) cliques: Cliques,
+    pub(crate) lemmas: Lemmas,
+    pub(crate) choices: Choices,
+    pub(crate) marks: Marks,
+    pub(crate) log: Log,
+    /// Events of the root before this one are in the log.
+    pub(crate) logged: u32,
+    /// Events before this one were followed by arcs, orders and lemmas.
+    queue: u32,
+    /// How many changes the time table had when each level began.
+    table_marks: Table<u32>,
+    /// Whether no schedule is left.
+    pub(crate) is_refuted: bool,
+    /// 1 where several first decisions stand on the first level, else 0.
+    pub(crate) floor: u32,
+    pub(crate) reductions: Reductions,
+    pub(crate) counts: Counts,
+}
+
+/// The first values of all slots, for schedules of a makespan at most `most`.
+fn first_values(
+    alloc: Global,
+    instance: &Instance,
+    settled: &Settled,
+    most: i32,
+) -> Result<Table<i32>, AllocError> {
+    let mut values = Table::new(alloc, 0);
+    let walks = &settled.walks;
+    for activity in 0..instance.count() {
+        let tail = walks.direct(activity, instance.end()).unwrap_or(0);
+        let latest = match walks.direct(activity, 0) {
+            Some(back) => back.wrapping_neg(),
+            None => i32::MAX,
+        };
+        let greatest = most.wrapping_sub(tail).min(latest);
+        values.push(walks.direct(0, activity).unwrap_or(0))?;
+        values.push(greatest.wrapping_neg())?;
+    }
+    for _ in 0..settled.open.len() {
+        values.push(0)?;
+        values.push(-1)?;
+    }
+    Ok(values)
+}
+
+/// What parts two users of a resource: windows, arcs or an order that is a variable.
+#[derive(Drop)]
+struct Parting<'a> {
+    instance: &'a Instance,
+    walks: &'a Walks,
+    paired: Table<bool>,
+    trail: &'a Trail,
+}
+
+impl Parting<'_> {
+    /// Whether one activity ends before another one starts, by windows or arcs.
+    fn is_before(&self, first: u32, second: u32) -> bool {
+        let duration = self.instance.duration(first);
+        let end = self.trail.greatest(first).wrapping_add(duration);
+        self.walks.reaches(first, second, duration) || end <= self.trail.least(second)
+    }
+
+    /// Whether two activities never run at once.
+    fn are_apart(&self, a: u32, b: u32) -> bool {
+        let place = (a as usize)
+            .wrapping_mul(self.instance.count() as usize)
+            .wrapping_add(b as usize);
+        self.paired.get(place) || self.is_before(a, b) || self.is_before(b, a)
+    }
+
+    /// Whether some of a list may run at once.
+    fn may_overlap(&self, users: &[u32]) -> bool {
+        for a in users {
+            for b in users {
+                if *a < *b && !self.are_apart(*a, *b) {
+                    return true;
+                }
+            }
+        }
+        false
+    }
+}
+
+/// The users of a resource; none where there is enough for all.
+fn users_of(alloc: Global, instance: &Instance, resource: u32) -> Result<Vec<u32>, AllocError> {
+    let mut users = Vec::new(alloc);
+    let mut sum = 0i64;
+    for activity in 0..instance.count() {
+        if instance.uses(activity, resource) {
+            users.push(activity)?;
+            sum = sum.wrapping_add(i64::from(instance.demand(activity, resource)));
+        }
+    }
+    if sum <= i64::from(instance.capacity(resource)) {
+        users.clear();
+    }
+    Ok(users)
+}
+
+/// The resources of which some users may run at once, and not all fit.
+fn shared_resources(
+    alloc: Global,
+    instance: &Instance,
+    settled: &Settled,
+    trail: &Trail,
+) -> Result<Vec<u32>, AllocError> {
+    let parting = Parting {
+        instance,
+        walks: &settled.walks,
+        paired: paired(alloc, instance, &settled.open)?,
+        trail,
+    };
+    let mut shared = Vec::new(alloc);
+    for resource in 0..instance.resource_count() {
+        let users = users_of(alloc, instance, resource)?;
+        if parting.may_overlap(&users) {
+            shared.push(resource)?;
+        }
+    }
+    Ok(shared)
+}
+
+impl<'a> Engine<'a> {
+    /// A search for schedules of a makespan at most `most`, in periods, under settled orders. It has looked at nothing
+    /// yet.
+    pub(crate) fn new(
+        alloc: Global,
+        instance: &'a Instance,
+        settled: &Settled,
+        most: i32,
+        options: Options,
+    ) -> Result<Engine<'a>, AllocError> {
+        let walks = &settled.walks;
+        let trail = Trail::new(alloc, first_values(alloc, instance, settled, most)?)?;
+        let resources = shared_resources(alloc, instance, settled, &trail)?;
+        let edges = Edges::new(alloc, instance, walks, &settled.forced, &settled.open)?;
+        let found = if options.has_cliques {
+            greedy_cliques(alloc, instance, walks)?
+        } else {
+            Rows::new(alloc, 0)
+        };
+        let sequence = start_sequence(alloc, instance, walks)?;
+        let cliques = Cliques::new(alloc, instance, &edges, &found)?;
+        let lemmas = Lemmas::new(alloc, trail.slot_count())?;
+        let only_orders = resources.is_empty();
+        Ok(Engine {
+            alloc,
+            instance,
+            table: TimeTable::new(alloc, instance, &resources)?,
+            cliques,
+            edges,
+            lemmas,
+            choices: Choices::new(alloc, &trail, sequence, only_orders, options.seed)?,
+            trail,
+            marks: Marks::new(alloc),
+            log: Log::new(alloc, options.has_log),
+            logged: 1,
+            queue: 1,
+            table_marks: Table::new(alloc, 0),
+            is_refuted: false,
+            floor: 0,
+            reductions: Reductions {
+                next: FIRST_REDUCTION,
+                step: FIRST_REDUCTION,
+            },
+            counts: Counts::NOTHING,
+        })
+    }
+
+    /// Whether each start has a value that it may have.
+    pub(crate) fn has_room(&self) -> bool {
+        for activity in 0..self.instance.count() {
+            if self.trail.least(activity) > self.trail.greatest(activity) {
+                return false;
+            }
+        }
+        true
+    }
+
+    /// Looks at all, at the start.
+    pub(crate) fn begin(&mut self) -> Result<(), Stop> {
+        for slot in 0..self.instance.count().wrapping_mul(2) {
+            self.edges.follow(&mut self.trail, slot)?;
+        }
+        self.table.begin(&self.trail)?;
+        self.propagate()
+    }
+
+    /// What follows from the next event by arcs, orders and lemmas.
+    #[inline(always)]
+    fn follow(&mut self) -> Result<(), Stop> {
+        let number = self.queue;
+        let event = self.trail.event(number);
+        self.queue = number.wrapping_add(1);
+        self.counts.events = self.counts.events.wrapping_add(1);
+        if self.trail.is_last(event.slot, number) {
+            self.edges.follow(&mut self.trail, event.slot)?;
+        }
+        self.lemmas
+            .follow(&mut self.trail, event.slot, event.old, event.new)
+    }
+
+    /// All that follows.
+    pub(crate) fn propagate(&mut self) -> Result<(), Stop> {
+        for _ in 0..u64::MAX {
+            for _ in 0..u64::MAX {
+                if self.queue >= self.trail.count() {
+                    break;
+                }
+                self.follow()?;
+            }
+            if self.table.step(&mut self.trail)? {
+                continue;
+            }
+            self.cliques.run(self.instance, &mut self.trail)?;
+            if self.queue >= self.trail.count() {
+                break;
+            }
+        }
+        Ok(())
+    }
+
+    /// A level begins: a choice, or the first decisions, of which no two contradict each other.
+    pub(crate) fn decide(&mut self, literals: &[Literal]) -> Result<(), AllocError> {
+        self.counts.decisions = self.counts.decisions.wrapping_add(1);
+        let mark = self.table.mark();
+        self.table_marks.push(mark)?;
+        self.trail.decide(literals)
+    }
+
+    /// Goes back to a level. At a decision all propagators are at rest, so that each takes up again at the level's first
+    /// event.
+    pub(crate) fn go_back(&mut self, level: u32) -> Result<(), AllocError> {
+        if level >= self.trail.level() {
+            return Ok(());
+        }
+        let count = self.trail.begin_of(level);
+        self.trail.end_levels(level);
+        for _ in count..self.trail.count() {
+            if let Some(event) = self.trail.pop() {
+                self.choices.save(&event);
+                self.cliques.forget(&self.trail, &event);
+            }
+        }
+        let mark = self.table_marks.get(level as usize);
+        self.table_marks.truncate(level as usize);
+        self.table.go_back(mark, count)?;
+        self.cliques.go_back(count);
+        self.choices.go_back(&self.trail, level)?;
+        self.queue = count;
+        Ok(())
+    }
+
+    /// How much was done.
+    pub fn counts(&self) -> Counts {
+        self.counts
+    }
+
+    /// Whether no schedule is left.
+    pub fn is_refuted(&self) -> bool {
+        self.is_refuted
+    }
+
+    /// The pairs whose orders are variables.
+    pub fn pairs(&self) -> &[Rivals] {
+        self.edges.pairs()
+    }
+
+    /// The log of the proof.
+    pub fn log(&self) -> &Log {
+        &self.log
+    }
+
+    /// How many bytes the search takes, but for what a project of its size takes anyway.
+    pub fn bytes(&self) -> u64 {
+        self.lemmas
+            .bytes()
+            .saturating_add(self.trail.bytes())
+            .saturating_add(self.table.bytes())
+            .saturating_add(self.choices.bytes())
+            .saturating_add(self.log.bytes())
+    }
+}

@@ -1,0 +1,17 @@
+//! A project as searches read it: its numbers in 32 bits, the longest walks between activities, the orders that lags
+//! settle, and sets of activities that run one at a time.
+//!
+//! Nothing here needs to be trusted: whoever takes what a search says has it checked.
+#![tactic(auto)]
+
+mod cliques;
+mod numbers;
+mod sequence;
+mod settling;
+mod walks;
+
+pub use cliques::greedy_cliques;
+pub use numbers::{Edge, Instance, MAX_MAKESPAN};
+pub use sequence::start_sequence;
+pub use settling::{Rivals, Settled, paired, settle};
+pub use walks::Walks;

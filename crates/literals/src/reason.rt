@@ -1,0 +1,55 @@
+//! Why a literal holds, and why literals contradict each other.
+
+use crate::literal::Literal;
+use std::alloc::AllocError;
+
+/// Why an event came.
+#[derive(Clone, Copy, PartialEq, Eq, Debug)]
+pub enum Reason {
+    /// It was tried.
+    Decision,
+    /// It holds from the beginning, by the project or by a ceiling.
+    Given,
+    /// An arc moved a bound.
+    Arc { arc: u32 },
+    /// The order of two rivals moved a bound.
+    Order { order: u32 },
+    /// The order of two rivals is impossible.
+    Lost { order: u32 },
+    /// There is no room at this time.
+    Full { resource: u32, time: i32 },
+    /// Members of a clique that run before it, or after it, push it.
+    Pushed { clique: u32, time: i32 },
+    /// All other literals of the lemma at this place are false.
+    Lemma { place: u32 },
+}
+
+/// Why no schedule is left.
+#[derive(Clone, Copy, PartialEq, Eq, Debug)]
+pub enum Conflict {
+    /// This literal would have to hold, and its negation does.
+    Forced { literal: Literal, reason: Reason },
+    /// What must run at a time needs too much of the resource.
+    Overload { resource: u32, time: i32 },
+    /// Members of a clique need more time than there is from one time to another.
+    Clique { clique: u32, from: i32, to: i32 },
+    /// The parts that must run from one time to another need too much of the resource.
+    Energy { resource: u32, from: i32, to: i32 },
+    /// All literals of the lemma at this place are false.
+    Lemma { place: u32 },
+}
+
+/// Why a step of the search did not end well.
+#[derive(Clone, Copy, PartialEq, Eq, Debug)]
+pub enum Stop {
+    /// No schedule is left.
+    Conflict(Conflict),
+    /// Memory ran out.
+    Memory,
+}
+
+impl From<AllocError> for Stop {
+    fn from(_error: AllocError) -> Stop {
+        Stop::Memory
+    }
+}

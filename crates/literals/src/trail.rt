@@ -1,0 +1,219 @@
+//! The trail: what each slot holds, and the events that made it so.
+
+use crate::literal::Literal;
+use crate::reason::{Conflict, Reason, Stop};
+use std::alloc::{AllocError, Global};
+use tables::Table;
+
+/// A slot got a greater value.
+#[derive(Clone, Copy, Debug)]
+pub struct Event {
+    pub slot: u32,
+    pub old: i32,
+    pub new: i32,
+    pub level: u32,
+    /// The slot's event before it; 0 is what it held at first.
+    before: u32,
+    pub reason: Reason,
+}
+
+/// Stands for all that always held.
+const FIRST: Event = Event {
+    slot: 0,
+    old: 0,
+    new: 0,
+    level: 0,
+    before: 0,
+    reason: Reason::Given,
+};
+
+/// The values of all slots, and the events that made them. Each decision begins a level; level 0 is the root. Event 0
+/// stands for what always held.
+#[derive(Drop)]
+pub struct Trail {
+    values: Table<i32>,
+    /// For each slot its last event.
+    last: Table<u32>,
+    events: Table<Event>,
+    /// How many events there were when each level began.
+    levels: Table<u32>,
+}
+
+impl Trail {
+    /// The trail of no events over slots with these values.
+    pub fn new(alloc: Global, values: Table<i32>) -> Result<Trail, AllocError> {
+        let last = Table::filled(alloc, values.len(), 0, 0)?;
+        Ok(Trail {
+            values,
+            last,
+            events: Table::filled(alloc, 1, FIRST, FIRST)?,
+            levels: Table::new(alloc, 0),
+        })
+    }
+
+    /// How many slots there are.
+    pub fn slot_count(&self) -> usize {
+        self.values.len()
+    }
+
+    /// The value of a slot.
+    #[inline(always)]
+    pub fn value(&self, slot: u32) -> i32 {
+        self.values.get(slot as usize)
+    }
+
+    /// The least value of a variable.
+    #[inline(always)]
+    pub fn least(&self, variable: u32) -> i32 {
+        self.values.get((variable as usize).wrapping_mul(2))
+    }
+
+    /// The greatest value of a variable.
+    #[inline(always)]
+    pub fn greatest(&self, variable: u32) -> i32 {
+        let slot = (variable as usize).wrapping_mul(2).wrapping_add(1);
+        self.values.get(slot).wrapping_neg()
+    }
+
+    /// Whether a literal holds.
+    #[inline(always)]
+    pub fn holds(&self, literal: Literal) -> bool {
+        self.value(literal.slot) >= literal.value
+    }
+
+    /// Whether the negation of a literal holds.
+    #[inline(always)]
+    pub fn fails(&self, literal: Literal) -> bool {
+        self.value(literal.slot ^ 1).wrapping_add(literal.value) > 0
+    }
+
+    /// The level that is searched now.
+    #[inline(always)]
+    pub fn level(&self) -> u32 {
+        self.levels.count()
+    }
+
+    /// How many events there are.
+    #[inline(always)]
+    pub fn count(&self) -> u32 {
+        self.events.count()
+    }
+
+    /// The event of a number.
+    #[inline(always)]
+    pub fn event(&self, number: u32) -> Event {
+        self.events.get(number as usize)
+    }
+
+    /// Where a level begins.
+    pub fn begin_of(&self, level: u32) -> u32 {
+        self.levels.get(level as usize)
+    }
+
+    /// The events before this one always hold.
+    pub fn root_end(&self) -> u32 {
+        if self.levels.is_empty() {
+            self.count()
+        } else {
+            self.levels.get(0)
+        }
+    }
+
+    /// The event that made a literal hold, 0 where it held always.
+    #[inline(always)]
+    pub fn event_of(&self, literal: Literal) -> u32 {
+        let mut number = self.last.get(literal.slot as usize);
+        for _ in 0..u64::MAX {
+            let event = self.event(number);
+            if number == 0 || event.old < literal.value {
+                break;
+            }
+            number = event.before;
+        }
+        number
+    }
+
+    /// The value of a slot before an event.
+    pub fn value_at(&self, slot: u32, number: u32) -> i32 {
+        let mut value = self.value(slot);
+        let mut last = self.last.get(slot as usize);
+        for _ in 0..u64::MAX {
+            if last < number || last == 0 {
+                break;
+            }
+            let event = self.event(last);
+            value = event.old;
+            last = event.before;
+        }
+        value
+    }
+
+    /// Whether an event is its slot's last.
+    #[inline(always)]
+    pub fn is_last(&self, slot: u32, number: u32) -> bool {
+        self.last.get(slot as usize) == number
+    }
+
+    /// A slot gets a greater value.
+    #[inline(always)]
+    fn raise(&mut self, literal: Literal, reason: Reason) -> Result<(), AllocError> {
+        let slot = literal.slot as usize;
+        let number = self.events.count();
+        self.events.push(Event {
+            slot: literal.slot,
+            old: self.values.get(slot),
+            new: literal.value,
+            level: self.levels.count(),
+            before: self.last.get(slot),
+            reason,
+        })?;
+        self.values.set(slot, literal.value);
+        self.last.set(slot, number);
+        Ok(())
+    }
+
+    /// A literal follows. A conflict where its negation holds.
+    #[inline(always)]
+    pub fn force(&mut self, literal: Literal, reason: Reason) -> Result<(), Stop> {
+        if self.holds(literal) {
+            return Ok(());
+        }
+        if self.fails(literal) {
+            return Err(Stop::Conflict(Conflict::Forced { literal, reason }));
+        }
+        self.raise(literal, reason)?;
+        Ok(())
+    }
+
+    /// A level begins with what of these literals doesn't hold yet.
+    pub fn decide(&mut self, literals: &[Literal]) -> Result<(), AllocError> {
+        let begin = self.events.count();
+        self.levels.push(begin)?;
+        for literal in literals {
+            if !self.holds(*literal) {
+                self.raise(*literal, Reason::Decision)?;
+            }
+        }
+        Ok(())
+    }
+
+    /// The levels from one on end. Their events are to be taken back one by one.
+    pub fn end_levels(&mut self, level: u32) {
+        self.levels.truncate(level as usize);
+    }
+
+    /// Takes the last event back.
+    #[inline(always)]
+    pub fn pop(&mut self) -> Option<Event> {
+        let event = self.events.pop()?;
+        self.values.set(event.slot as usize, event.old);
+        self.last.set(event.slot as usize, event.before);
+        Some(event)
+    }
+
+    /// How many bytes the events and values take.
+    pub fn bytes(&self) -> u64 {
+        let events = (self.events.len() as u64).wrapping_mul(32);
+        events.wrapping_add((self.values.len() as u64).wrapping_mul(8))
+    }
+}

@@ -1,0 +1,13 @@
+//! How a search divides its effort. Each strategy is a list of first decisions with a limit of conflicts: the whole search
+//! has none, a probe supposes an end, a neighbourhood keeps most of the best schedule. They take turns by what they gain.
+//!
+//! Nothing here needs to be trusted: whoever takes a schedule or a record has it checked.
+#![tactic(auto)]
+
+mod effort;
+mod first;
+mod solver;
+mod turns;
+
+pub use solver::{Limits, Record, Solver, State};
+pub use turns::Finder;
