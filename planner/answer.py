@@ -1,7 +1,8 @@
 """An answer that is handed in, tied to the activities of a project by their names, with what `check` says of it."""
 import os
 import sys
-from dataclasses import dataclass
+from dataclasses import dataclass, replace
+from math import ceil
 
 from .dates import read_moment
 from .errors import BadInput
@@ -42,7 +43,8 @@ class Tied:
 
 def judged(opened: ProjectFile, given: Given, psmax: Psmax) -> Answer:
     """The starts of this answer, judged by psmax. What is no project, or has no start for an activity, is told."""
-    project, tied, words = opened.project, tie(opened, given.must_have_starts()), Words(opened)
+    given = counted(opened, given.must_have_starts())
+    project, tied, words = opened.project, tie(opened, given), Words(opened)
     faults = [f"no start for activity {words.names.activity(number)}" for number in tied.new]
     faults += [f"{name} is no activity of {opened.path}" for name in tied.gone.values()]
     if faults:
@@ -58,6 +60,32 @@ def feasible(opened: ProjectFile, given: Given, psmax: Psmax) -> Answer:
     if known.value is None:
         raise BadInput(*(f"{given.called}: not a schedule: {told}" for told in at_most([*known.violations])))
     return known
+
+
+def counted(opened: ProjectFile, given: Given) -> Given:
+    """The same in today's periods, where the answer counts others. Rows that don't say what they count count what a bare number
+    of the table does."""
+    unit, scale = opened.names.unit, opened.table.scale if opened.table is not None else None
+    said = given.period
+    if scale is not None and given.is_table and not said:
+        said = scale.own.value
+    if said in ("", unit) or all(begin.period is None for begin in given.starts.values()):
+        return given
+    try:
+        ratio = scale.ratio(said) if scale is not None else None
+    except ValueError:
+        ratio = None
+    if ratio is None:
+        raise BadInput(f"{given.called}: its starts count {short(said)}, and a period of {opened.path} is one of "
+                       f"{unit or 'another'}; write dates, or name what they count in a column 'period'")
+    starts = {}
+    for number, begin in given.starts.items():
+        found = None if begin.period is None else begin.period * ratio
+        if found is not None and found.denominator != 1:
+            raise BadInput(f"{begin.place or given.called}: {begin.period} {short(said)} are no whole number of {unit}")
+        starts[number] = replace(begin, period=None if found is None else int(found))
+    takes = {number: ceil(length * ratio) for number, length in given.takes.items()}
+    return replace(given, starts=starts, takes=takes)
 
 
 def tie(opened: ProjectFile, given: Given) -> Tied:

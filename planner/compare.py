@@ -1,7 +1,7 @@
 """`plan compare`: what has moved from one schedule of a project to another."""
 from collections.abc import Callable
 
-from .answer import Tied, same_names, tie
+from .answer import Tied, counted, same_names, tie
 from .errors import BadInput
 from .given import Given, read_answer
 from .letters import short
@@ -15,7 +15,8 @@ class Side:
 
     def __init__(self, given: Given, opened: ProjectFile) -> None:
         self.opened = opened
-        tied: Tied = tie(opened, given.must_have_starts())
+        given = counted(opened, given.must_have_starts())
+        tied: Tied = tie(opened, given)
         self.now = {was: now for was, now in tied.pairs.items() if was in given.starts}
         self.starts = {was: tied.starts[now] for was, now in self.now.items()}
         for was, name in tied.gone.items():
@@ -73,11 +74,11 @@ def differences(was: Side, now: Side) -> list[str]:
     new = [i for i in now.starts if i not in pairs.values()]
     gone = [i for i in was.starts if i not in pairs]
     wide = max([len(now.called(i)) for i in [*new, *(j for _, j in moved)]] + [len(was.called(i)) for i in gone] + [0])
-    told = [f"makespan {was.makespan} -> {now.makespan}{late(now.makespan - was.makespan)}{ends(was, now)}"]
-    if now.opened.project.due:
-        told.append(f"lateness {was.lateness} -> {now.lateness}{late(now.lateness - was.lateness)}")
+    length = now.opened.length
+    told = [f"makespan {change(was.makespan, now.makespan, length)}{ends(was, now)}"]
+    told += [f"lateness {change(was.lateness, now.lateness, length)}"] if now.opened.project.due else []
     for i, j in sorted(moved, key=lambda pair: (now.starts[pair[1]], pair[1])):
-        told.append(f"  {now.called(j):{wide}}  {was.when(i)} -> {now.when(j)}{late(now.starts[j] - was.starts[i])}")
+        told.append(f"  {now.called(j):{wide}}  {was.when(i)} -> {now.when(j)}{late(now.starts[j] - was.starts[i], length)}")
     for side, numbers, says in ((now, new, "new, at"), (was, gone, "gone, was at")):
         for i in sorted(numbers, key=side.starts.__getitem__):
             told.append(f"  {side.called(i):{wide}}  {says} {side.when(i)}")
@@ -93,6 +94,10 @@ def ends(was: Side, now: Side) -> str:
     return f" ({before} -> {after})"
 
 
-def late(periods: int) -> str:
+def change(was: int, now: int, length: Callable[[int], str]) -> str:
+    return f"{length(was)} -> {length(now)}{late(now - was, length)}"
+
+
+def late(periods: int, length: Callable[[int], str]) -> str:
     """How much later, in words; empty where it is the same."""
-    return f", {periods} later" if periods > 0 else f", {-periods} earlier" if periods < 0 else ""
+    return f", {length(abs(periods))} {'later' if periods > 0 else 'earlier'}" if periods else ""

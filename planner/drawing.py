@@ -1,5 +1,5 @@
 """What a chart shows, whether as text or as SVG: a bar for each activity, the use of each resource over time."""
-from collections.abc import Collection, Mapping
+from collections.abc import Callable, Collection, Mapping
 from dataclasses import dataclass
 
 from .calendars import Calendar
@@ -43,6 +43,7 @@ class Drawing:
     bars: tuple[Bar, ...]
     loads: tuple[Load, ...]
     calendar: Calendar | None = None
+    length: Callable[[int], str] = str  # of so many periods, as the table writes lengths
 
     def span(self, begins: int, ends: int) -> str:
         """From when to when something is, in dates where there is a calendar."""
@@ -70,7 +71,7 @@ def make(opened: ProjectFile, starts: tuple[int, ...], title: str, notes: tuple[
                         *opened.times(i, starts[i]), (windows or {}).get(i), i in critical, project.due.get(i)))
     loads = tuple(Load(opened.names.resource(k), units, stretches(project, starts, k), cut(away(project, k, ends), ends))
                   for k, units in enumerate(project.capacities))
-    return Drawing(title, notes, begins, ends, tuple(bars), loads, opened.calendar)
+    return Drawing(title, notes, begins, ends, tuple(bars), loads, opened.calendar, opened.length)
 
 
 def bracket(opened: ProjectFile, starts: tuple[int, ...], name: str, activities: range) -> Bar:

@@ -69,8 +69,8 @@ def text(opened: ProjectFile, answer: Answer, found: dict[int, Window], total: T
 def cells(opened: ProjectFile, starts: tuple[int, ...], activity: int, window: Window, total: TotalFloat | None) -> list[str]:
     latest = None if total is None else total.found[activity]
     times = [starts[activity], *((window.earliest, window.latest) if latest is None else (latest.least,))]
-    spare = [] if latest is None else [latest.text()]
-    return [*(opened.times(activity, time)[0] for time in times), *spare, f"{window.float}"]
+    spare = [] if latest is None else [latest.text(opened.length)]
+    return [*(opened.times(activity, time)[0] for time in times), *spare, opened.length(window.float)]
 
 
 def floats(opened: ProjectFile, given: str | None, sheet: Sheet, chart: Chart, wanted: Total | None) -> int:

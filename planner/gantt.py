@@ -23,7 +23,9 @@ def text(shown: Drawing, width: int) -> str:
     columns = -(-(shown.ends - first) // scale)
     wide = max([len(short(label)) for label in labels(shown)] + [0])
     when = max([NUMBER, *(len(bar.first) for bar in shown.bars)])
-    lines = [shown.title + (f"   (a column is {scale} periods)" if scale > 1 else "")]
+    column = shown.length(scale)
+    column += " periods" if column.isdigit() else ""
+    lines = [shown.title + (f"   (a column is {column})" if scale > 1 else "")]
     margin = " " * (wide + when + 7)
     lines += [margin + line for line in ruler(shown, first, scale, columns)]
     for bar in shown.bars:

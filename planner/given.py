@@ -31,12 +31,14 @@ NO_ANSWER = {  # the beginning of what is no answer, and what it is
     "record ": "this is the record of a search, which `psmax verify` checks, and no starts",
     "psmax: ": "this is a fault that psmax told, and no answer",
 }
+PERIOD = "period"  # the column that says what starts count
 HEADS = {  # of an answer's columns
     "activity": ("activity",),
     "name": ("name", "task name", "task"),
     "start": ("start",),
     "day": ("first day", "from"),
     "takes": ("takes",),
+    PERIOD: (PERIOD,),
 }
 
 
@@ -57,6 +59,7 @@ class Given:
     starts: dict[int, Begin] = field(default_factory=dict)
     names: dict[int, str] = field(default_factory=dict)
     takes: dict[int, int] = field(default_factory=dict)  # how long the activities took then, where the answer says so
+    period: str = ""  # what a period was then, where the answer says so
     said: str = ""  # the first line of the answer, if it has one
     instead: str = ""  # a sentence for an answer without starts
     is_table: bool = False  # which has neither the start nor the end of the project
@@ -102,7 +105,8 @@ def from_lines(text: str, called: str, activities: Mapping[str, object]) -> Give
         raise BadInput(f"{called}: line 1: what it says of the activities can't be read")
     starts = starts_in(lines[1:], 2, called)
     named = {i: f"{name}" for i, name in enumerate(names, 1)} if any(names) else {}
-    return Given(called, begins(starts), named, {i: length for i, length in enumerate(durations, 1)}, short(said))
+    takes, period = {i: length for i, length in enumerate(durations, 1)}, str(activities.get(PERIOD) or "")
+    return Given(called, begins(starts), named, takes, period, short(said))
 
 
 def begins(starts: dict[int, int]) -> dict[int, Begin]:
@@ -202,7 +206,7 @@ def from_sheet(sheet: Sheet, called: str) -> Given:
     read: it follows from the start."""
     heads = [head.lower() for head in sheet.heads]
     columns = {kind: heads.index(head) for kind, known in HEADS.items() for head in known if head in heads}
-    given = Given(called, is_table=True)
+    given = Given(called, is_table=True, period=period_of(sheet, called, columns))
     for number, row in sheet.numbered():
         key = cell(row, columns.get("activity"))
         has_number = re.fullmatch("[0-9]{1,4}", key) is not None
@@ -216,6 +220,18 @@ def from_sheet(sheet: Sheet, called: str) -> Given:
     if not any(given.names.values()):
         given.names.clear()
     return given
+
+
+def period_of(sheet: Sheet, called: str, columns: dict[str, int]) -> str:
+    """What the starts count, which is the same in all rows that say it."""
+    first = ""
+    for number, row in sheet.numbered():
+        text = cell(row, columns.get(PERIOD))
+        if text and first and text != first:
+            raise BadInput(f"{called}: row {number}, column {letters(columns[PERIOD])} ({PERIOD}): '{short(text)}', and above "
+                           f"'{short(first)}'; all starts of an answer count the same")
+        first = first or text
+    return first
 
 
 def begin(sheet: Sheet, called: str, number: int, row: list[str], columns: dict[str, int]) -> Begin:

@@ -71,11 +71,12 @@ def answer_text(known: Known, opened: ProjectFile, as_table: bool) -> bytes:
         return write_sheet(rows(opened, known.starts, with_dates=False)).encode()
     first, _, rest = known.answer().decode().partition("\n")
     activities = activities_of(opened)
-    told = f" {json.dumps(activities, ensure_ascii=False)}" if any(activities["names"]) else ""
+    told = f" {json.dumps(activities, ensure_ascii=False)}" if any(opened.names.activities.values()) else ""
     return f"{first}{told}\n{rest}".encode()
 
 
-def activities_of(opened: ProjectFile) -> dict[str, list[object]]:
+def activities_of(opened: ProjectFile) -> dict[str, object]:
     """The names of the activities in their order, empty where one has none, and how long each takes."""
     durations = opened.project.durations[1:-1]
-    return {"names": [opened.names.activities.get(i, "") for i in range(1, len(durations) + 1)], "durations": [*durations]}
+    names = [opened.names.activities.get(i, "") for i in range(1, len(durations) + 1)]
+    return {"names": names, "durations": [*durations], "period": opened.names.unit or None}

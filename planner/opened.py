@@ -58,6 +58,13 @@ class ProjectFile:
             return f"{begins}", f"{ends}"
         return self.calendar.times(begins, ends, begins in self.mornings.get(activity, ()))
 
+    def length(self, periods: int) -> str:
+        """So many periods as the table writes lengths; their number where a period is what its column names."""
+        return self.table.scale.text(periods) if self.table is not None else f"{periods}"
+
+    def is_own(self) -> bool:
+        return self.table is None or self.table.scale.is_own()
+
     def changeable(self) -> int:
         """How many of the project's arcs are lags that one could change; those behind keep what has started."""
         return len(self.project.arcs) - len(self.progress.arcs(self.project.end - 1))

@@ -1,13 +1,14 @@
 """Lengths of time as people write them, and the period that divides them all."""
 import re
 from collections.abc import Iterable
-from dataclasses import dataclass
+from dataclasses import dataclass, replace
 from enum import Enum
 from fractions import Fraction
 from functools import reduce
 from math import gcd
 
 NUMBER = r"[-+]?(?:[0-9]{1,9}(?:[.,][0-9]{1,6})?|[.,][0-9]{1,6})"
+DAY = 8 * 60  # minutes of work, where nothing says the hours of a day
 LENGTH = re.compile(rf"({NUMBER})\s*([^\W\d_]*)[.?]*")
 
 
@@ -62,12 +63,21 @@ class Scale:
     minutes: int  # of a period, where it is one of so many minutes
     day: int | None  # how many minutes of work it has, where they are known
     week: int  # how many days of work it has
+    own: Unit  # of a number without a unit
+    head: Unit  # that the column of durations names
 
     def periods(self, length: Length) -> int:
         found = length.value * self.of(length.unit)
         if found.denominator != 1:
             raise ValueError
         return int(found)
+
+    def ratio(self, period: str) -> Fraction:
+        """How many periods one of this name takes; ValueError where nothing says so."""
+        length = read_length(period if period[:1].isdigit() else f"1 {period}", Unit.PERIODS)
+        if length.unit is Unit.PERIODS:
+            raise ValueError
+        return length.value * replace(self, day=self.day or DAY).of(length.unit)
 
     def of(self, unit: Unit) -> Fraction:
         """How many periods one of these takes; ValueError where nothing says so."""
@@ -84,7 +94,25 @@ class Scale:
         """What the calendar calls a period."""
         if self.period is not Unit.MINUTES:
             return str(self.period.value)
-        return {1: "minutes", 60: "hours"}.get(self.minutes, f"{self.minutes} minutes")
+        hours, more = divmod(self.minutes, 60)
+        count, unit = (self.minutes, Unit.MINUTES) if more else (hours, Unit.HOURS)
+        return unit.value if count == 1 else f"{count} {unit.value}"
+
+    def is_own(self) -> bool:
+        """Whether a period is what the column of durations names."""
+        return self.name() == self.head.value
+
+    def text(self, periods: int) -> str:
+        """A length as a planner writes it: in periods of the table's own, else in whole and half days, hours or minutes."""
+        if self.is_own() or periods == 0:
+            return f"{periods}"
+        if self.period is not Unit.MINUTES:
+            return f"{periods} {self.period.value[0]}"
+        for word, minutes in (("d", self.day), ("h", 60)):
+            value = Fraction(periods * self.minutes, minutes or 1)
+            if minutes and abs(value) >= 1 and value.denominator <= 2:
+                return f"{number(value)} {word}"
+        return f"{periods * self.minutes} min"
 
 
 def in_minutes(unit: Unit, day: int | None, week: int) -> int | None:
@@ -94,27 +122,35 @@ def in_minutes(unit: Unit, day: int | None, week: int) -> int | None:
     return None if day is None else day * {Unit.DAYS: 1, Unit.WEEKS: week}[unit]
 
 
-def scale_of(lengths: Iterable[Length], own: Unit, shift: Iterable[tuple[int, int]] | None, week: int) -> Scale:
+def scale_of(lengths: Iterable[Length], own: Unit, head: Unit, shift: Iterable[tuple[int, int]] | None,
+             week: int) -> Scale | None:
     """The longest period that divides all lengths, and that is no longer than an hour where some are in hours, and so on; one
-    of minutes only where the table's own unit is that. Where it is shorter than a day it divides the hours of work too."""
+    of minutes only where the table's own unit is that. Where it is shorter than a day it divides the hours of work too; none
+    where it needs these and nothing says them."""
     lengths = [*lengths]
     parts = None if shift is None else [ends - begins for begins, ends in shift]
     day = None if parts is None else sum(parts)
-    units = {length.unit for length in lengths if length.value} - {Unit.CALENDAR_DAYS} | {own}
+    units = units_of(lengths) | {own}
     units = units - {Unit.PERIODS} or units
     is_whole = all(length.value.denominator == 1 for length in lengths)
     for unit in (Unit.PERIODS, Unit.WEEKS, Unit.DAYS):
         others = {Unit.WEEKS} if unit is Unit.DAYS else set()
         if is_whole and unit in units and units <= {unit} | others:
-            return Scale(unit, 0, day, week)
-    clocked = [unit for unit in units if unit is not Unit.PERIODS]
-    known: dict[Unit, int | None] = {unit: in_minutes(unit, day, week) for unit in clocked}
-    if not known or None in known.values():
-        return Scale(own, 0, day, week)
-    steps = [Fraction(known[unit] or 0) for unit in clocked if unit is not Unit.MINUTES or unit is own]
+            return Scale(unit, 0, day, week, own, head)
+    if units == {Unit.PERIODS}:
+        return Scale(own, 0, day, week, own, head)
+    known: dict[Unit, int | None] = {unit: in_minutes(unit, day, week) for unit in units}
+    if None in known.values():
+        return None
+    steps = [Fraction(known[unit] or 0) for unit in units if unit is not Unit.MINUTES or unit is own]
     steps += [abs(length.value) * (known[length.unit] or 0) for length in lengths if length.unit in known]
     step = reduce(common, [*steps, *map(Fraction, parts or ())])
-    return Scale(Unit.MINUTES, int(step) if step.denominator == 1 else 1, day, week)
+    return Scale(Unit.MINUTES, int(step) if step.denominator == 1 else 1, day, week, own, head)
+
+
+def units_of(lengths: Iterable[Length]) -> set[Unit]:
+    """Those that lengths of work have."""
+    return {length.unit for length in lengths if length.value} - {Unit.CALENDAR_DAYS}
 
 
 def common(one: Fraction, other: Fraction) -> Fraction:

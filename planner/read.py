@@ -54,7 +54,7 @@ def read_activities(path: str, out: str | None, words: Settings) -> int:
     spelled = Spelled(opened.project)
     names = found.names
     names.source, names.digest = source, hashlib.sha256(read_bytes(path)).hexdigest()
-    names.settings = words.rows(os.path.dirname(named))
+    names.settings = (found.settings if words.first is not None else words).rows(os.path.dirname(named))
     least = Psmax(Clock(), path).earliest(opened.project)
     write_whole(target, spelled.text)
     write_whole(named, page(printable(pathlib.Path(target).stem), opened.project, names).encode())

@@ -1,7 +1,7 @@
 """What a search begins with: nothing, a schedule, or an old one of which a part has started and stays."""
 from dataclasses import dataclass, field, replace
 
-from .answer import Answer, Tied, feasible, tie
+from .answer import Answer, Tied, counted, feasible, tie
 from .circles import circles, in_words
 from .clock import Clock
 from .errors import BadInput
@@ -57,6 +57,7 @@ def begin_with(opened: ProjectFile, start: Start) -> Beginning:
     if start.frozen is None and progress.now is None:
         known = feasible(opened, given, Psmax(Clock(), opened.path))
         return Beginning(opened.project, [(known.starts, given.called)])
+    given = counted(opened, given)
     tied = tie(opened, given)
     if start.frozen is None:
         return from_old(opened, given, tied, progress, opened.settings.status or "")

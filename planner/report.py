@@ -136,7 +136,8 @@ class Chart:
         """The lags of each activity in words, with how much they leave."""
         found: dict[int, list[str]] = {}
         for arc in self.arcs:
-            says = f"{self.words.lag(arc)}: " + (f"{self.spare(arc)} to spare" if self.spare(arc) else "tight")
+            spare = f"{self.shown.length(self.spare(arc))} to spare" if self.spare(arc) else "tight"
+            says = f"{self.words.lag(arc)}: {spare}"
             for activity in dict.fromkeys((arc.tail, arc.head)):
                 found.setdefault(activity, []).append(says)
         return found
@@ -151,18 +152,17 @@ def heads(shown: Drawing, has_due: bool) -> str:
 def row(bar: Bar, words: Words, total: TotalFloat) -> str:
     """The cells of an activity, each with what it is sorted by."""
     assert bar.activity is not None and bar.window is not None
-    latest = total.found[bar.activity]
+    latest, length = total.found[bar.activity], words.opened.length
     demands = enumerate(words.project.demands[bar.activity])
     needs = ", ".join(f"{words.names.resource(k)} {units}" for k, units in demands if units)
-    whole = "critical" if latest.is_critical else latest.text()
+    whole = "critical" if latest.is_critical else latest.text(length)
     cells: list[tuple[object, object]] = [
         (bar.activity, bar.activity), (bar.name, bar.name), (whole, latest.least - latest.start),
-        (bar.window.float, bar.window.float), (bar.first, bar.begins), (bar.last, bar.ends),
-        (bar.ends - bar.begins, bar.ends - bar.begins)]
+        (length(bar.window.float), bar.window.float), (bar.first, bar.begins), (bar.last, bar.ends),
+        (length(bar.ends - bar.begins), bar.ends - bar.begins)]
     if words.project.due:
-        is_due = bar.due is not None
-        late = bar.ends - bar.due if bar.due is not None else 0
-        cells += [(words.by(bar.due) if bar.due is not None else "", bar.due if is_due else ""), (late if is_due else "", late)]
+        late = 0 if bar.due is None else bar.ends - bar.due
+        cells += [("", ""), ("", 0)] if bar.due is None else [(words.by(bar.due), bar.due), (length(late), late)]
     told = "".join(f'<td data-key="{escape(str(key))}">{escape(str(text))}</td>' for text, key in [*cells, (needs, needs)])
     return f'<tr class="activity" data-a="{bar.activity}">{told}</tr>'
 
@@ -202,11 +202,11 @@ def page_of(opened: ProjectFile, answer: Answer, found: Verdict | None, total: T
     ends = max([0, *project.ends(answer.starts)])
     first, last = words.time(0), words.by(ends)
     activities = sorted((bar for bar in shown.bars if bar.activity is not None), key=lambda bar: (bar.begins, bar.activity))
-    facts = [count(ends, opened.names.unit or "periods"), count(len(activities), "activities"),
-             count(len(total.critical()), "critical"), count(len(shown.loads), "resources"),
-             count(opened.changeable(), "lags")]
+    whole = count(ends, opened.names.unit or "periods") if opened.is_own() else fact(opened.length(ends), "of work")
+    facts = [whole, count(len(activities), "activities"), count(len(total.critical()), "critical"),
+             count(len(shown.loads), "resources"), count(opened.changeable(), "lags")]
     facts += [count(len(project.absences), "absences")] if project.absences else []
-    facts += [count(answer.starts[-1], "lateness")] if project.goal is Goal.LATENESS else []
+    facts += [fact(opened.length(answer.starts[-1]), "lateness")] if project.goal is Goal.LATENESS else []
     title = pathlib.Path(opened.path).stem
     texts = {
         "title": title, "quoted": json.dumps(title).replace("<", "\\3c "), "paper": paper, "first": first, "last": last,
@@ -225,7 +225,11 @@ def count(number: int, what: str) -> str:
     """A figure with its name, of which there may be one."""
     singular = {"activities": "activity", "resources": "resource", "lags": "lag", "absences": "absence", "days": "day",
                 "hours": "hour", "weeks": "week", "minutes": "minute", "periods": "period"}
-    return f"<span><b>{number}</b>{escape(singular.get(what, what) if number == 1 else what)}</span>"
+    return fact(f"{number}", singular.get(what, what) if number == 1 else what)
+
+
+def fact(figure: str, what: str) -> str:
+    return f"<span><b>{escape(figure)}</b>{escape(what)}</span>"
 
 
 def said_of_total(total: TotalFloat) -> str:

@@ -25,8 +25,8 @@ class Terms:
     scale: Scale
     calendar: Calendar | None
     order: str | None  # of the numbers of a date with slashes
-    own: Unit  # of a bare number
     head_row: int = 1  # the number of the row with the names of the columns
+    is_guess: bool = False  # whether the hours of work of a day are those that plan takes where nobody says them
     rounded: list[str] = field(default_factory=list)  # what is said of dates within a period
 
 
@@ -62,7 +62,7 @@ class Row:
     def length(self, column: Column, text: str) -> Length:
         """The length in a text of this column."""
         try:
-            return read_length(text, self.terms.own)
+            return read_length(text, self.terms.scale.own)
         except ValueError:
             raise self.fault(column, f"'{short(text)}' is not a number, or one with min, h, d, w or cd") from None
 
@@ -71,13 +71,12 @@ class Row:
         scale = self.terms.scale
         if length.unit is Unit.CALENDAR_DAYS:
             raise self.fault(column, "calendar days are for lags alone")
-        if length.unit is Unit.PERIODS and scale.period is not Unit.PERIODS and self.terms.own is Unit.PERIODS and length.value:
+        if length.unit is Unit.PERIODS and scale.period is not Unit.PERIODS and scale.own is Unit.PERIODS and length.value:
             raise self.fault(column, f"{number(length.value)} of what? Other cells have a unit, as in '2 d' or '4 h'")
         try:
             found = scale.periods(length)
         except ValueError:
-            needs = "; say the hours of work of a day by --shift" if scale.day is None else ""
-            raise self.fault(column, f"'{length}' is not a whole number of periods, which are {scale.name()}{needs}") from None
+            raise self.fault(column, f"'{length}' is not a whole number of periods, which are {scale.name()}") from None
         if abs(found) > MOST_UNITS:
             raise self.fault(column, f"{found} is more than {MOST_UNITS:,}")
         return found

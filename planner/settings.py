@@ -15,7 +15,8 @@ from .files import read_text
 from .letters import short
 
 FILES = {"holidays": "the file of holidays", "absences": "the table of absences"}  # the settings that name files
-PERIOD = re.compile(r"([1-9][0-9]{0,5}) minutes")
+PERIOD = re.compile(r"([1-9][0-9]{0,5}) (minutes|hours)")
+HOURS_OF_WORK = "08:00-12:00,13:00-17:00"  # of a day, where its length is needed and nobody says it
 GOALS = ("makespan", "lateness")
 
 
@@ -72,13 +73,15 @@ def checked(settings: Settings) -> Settings:
             raise BadInput(f"{name} {short(text)}: neither {' nor '.join(texts)}")
     if settings.period is not None and settings.period not in MINUTES and not PERIOD.fullmatch(settings.period):
         raise BadInput(f"period {short(settings.period)}: not one of {', '.join(MINUTES)}, and not such as '30 minutes'")
+    if settings.period not in (None, "weeks") and minutes_of(settings.period or "") > MINUTES["days"]:
+        raise BadInput(f"period {short(settings.period or '')}: longer than a day; such periods are days or weeks")
     return settings
 
 
 def calendar(settings: Settings, unit: str) -> Calendar | None:
     """None where nothing says when the project begins. A period is what the settings say, and else such a unit."""
     if settings.first is None:
-        for name in ("workdays", "holidays", "shift", "zone"):
+        for name in ("workdays", "holidays", "zone"):
             if getattr(settings, name) is not None:
                 raise BadInput(f"--{name} needs --from, the first day of the project")
         return None
@@ -108,7 +111,7 @@ def zone(settings: Settings) -> datetime.tzinfo:
 def minutes_of(unit: str) -> int:
     """How long a period is. A kind of period that has no length by the calendar counts as a day."""
     found = PERIOD.fullmatch(unit)
-    return int(found[1]) if found else MINUTES.get(unit, MINUTES["days"])
+    return int(found[1]) * MINUTES[found[2]] if found else MINUTES.get(unit, MINUTES["days"])
 
 
 def shift(settings: Settings, minutes: int) -> tuple[tuple[int, int], ...]:

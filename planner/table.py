@@ -18,9 +18,9 @@ from .names import Names
 from .outline import Group, groups, is_summary, levels
 from .progress import Progress
 from .project import MOST_ACTIVITIES, MOST_ARCS, Arc, Goal, Project
-from .quantities import Length, Scale, Unit, read_length, scale_of
+from .quantities import Length, Scale, Unit, read_length, scale_of, units_of
 from .rows import Row, Terms
-from .settings import NAMES, PERIOD, Settings, calendar, checked, from_rows, minutes_of, shift, time_of, workdays
+from .settings import HOURS_OF_WORK, NAMES, PERIOD, Settings, calendar, checked, from_rows, minutes_of, shift, time_of, workdays
 
 
 @dataclass(frozen=True)
@@ -35,6 +35,7 @@ class Table:
     mornings: dict[int, list[int]]  # times at which a date says that an activity without duration may be, by activity
     by_calendar: tuple[CalendarLag, ...]
     progress: Progress
+    scale: Scale
     notes: tuple[str, ...]  # what is to be said of it before anything is done with it
 
 
@@ -44,6 +45,8 @@ def read_table(file: str, text: str, words: Settings, folder: str, page: Setting
     settings = checked(words.over(settings_above(file, sheet, folder)).over(page))
     columns = read_heads(file, sheet, faults)
     terms = terms_of(file, sheet, columns, settings)
+    if terms.is_guess and settings.first is not None:
+        settings = replace(settings, shift=HOURS_OF_WORK)
     reading = Reading(terms, settings, faults)
     for number, cells in sheet.numbered():
         reading.add_row(Row(terms, number, cells))
@@ -68,19 +71,25 @@ def settings_above(file: str, sheet: Sheet, folder: str) -> Settings:
 
 def terms_of(file: str, sheet: Sheet, columns: Columns, settings: Settings) -> Terms:
     """By the lengths of all cells: the period that divides them, and so the calendar."""
-    own = columns.unit() if settings.period is None or PERIOD.fullmatch(settings.period) else Unit(settings.period)
-    parts = None if settings.shift is None else shift(settings, 1)
-    week = len(workdays(settings))
-    blank = Terms(file, columns, Scale(own, 0, None, week), None, settings.dates, own, sheet.head_row)
+    by_minutes = settings.period is not None and PERIOD.fullmatch(settings.period)
+    head = columns.unit() if settings.period is None or by_minutes else Unit(settings.period)
+    week, own = len(workdays(settings)), head
+    blank = Terms(file, columns, Scale(own, 0, None, week, own, head), None, settings.dates, sheet.head_row)
     rows = [Row(blank, number, cells) for number, cells in sheet.numbered()]
-    units = {length.unit for length in lengths([row.cell(Column.DURATION) for row in rows], own) if length.value}
+    units = units_of(lengths([row.cell(Column.DURATION) for row in rows], own))
     if own is Unit.PERIODS and len(units) == 1:
         [own] = units  # a column `duration` with one unit in all of its cells
     found = lengths([text for row in rows for text in lengths_in(row)], own)
-    scale = scale_of(found, own, parts, week)
-    if settings.period is not None and PERIOD.fullmatch(settings.period):
+    parts = None if settings.shift is None else shift(settings, 1)
+    scale = scale_of(found, own, head, parts, week)
+    is_guess = scale is None or bool(by_minutes and parts is None and (units_of(found) | {own}) & {Unit.DAYS, Unit.WEEKS})
+    if scale is None or is_guess:
+        settings = replace(settings, shift=HOURS_OF_WORK)
+        scale = scale_of(found, own, head, shift(settings, 1), week)
+    assert scale is not None
+    if settings.period is not None and by_minutes:
         scale = replace(scale, period=Unit.MINUTES, minutes=minutes_of(settings.period))
-    return replace(blank, own=own, scale=scale, calendar=calendar(replace(settings, period=None), scale.name()))
+    return replace(blank, scale=scale, calendar=calendar(replace(settings, period=None), scale.name()), is_guess=is_guess)
 
 
 def lengths(texts: Iterable[str], own: Unit) -> list[Length]:
@@ -135,7 +144,7 @@ class Reading:
         notes = [*self.said_of_period(), *self.terms.rounded, *days, *(said_of_history(arc, called) for arc in broken)]
         found = tuple(groups(self.named, self.depth, [place in self.groups for place in range(len(self.named))]))
         return Table(project, names, self.settings, self.terms.calendar, found, lags.activities.mornings, by_calendar, progress,
-                     tuple(notes))
+                     self.terms.scale, tuple(notes))
 
     def part(self) -> None:
         """What is an activity, and what a group."""
@@ -241,12 +250,13 @@ class Reading:
         return found, names
 
     def said_of_period(self) -> list[str]:
-        """What a period is, where it is no unit of the table's own."""
-        scale = self.terms.scale
-        if scale.period in (self.terms.own, Unit.PERIODS) or scale.name() == self.terms.own.value:
+        """What a period is, where it is no unit of the table's own, and which hours a day has, where nobody has said it."""
+        scale, told = self.terms.scale, self.terms.file
+        if not self.terms.is_guess and (scale.period in (scale.own, Unit.PERIODS) or scale.name() == scale.own.value):
             return []
         day = f"; a day has {scale.day // scale.minutes} of them" if scale.period is Unit.MINUTES and scale.day else ""
-        return [f"a period is one of {scale.name()}, which divide all lengths of {self.terms.file}{day}"]
+        day += f", {HOURS_OF_WORK}, until --shift says other hours" if self.terms.is_guess else ""
+        return [f"a period is one of {scale.name()}, which divide all lengths of {told}{day}"]
 
 
 def without_history(arcs: Sequence[Arc], progress: Progress) -> tuple[list[Arc], list[Arc]]:

@@ -3,7 +3,7 @@ latest start: it finds a schedule with that start, and proves that there is none
 import math
 import os
 import threading
-from collections.abc import Collection
+from collections.abc import Callable, Collection
 from concurrent.futures import ThreadPoolExecutor
 from dataclasses import dataclass, field, replace
 
@@ -40,14 +40,14 @@ class Latest:
     def is_critical(self) -> bool:
         return self.is_settled and self.most == self.start and not self.has_started
 
-    def text(self) -> str:
-        """The total float: a number, or what the time has left open."""
+    def text(self, length: Callable[[int], str] = str) -> str:
+        """The total float: a length, or what the time has left open."""
         if self.has_started:
             return "started"
-        least, most = self.least - self.start, self.most - self.start
+        least, most = length(self.least - self.start), length(self.most - self.start)
         if self.is_settled:
-            return f"{least}"
-        return f"{least} to {most}" if least < most else f"{least}, unproved"
+            return least
+        return f"{least} to {most}" if least != most else f"{least}, unproved"
 
 
 @dataclass

@@ -30,6 +30,8 @@ class Words:
 
     def many(self, periods: int) -> str:
         """So many periods, by their own name."""
+        if not self.opened.is_own():
+            return self.opened.length(periods)
         unit = self.opened.names.unit or "periods"
         if " " in unit:
             return f"{periods} times {unit}"
@@ -54,7 +56,8 @@ class Words:
             return f"{name} is due by {self.by(self.project.due[arc.tail])}"
         if arc.tail == 0:
             return f"the project {ends} {self.at(arc.lag)} or later"
-        return f"the project {ends} " + (f"at least {beyond} after {name}" if beyond else f"no sooner than {name}")
+        far = f"at least {self.opened.length(beyond)} after" if beyond else "no sooner than"
+        return f"the project {ends} {far} {name}"
 
     def greatest(self, arc: Arc, verb: str = "starts") -> str:
         """A lag that is at most 0, or one to the start, as the maximum lag that it is."""
@@ -81,8 +84,8 @@ class Words:
             return f"{limit} {self.at(lag)}"
         at_once = "no sooner than" if limit == "at least" else "no later than"
         if beyond >= 0 and self.project.durations[before]:
-            return f"{limit} {beyond} after {name} ends" if beyond else f"{at_once} {name} ends"
-        return f"{limit} {lag} after {name} starts" if lag else f"{at_once} {name} starts"
+            return f"{limit} {self.opened.length(beyond)} after {name} ends" if beyond else f"{at_once} {name} ends"
+        return f"{limit} {self.opened.length(lag)} after {name} starts" if lag else f"{at_once} {name} starts"
 
     def absence(self, one: Absence) -> str:
         """What is away, and when."""
@@ -119,7 +122,7 @@ class Words:
             return f"{said}, and " + (f"ends {on(last_day)}" if is_greatest else f"starts {on(first_day)}")
         from_end = abs(arc.lag) >= self.project.durations[first] > 0
         apart = starts[last] - starts[first] - (self.project.durations[first] if from_end else 0)
-        return f"{said}, and starts {abs(apart)} {'after' if apart >= 0 else 'before'} it does"
+        return f"{said}, and starts {self.opened.length(abs(apart))} {'after' if apart >= 0 else 'before'} it does"
 
     def overload(self, time: int, resource: int, starts: Sequence[int]) -> str:
         project = self.project

@@ -8,11 +8,11 @@ from .clock import Clock
 from .csv_text import SEPARATORS, Text, read_sheet, write_sheet
 from .errors import BadInput
 from .files import STANDARD_INPUT, guard, read_bytes, write_whole
-from .given import read_answer
+from .given import PERIOD, read_answer
 from .opened import ProjectFile
 from .psmax import Psmax
 
-HEADS = ["activity", "name", "start", "takes", "end"]
+HEADS = ["activity", "name", "start", "takes", "end"]  # and what they count, where a period is none of the table's own
 
 
 @dataclass(frozen=True)
@@ -52,12 +52,14 @@ class Sheet:
 def rows(opened: ProjectFile, starts: tuple[int, ...], with_dates: bool = True) -> list[list[object]]:
     """A row for each activity, in the order of their starts, below the names of the columns."""
     project, calendar = opened.project, opened.calendar if with_dates else None
-    table: list[list[object]] = [[*HEADS, *(calendar.heads if calendar else ())]]
+    units = [] if opened.is_own() else [PERIOD, "length"]
+    table: list[list[object]] = [[*HEADS, *units, *(calendar.heads if calendar else ())]]
     for activity in sorted(range(1, project.end), key=lambda i: (starts[i], i)):
         begins, takes = starts[activity], project.durations[activity]
         times = opened.times(activity, begins) if calendar else ()
         name = Text(opened.names.activities.get(activity, ""))
-        table.append([activity, name, begins, takes, begins + takes, *times])
+        told = [opened.names.unit, opened.length(takes)] if units else []
+        table.append([activity, name, begins, takes, begins + takes, *told, *times])
     return table
 
 

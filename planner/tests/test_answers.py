@@ -59,6 +59,30 @@ class Answers(InFolder):
         answer = self.file("a.csv", "name,start\nlift,2026-03-06\nbolt,3\ndone,5\n")
         self.refused(plan("check", plain, answer), 2, "'2026-03-06' is a date, and nothing says when the project begins")
 
+    def test_other_periods(self) -> None:
+        """By hand: a row in hours makes a period an hour, of which a day has eight. An old plan counts days as the column does,
+        or what it says: bolting starts after three days, which are 24 hours."""
+        old = self.folder / "old.json"
+        old.write_text(plan("solve", self.table, "--json").stdout)
+        self.table.write_text(TABLE + "look,4 h,,bolt\n")
+        rows = "name,start{}\nlift,0{}\nbolt,{}\ndone,{}\nlook,{}\n"
+        for heads, unit, starts in (("", "", ("3", "5", "5")), (",period", ",4 hours", ("6,4 hours", "10,", "10,")),
+                                    (",period", ",Hours", ("24,Hours", "40,", "40,"))):
+            self.assertEqual(self.checked(rows.format(heads, unit, *starts)), "feasible 44\n")
+        new = self.file("new.csv", rows.format("", "", "3", "5", "5"))
+        told = plan("compare", self.table, old, new).stdout
+        self.assertIn("makespan 5 d -> 5.5 d, 4 h later", told)
+        self.assertIn("3 of 4 start as before\n", told)
+        for unit, told in (("30 minutes", "row 3, column B (start): 7 30 minutes are no whole number of hours"),
+                           ("moons", "its starts count moons, and a period of"), ("periods", "its starts count periods, and")):
+            bad = self.file("a.csv", rows.format(",period", f",{unit}", "7,", "10,", "10,"))
+            self.refused(plan("check", self.table, bad), 2, f"a.csv: {told}")
+        bad = self.file("a.csv", rows.format(",period", ",days", "3,hours", "5,", "5,"))
+        self.refused(plan("check", self.table, bad), 2, "a.csv: row 3, column C (period): 'hours', and above 'days'")
+        mixed = self.file("m.csv", "activity,duration\nlift,3 d\nlook,4 h\n")
+        self.refused(plan("check", mixed, self.file("a.csv", "name,start\nlift,0\nlook,0\n")), 2,
+                     "a.csv: its starts count periods, and a period of", "write dates, or name what they count in a column")
+
     def test_what_is_no_answer(self) -> None:
         """It is a fault, also of a chart."""
         for text in (b"", b"\n", b"\x00\x01\xff", b"PK\x03\x04", b"record 2\n", b"proved optimal 7\n"):

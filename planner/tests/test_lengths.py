@@ -90,6 +90,12 @@ class Lengths(InFolder):
             ("a,4 h\n", shift, "4", f"{days} hours"), ("a,2.5 h\n", shift, "5", f"{days} 30 minutes"),
             ("a,40 min\n", shift, "2", f"{days} 20 minutes"), ("a,2 d\n", shift, "2", ""),
             ("a,0.5 w\n", shift, "20", f"{days} hours"),
+            ("a,\"1,5 d\"\n", (), "3", f"{days} 4 hours"), ("a,1.5\n", (), "3", f"{days} 4 hours"),
+            ("a,4 h\n", (), "4", f"{days} hours"), ("a,0.5 w\n", shift[:4], "5", f"{days} 4 hours"),
+            ("a,\"1,5 d\"\nb,2 d\nc,4 h\n", (), "16",
+             "a day has 8 of them, 08:00-12:00,13:00-17:00, until --shift says other hours"),
+            ("a,1.5\n", ("--shift", "08:00-14:00"), "3", f"{days} 3 hours"),
+            ("a,2\n", ("--period", "4 hours"), "4", f"{days} 4 hours"),
         ):
             with self.subTest(rows=rows, words=words):
                 found, told = self.told("activity,days", rows, *words)
@@ -104,10 +110,31 @@ class Lengths(InFolder):
         self.assertEqual(found, "35")
         self.assertIn("a period is one of 30 minutes, which divide all lengths of", told)
 
+    def test_half_days_and_hours_are_shown_as_they_are_written(self) -> None:
+        """By hand: a day and a half from Monday 08:00 on, at eight hours a day; then two days, and four hours until Thursday
+        17:00, which is 32 hours. With an hour more the last one ends on Friday at 09:00."""
+        heads = "from,2026-03-02\nworkdays,mon-fri\nactivity,days,after,due\n"
+        text = heads + 'strip,"1,5 d",,\nmend,2 d,strip,\nclose,4 h,mend,2026-03-04\n'
+        table, answer = self.file("p.csv", text), self.folder / "a.csv"
+        self.assertEqual(plan("solve", table, "--out", answer).stdout, "optimal 32\n")
+        self.assertEqual(plan("write", table, answer).stdout.splitlines()[1:], [
+            "1,strip,0,12,12,hours,1.5 d,2026-03-02 08:00,2026-03-03 12:00",
+            "2,mend,12,16,28,hours,2 d,2026-03-03 13:00,2026-03-05 12:00",
+            "3,close,28,4,32,hours,4 h,2026-03-05 13:00,2026-03-05 17:00"])
+        self.assertIn("(a column is 2 h)\n", plan("gantt", table, answer, "--width", "20").stdout)
+        self.assertEqual(plan("why", table, "--within", "31").stdout.splitlines()[-2],
+                         "  Allow the project to end 1 h later, or let 3 (close) start 1 h sooner after 2 (mend).")
+        page = self.folder / "a.html"
+        self.assertEqual(plan("report", table, answer, "--out", page).returncode, 0)
+        for told in ("<b>4 d</b>of work", '<td data-key="12">1.5 d</td>', '<td data-key="8">1 d</td>'):
+            self.assertIn(told, page.read_text())
+        longer, new = self.file("longer.csv", text.replace("4 h", "5 h")), self.folder / "new.csv"
+        plan("solve", longer, "--out", new)
+        self.assertEqual(plan("compare", longer, answer, new).stdout.splitlines()[:2], [
+            "makespan 4 d -> 33 h, 1 h later (2026-03-05 17:00 -> 2026-03-06 09:00)", "lateness 1 d -> 9 h, 1 h later"])
+
     def test_faults(self) -> None:
-        for rows, told in (("a,1.5\n", "'1.5 days' is not a whole number of periods, which are days; say the hours of work"),
-                           ("a,4 h\n", "'4 hours' is not a whole number of periods, which are days; say the hours of work"),
-                           ("a,2 moons\n", "'2 moons' is not a number, or one with min, h, d, w or cd"),
+        for rows, told in (("a,2 moons\n", "'2 moons' is not a number, or one with min, h, d, w or cd"),
                            ("a,2 cd\n", "calendar days are for lags alone"), ("a,-1 d\n", "-1 d is below 0")):
             with self.subTest(rows):
                 self.refused(plan("solve", self.file("p.csv", f"activity,days\n{rows}")), 2, "row 2, column B (days)", told)

@@ -24,7 +24,8 @@ class OfTables(InFolder):
     def test_numbers(self) -> None:
         self.told("lift,-3,,,,\n", "row 2, column B (days): -3 is below 0")
         self.told("lift,3,-1,,,\n", "row 2, column C (crew (5)): -1 is below 0")
-        self.told("lift,3.5,,,,\n", "row 2, column B (days): '3.5 days' is not a whole number of periods, which are days; say")
+        self.told("lift,3.5,,,,\n", "row 2, column B (periods): '3.5 periods' is not a whole number of periods",
+                  heads=HEADS.replace("days", "periods"))
 
     def test_a_comma_between_names(self) -> None:
         self.told('a,1,,,,\nb,1,,,,\nc,1,,"a, b",,\n',

@@ -98,7 +98,7 @@ class Named(InFolder):
         self.assertEqual(told, "feasible 9\n")
         first = self.starts.read_text().partition("\n")[0]
         self.assertEqual(json.loads(first.removeprefix("optimal 9 ")),
-                         {"names": ["strip", "mend", "close"], "durations": [3, 4, 2]})
+                         {"names": ["strip", "mend", "close"], "durations": [3, 4, 2], "period": "days"})
 
     def test_faults_of_tables(self) -> None:
         for text, fault in (("activity,name,start\n1,strip,x\n",

@@ -31,8 +31,8 @@ class Json(InFolder):
 
     def test_by_hand(self) -> None:
         told = self.told(INPUTS / "two-jobs.sch")
-        self.assertEqual([*told], ["bound", "makespan", "starts", "status", "names", "durations", "conflicts", "seconds",
-                                   "versions"])
+        self.assertEqual([*told], ["bound", "makespan", "starts", "status", "names", "durations", "period", "conflicts",
+                                   "seconds", "versions"])
         self.assertEqual([told[key] for key in ("bound", "makespan", "status", "durations")], [7, 7, "optimal", [3, 4]])
         self.assertGreater(told["seconds"], 0)
         self.assertGreater(told["conflicts"], -1)

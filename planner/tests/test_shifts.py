@@ -61,7 +61,7 @@ class Shifts(InFolder):
         odd = ("--from", "2026-03-02", "--shift", "07:00-12:30", "--period", "hours")
         self.assertIn("30 minutes", plan("read", path, *odd).stdout)
         self.refused(plan("solve", path, *odd[:4], "--period", "60 minutes"), 2, "--period '30 minutes' has")
-        self.refused(plan("solve", path, "--shift", "07:00-12:00"), 2, "--shift needs --from")
+        self.refused(plan("solve", path, "--period", "36 hours"), 2, "period 36 hours: longer than a day")
         far = self.file("far.csv", "activity,minutes,not before\na,6,2040-01-01\n")
         self.refused(plan("solve", far, "--from", "2026-03-02"), 2,
                      "row 2, column C (not before): 2040-01-01 is 7,276,320 periods")

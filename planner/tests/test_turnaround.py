@@ -79,5 +79,5 @@ class Turnaround(InFolder):
                     self.assertEqual(row["from"], begin)
                     self.assertEqual(row["until"] if end else hours(FRIDAY, row["until"]), end or int(left.split()[0]))
         told = plan("compare", self.friday, self.old, self.new).stdout
-        self.assertTrue(told.startswith(f"makespan {self.makespan} -> {ran.stdout.split()[1]}"), told)
+        self.assertTrue(told.startswith(f"makespan {self.makespan} h -> {ran.stdout.split()[1]} h"), told)
         self.assertEqual(plan("report", self.friday, self.new, "--out", self.folder / "page.html").returncode, 0)
