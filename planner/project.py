@@ -177,9 +177,10 @@ def lags_only(project: Project, arcs: list[Arc]) -> Project:
 def least_starts(project: Project) -> list[int] | None:
     """The least start of each activity by the lags alone; none where they contradict each other."""
     least: list[float] = [0, *[-float("inf")] * project.end]
+    rules = project.rules()
     for _ in least:
         is_done = True
-        for tail, head, lag in project.rules():
+        for tail, head, lag in rules:
             if least[tail] + lag > least[head]:
                 least[head], is_done = least[tail] + lag, False
         if is_done:

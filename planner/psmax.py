@@ -27,6 +27,7 @@ class Violation(NamedTuple):
 
 class Psmax(Program):
     name = "psmax"
+    asked: Spelled | None = None  # the project of the last check, of which there may be many
 
     def earliest(self, project: Project) -> int | None:
         """What is minimized, by the lags alone; none where they contradict each other."""
@@ -46,7 +47,9 @@ class Psmax(Program):
         if project.goal is Goal.LATENESS:
             known = self.check(replace(project, goal=Goal.MAKESPAN), project.plain(starts))
             return known if known.value is None else Checked(starts[-1], ())
-        spelled = Spelled(project)
+        if self.asked is None or self.asked.project != project:
+            self.asked = Spelled(project)
+        spelled = self.asked
         status, out = self.judge("check", spelled.text, starts_text(spelled.inward(starts)))
         found = re.fullmatch(rb"feasible (-?\d+)\n", out)
         if status == 0 and found is not None:

@@ -78,9 +78,11 @@ class TotalFloat:
     def by_lags(self) -> dict[int, int]:
         """The latest starts that the lags alone leave."""
         project = self.limited()
-        latest: list[float] = [0, *[math.inf] * project.end]
-        for _ in latest:
-            for tail, head, lag in project.rules():
+        rules, before = project.rules()[::-1], [math.inf]
+        latest = [0, *[math.inf] * project.end]
+        while latest != before:
+            before = [*latest]
+            for tail, head, lag in rules:
                 latest[tail] = min(latest[tail], latest[head] - lag)
         return {activity: int(latest[activity]) for activity in range(1, project.end)}
 

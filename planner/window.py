@@ -62,10 +62,35 @@ def windows(project: Project, starts: tuple[int, ...], psmax: Psmax) -> dict[int
     found = by_lags(project, starts)
     for activity in range(1, project.end):
         found[activity] = by_resources(project, starts, activity, found[activity], used)
-        for start in {found[activity].earliest, found[activity].latest} - {starts[activity]}:
-            moved = (*starts[:activity], start, *starts[activity + 1 :])
-            if psmax.check(project, moved).value is None:
-                raise Failed(f"psmax does not confirm that activity {activity} may start at {start}")
+    for group in groups(project, starts, [(activity, start) for activity, window in found.items()
+                                          for start in {window.earliest, window.latest} - {starts[activity]}]):
+        moved = {**dict(enumerate(starts)), **group}
+        if psmax.check(project, (*moved.values(),)).value is None:
+            told = ", ".join(f"activity {activity} at {start}" for activity, start in group.items())
+            raise Failed(f"psmax does not confirm that each of these may start so alone: {told}")
+    return found
+
+
+def groups(project: Project, starts: tuple[int, ...], moves: list[tuple[int, int]]) -> list[dict[int, int]]:
+    """Moves of activities, in groups of which one check confirms each move alone: no lag ties two of a group, and no two use
+    one resource at the same time, before or behind their moves."""
+    tied: list[set[int]] = [{activity} for activity in range(project.end + 1)]
+    for tail, head, _ in project.rules():
+        tied[tail].add(head)
+        tied[head].add(tail)
+    found: list[dict[int, int]] = []
+    ends: list[list[int]] = []  # of each group, up to when it uses each resource
+    for activity, start in sorted(moves, key=lambda move: (min(move[1], starts[move[0]]), move)):
+        begins, last = min(start, starts[activity]), max(start, starts[activity]) + project.durations[activity]
+        needs = [resource for resource, units in enumerate(project.demands[activity]) if units]
+        place = next((place for place, group in enumerate(found) if tied[activity].isdisjoint(group)
+                      and all(ends[place][resource] <= begins for resource in needs)), len(found))
+        if place == len(found):
+            found.append({})
+            ends.append([0] * len(project.capacities))
+        found[place][activity] = start
+        for resource in needs:
+            ends[place][resource] = last
     return found
 
 

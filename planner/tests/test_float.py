@@ -6,7 +6,7 @@ from xml.etree import ElementTree
 from planner.project import parse
 from planner.psmax import starts_text
 
-from .helpers import EXAMPLES, INPUTS, InFolder, plan, psmax
+from .helpers import EXAMPLES, INPUTS, PSMAX, InFolder, plan, psmax
 
 # By hand: one crane. b is on it from 0 to 3, c from 5 to 7, and a, which takes one day on it, can be there on 3 or 4.
 TABLE = """activity,days,crane (1),after,at least
@@ -73,6 +73,18 @@ class Float(InFolder):
                         moved = starts[:activity] + [start] + starts[activity + 1 :]
                         told = psmax("check", "--project", path, given=starts_text(moved))
                         self.assertEqual(told == f"feasible {starts[-1]}\n", earliest <= start <= latest)
+
+    def test_what_psmax_confirms(self) -> None:
+        """One check of the schedule, and two of the three moves, since a and paint may move at once. What it does not confirm
+        is told."""
+        log = self.folder / "log"
+        told = (f'echo "$1" >> {log}\nif [ "$1" = check ] && [ $(grep -c check {log}) -gt {{}} ]; then\n'
+                "echo lag 0 5 1; exit 4; fi\n")
+        ran = plan("float", self.project, self.answer, psmax=self.program("counts", told.format(9) + f'exec {PSMAX} "$@"'))
+        self.assertEqual((ran.returncode, log.read_text().split().count("check")), (0, 3), ran.stderr)
+        log.unlink()
+        ran = plan("float", self.project, self.answer, psmax=self.program("lies", told.format(1) + f'exec {PSMAX} "$@"'))
+        self.refused(ran, 1, "psmax does not confirm that each of these may start so alone: activity 5 at 0, activity 1 at 3")
 
     def test_faults(self) -> None:
         self.refused(plan("float", INPUTS / "two-jobs.sch", given=b"0 0\n1 0\n2 2\n3 6\n"), 2, "not a schedule")
