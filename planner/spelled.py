@@ -32,16 +32,20 @@ class Spelled:
 
     @cached_property
     def offset(self) -> int:
+        if self.project.goal is Goal.MAKESPAN and not self.project.absences:
+            return 0
         least = least_starts(self.project)
         if self.project.goal is Goal.LATENESS:
             soonest = least[-1] if least is not None else 0
             return max(self.horizon - soonest, *self.project.due.values())
-        last = max([ends for _, ends in self.absences], default=0)
+        last = max(ends for _, ends in self.absences)
         return max(0, last - (least[-1] if least is not None else 0))
 
     def arcs(self) -> list[Arc]:
         """The arcs of the text, with those that keep absences where they are."""
         project, found = self.project, []
+        if not project.absences and not self.offset:
+            return [*project.arcs]
         for tail, head, lag in project.arcs:
             by = (self.offset if head == project.end else 0) - (self.offset if tail == project.end else 0)
             found.append(Arc(self.number(tail), self.number(head), lag + by))
