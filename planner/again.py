@@ -14,7 +14,8 @@ SECONDS = 10  # at most, of the run
 
 
 def once_more(known: Known, opened: ProjectFile, project: Project) -> None:
-    """Each lag gets what the schedule's dates ask for, and what it begins with keeps its date, so the dates stay true."""
+    """Each lag that holds something back gets what the schedule's dates ask for, and what it begins with keeps its date, so the
+    dates stay true."""
     calendar, starts = opened.calendar, known.starts
     if opened.table is None or calendar is None or starts is None or not known.settled or known.clock.stopped:
         return
@@ -24,7 +25,7 @@ def once_more(known: Known, opened: ProjectFile, project: Project) -> None:
         first = before(one, arc)
         base = starts[first] + (project.durations[first] if one.from_end else 0)
         allowed = periods(calendar, one.days, one.from_end, one.is_least, base)
-        if allowed != one.periods:
+        if allowed != one.periods and starts[arc.head] == starts[arc.tail] + arc.lag:
             change = allowed - one.periods if one.is_least else one.periods - allowed
             arcs[one.place] = arc._replace(lag=arc.lag + change)
             fixed[first] = (one, allowed)

@@ -67,7 +67,7 @@ class Scale:
     head: Unit  # that the column of durations names
 
     def periods(self, length: Length) -> int:
-        found = length.value * self.of(length.unit)
+        found = length.value and length.value * self.of(length.unit)
         if found.denominator != 1:
             raise ValueError
         return int(found)

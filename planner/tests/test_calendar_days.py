@@ -24,6 +24,12 @@ class CalendarDays(InFolder):
         self.assertIn("row 3: with 'pour' where it is, 1 periods of work keep the 3 calendar days, in place of 3\n", told)
         self.assertIn("one more run with these gives optimal 7, 2 less; to have it, write these numbers", told)
 
+    def test_what_holds_nothing_back(self) -> None:
+        """Painting follows stripping at once, so its maximum lag keeps no date, and all may begin two days sooner."""
+        _, told = self.solved("pour,5,,,\nstrip,1,pour,3 cd,\npaint,1,strip,0,4 cd\n", *WEEK)
+        self.assertNotIn("row 4: with", told)
+        self.assertIn("one more run with these gives optimal 8, 2 less; to have it", told)
+
     def test_other_cases(self) -> None:
         """By hand: seven days are five of work from any day on; without days off, and from the start of pouring."""
         for rows, words, wanted in (

@@ -95,7 +95,7 @@ class Lengths(InFolder):
             ("a,\"1,5 d\"\nb,2 d\nc,4 h\n", (), "16",
              "a day has 8 of them, 08:00-12:00,13:00-17:00, until --shift says other hours"),
             ("a,1.5\n", ("--shift", "08:00-14:00"), "3", f"{days} 3 hours"),
-            ("a,2\n", ("--period", "4 hours"), "4", f"{days} 4 hours"),
+            ("a,2\n", ("--period", "4 hours"), "4", f"{days} 4 hours"), ("a,0 h\nb,2\n", (), "2", ""),
         ):
             with self.subTest(rows=rows, words=words):
                 found, told = self.told("activity,days", rows, *words)
@@ -132,6 +132,13 @@ class Lengths(InFolder):
         plan("solve", longer, "--out", new)
         self.assertEqual(plan("compare", longer, answer, new).stdout.splitlines()[:2], [
             "makespan 4 d -> 33 h, 1 h later (2026-03-05 17:00 -> 2026-03-06 09:00)", "lateness 1 d -> 9 h, 1 h later"])
+
+    def test_a_text_without_its_table(self) -> None:
+        """Its page has the hours of a day, also those that plan took: a day and a half end at noon."""
+        table, answer = self.file("p.csv", "activity,days\na,1.5\n"), self.file("a.csv", "name,start\na,0\n")
+        self.assertEqual(plan("read", table, "--from", "2026-03-02").returncode, 0)
+        table.unlink()
+        self.assertIn("2026-03-02 08:00,2026-03-03 12:00", plan("write", self.folder / "p.sch", answer).stdout)
 
     def test_faults(self) -> None:
         for rows, told in (("a,2 moons\n", "'2 moons' is not a number, or one with min, h, d, w or cd"),

@@ -1,6 +1,6 @@
 """No output replaces what was read, and no result is lost."""
 import os
-import shutil
+import pathlib
 import signal
 import subprocess
 import sys
@@ -177,6 +177,7 @@ class Ends(InFolder):
         words = ["nohup", sys.executable, str(PLAN), "solve", str(EXAMPLES / "building-site.sch")]
         child = subprocess.Popen(words, stdout=subprocess.PIPE, stderr=subprocess.PIPE, text=True,
                                  env={**os.environ, **CALLED})
-        time.sleep(0.05)
-        child.send_signal(signal.SIGHUP) if shutil.which("nohup") else None
+        while pathlib.Path(f"/proc/{child.pid}/cmdline").read_bytes().startswith(b"nohup"):
+            time.sleep(0.01)
+        child.send_signal(signal.SIGHUP)
         self.assertIn("optimal 36", child.communicate(timeout=30)[0])
