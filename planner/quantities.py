@@ -66,7 +66,13 @@ class Scale:
     own: Unit  # of a number without a unit
     head: Unit  # that the column of durations names
 
+    def is_vague(self, length: Length) -> bool:
+        """Whether nothing says what a number counts, since other lengths have units."""
+        return length.value != 0 and length.unit is self.own is Unit.PERIODS is not self.period
+
     def periods(self, length: Length) -> int:
+        if self.is_vague(length):
+            raise ValueError
         found = length.value and length.value * self.of(length.unit)
         if found.denominator != 1:
             raise ValueError

@@ -2,6 +2,7 @@
 import datetime
 import re
 from dataclasses import dataclass, field
+from fractions import Fraction
 
 from .calendars import Calendar
 from .cells import CellFault, fault_at
@@ -66,13 +67,13 @@ class Row:
         except ValueError:
             raise self.fault(column, f"'{short(text)}' is not a number, or one with min, h, d, w or cd") from None
 
-    def periods(self, column: Column, length: Length) -> int:
+    def periods(self, column: int | Column, length: Length, instead: str = "'2 d' or '4 h'") -> int:
         """The same in periods."""
         scale = self.terms.scale
         if length.unit is Unit.CALENDAR_DAYS:
             raise self.fault(column, "calendar days are for lags alone")
-        if length.unit is Unit.PERIODS and scale.period is not Unit.PERIODS and scale.own is Unit.PERIODS and length.value:
-            raise self.fault(column, f"{number(length.value)} of what? Other cells have a unit, as in '2 d' or '4 h'")
+        if scale.is_vague(length):
+            raise self.fault(column, f"{number(length.value)} of what? Durations have units; write {instead}")
         try:
             found = scale.periods(length)
         except ValueError:
@@ -91,11 +92,9 @@ class Row:
         return self.periods(column, length)
 
     def time_in(self, column: int | Column, text: str) -> int | Moment:
-        """The number of a period, or a date, which needs a calendar."""
+        """A time in periods by a number, which counts what a bare duration does; or a date, which needs a calendar."""
         if re.fullmatch("[0-9]{1,7}", text):
-            if int(text) > MOST_UNITS:
-                raise self.fault(column, f"{text} is more than {MOST_UNITS:,}")
-            return int(text)
+            return self.periods(column, Length(Fraction(text), self.terms.scale.own), "a date")
         try:
             moment = read_moment(text, self.terms.order)
         except ValueError as fault:

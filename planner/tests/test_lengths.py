@@ -146,4 +146,17 @@ class Lengths(InFolder):
             with self.subTest(rows):
                 self.refused(plan("solve", self.file("p.csv", f"activity,days\n{rows}")), 2, "row 2, column B (days)", told)
         mixed = self.file("p.csv", "activity,duration\na,2 d\nb,3\n")
-        self.refused(plan("solve", mixed), 2, "row 3, column B (duration): 3 of what? Other cells have a unit, as in '2 d'")
+        self.refused(plan("solve", mixed), 2, "row 3, column B (duration): 3 of what? Durations have units; write '2 d'")
+        mixed = self.file("p.csv", "activity,duration,not before\na,2 d,3\nb,3 h,\n")
+        self.refused(plan("solve", mixed), 2, "row 2, column C (not before): 3 of what? Durations have units; write a date")
+        self.refused(plan("solve", mixed, "--status", "3"), 2, "status 3: durations have units")
+
+    def test_numbers_count_what_the_column_counts(self) -> None:
+        """By hand: an hour more in a row changes no time of another row: a day is eight hours, from day 2 on, away on day 5."""
+        heads = "activity,days,crane (1),not before,end by,due\n"
+        away = self.file("away.csv", "resource,from,to\ncrane,5,6\n")
+        for row, told in (("", "optimal 8"), ("look,1 h,,,,\n", "optimal 64")):
+            table = self.file("p.csv", f"{heads}lift,3,1,2,5,5\nset,2,1,,,\nlate,1,,7,,\n{row}")
+            ran = plan("solve", table, "--absences", away, "--status", "1")
+            self.assertEqual(ran.stdout.partition("\n")[0], told, ran.stderr)
+            self.assertEqual(plan("solve", table, "--minimize", "lateness").stdout.partition("\n")[0], "optimal lateness 0")
