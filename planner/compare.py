@@ -47,7 +47,7 @@ class Side:
         if was in self.now:
             return self.opened.times(self.now[was], self.starts[was])[0]
         calendar = self.opened.calendar
-        return calendar.times(self.starts[was], self.ends[was])[0] if calendar else f"{self.starts[was]}"
+        return calendar.times(self.starts[was], self.ends[was])[0] if calendar else self.opened.after(self.starts[was])
 
     def called(self, was: int) -> str:
         return self.names[was] or f"activity {was}"

@@ -44,16 +44,17 @@ class Drawing:
     loads: tuple[Load, ...]
     calendar: Calendar | None = None
     length: Callable[[int], str] = str  # of so many periods, as the table writes lengths
+    after: Callable[[int], str] = str  # a time, where there is no calendar
 
     def span(self, begins: int, ends: int) -> str:
         """From when to when something is, in dates where there is a calendar."""
-        first, last = self.calendar.times(begins, ends) if self.calendar else (f"{begins}", f"{ends}")
+        first, last = self.calendar.times(begins, ends) if self.calendar else (self.after(begins), self.after(ends))
         return f"{first} to {last}"
 
     def mark(self, time: int, is_first: bool) -> str:
         """A time on the ruler: a short date, but for the first one."""
         if self.calendar is None:
-            return f"{time}"
+            return self.after(time)
         return self.calendar.times(time, time + 1)[0] if is_first else self.calendar.mark(time)
 
 
@@ -71,7 +72,7 @@ def make(opened: ProjectFile, starts: tuple[int, ...], title: str, notes: tuple[
                         *opened.times(i, starts[i]), (windows or {}).get(i), i in critical, project.due.get(i)))
     loads = tuple(Load(opened.names.resource(k), units, stretches(project, starts, k), cut(away(project, k, ends), ends))
                   for k, units in enumerate(project.capacities))
-    return Drawing(title, notes, begins, ends, tuple(bars), loads, opened.calendar, opened.length)
+    return Drawing(title, notes, begins, ends, tuple(bars), loads, opened.calendar, opened.length, opened.after)
 
 
 def bracket(opened: ProjectFile, starts: tuple[int, ...], name: str, activities: range) -> Bar:

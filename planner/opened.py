@@ -52,15 +52,19 @@ class ProjectFile:
         return self.sources | self.settings.files()
 
     def times(self, activity: int, begins: int) -> tuple[str, str]:
-        """When an activity begins and ends, where it begins at this time: as dates, or else as the numbers of periods."""
+        """When an activity begins and ends, where it begins at this time: as dates, or else as lengths from the start."""
         ends = begins + self.project.durations[activity]
         if self.calendar is None:
-            return f"{begins}", f"{ends}"
+            return self.after(begins), self.after(ends)
         return self.calendar.times(begins, ends, begins in self.mornings.get(activity, ()))
 
     def length(self, periods: int) -> str:
         """So many periods as the table writes lengths; their number where a period is what its column names."""
         return self.table.scale.text(periods) if self.table is not None else f"{periods}"
+
+    def after(self, time: int) -> str:
+        """A time, where there are no dates."""
+        return self.table.scale.time(time) if self.table is not None else f"{time}"
 
     def is_own(self) -> bool:
         return self.table is None or self.table.scale.is_own()

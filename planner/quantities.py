@@ -108,6 +108,10 @@ class Scale:
         """Whether a period is what the column of durations names."""
         return self.name() == self.head.value
 
+    def time(self, periods: int) -> str:
+        """A time so long after the start; a number where that counts periods in a table too."""
+        return f"{periods}" if self.name() == self.own.value else self.text(periods)
+
     def text(self, periods: int) -> str:
         """A length as a planner writes it: in periods of the table's own, else in whole and half days, hours or minutes."""
         if self.is_own() or periods == 0:

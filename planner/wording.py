@@ -18,7 +18,7 @@ class Words:
     def time(self, time: int) -> str:
         """A time at which something begins."""
         calendar = self.opened.calendar
-        return calendar.times(time, time + 1)[0] if calendar is not None else f"{time}"
+        return calendar.times(time, time + 1)[0] if calendar is not None else self.opened.after(time)
 
     def at(self, time: int) -> str:
         return on(self.time(time))
@@ -26,7 +26,7 @@ class Words:
     def by(self, time: int) -> str:
         """A time by which something has ended: the last day of it."""
         calendar = self.opened.calendar
-        return calendar.times(time - 1, time)[1] if calendar is not None else f"{time}"
+        return calendar.times(time - 1, time)[1] if calendar is not None else self.opened.after(time)
 
     def many(self, periods: int) -> str:
         """So many periods, by their own name."""

@@ -160,3 +160,5 @@ class Lengths(InFolder):
             ran = plan("solve", table, "--absences", away, "--status", "1")
             self.assertEqual(ran.stdout.partition("\n")[0], told, ran.stderr)
             self.assertEqual(plan("solve", table, "--minimize", "lateness").stdout.partition("\n")[0], "optimal lateness 0")
+        early = self.file("a.csv", "name,start\nlift,2\nset,0\nlate,5\nlook,0\n")
+        self.assertEqual(plan("check", table, early).stdout, "3 (late) must start at 7 d or later, and starts at 5 d\n")
