@@ -68,7 +68,7 @@ def counted(opened: ProjectFile, given: Given) -> Given:
     unit, scale = opened.names.unit, opened.table.scale if opened.table is not None else None
     said = given.period
     if scale is not None and given.is_table and not said:
-        said = scale.own.value
+        said = scale.counts()
     if said in ("", unit) or all(begin.period is None for begin in given.starts.values()):
         return given
     try:

@@ -65,10 +65,11 @@ class Scale:
     week: int  # how many days of work it has
     own: Unit  # of a number without a unit
     head: Unit  # that the column of durations names
+    is_named: bool = False  # whether somebody has said what a period is
 
     def is_vague(self, length: Length) -> bool:
         """Whether nothing says what a number counts, since other lengths have units."""
-        return length.value != 0 and length.unit is self.own is Unit.PERIODS is not self.period
+        return length.value != 0 and length.unit is Unit.PERIODS is not self.period and not self.is_named
 
     def periods(self, length: Length) -> int:
         if self.is_vague(length):
@@ -105,12 +106,16 @@ class Scale:
         return unit.value if count == 1 else f"{count} {unit.value}"
 
     def is_own(self) -> bool:
-        """Whether a period is what the column of durations names."""
-        return self.name() == self.head.value
+        """Whether a period is what the column of durations names, or what numbers in it count where it names nothing."""
+        return self.name() == self.head.value or (self.is_named and self.own is Unit.PERIODS)
 
     def time(self, periods: int) -> str:
         """A time so long after the start; a number where that counts periods in a table too."""
-        return f"{periods}" if self.name() == self.own.value else self.text(periods)
+        return f"{periods}" if self.name() == self.counts() else self.text(periods)
+
+    def counts(self) -> str:
+        """What a number without a unit counts."""
+        return self.name() if self.is_named and self.own is Unit.PERIODS else self.own.value
 
     def text(self, periods: int) -> str:
         """A length as a planner writes it: in periods of the table's own, else in whole and half days, hours or minutes."""

@@ -21,7 +21,7 @@ from .progress import Progress
 from .project import MOST_ACTIVITIES, MOST_ARCS, Arc, Goal, Project
 from .quantities import Length, Scale, Unit, read_length, scale_of, units_of
 from .rows import Row, Terms
-from .settings import HOURS_OF_WORK, NAMES, PERIOD, Settings, calendar, checked, from_rows, minutes_of, shift, time_of, workdays
+from .settings import HOURS_OF_WORK, NAMES, Settings, calendar, checked, from_rows, minutes_of, shift, time_of, workdays
 
 
 @dataclass(frozen=True)
@@ -71,9 +71,10 @@ def settings_above(file: str, sheet: Sheet, folder: str) -> Settings:
 
 
 def terms_of(file: str, sheet: Sheet, columns: Columns, settings: Settings) -> Terms:
-    """By the lengths of all cells: the period that divides them, and so the calendar."""
-    by_minutes = settings.period is not None and PERIOD.fullmatch(settings.period)
-    head = columns.unit() if settings.period is None or by_minutes else Unit(settings.period)
+    """By the lengths of all cells: the period that divides them, where none is named, and so the calendar."""
+    head, named = columns.unit(), settings.period
+    if head is Unit.PERIODS and named in [unit.value for unit in Unit]:
+        head = Unit(named)
     week, own = len(workdays(settings)), head
     blank = Terms(file, columns, Scale(own, 0, None, week, own, head), None, settings.dates, sheet.head_row)
     rows = [Row(blank, number, cells) for number, cells in sheet.numbered()]
@@ -81,16 +82,24 @@ def terms_of(file: str, sheet: Sheet, columns: Columns, settings: Settings) -> T
     if own is Unit.PERIODS and len(units) == 1:
         [own] = units  # a column `duration` with one unit in all of its cells
     found = lengths([text for row in rows for text in lengths_in(row)], own)
-    parts = None if settings.shift is None else shift(settings, 1)
-    scale = scale_of(found, own, head, parts, week)
-    is_guess = scale is None or bool(by_minutes and parts is None and (units_of(found) | {own}) & {Unit.DAYS, Unit.WEEKS})
+    scale = scale_of(found, own, head, None if settings.shift is None else shift(settings, 1), week)
+    is_guess = settings.shift is None and (scale is None or needs_hours(units_of(found) | {own}, named))
     if scale is None or is_guess:
         settings = replace(settings, shift=HOURS_OF_WORK)
         scale = scale_of(found, own, head, shift(settings, 1), week)
     assert scale is not None
-    if settings.period is not None and by_minutes:
-        scale = replace(scale, period=Unit.MINUTES, minutes=minutes_of(settings.period))
+    if named in (Unit.DAYS.value, Unit.WEEKS.value):
+        scale = replace(scale, period=Unit(named), minutes=0, is_named=True)
+    elif named is not None:
+        scale = replace(scale, period=Unit.MINUTES, minutes=minutes_of(named), is_named=True)
     return replace(blank, scale=scale, calendar=calendar(replace(settings, period=None), scale.name()), is_guess=is_guess)
+
+
+def needs_hours(units: set[Unit], named: str | None) -> bool:
+    """Whether a period that is named is tied to these units by the hours of work of a day."""
+    by_day, by_clock = {Unit.DAYS, Unit.WEEKS}, {Unit.HOURS, Unit.MINUTES}
+    is_by_day = named in [unit.value for unit in by_day]
+    return named is not None and bool(units & (by_clock if is_by_day else by_day))
 
 
 def lengths(texts: Iterable[str], own: Unit) -> list[Length]:
@@ -262,12 +271,13 @@ class Reading:
 
     def said_of_period(self) -> list[str]:
         """What a period is, where it is no unit of the table's own, and which hours a day has, where nobody has said it."""
-        scale, told = self.terms.scale, self.terms.file
-        if not self.terms.is_guess and (scale.period in (scale.own, Unit.PERIODS) or scale.name() == scale.own.value):
+        scale = self.terms.scale
+        if not self.terms.is_guess and (scale.period in (scale.own, Unit.PERIODS) or scale.name() == scale.counts()):
             return []
         day = f"; a day has {scale.day // scale.minutes} of them" if scale.period is Unit.MINUTES and scale.day else ""
         day += f", {HOURS_OF_WORK}, until --shift says other hours" if self.terms.is_guess else ""
-        return [f"a period is one of {scale.name()}, which divide all lengths of {told}{day}"]
+        why = "as --period says" if scale.is_named else f"which divide all lengths of {self.terms.file}"
+        return [f"a period is one of {scale.name()}, {why}{day}"]
 
 
 def without_history(arcs: Sequence[Arc], progress: Progress) -> tuple[list[Arc], list[Arc]]:

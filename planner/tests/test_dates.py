@@ -31,11 +31,19 @@ class Dates(InFolder):
             ("hours", ["--from", "2026-03-02T06:00"], [["2026-03-02 06:00", "2026-03-02 09:00"]]),
             ("minutes", ["--from", "2026-03-02T06:00"], [["2026-03-02 06:00", "2026-03-02 06:03"]]),
             ("duration", ["--from", "2026-03-02"], [["2026-03-02", "2026-03-04"]]),
-            ("weeks", ["--from", "2026-03-02", "--period", "days"], [["2026-03-02", "2026-03-04"]]),
         ):
             with self.subTest(unit=unit, words=words):
                 self.read(unit)
                 self.assertEqual(self.written(*words)[1 : 1 + len(wanted)], wanted)
+
+    def test_another_period(self) -> None:
+        """A period of days makes another project of a table of weeks: by hand 21 days and 14."""
+        self.read("weeks")
+        self.refused(self.ran("write", "--from", "2026-03-02", "--period", "days"), 2, "was made with another calendar")
+        self.read("weeks", "--from", "2026-03-02", "--period", "days")
+        self.file("p.st", STARTS.replace("2 3", "2 21").replace("3 3", "3 21"))
+        self.assertEqual(self.ran("check").stdout, "feasible 35\n")
+        self.assertIn("2026-03-02,2026-03-22\n", self.ran("write").stdout)
 
     @unittest.skipUnless("Europe/Berlin" in zoneinfo.available_timezones(), "no time zones here")
     def test_a_time_zone(self) -> None:
@@ -101,6 +109,7 @@ class Dates(InFolder):
     def test_charts_of_moments_and_of_starts_before_the_first(self) -> None:
         self.read("hours")
         self.assertIn("2026-03-02 09:00", self.ran("gantt", "--from", "2026-03-02T06:00").stdout)
+        self.read("days")
         self.file("p.st", "0 0\n1 -1\n2 3\n3 3\n4 5\n")
         words = ["--from", "2026-03-02", "--period", "days", "--workdays", "mon-fri"]
         self.assertIn("2026-02-27", self.ran("gantt", *words).stdout)

@@ -96,12 +96,16 @@ class Lengths(InFolder):
              "a day has 8 of them, 08:00-12:00,13:00-17:00, until --shift says other hours"),
             ("a,1.5\n", ("--shift", "08:00-14:00"), "3", f"{days} 3 hours"),
             ("a,2\n", ("--period", "4 hours"), "4", f"{days} 4 hours"), ("a,0 h\nb,2\n", (), "2", ""),
+            ("a,2\n", ("--period", "hours"), "16", f"{days} hours, as --period says; a day"),
+            ("a,2\n", ("--period", "days"), "2", ""),
+            ("a,16 h\n", ("--period", "days"), "2", "a period is one of days"),
         ):
             with self.subTest(rows=rows, words=words):
                 found, told = self.told("activity,days", rows, *words)
                 self.assertEqual(found, wanted)
                 self.assertIn(said, told)
         self.assertEqual(self.told("activity,duration", "a,2 h\nb,30 min\n")[0], "4")
+        self.assertEqual(self.told("activity,duration", "a,2 h\nb,5\n", "--period", "30 minutes")[0], "5")
 
     def test_lags(self) -> None:
         """By hand: 8 hours, then at least an hour and a half, then 8 hours: 35 half hours."""
@@ -141,6 +145,8 @@ class Lengths(InFolder):
         self.assertIn("2026-03-02 08:00,2026-03-03 12:00", plan("write", self.folder / "p.sch", answer).stdout)
 
     def test_faults(self) -> None:
+        half = self.file("p.csv", "activity,days\na,1.5\n")
+        self.refused(plan("solve", half, "--period", "days"), 2, "'1.5 days' is not a whole number of periods, which are days")
         for rows, told in (("a,2 moons\n", "'2 moons' is not a number, or one with min, h, d, w or cd"),
                            ("a,2 cd\n", "calendar days are for lags alone"), ("a,-1 d\n", "-1 d is below 0")):
             with self.subTest(rows):

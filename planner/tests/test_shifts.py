@@ -59,8 +59,8 @@ class Shifts(InFolder):
         self.refused(plan("solve", path, "--from", "2026-03-02", "--shift", "7-16"), 2,
                      "shift 7-16: not hours of a day such as")
         odd = ("--from", "2026-03-02", "--shift", "07:00-12:30", "--period", "hours")
-        self.assertIn("30 minutes", plan("read", path, *odd).stdout)
-        self.refused(plan("solve", path, *odd[:4], "--period", "60 minutes"), 2, "--period '30 minutes' has")
+        self.assertIn("a period is one of 30 minutes", plan("read", path, *odd[:4]).stdout)
+        self.refused(plan("solve", path, *odd), 2, "--period '30 minutes' has")
         self.refused(plan("solve", path, "--period", "36 hours"), 2, "period 36 hours: longer than a day")
         far = self.file("far.csv", "activity,minutes,not before\na,6,2040-01-01\n")
         self.refused(plan("solve", far, "--from", "2026-03-02"), 2,
