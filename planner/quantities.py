@@ -82,7 +82,7 @@ class Scale:
     def ratio(self, period: str) -> Fraction:
         """How many periods one of this name takes; ValueError where nothing says so."""
         length = read_length(period if period[:1].isdigit() else f"1 {period}", Unit.PERIODS)
-        if length.unit is Unit.PERIODS:
+        if length.value <= 0 or length.unit in (Unit.PERIODS, Unit.CALENDAR_DAYS):
             raise ValueError
         return length.value * replace(self, day=self.day or DAY).of(length.unit)
 

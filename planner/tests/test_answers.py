@@ -74,7 +74,8 @@ class Answers(InFolder):
         self.assertIn("makespan 5 d -> 5.5 d, 4 h later", told)
         self.assertIn("3 of 4 start as before\n", told)
         for unit, told in (("30 minutes", "row 3, column B (start): 7 30 minutes are no whole number of hours"),
-                           ("moons", "its starts count moons, and a period of"), ("periods", "its starts count periods, and")):
+                           ("moons", "its starts count moons, and a period of"), ("periods", "its starts count periods, and"),
+                           ("cd", "its starts count cd, and"), ("0 hours", "its starts count 0 hours, and")):
             bad = self.file("a.csv", rows.format(",period", f",{unit}", "7,", "10,", "10,"))
             self.refused(plan("check", self.table, bad), 2, f"a.csv: {told}")
         bad = self.file("a.csv", rows.format(",period", ",days", "3,hours", "5,", "5,"))
