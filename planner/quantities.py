@@ -43,7 +43,7 @@ class Length:
 
 
 def number(value: Fraction) -> str:
-    return f"{value.numerator}" if value.denominator == 1 else f"{float(value):g}"
+    return f"{value.numerator}" if value.denominator == 1 else f"{float(value):.6f}".rstrip("0")
 
 
 def read_length(text: str, unit: Unit) -> Length:
@@ -65,6 +65,7 @@ class Scale:
     week: int  # how many days of work it has
     own: Unit  # of a number without a unit
     head: Unit  # that the column of durations names
+    has_hours: bool = False  # whether some lengths are in hours or minutes
     is_named: bool = False  # whether somebody has said what a period is
 
     def is_vague(self, length: Length) -> bool:
@@ -118,14 +119,16 @@ class Scale:
         return self.name() if self.is_named and self.own is Unit.PERIODS else self.own.value
 
     def text(self, periods: int) -> str:
-        """A length as a planner writes it: in periods of the table's own, else in whole and half days, hours or minutes."""
+        """A length as the table writes it: in periods of its own; else in days, or where it has hours too in whole and half
+        days, hours and minutes."""
         if self.is_own() or periods == 0:
             return f"{periods}"
         if self.period is not Unit.MINUTES:
             return f"{periods} {self.period.value[0]}"
         for word, minutes in (("d", self.day), ("h", 60)):
             value = Fraction(periods * self.minutes, minutes or 1)
-            if minutes and abs(value) >= 1 and value.denominator <= 2:
+            is_short = abs(value) >= 1 and value.denominator <= 2
+            if minutes and (is_short or (minutes == self.day and not self.has_hours and 1000 % value.denominator == 0)):
                 return f"{number(value)} {word}"
         return f"{periods * self.minutes} min"
 
@@ -160,7 +163,8 @@ def scale_of(lengths: Iterable[Length], own: Unit, head: Unit, shift: Iterable[t
     steps = [Fraction(known[unit] or 0) for unit in units if unit is not Unit.MINUTES or unit is own]
     steps += [abs(length.value) * (known[length.unit] or 0) for length in lengths if length.unit in known]
     step = reduce(common, [*steps, *map(Fraction, parts or ())])
-    return Scale(Unit.MINUTES, int(step) if step.denominator == 1 else 1, day, week, own, head)
+    has_hours = not units.isdisjoint({Unit.HOURS, Unit.MINUTES})
+    return Scale(Unit.MINUTES, int(step) if step.denominator == 1 else 1, day, week, own, head, has_hours)
 
 
 def units_of(lengths: Iterable[Length]) -> set[Unit]:
