@@ -74,8 +74,9 @@ class ProjectFile:
         return len(self.project.arcs) - len(self.progress.arcs(self.project.end - 1))
 
     def time(self, text: str, name: str) -> int:
-        """A date or the number of a period, as a word of the command says it."""
-        return time_of(text, name, self.settings, self.calendar)
+        """A date or a number, as a word of the command says it."""
+        scale = self.table.scale if self.table is not None else None
+        return time_of(text, name, self.settings, self.calendar, scale)
 
 
 def page_of(project: str) -> str:

@@ -5,6 +5,7 @@ import os
 import re
 from collections.abc import Mapping
 from dataclasses import dataclass, fields, replace
+from fractions import Fraction
 from math import gcd
 from zoneinfo import ZoneInfo, ZoneInfoNotFoundError
 
@@ -13,6 +14,7 @@ from .dates import ORDERS, Moment, is_dated, read_moment, read_shift, read_workd
 from .errors import BadInput
 from .files import read_text
 from .letters import short
+from .quantities import Length, Scale
 
 FILES = {"holidays": "the file of holidays", "absences": "the table of absences"}  # the settings that name files
 PERIOD = re.compile(r"([1-9][0-9]{0,5}) (minutes|hours)")
@@ -157,10 +159,13 @@ def moment(text: str, name: str, settings: Settings) -> Moment:
         raise BadInput(f"{name} {short(text)}: {fault}") from None
 
 
-def time_of(text: str, name: str, settings: Settings, found: Calendar | None) -> int:
-    """The first time that is not before a date; or the number of a period, which is one."""
+def time_of(text: str, name: str, settings: Settings, found: Calendar | None, scale: Scale | None) -> int:
+    """The first time that is not before a date; or a number, which counts what a bare duration of a table does."""
     if re.fullmatch("[0-9]{1,7}", text):
-        return int(text)
+        try:
+            return int(text) if scale is None else scale.periods(Length(Fraction(text), scale.own))
+        except ValueError:
+            raise BadInput(f"{name} {text}: durations have units, or a period is longer; write a date") from None
     if found is None:
         reason = "" if is_dated(text) else "neither the number of a period nor a date; "
         raise BadInput(f"{name} {short(text)}: {reason}a date needs --from, the first day of the project")

@@ -3,7 +3,6 @@ import difflib
 from collections.abc import Iterable, Sequence
 from contextlib import suppress
 from dataclasses import dataclass, replace
-from fractions import Fraction
 
 from .absences import read_absences
 from .calendar_days import CalendarLag
@@ -140,7 +139,8 @@ class Reading:
         self.part()
         for row in self.rows:
             self.add_activity(row)
-        progress = Progress(self.status())
+        status, terms = self.settings.status, self.terms
+        progress = Progress(None if status is None else time_of(status, "status", self.settings, terms.calendar, terms.scale))
         progress.read(self.rows, self.durations, self.faults)
         lags, due = self.lags(), self.due()
         self.faults.tell()
@@ -154,17 +154,6 @@ class Reading:
         found = tuple(groups(self.named, self.depth, [place in self.groups for place in range(len(self.named))]))
         return Table(project, names, self.settings, self.terms.calendar, found, lags.activities.mornings, by_calendar, progress,
                      self.terms.scale, tuple(notes))
-
-    def status(self) -> int | None:
-        """The time from which on the rest is planned. A number counts what a bare duration does."""
-        text, scale = self.settings.status, self.terms.scale
-        if text is None:
-            return None
-        time = time_of(text, "status", self.settings, self.terms.calendar)
-        try:
-            return scale.periods(Length(Fraction(time), scale.own)) if text.isdigit() else time
-        except ValueError:
-            raise BadInput(f"status {short(text)}: durations have units, or a period is longer; write a date") from None
 
     def part(self) -> None:
         """What is an activity, and what a group."""

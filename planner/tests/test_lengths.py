@@ -170,5 +170,8 @@ class Lengths(InFolder):
             ran = plan("solve", table, "--absences", away, "--status", "1")
             self.assertEqual(ran.stdout.partition("\n")[0], told, ran.stderr)
             self.assertEqual(plan("solve", table, "--minimize", "lateness").stdout.partition("\n")[0], "optimal lateness 0")
+        old = self.file("old.csv", "name,start\nlift,2\nset,0\nlate,7\nlook,0\n")
+        told = plan("solve", table, "--start", old, "--frozen", "3").stderr
+        self.assertIn("3 of 4 activities start before 3 in", told)
         early = self.file("a.csv", "name,start\nlift,2\nset,0\nlate,5\nlook,0\n")
         self.assertEqual(plan("check", table, early).stdout, "3 (late) must start at 7 d or later, and starts at 5 d\n")
