@@ -69,7 +69,7 @@ def counted(opened: ProjectFile, given: Given) -> Given:
     said = given.period
     if scale is not None and given.is_table and not said:
         said = scale.counts()
-    if said in ("", unit) or all(begin.period is None for begin in given.starts.values()):
+    if said in ("", unit) or not unit or all(begin.period is None for begin in given.starts.values()):
         return given
     try:
         ratio = scale.ratio(said) if scale is not None else None
@@ -77,7 +77,7 @@ def counted(opened: ProjectFile, given: Given) -> Given:
         ratio = None
     if ratio is None:
         raise BadInput(f"{given.called}: its starts count {short(said)}, and a period of {opened.path} is one of "
-                       f"{unit or 'another'}; write dates, or name what they count in a column 'period'")
+                       f"{unit}; write dates, or name what they count in a column 'period'")
     starts = {}
     for number, begin in given.starts.items():
         found = None if begin.period is None else begin.period * ratio

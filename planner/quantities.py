@@ -55,6 +55,14 @@ def read_length(text: str, unit: Unit) -> Length:
     return Length(Fraction(found[1].replace(",", ".")), WORDS[word] if word else unit)
 
 
+def time_after(text: str, own: Unit) -> Length | None:
+    """How long after the start a time is: a whole number, or one with its unit, as 2 d; none for what may be a date."""
+    found = LENGTH.fullmatch(text)
+    if found is None or not (found[2] or text.isdigit()) or found[2].lower() not in ("", *WORDS) or text.startswith("-"):
+        return None
+    return read_length(text, own)
+
+
 @dataclass(frozen=True)
 class Scale:
     """How many periods a length takes."""
@@ -83,12 +91,14 @@ class Scale:
     def ratio(self, period: str) -> Fraction:
         """How many periods one of this name takes; ValueError where nothing says so."""
         length = read_length(period if period[:1].isdigit() else f"1 {period}", Unit.PERIODS)
-        if length.value <= 0 or length.unit in (Unit.PERIODS, Unit.CALENDAR_DAYS):
+        if length.value <= 0 or length.unit is Unit.PERIODS:
             raise ValueError
         return length.value * replace(self, day=self.day or DAY).of(length.unit)
 
     def of(self, unit: Unit) -> Fraction:
         """How many periods one of these takes; ValueError where nothing says so."""
+        if unit is Unit.CALENDAR_DAYS:
+            raise ValueError
         if unit is Unit.PERIODS or unit is self.period is not Unit.MINUTES:
             return Fraction(1)
         if self.period is Unit.DAYS and unit is Unit.WEEKS:

@@ -9,7 +9,7 @@ from .given import Given, read_answer
 from .letters import at_most
 from .opened import ProjectFile
 from .progress import Progress
-from .project import MOST_ARCS, MOST_UNITS, Arc, Project, in_order
+from .project import MOST_ARCS, Arc, Project, in_order
 from .psmax import Psmax
 from .window import stretches
 from .wording import Words
@@ -67,8 +67,6 @@ def begin_with(opened: ProjectFile, start: Start) -> Beginning:
 def frozen(opened: ProjectFile, tied: Tied, day: str) -> Progress:
     """What starts before the day in the old schedule has started there."""
     now = opened.time(day, "--frozen")
-    if now > MOST_UNITS:
-        raise BadInput(f"--frozen: no later than {MOST_UNITS:,}, since the format has no greater lag")
     return Progress(now, {i: tied.starts[i] for i in range(1, opened.project.end) if tied.starts.get(i, now) < now})
 
 

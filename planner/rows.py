@@ -2,7 +2,6 @@
 import datetime
 import re
 from dataclasses import dataclass, field
-from fractions import Fraction
 
 from .calendars import Calendar
 from .cells import CellFault, fault_at
@@ -11,7 +10,7 @@ from .csv_text import cell
 from .dates import Moment, read_moment
 from .letters import short
 from .project import MOST_UNITS
-from .quantities import Length, Scale, Unit, number, read_length
+from .quantities import Length, Scale, Unit, number, read_length, time_after
 
 DATED = (Column.STARTED, Column.FINISHED, Column.NOT_BEFORE, Column.END_BY, Column.DUE)
 YES, NO = ("yes", "y", "x", "true", "ja", "1"), ("", "no", "n", "false", "nein", "0")
@@ -93,8 +92,9 @@ class Row:
 
     def time_in(self, column: int | Column, text: str) -> int | Moment:
         """A time in periods by a number, which counts what a bare duration does; or a date, which needs a calendar."""
-        if re.fullmatch("[0-9]{1,7}", text):
-            return self.periods(column, Length(Fraction(text), self.terms.scale.own), "a date")
+        length = time_after(text, self.terms.scale.own)
+        if length is not None:
+            return self.periods(column, length, "'2 d' or a date")
         try:
             moment = read_moment(text, self.terms.order)
         except ValueError as fault:

@@ -5,7 +5,6 @@ import os
 import re
 from collections.abc import Mapping
 from dataclasses import dataclass, fields, replace
-from fractions import Fraction
 from math import gcd
 from zoneinfo import ZoneInfo, ZoneInfoNotFoundError
 
@@ -14,7 +13,8 @@ from .dates import ORDERS, Moment, is_dated, read_moment, read_shift, read_workd
 from .errors import BadInput
 from .files import read_text
 from .letters import short
-from .quantities import Length, Scale
+from .project import MOST_UNITS
+from .quantities import Scale, Unit, time_after
 
 FILES = {"holidays": "the file of holidays", "absences": "the table of absences"}  # the settings that name files
 PERIOD = re.compile(r"([1-9][0-9]{0,5}) (minutes|hours)")
@@ -160,13 +160,19 @@ def moment(text: str, name: str, settings: Settings) -> Moment:
 
 
 def time_of(text: str, name: str, settings: Settings, found: Calendar | None, scale: Scale | None) -> int:
-    """The first time that is not before a date; or a number, which counts what a bare duration of a table does."""
-    if re.fullmatch("[0-9]{1,7}", text):
+    """The first time that is not before a date; or a number, which counts what a bare duration of a table does, or has a
+    unit of its own."""
+    length = time_after(text, Unit.PERIODS if scale is None else scale.own)
+    if length is not None:
         try:
-            return int(text) if scale is None else scale.periods(Length(Fraction(text), scale.own))
+            time = int(text) if scale is None else scale.periods(length)
         except ValueError:
-            raise BadInput(f"{name} {text}: durations have units, or a period is longer; write a date") from None
-    if found is None:
-        reason = "" if is_dated(text) else "neither the number of a period nor a date; "
+            raise BadInput(f"{name} {short(text)}: no whole number of periods; write a date or '2 d'") from None
+    elif found is not None:
+        time = found.from_on(moment(text, name, settings).at)
+    else:
+        reason = "" if is_dated(text) else "neither a number nor a date; "
         raise BadInput(f"{name} {short(text)}: {reason}a date needs --from, the first day of the project")
-    return found.from_on(moment(text, name, settings).at)
+    if time > MOST_UNITS:
+        raise BadInput(f"{name} {short(text)}: {time:,} periods after the start, and there may be {MOST_UNITS:,}")
+    return time

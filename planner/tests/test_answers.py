@@ -73,6 +73,9 @@ class Answers(InFolder):
         told = plan("compare", self.table, old, new).stdout
         self.assertIn("makespan 5 d -> 5.5 d, 4 h later", told)
         self.assertIn("3 of 4 start as before\n", told)
+        alone = self.file("alone.sch", "1 0 0 0\n0 1 0\n1 1 0\n2 1 0\n0 1 0\n1 1 5\n2 1 0\n")
+        answer = self.file("b.csv", "activity,start,period\n1,0,weeks\n")
+        self.assertEqual(plan("check", alone, answer).stdout, "feasible 5\n")
         for unit, told in (("30 minutes", "row 3, column B (start): 7 30 minutes are no whole number of hours"),
                            ("moons", "its starts count moons, and a period of"), ("periods", "its starts count periods, and"),
                            ("cd", "its starts count cd, and"), ("0 hours", "its starts count 0 hours, and")):

@@ -158,8 +158,17 @@ class Lengths(InFolder):
         mixed = self.file("p.csv", "activity,duration\na,2 d\nb,3\n")
         self.refused(plan("solve", mixed), 2, "row 3, column B (duration): 3 of what? Durations have units; write '2 d'")
         mixed = self.file("p.csv", "activity,duration,not before\na,2 d,3\nb,3 h,\n")
-        self.refused(plan("solve", mixed), 2, "row 2, column C (not before): 3 of what? Durations have units; write a date")
-        self.refused(plan("solve", mixed, "--status", "3"), 2, "status 3: durations have units")
+        self.refused(plan("solve", mixed), 2, "row 2, column C (not before): 3 of what? Durations have units; write '2 d' or")
+        self.refused(plan("solve", mixed, "--status", "3"), 2, "status 3: no whole number of periods; write a date")
+        for cell, told in (("1 d", "optimal 24"), ("4 h", "optimal 20"), ("0", "optimal 16"), ("1.5 d", "optimal 28")):
+            mixed = self.file("p.csv", f"activity,duration,not before\na,2 d,{cell}\nb,3 h,\n")
+            self.assertEqual(plan("solve", mixed, "--status", "2 h").stdout.partition("\n")[0],
+                             told if cell != "0" else "optimal 18")
+        self.refused(plan("solve", mixed, "--status", "99999 w"), 2, "status 99999 w: 5,599,944 periods")
+        for cell in ("1 cd", "-1 d", "12.5", "1 moon"):
+            mixed = self.file("p.csv", f"activity,duration,not before\na,2 d,{cell}\nb,3 h,\n")
+            self.refused(plan("solve", mixed), 2, "row 2, column C (not before): ")
+            self.refused(plan("solve", self.file("q.csv", "activity,days\na,2\n"), "--status", cell), 2, f"status {cell}: ")
 
     def test_numbers_count_what_the_column_counts(self) -> None:
         """By hand: an hour more in a row changes no time of another row: a day is eight hours, from day 2 on, away on day 5."""

@@ -177,7 +177,8 @@ class Ends(InFolder):
         words = ["nohup", sys.executable, str(PLAN), "solve", str(EXAMPLES / "building-site.sch")]
         child = subprocess.Popen(words, stdout=subprocess.PIPE, stderr=subprocess.PIPE, text=True,
                                  env={**os.environ, **CALLED})
-        while pathlib.Path(f"/proc/{child.pid}/cmdline").read_bytes().startswith(b"nohup"):
+        begun = pathlib.Path(f"/proc/{child.pid}/cmdline")  # of Python, once nohup has seen to the signal
+        while child.poll() is None and not begun.read_bytes().startswith(sys.executable.encode()):
             time.sleep(0.01)
         child.send_signal(signal.SIGHUP)
         self.assertIn("optimal 36", child.communicate(timeout=30)[0])
