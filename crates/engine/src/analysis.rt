@@ -5,12 +5,11 @@ use crate::marks::NO_VALUE;
 use crate::state::Engine;
 use literals::{Conflict, Literal, Reason};
 use proof_log::{Ground, Link};
-use std::alloc::AllocError;
 use std::cmp::Reverse;
-use tables::Table;
+use tables::{Result, Table};
 
 /// What an analysis found, beside the lemma.
-#[derive(Clone, Copy, Debug)]
+#[derive(Clone, Copy)]
 pub(crate) struct Learnt {
     /// The level to go back to.
     pub(crate) level: u32,
@@ -21,57 +20,45 @@ pub(crate) struct Learnt {
 }
 
 /// How many explanations deep a literal is looked at.
-const DEPTH: usize = 60;
+const DEPTH: u32 = 60;
 
-/// A literal that is looked at: whether all that it follows from is in the nogood.
+/// A value of an event that is looked at: whether all that it follows from is in the nogood.
 #[derive(Clone, Copy)]
 struct Frame {
     event: u32,
     link: Link,
-    /// Where its literals stand that are still to be looked at.
+    /// Where its literals stand, of which those from `next` on are still to be looked at.
     from: u32,
     next: u32,
     to: u32,
 }
 
 /// The bit of a level, one of 64.
-#[inline(always)]
 fn level_bit(level: u32) -> u64 {
     1u64.wrapping_shl(level & 63)
 }
 
 impl Engine<'_> {
     /// The literal that is needed of an event.
-    #[inline(always)]
     fn needed(&self, event: u32) -> Literal {
-        Literal {
-            slot: self.trail.event(event).slot,
-            value: self.marks.need.get(event as usize),
-        }
-    }
-
-    /// The level of a literal that holds.
-    #[inline(always)]
-    fn level_of(&self, literal: Literal) -> u32 {
-        self.trail.event(self.trail.event_of(literal)).level
-    }
-
-    /// The last level of the literals that were found.
-    fn last_level(&self) -> u32 {
-        let mut last = 0;
-        for literal in self.marks.found.all() {
-            last = last.max(self.level_of(*literal));
-        }
-        last
+        let slot = self.trail.event(event).slot;
+        let value = self.marks.need[event];
+        Literal { slot, value }
     }
 
     /// Learns from a conflict. The lemma is `marks.nogood`, its literals negated: the one to be set first, one of the level
     /// to go back to second. None where the root or several first decisions alone are at fault, for which there may be no
     /// unique point.
-    pub(crate) fn analyse(&mut self, conflict: Conflict) -> Result<Option<Learnt>, AllocError> {
+    pub(crate) fn analyse(&mut self, conflict: Conflict) -> Result<Option<Learnt>> {
         self.marks.begin(self.trail.count())?;
         let end = self.explain_conflict(conflict)?;
-        let top = self.last_level();
+        let levels = self
+            .marks
+            .found
+            .all()
+            .iter()
+            .map(|literal| self.trail.level_of(*literal));
+        let top = levels.max().unwrap_or(0);
         if top <= self.floor {
             if top == 0 {
                 self.log.end(end)?;
@@ -86,7 +73,7 @@ impl Engine<'_> {
         let links = self.marks.links(self.alloc)?;
         let number = self.log.lemma(&self.marks.nogood, &links, end)?;
         for literal in self.marks.nogood.iter_mut() {
-            *literal = literal.negated();
+            *literal = !*literal;
         }
         self.choices.age();
         self.lemmas.age();
@@ -94,10 +81,10 @@ impl Engine<'_> {
     }
 
     /// The literals that were found are needed. Gives how many events of the last level are so for the first time.
-    fn note_found(&mut self, top: u32) -> Result<u32, AllocError> {
+    fn note_found(&mut self, top: u32) -> Result<u32> {
         let mut count = 0u32;
-        for at in 0..self.marks.found.len() {
-            let literal = self.marks.found.get(at);
+        for at in 0..self.marks.found.count() {
+            let literal = self.marks.found[at];
             let event = self.trail.event_of(literal);
             let level = self.trail.event(event).level;
             if level > 0 && self.marks.need(event, literal.value)? {
@@ -113,34 +100,34 @@ impl Engine<'_> {
     }
 
     /// Replaces needed events of the last level by what they follow from, from the last one on, until one is left.
-    fn resolve(&mut self, top: u32) -> Result<u32, AllocError> {
+    fn resolve(&mut self, top: u32) -> Result<u32> {
         let mut count = self.note_found(top)?;
-        for number in (0..self.trail.count()).rev() {
-            if self.marks.need.get(number as usize) == NO_VALUE {
+        for event in (0..self.trail.count()).rev() {
+            if self.marks.need[event] == NO_VALUE {
                 continue;
             }
-            let literal = self.needed(number);
+            let literal = self.needed(event);
             self.choices.bump(literal)?;
             if count <= 1 {
-                return Ok(number);
+                return Ok(event);
             }
-            let reason = self.trail.event(number).reason;
+            let reason = self.trail.event(event).reason;
             if let Reason::Lemma { place } = reason {
                 self.lemmas.touch(place);
             }
-            let ground = self.explain(literal, reason, number)?;
-            self.marks.replace(number, Link { literal, ground })?;
+            let ground = self.explain(literal, reason, event)?;
+            self.marks.replace(event, Link { literal, ground })?;
             count = count.wrapping_sub(1).wrapping_add(self.note_found(top)?);
         }
         Ok(0)
     }
 
     /// Bumps the needed literals of lower levels. Gives the bits of their levels.
-    fn bump_lower(&mut self) -> Result<u64, AllocError> {
+    fn bump_lower(&mut self) -> Result<u64> {
         let mut levels = 0u64;
-        for at in 0..self.marks.lower.len() {
-            let event = self.marks.lower.get(at);
-            levels = levels | level_bit(self.trail.event(event).level);
+        for at in 0..self.marks.lower.count() {
+            let event = self.marks.lower[at];
+            levels |= level_bit(self.trail.event(event).level);
             let literal = self.needed(event);
             self.choices.bump(literal)?;
         }
@@ -151,29 +138,29 @@ impl Engine<'_> {
     fn forget_replaced(&mut self, top: u32) {
         for event in self.marks.needed.all() {
             if self.trail.event(*event).level == top {
-                self.marks.need.set(*event as usize, NO_VALUE);
+                self.marks.need[*event] = NO_VALUE;
             }
         }
     }
 
     /// The nogood: the literal of the unique point, and of lower levels what does not follow from the rest.
-    fn minimise(&mut self, point: u32, top: u32) -> Result<(), AllocError> {
+    fn minimise(&mut self, point: u32, top: u32) -> Result<()> {
         let first = self.needed(point);
         let levels = self.bump_lower()?;
         self.forget_replaced(top);
         self.marks.nogood.push(first)?;
-        for at in 0..self.marks.lower.len() {
-            let event = self.marks.lower.get(at);
-            if !self.is_redundant(event, levels)? {
-                let literal = self.needed(event);
+        for at in 0..self.marks.lower.count() {
+            let event = self.marks.lower[at];
+            let literal = self.needed(event);
+            if !self.is_redundant(event, literal.value, levels)? {
                 self.marks.nogood.push(literal)?;
             }
         }
         Ok(())
     }
 
-    /// A frame for a literal of an event, which is no decision: what it follows from is found.
-    fn frame(&mut self, event: u32, value: i32) -> Result<Frame, AllocError> {
+    /// A frame for a value of an event, which is no decision: what it follows from is found.
+    fn frame(&mut self, event: u32, value: i32) -> Result<Frame> {
         let found = self.trail.event(event);
         let slot = found.slot;
         let literal = Literal { slot, value };
@@ -188,106 +175,89 @@ impl Engine<'_> {
         })
     }
 
-    /// Whether a literal has to be in the nogood as far as is known: it is a decision, or of a level without others, or
-    /// was looked at.
-    fn is_blocked(&self, event: u32, value: i32, levels: u64, depth: usize) -> bool {
+    /// Whether a value of an event has to be in the nogood as far as is known: it is a decision, or of a level without
+    /// others, or was looked at.
+    fn is_blocked(&self, event: u32, value: i32, levels: u64) -> bool {
         let found = self.trail.event(event);
-        depth >= DEPTH
+        found.reason == Reason::Decision
             || levels & level_bit(found.level) == 0
-            || found.reason == Reason::Decision
             || self.marks.is_hard(event, value)
     }
 
-    /// Whether what a needed literal follows from is in the nogood already.
-    fn is_redundant(&mut self, event: u32, levels: u64) -> Result<bool, AllocError> {
+    /// Whether what a needed value of an event follows from is in the nogood already.
+    fn is_redundant(&mut self, event: u32, value: i32, levels: u64) -> Result<bool> {
         if self.trail.event(event).reason == Reason::Decision {
             return Ok(false);
         }
-        let value = self.marks.need.get(event as usize);
         let first = self.frame(event, value)?;
         let mut frames = Table::filled(self.alloc, 1, first, first)?;
         for _ in 0..u64::MAX {
-            let Some(frame) = frames.pop() else {
+            let Some(mut frame) = frames.pop() else {
                 break;
             };
             if frame.next >= frame.to {
-                self.marks.found.truncate(frame.from as usize);
-                self.marks.note_gone(frame.event, frame.link.literal.value)?;
+                self.marks.found.truncate(frame.from);
+                self.marks
+                    .note(frame.event, frame.link.literal.value, true)?;
                 self.marks.replace(frame.event, frame.link)?;
                 continue;
             }
-            let literal = self.marks.found.get(frame.next as usize);
-            let next = frame.next.wrapping_add(1);
-            frames.push(Frame { next, ..frame })?;
+            let literal = self.marks.found[frame.next];
+            frame.next = frame.next.wrapping_add(1);
+            frames.push(frame)?;
             let cause = self.trail.event_of(literal);
-            let value = literal.value;
-            if self.trail.event(cause).level == 0 || self.marks.has(cause, value) {
+            if self.trail.event(cause).level == 0 || self.marks.has(cause, literal.value) {
                 continue;
             }
-            if self.is_blocked(cause, value, levels, frames.len()) {
-                self.note_hard(&frames)?;
-                self.marks.found.truncate(first.from as usize);
+            if frames.count() >= DEPTH || self.is_blocked(cause, literal.value, levels) {
+                self.note_hard(frames.all())?;
+                self.marks.found.truncate(first.from);
                 return Ok(false);
             }
-            let frame = self.frame(cause, value)?;
-            frames.push(frame)?;
+            frames.push(self.frame(cause, literal.value)?)?;
         }
         Ok(true)
     }
 
-    /// None of these literals follows from the nogood.
-    fn note_hard(&mut self, frames: &Table<Frame>) -> Result<(), AllocError> {
-        for frame in frames.all() {
-            self.marks.note_hard(frame.event, frame.link.literal.value)?;
+    /// None of these values follows from the nogood.
+    fn note_hard(&mut self, frames: &[Frame]) -> Result<()> {
+        for frame in frames {
+            self.marks
+                .note(frame.event, frame.link.literal.value, false)?;
         }
         Ok(())
     }
 
     /// Of each slot the greatest value says all; the first literal's is the greatest of its slot.
-    fn keep_greatest(&mut self) -> Result<(), AllocError> {
-        let mut rest = Vec::new(self.alloc);
-        let mut first = None;
-        for literal in &self.marks.nogood {
-            match first {
-                None => first = Some(*literal),
-                Some(known) if known.slot == literal.slot => {}
-                _ => rest.push(*literal)?,
-            }
-        }
-        rest.sort_unstable_by_key(|literal: &Literal| Reverse(*literal));
-        self.marks.nogood.clear();
-        if let Some(first) = first {
-            self.marks.nogood.push(first)?;
-        }
-        let mut slot = u32::MAX;
-        for literal in &rest {
-            if literal.slot != slot {
-                self.marks.nogood.push(*literal)?;
-            }
-            slot = literal.slot;
-        }
-        Ok(())
+    fn keep_greatest(&mut self) {
+        let nogood = &mut self.marks.nogood;
+        let Some(first) = nogood.first().copied() else {
+            return;
+        };
+        nogood.swap_remove(0);
+        nogood.retain(|literal: &Literal| literal.slot != first.slot);
+        nogood.sort_unstable_by_key(|literal: &Literal| Reverse(*literal));
+        nogood.dedup_by_key(|literal: &mut Literal| literal.slot);
     }
 
     /// Puts the literals of the nogood in order. Gives the level of the second one, which is the last but one, and how many
     /// levels there are; each of several first decisions counts.
-    fn put_in_order(&mut self) -> Result<(u32, u32), AllocError> {
-        self.keep_greatest()?;
-        let mut levels = Vec::new(self.alloc);
-        let (mut level, mut second) = (0, 1usize);
-        for at in 1..self.marks.nogood.len() {
-            let Some(literal) = self.marks.nogood.get(at).copied() else {
-                break;
-            };
-            let here = self.level_of(literal);
-            levels.push(here)?;
-            if here > level {
-                level = here;
-                second = at;
-            }
+    fn put_in_order(&mut self) -> Result<(u32, u32)> {
+        let first = self.marks.nogood.first().copied();
+        self.keep_greatest();
+        let mut levels: Vec<u32> = self
+            .marks
+            .nogood
+            .iter()
+            .map(|literal| self.trail.level_of(*literal))
+            .collect(self.alloc)?;
+        let level = levels.iter().copied().max().unwrap_or(0);
+        let second = levels.iter().position(|here| *here == level).unwrap_or(0);
+        if let Some(first) = first {
+            self.marks.nogood.insert(0, first)?;
         }
-        if second > 1 && second < self.marks.nogood.len() {
-            self.marks.nogood.swap(1, second);
+        if second + 1 < self.marks.nogood.len() {
+            self.marks.nogood.swap(1, second + 1);
         }
         levels.sort_unstable();
         let mut lbd = 1u32;
@@ -302,13 +272,13 @@ impl Engine<'_> {
     }
 
     /// Tells the log what the root has got since.
-    pub(crate) fn log_root(&mut self) -> Result<(), AllocError> {
-        for number in self.logged..self.trail.root_end() {
-            let event = self.trail.event(number);
-            let (slot, value) = (event.slot, event.new);
+    pub(crate) fn log_root(&mut self) -> Result<()> {
+        for event in self.logged..self.trail.root_end() {
+            let found = self.trail.event(event);
+            let (slot, value) = (found.slot, found.new);
             let literal = Literal { slot, value };
             if self.log.is_kept() {
-                let ground = self.explain(literal, event.reason, number)?;
+                let ground = self.explain(literal, found.reason, event)?;
                 self.marks.found.clear();
                 self.log.root(Link { literal, ground })?;
             }
@@ -318,7 +288,7 @@ impl Engine<'_> {
     }
 
     /// No schedule is left, for a reason of the root.
-    pub(crate) fn refute(&mut self, ground: Ground) -> Result<(), AllocError> {
+    pub(crate) fn refute(&mut self, ground: Ground) -> Result<()> {
         self.log_root()?;
         self.log.end(ground)?;
         self.is_refuted = true;

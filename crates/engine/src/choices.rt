@@ -6,9 +6,10 @@
 use crate::heap::Heap;
 use instance::{Instance, Rivals};
 use literals::{Event, Literal, NEVER, Trail};
-use propagation::{Edges, Rival};
-use std::alloc::{AllocError, Global};
-use tables::Table;
+use propagation::Edges;
+use std::alloc::Global;
+use std::collections::HashMap;
+use tables::{Result, Table};
 
 /// By how much a literal of an older conflict counts for less than one of the next.
 const DECAY: f64 = 0.95;
@@ -22,24 +23,20 @@ const FADED: f64 = 1e-30;
 /// How much the seed may move a first weight, in units of the next conflict's.
 const SHAKE: f64 = 1e-6;
 
-/// No literal stands here.
-const NONE: u32 = u32::MAX;
-
 /// The literals that may be tried, and the order in which they are.
 #[derive(Drop)]
-pub struct Choices {
-    /// The literals that have a weight, each as it bounds its variable from below.
+pub(crate) struct Choices {
+    alloc: Global,
+    /// The literals that have a weight, each as it bounds its variable from below, and their numbers.
     literals: Table<Literal>,
+    numbers: HashMap<Literal, u32>,
     heap: Heap,
-    /// A hash table of places of literals, of a size that is a power of two.
-    places: Table<u32>,
     /// Those that were taken from the heap, and how many there were when each level began.
     taken: Table<u32>,
     levels: Table<u32>,
     bump: f64,
     /// By variable: the value that is tried first.
     saved: Table<i32>,
-    activities: u32,
     /// Activities in the order in which they are started where nothing has a weight.
     sequence: Vec<u32>,
     /// Whether orders decide all, so that starts get no weight.
@@ -47,177 +44,121 @@ pub struct Choices {
     seed: u64,
 }
 
-/// A number that looks random, of a literal.
-#[inline(always)]
-fn hash(literal: Literal) -> u64 {
+/// A number of 16 bits that looks random, of a literal and a seed.
+fn lot(literal: Literal, seed: u64) -> i32 {
     let key = u64::from(literal.slot).wrapping_shl(32) | u64::from(literal.value.cast_unsigned());
-    key.wrapping_mul(0x9e37_79b9_7f4a_7c15).wrapping_shr(32)
+    let hash = key.wrapping_mul(0x9e37_79b9_7f4a_7c15).wrapping_shr(32);
+    (hash.wrapping_mul(seed) & 0xffff) as i32
 }
 
 impl Choices {
     /// Nothing has a weight.
-    pub fn new(
+    pub(crate) fn new(
         alloc: Global,
         trail: &Trail,
         sequence: Vec<u32>,
         only_orders: bool,
         seed: u64,
-    ) -> Result<Choices, AllocError> {
+    ) -> Result<Choices> {
         let mut saved = Table::new(alloc, 0);
-        for variable in 0..trail.slot_count() / 2 {
-            saved.push(trail.least(tables::narrow(variable)))?;
+        for variable in 0..trail.slots() / 2 {
+            saved.push(trail.least(variable))?;
         }
         Ok(Choices {
+            alloc,
             literals: Table::new(alloc, NEVER),
+            numbers: HashMap::new(alloc),
             heap: Heap::new(alloc),
-            places: Table::filled(alloc, 1024, NONE, NONE)?,
             taken: Table::new(alloc, 0),
             levels: Table::new(alloc, 0),
             bump: 1.0,
             saved,
-            activities: tables::narrow(sequence.len()),
             sequence,
             only_orders,
             seed,
         })
     }
 
-    /// Where the search for a literal in the hash table begins.
-    #[inline(always)]
-    fn first_place(&self, literal: Literal) -> usize {
-        let mask = (self.places.len() as u64).wrapping_sub(1);
-        (hash(literal) & mask) as usize
-    }
-
-    /// The next place of the hash table.
-    #[inline(always)]
-    fn next_place(&self, place: usize) -> usize {
-        place.wrapping_add(1) & self.places.len().wrapping_sub(1)
-    }
-
-    /// The place of a literal in the hash table, or the free one where it is to stand.
-    #[inline(always)]
-    fn find(&self, literal: Literal) -> usize {
-        let mut place = self.first_place(literal);
-        for _ in 0..self.places.len() {
-            let number = self.places.get(place);
-            if number == NONE || self.literals.get(number as usize) == literal {
-                break;
-            }
-            place = self.next_place(place);
-        }
-        place
-    }
-
-    /// The number of a literal, which gets one if it has none.
-    #[inline(always)]
-    fn number_of(&mut self, literal: Literal) -> Result<u32, AllocError> {
-        let place = self.find(literal);
-        let known = self.places.get(place);
-        if known != NONE {
-            return Ok(known);
-        }
-        let number = self.literals.count();
-        self.places.set(place, number);
+    /// A literal gets a weight, which it has not.
+    fn add(&mut self, literal: Literal, weight: f64) -> Result<()> {
+        self.numbers.insert(literal, self.literals.count())?;
         self.literals.push(literal)?;
-        let shake = (hash(literal).wrapping_mul(self.seed) & 0xffff) as i32;
-        let weight = f64::from(shake) * SHAKE * self.bump;
-        self.heap.add(number, weight)?;
-        if self.literals.len().wrapping_mul(2) > self.places.len() {
-            let size = self.places.len().wrapping_mul(2);
-            self.hash_again(size)?;
-        }
-        Ok(number)
+        self.heap.add(weight)
     }
 
-    /// All literals stand in a hash table of another size.
-    fn hash_again(&mut self, size: usize) -> Result<(), AllocError> {
-        self.places.clear();
-        for _ in 0..size {
-            self.places.push(NONE)?;
-        }
-        for number in 0..self.literals.count() {
-            let place = self.find(self.literals.get(number as usize));
-            self.places.set(place, number);
+    /// Forgets literals whose weight has faded. At the root only.
+    pub(crate) fn reduce(&mut self) -> Result<()> {
+        let literals = self.literals.take(self.alloc);
+        let weights = self.heap.weights.take(self.alloc);
+        self.heap = Heap::new(self.alloc);
+        self.numbers.clear();
+        self.taken.clear();
+        let least = self.bump * FADED;
+        for (literal, weight) in literals.iter().zip(weights.iter()) {
+            if *weight > least {
+                self.add(*literal, *weight)?;
+            }
         }
         Ok(())
     }
 
-    /// Forgets literals whose weight has faded. At the root only.
-    pub fn reduce(&mut self, alloc: Global) -> Result<(), AllocError> {
-        let least = self.bump * FADED;
-        let mut literals = Table::new(alloc, NEVER);
-        let mut heap = Heap::new(alloc);
-        for number in 0..self.literals.count() {
-            let weight = self.heap.weight(number);
-            if weight > least {
-                heap.add(literals.count(), weight)?;
-                literals.push(self.literals.get(number as usize))?;
-            }
-        }
-        self.literals = literals;
-        self.heap = heap;
-        self.taken.clear();
-        let size = self.places.len();
-        self.hash_again(size)
-    }
-
     /// A conflict needed a literal.
-    #[inline(always)]
-    pub fn bump(&mut self, literal: Literal) -> Result<(), AllocError> {
-        if self.only_orders && literal.variable() < self.activities {
+    pub(crate) fn bump(&mut self, literal: Literal) -> Result<()> {
+        if self.only_orders && (literal.variable() as usize) < self.sequence.len() {
             return Ok(());
         }
         let lower = if literal.is_lower() {
             literal
         } else {
-            literal.negated()
+            !literal
         };
-        let number = self.number_of(lower)?;
-        self.heap.raise(number, self.bump);
+        match self.numbers.get(&lower) {
+            Some(number) => self.heap.raise(*number, self.bump),
+            None => {
+                let shake = f64::from(lot(lower, self.seed)) * SHAKE;
+                self.add(lower, (shake + 1.0) * self.bump)?;
+            }
+        }
         Ok(())
     }
 
     /// The next conflict counts for more.
-    pub fn age(&mut self) {
+    pub(crate) fn age(&mut self) {
         self.bump = self.bump / DECAY;
         if self.bump > MOST {
-            self.heap.scale(MOST);
+            for weight in self.heap.weights.all_mut() {
+                *weight = *weight / MOST;
+            }
             self.bump = self.bump / MOST;
         }
     }
 
     /// An event goes: its variable's saved value stays within the window that it had.
-    #[inline(always)]
-    pub fn save(&mut self, event: &Event) {
-        let variable = (event.slot / 2) as usize;
-        let saved = self.saved.get(variable);
-        let value = if event.slot % 2 == 0 {
-            saved.max(event.new)
+    pub(crate) fn save(&mut self, event: &Event) {
+        let saved = &mut self.saved[event.slot / 2];
+        if event.slot % 2 == 0 {
+            *saved = (*saved).max(event.new);
         } else {
-            saved.min(event.new.wrapping_neg())
-        };
-        self.saved.set(variable, value);
+            *saved = (*saved).min(event.new.wrapping_neg());
+        }
     }
 
     /// A level begins.
-    pub fn begin_level(&mut self) -> Result<(), AllocError> {
-        let count = self.taken.count();
-        self.levels.push(count)
+    pub(crate) fn begin_level(&mut self) -> Result<()> {
+        self.levels.push(self.taken.count())
     }
 
     /// After the trail went back to a level: literals that are open again return.
-    pub fn go_back(&mut self, trail: &Trail, level: u32) -> Result<(), AllocError> {
-        let mut kept = self.levels.get(level as usize) as usize;
-        self.levels.truncate(level as usize);
-        for at in kept..self.taken.len() {
-            let number = self.taken.get(at);
-            let literal = self.literals.get(number as usize);
-            if trail.holds(literal) || trail.fails(literal) {
-                self.taken.set(kept, number);
-                kept = kept.wrapping_add(1);
-            } else {
+    pub(crate) fn go_back(&mut self, trail: &Trail, level: u32) -> Result<()> {
+        let mut kept = self.levels[level];
+        self.levels.truncate(level);
+        for at in kept..self.taken.count() {
+            let number = self.taken[at];
+            if trail.is_open(self.literals[number]) {
                 self.heap.insert(number)?;
+            } else {
+                self.taken[kept] = number;
+                kept = kept.wrapping_add(1);
             }
         }
         self.taken.truncate(kept);
@@ -226,128 +167,81 @@ impl Choices {
 
     /// The open literal of greatest weight, as its variable's saved value says. Those that it takes from the heap are
     /// judged again when the level ends that begins next.
-    fn heaviest(&mut self, trail: &Trail) -> Result<Option<Literal>, AllocError> {
+    fn heaviest(&mut self, trail: &Trail) -> Result<Option<Literal>> {
         for _ in 0..u64::MAX {
             let Some(number) = self.heap.take_top() else {
                 break;
             };
             self.taken.push(number)?;
-            let literal = self.literals.get(number as usize);
-            if !trail.holds(literal) && !trail.fails(literal) {
-                let saved = self.saved.get(literal.variable() as usize);
-                return Ok(Some(if saved >= literal.value {
-                    literal
-                } else {
-                    literal.negated()
-                }));
+            let literal = self.literals[number];
+            if trail.is_open(literal) {
+                let is_saved = self.saved[literal.variable()] >= literal.value;
+                return Ok(Some(if is_saved { literal } else { !literal }));
             }
         }
         Ok(None)
     }
 
     /// The literal to try next, at a level that begins with it; none where all is settled.
-    pub fn next(&mut self, trail: &Trail, edges: &Edges) -> Result<Option<Literal>, AllocError> {
+    pub(crate) fn next(&mut self, trail: &Trail, edges: &Edges) -> Result<Option<Literal>> {
         self.begin_level()?;
-        if let Some(literal) = self.heaviest(trail)? {
-            return Ok(Some(literal));
+        let mut found = self.heaviest(trail)?;
+        if found.is_none() {
+            found = self.next_start(trail, edges);
         }
-        let found = if self.only_orders {
-            self.earliest(trail, edges)
-        } else {
-            self.next_start(trail)
-        };
         if found.is_none() {
             self.levels.pop();
         }
         Ok(found)
     }
 
-    /// The next open activity of the sequence starts as early as it can.
-    fn next_start(&self, trail: &Trail) -> Option<Literal> {
-        for activity in &self.sequence {
-            let least = trail.least(*activity);
-            if least < trail.greatest(*activity) {
-                return Some(Literal::at_most(*activity, least));
-            }
+    /// The next open activity of the sequence starts as early as it can. Where orders decide all, the one that can be
+    /// earliest comes before its earliest rival.
+    fn next_start(&self, trail: &Trail, edges: &Edges) -> Option<Literal> {
+        let least = |activity: u32| trail.least(activity);
+        let starts = self.sequence.iter().copied();
+        let mut open = starts.filter(|activity: &u32| trail.least(*activity)
+            < trail.greatest(*activity));
+        if !self.only_orders {
+            let activity = open.next()?;
+            return Some(Literal::at_most(activity, least(activity)));
         }
-        None
-    }
-
-    /// The open activity that can be earliest comes before its earliest rival.
-    fn earliest(&self, trail: &Trail, edges: &Edges) -> Option<Literal> {
-        let mut best: Option<(i32, i32, u32)> = None;
-        for activity in &self.sequence {
-            let (least, greatest) = (trail.least(*activity), trail.greatest(*activity));
-            let is_better = match best {
-                Some((known, last, _)) => (least, greatest) < (known, last),
-                None => true,
-            };
-            if least < greatest && is_better {
-                best = Some((least, greatest, *activity));
-            }
-        }
-        let (least, _, activity) = best?;
-        match earliest_rival(trail, edges, activity) {
-            Some(rival) => Some(rival.first),
-            None => Some(Literal::at_most(activity, least)),
+        let activity = open.min_by_key(|activity: &u32| (
+            trail.least(*activity),
+            trail.greatest(*activity),
+        ))?;
+        let rivals = edges.rivals_of(activity).iter().copied();
+        let before = rivals.filter(|(_, before): &(u32, Literal)| trail.is_open(*before));
+        match before.min_by_key(|(other, _): &(u32, Literal)| least(*other)) {
+            Some((_, before)) => Some(before),
+            None => Some(Literal::at_most(activity, least(activity))),
         }
     }
 
     /// The values of a schedule are tried first.
-    pub fn prefer(&mut self, instance: &Instance, starts: &[i32], pairs: &[Rivals]) {
-        let start = |activity: u32| -> i32 {
-            match starts.get(activity as usize) {
-                Some(start) => *start,
-                None => 0,
-            }
-        };
-        for activity in 0..self.activities {
-            self.saved.set(activity as usize, start(activity));
+    pub(crate) fn prefer(&mut self, instance: &Instance, starts: &[i32], pairs: &[Rivals]) {
+        let start = |activity: u32| starts.get(activity as usize).copied().unwrap_or(0);
+        for activity in 0..instance.count() {
+            self.saved[activity] = start(activity);
         }
-        let mut variable = self.activities as usize;
+        let mut variable = instance.count();
         for pair in pairs {
             let end = start(pair.first).wrapping_add(instance.duration(pair.first));
-            let is_first = start(pair.second) >= end;
-            self.saved.set(variable, i32::from(is_first));
+            self.saved[variable] = i32::from(start(pair.second) >= end);
             variable = variable.wrapping_add(1);
         }
     }
 
     /// Where nothing has a weight, activities are started in the order of a schedule.
-    pub fn follow(&mut self, starts: &[i32]) {
+    pub(crate) fn follow(&mut self, starts: &[i32]) {
         self.sequence.sort_unstable_by_key(|activity: &u32| {
-            let start = match starts.get(*activity as usize) {
-                Some(start) => *start,
-                None => 0,
-            };
-            (start, *activity)
+            let start = starts.get(*activity as usize).copied();
+            (start.unwrap_or(0), *activity)
         });
     }
 
     /// How many bytes it takes.
-    pub fn bytes(&self) -> u64 {
-        (self.literals.len() as u64).wrapping_mul(40)
-    }
-}
-
-/// The rival of an activity that can be earliest, of those whose order with it is open.
-fn earliest_rival(trail: &Trail, edges: &Edges, activity: u32) -> Option<Rival> {
-    let mut best: Option<(i32, Rival)> = None;
-    for rival in edges.rivals_of(activity) {
-        if trail.holds(rival.first) || trail.fails(rival.first) {
-            continue;
-        }
-        let least = trail.least(rival.other);
-        let is_better = match best {
-            Some((known, _)) => least < known,
-            None => true,
-        };
-        if is_better {
-            best = Some((least, *rival));
-        }
-    }
-    match best {
-        Some((_, rival)) => Some(rival),
-        None => None,
+    pub(crate) fn bytes(&self) -> u64 {
+        u64::from(self.literals.count()).wrapping_mul(40)
     }
 }

@@ -2,27 +2,11 @@
 
 use literals::{Literal, NEVER};
 use proof_log::{Ground, Link};
-use std::alloc::{AllocError, Global};
-use tables::Table;
+use std::alloc::Global;
+use tables::{Result, Table};
 
 /// No value.
 pub(crate) const NO_VALUE: i32 = i32::MIN;
-
-/// A literal that an analysis replaced by what it follows from, and its event.
-#[derive(Clone, Copy, Debug)]
-pub(crate) struct Replaced {
-    pub(crate) event: u32,
-    pub(crate) link: Link,
-}
-
-/// Why a literal is in an explanation: the event by which it holds, how much it adds, and its activity. The last ones of
-/// a sorted list are left out first.
-#[derive(Clone, Copy, PartialEq, Eq, PartialOrd, Ord, Debug)]
-pub(crate) struct Cause {
-    pub(crate) event: u32,
-    pub(crate) amount: i32,
-    pub(crate) activity: u32,
-}
 
 /// The notes of an analysis. Values are those of the event's slot.
 #[derive(Drop)]
@@ -39,10 +23,13 @@ pub(crate) struct Marks {
     pub(crate) lower: Table<u32>,
     /// Literals that were found to explain others.
     pub(crate) found: Table<Literal>,
-    /// Lists that explanations work on.
-    pub(crate) causes: Vec<Cause>,
-    pub(crate) activities: Vec<u32>,
-    replaced: Vec<Replaced>,
+    /// Why literals are in an explanation: the event by which each holds, how much it adds, and its activity. The last ones
+    /// are left out first.
+    pub(crate) causes: Table<(u32, i32, u32)>,
+    /// A list that explanations work on.
+    pub(crate) activities: Table<u32>,
+    /// Literals that were replaced by what they follow from, each with its event.
+    replaced: Vec<(u32, Link)>,
     /// The literals that can't all hold; at the end their negations, which are the lemma.
     pub(crate) nogood: Vec<Literal>,
 }
@@ -58,15 +45,15 @@ impl Marks {
             tried: Table::new(alloc, 0),
             lower: Table::new(alloc, 0),
             found: Table::new(alloc, NEVER),
-            causes: Vec::new(alloc),
-            activities: Vec::new(alloc),
+            causes: Table::new(alloc, (0, 0, 0)),
+            activities: Table::new(alloc, 0),
             replaced: Vec::new(alloc),
             nogood: Vec::new(alloc),
         }
     }
 
     /// There are places for so many events, and no notes.
-    pub(crate) fn begin(&mut self, events: u32) -> Result<(), AllocError> {
+    pub(crate) fn begin(&mut self, events: u32) -> Result<()> {
         for _ in self.need.count()..events {
             self.need.push(NO_VALUE)?;
             self.gone.push(NO_VALUE)?;
@@ -84,69 +71,64 @@ impl Marks {
     /// Takes all notes of events back.
     pub(crate) fn end(&mut self) {
         for event in self.needed.all() {
-            self.need.set(*event as usize, NO_VALUE);
+            self.need[*event] = NO_VALUE;
         }
         for event in self.tried.all() {
-            self.gone.set(*event as usize, NO_VALUE);
-            self.hard.set(*event as usize, i32::MAX);
+            self.gone[*event] = NO_VALUE;
+            self.hard[*event] = i32::MAX;
         }
     }
 
     /// Notes that a value of an event is needed. Whether nothing of it was.
-    #[inline(always)]
-    pub(crate) fn need(&mut self, event: u32, value: i32) -> Result<bool, AllocError> {
-        let known = self.need.get(event as usize);
-        self.need.set(event as usize, known.max(value));
+    pub(crate) fn need(&mut self, event: u32, value: i32) -> Result<bool> {
+        let known = self.need[event];
+        self.need[event] = known.max(value);
         if known == NO_VALUE {
             self.needed.push(event)?;
         }
         Ok(known == NO_VALUE)
     }
 
+    /// Whether a literal, which an event made hold, holds at the root, before `root`, or is needed already.
+    pub(crate) fn is_known(&self, event: u32, literal: Literal, root: u32) -> bool {
+        event < root || self.need[event] >= literal.value
+    }
+
     /// Whether the nogood has a value of an event anyway.
-    #[inline(always)]
     pub(crate) fn has(&self, event: u32, value: i32) -> bool {
-        self.need.get(event as usize) >= value || self.gone.get(event as usize) >= value
+        self.need[event] >= value || self.gone[event] >= value
     }
 
     /// Whether it is known that the nogood needs a literal for a value of an event.
-    #[inline(always)]
     pub(crate) fn is_hard(&self, event: u32, value: i32) -> bool {
-        self.hard.get(event as usize) <= value
+        self.hard[event] <= value
     }
 
-    /// The nogood has a value of an event without the literal.
-    pub(crate) fn note_gone(&mut self, event: u32, value: i32) -> Result<(), AllocError> {
-        let known = self.gone.get(event as usize);
-        self.gone.set(event as usize, known.max(value));
-        self.tried.push(event)
-    }
-
-    /// The nogood hasn't a value of an event without the literal.
-    pub(crate) fn note_hard(&mut self, event: u32, value: i32) -> Result<(), AllocError> {
-        let known = self.hard.get(event as usize);
-        self.hard.set(event as usize, known.min(value));
+    /// Notes whether the nogood has a value of an event without the literal.
+    pub(crate) fn note(&mut self, event: u32, value: i32, is_gone: bool) -> Result<()> {
+        if is_gone {
+            self.gone[event] = self.gone[event].max(value);
+        } else {
+            self.hard[event] = self.hard[event].min(value);
+        }
         self.tried.push(event)
     }
 
     /// A literal of an event was replaced by what it follows from. A record has no line for what arcs say.
-    pub(crate) fn replace(&mut self, event: u32, link: Link) -> Result<(), AllocError> {
+    pub(crate) fn replace(&mut self, event: u32, link: Link) -> Result<()> {
         if link.ground != Ground::Arcs {
-            self.replaced.push(Replaced { event, link })?;
+            self.replaced.push((event, link))?;
         }
         Ok(())
     }
 
     /// What was replaced, from the first event to the last.
-    pub(crate) fn links(&mut self, alloc: Global) -> Result<Vec<Link>, AllocError> {
-        self.replaced.sort_unstable_by_key(|replaced: &Replaced| (
-            replaced.event,
-            replaced.link.literal,
-        ));
-        let mut links = Vec::new(alloc);
-        for replaced in &self.replaced {
-            links.push(replaced.link)?;
-        }
-        Ok(links)
+    pub(crate) fn links(&mut self, alloc: Global) -> Result<Vec<Link>> {
+        self.replaced
+            .sort_unstable_by_key(|replaced: &(u32, Link)| (replaced.0, replaced.1.literal));
+        self.replaced
+            .iter()
+            .map(|replaced| replaced.1)
+            .collect(alloc)
     }
 }

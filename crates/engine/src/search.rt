@@ -3,10 +3,11 @@
 use crate::pace::Pace;
 use crate::state::{Engine, Options};
 use instance::{Instance, Settled};
-use literals::{Conflict, Literal, Note, Reason, Stop};
+use literals::{Conflict, Literal, Reason, Stop};
 use proof_log::{Ground, Link};
 use propagation::find_overloads;
 use std::alloc::{AllocError, Global};
+use tables::Result;
 
 /// What a search for schedules under first decisions found.
 #[derive(Clone, Copy, PartialEq, Eq, Debug)]
@@ -43,24 +44,19 @@ impl Run {
             last: None,
         }
     }
-
-    /// Whether it has met as many conflicts as it may.
-    fn is_over(&self, conflicts: u64) -> bool {
-        match self.last {
-            Some(last) => conflicts >= last,
-            None => false,
-        }
-    }
 }
 
 /// A conflict, or none; memory that ran out ends the search.
-fn conflict_of(flow: Result<(), Stop>) -> Result<Option<Conflict>, AllocError> {
+fn conflict_of(flow: Result<(), Stop>) -> Result<Option<Conflict>> {
     match flow {
         Ok(()) => Ok(None),
         Err(Stop::Conflict(conflict)) => Ok(Some(conflict)),
         Err(Stop::Memory) => Err(AllocError),
     }
 }
+
+/// Each further reduction of the store comes so many conflicts later after the one before.
+const LATER: u64 = 200;
 
 impl<'a> Engine<'a> {
     /// A search for schedules of a makespan at most `most`, in periods, under settled orders. It looks at all that follows
@@ -71,178 +67,21 @@ impl<'a> Engine<'a> {
         settled: &Settled,
         most: i32,
         options: Options,
-    ) -> Result<Engine<'a>, AllocError> {
+    ) -> Result<Engine<'a>> {
         let mut engine = Engine::new(alloc, instance, settled, most, options)?;
         if settled.is_dead || !engine.has_room() {
             engine.refute(Ground::Arcs)?;
             return Ok(engine);
         }
-        let flow = engine.begin();
-        if let Some(conflict) = conflict_of(flow)? {
+        if let Some(conflict) = conflict_of(engine.begin())? {
             engine.log_root()?;
             engine.analyse(conflict)?;
         }
         Ok(engine)
     }
 
-    /// Learns from a conflict, goes back, and sets what follows. Gives what follows, or none where the first decisions are
-    /// at fault; the root's are where the search is refuted.
-    fn learn(
-        &mut self,
-        pace: &mut Pace,
-        conflict: Conflict,
-    ) -> Result<Option<Result<(), Stop>>, AllocError> {
-        self.counts.conflicts = self.counts.conflicts.wrapping_add(1);
-        self.log_root()?;
-        let Some(learnt) = self.analyse(conflict)? else {
-            return Ok(None);
-        };
-        pace.note(learnt.lbd);
-        self.go_back(learnt.level)?;
-        let first = match self.marks.nogood.first() {
-            Some(first) => *first,
-            None => return Ok(None),
-        };
-        let reason = if self.marks.nogood.len() > 1 {
-            let note = Note {
-                lbd: learnt.lbd,
-                number: learnt.number,
-            };
-            let place = self.lemmas.learn(&self.marks.nogood, note)?;
-            Reason::Lemma { place }
-        } else {
-            self.log_root()?;
-            let lemma = learnt.number;
-            let ground = Ground::Use { lemma };
-            self.log.root(Link {
-                literal: first,
-                ground,
-            })?;
-            Reason::Given
-        };
-        let flow = self.trail.force(first, reason);
-        Ok(Some(flow))
-    }
-
-    /// Goes back to the first decisions if it is time to, or to the root if many lemmas are new, of which some go then.
-    fn start_again(&mut self, pace: &mut Pace) -> Result<(), AllocError> {
-        let is_due = self.counts.conflicts >= self.reductions.next;
-        if !is_due && !pace.is_due() {
-            return Ok(());
-        }
-        pace.start();
-        self.counts.restarts = self.counts.restarts.wrapping_add(1);
-        if !is_due {
-            return self.go_back(self.floor);
-        }
-        self.reduce()
-    }
-
-    /// Forgets what did little.
-    pub fn reduce(&mut self) -> Result<(), AllocError> {
-        self.go_back(0)?;
-        self.log_root()?;
-        self.lemmas.reduce(self.alloc, &self.trail)?;
-        self.choices.reduce(self.alloc)?;
-        self.reductions.put_off(self.counts.conflicts);
-        Ok(())
-    }
-
-    /// Whether the first decisions are false at the root.
-    fn are_false(&self, first: &[Literal]) -> bool {
-        self.trail.level() == 0
-            && first
-                .iter()
-                .any(|literal: &Literal| self.trail.fails(*literal))
-    }
-
-    /// Decides on the first decisions, or the next choice. False where all is settled.
-    fn decide_next(&mut self, first: &[Literal]) -> Result<bool, AllocError> {
-        let is_open = first
-            .iter()
-            .any(|literal: &Literal| !self.trail.holds(*literal));
-        if self.trail.level() == 0 && is_open {
-            self.choices.begin_level()?;
-            self.decide(first)?;
-            return Ok(true);
-        }
-        match self.choices.next(&self.trail, &self.edges)? {
-            Some(literal) => {
-                self.decide(&[literal])?;
-                Ok(true)
-            }
-            None => Ok(false),
-        }
-    }
-
-    /// Looks at energy and at long cliques, where a supposed end, or none, is the only decision.
-    fn find_overloads(&mut self, first: &[Literal]) -> Result<(), Stop> {
-        if first.len() < 2 && self.trail.level() as usize <= first.len() {
-            find_overloads(self.alloc, self.instance, &self.trail)?;
-            self.cliques.find_overloads(self.instance, &self.trail)?;
-        }
-        Ok(())
-    }
-
-    /// A conflict that was found leads on: to what follows from its lemma.
-    fn follow_conflict(
-        &mut self,
-        run: &mut Run,
-        pace: &mut Pace,
-        conflict: Conflict,
-    ) -> Result<Found, AllocError> {
-        let Some(flow) = self.learn(pace, conflict)? else {
-            return Ok(Found::Refuted);
-        };
-        let next = match flow {
-            Ok(()) => self.propagate(),
-            Err(stop) => Err(stop),
-        };
-        run.conflict = conflict_of(next)?;
-        Ok(Found::Open)
-    }
-
-    /// One step without a conflict: a restart where it is time for one, and then a decision.
-    fn go_on(&mut self, run: &mut Run, pace: &mut Pace) -> Result<Found, AllocError> {
-        if run.is_over(self.counts.conflicts) {
-            return Ok(Found::Stopped);
-        }
-        if self.are_false(&run.first) {
-            return Ok(Found::Refuted);
-        }
-        self.start_again(pace)?;
-        let overload = self.find_overloads(&run.first);
-        run.conflict = conflict_of(overload)?;
-        if run.conflict.is_some() {
-            return Ok(Found::Open);
-        }
-        if !self.decide_next(&run.first)? {
-            return Ok(Found::Schedule);
-        }
-        let flow = self.propagate();
-        run.conflict = conflict_of(flow)?;
-        Ok(Found::Open)
-    }
-
-    /// The search begins, at the root. What one decision contradicts is a lemma; of more decisions on one level it may be
-    /// none.
-    fn begin_run(&mut self, run: &mut Run, pace: &mut Pace) -> Result<(), AllocError> {
-        run.last = Some(self.counts.conflicts.saturating_add(run.most));
-        self.floor = if run.first.len() > 1 { 1 } else { 0 };
-        pace.start();
-        self.go_back(0)?;
-        let flow = self.propagate();
-        run.conflict = conflict_of(flow)?;
-        Ok(())
-    }
-
     /// Searches until a schedule, until there is none, or for so many steps: conflicts and decisions.
-    pub fn search(
-        &mut self,
-        run: &mut Run,
-        pace: &mut Pace,
-        steps: u64,
-    ) -> Result<Found, AllocError> {
+    pub fn search(&mut self, run: &mut Run, pace: &mut Pace, steps: u64) -> Result<Found> {
         if run.last.is_none() {
             self.begin_run(run, pace)?;
         }
@@ -261,49 +100,172 @@ impl<'a> Engine<'a> {
         Ok(Found::Open)
     }
 
+    /// The search begins, at the root. What one decision contradicts is a lemma; of more decisions on one level it may be
+    /// none.
+    fn begin_run(&mut self, run: &mut Run, pace: &mut Pace) -> Result<()> {
+        run.last = Some(self.counts.conflicts.saturating_add(run.most));
+        self.floor = if run.first.len() > 1 { 1 } else { 0 };
+        pace.start();
+        self.go_back(0)?;
+        run.conflict = conflict_of(self.propagate())?;
+        Ok(())
+    }
+
+    /// Learns from a conflict, and sees what follows.
+    fn follow_conflict(
+        &mut self,
+        run: &mut Run,
+        pace: &mut Pace,
+        conflict: Conflict,
+    ) -> Result<Found> {
+        let Some(flow) = self.learn(pace, conflict)? else {
+            return Ok(Found::Refuted);
+        };
+        let next = match flow {
+            Ok(()) => self.propagate(),
+            Err(stop) => Err(stop),
+        };
+        run.conflict = conflict_of(next)?;
+        Ok(Found::Open)
+    }
+
+    /// One step without a conflict: a restart where it is time for one, and then a decision.
+    fn go_on(&mut self, run: &mut Run, pace: &mut Pace) -> Result<Found> {
+        if run.last.is_some_and(|last| self.counts.conflicts >= last) {
+            return Ok(Found::Stopped);
+        }
+        let fails = |literal: &Literal| self.trail.fails(*literal);
+        if self.trail.level() == 0 && run.first.iter().any(fails) {
+            return Ok(Found::Refuted);
+        }
+        self.start_again(pace)?;
+        run.conflict = conflict_of(self.find_overloads(&run.first))?;
+        if run.conflict.is_some() {
+            return Ok(Found::Open);
+        }
+        if !self.decide_next(&run.first)? {
+            return Ok(Found::Schedule);
+        }
+        run.conflict = conflict_of(self.propagate())?;
+        Ok(Found::Open)
+    }
+
+    /// Learns from a conflict, goes back, and sets what follows. Gives what follows, or none where the first decisions are
+    /// at fault; the root's are where the search is refuted.
+    fn learn(&mut self, pace: &mut Pace, conflict: Conflict) -> Result<Option<Result<(), Stop>>> {
+        self.counts.conflicts = self.counts.conflicts.wrapping_add(1);
+        self.log_root()?;
+        let Some(learnt) = self.analyse(conflict)? else {
+            return Ok(None);
+        };
+        pace.note(learnt.lbd);
+        self.go_back(learnt.level)?;
+        let Some(literal) = self.marks.nogood.first().copied() else {
+            return Ok(None);
+        };
+        let reason = if self.marks.nogood.len() > 1 {
+            let place = self
+                .lemmas
+                .learn(&self.marks.nogood, learnt.lbd, learnt.number)?;
+            Reason::Lemma { place }
+        } else {
+            self.log_root()?;
+            let lemma = learnt.number;
+            let ground = Ground::Use { lemma };
+            self.log.root(Link { literal, ground })?;
+            Reason::Given
+        };
+        Ok(Some(self.trail.force(literal, reason)))
+    }
+
+    /// Goes back to the first decisions if it is time to, or to the root if many lemmas are new, of which some go then.
+    fn start_again(&mut self, pace: &mut Pace) -> Result<()> {
+        let is_due = self.counts.conflicts >= self.reduction;
+        if !is_due && !pace.is_due() {
+            return Ok(());
+        }
+        pace.start();
+        self.counts.restarts = self.counts.restarts.wrapping_add(1);
+        if is_due {
+            self.reduce()
+        } else {
+            self.go_back(self.floor)
+        }
+    }
+
+    /// Forgets what did little.
+    pub fn reduce(&mut self) -> Result<()> {
+        self.go_back(0)?;
+        self.log_root()?;
+        self.lemmas.reduce(&self.trail)?;
+        self.choices.reduce()?;
+        self.reduction_step = self.reduction_step.wrapping_add(LATER);
+        self.reduction = self.counts.conflicts.wrapping_add(self.reduction_step);
+        Ok(())
+    }
+
+    /// Looks at energy and at long cliques, where a supposed end, or none, is the only decision.
+    fn find_overloads(&mut self, first: &[Literal]) -> Result<(), Stop> {
+        if first.len() < 2 && self.trail.level() as usize <= first.len() {
+            find_overloads(self.alloc, self.instance, &self.trail)?;
+            self.cliques.find_overloads(self.instance, &self.trail)?;
+        }
+        Ok(())
+    }
+
+    /// Decides on the first decisions, or the next choice. False where all is settled.
+    fn decide_next(&mut self, first: &[Literal]) -> Result<bool> {
+        let holds = |literal: &Literal| self.trail.holds(*literal);
+        if self.trail.level() == 0 && !first.iter().all(holds) {
+            self.choices.begin_level()?;
+            self.decide(first)?;
+            return Ok(true);
+        }
+        let next = self.choices.next(&self.trail, &self.edges)?;
+        if let Some(literal) = next {
+            self.decide(&[literal])?;
+        }
+        Ok(next.is_some())
+    }
+
     /// The least starts, and the end that they need.
-    pub fn schedule(&self) -> Result<Vec<i32>, AllocError> {
+    pub fn schedule(&self) -> Result<Vec<i32>> {
         let end = self.instance.end();
         let mut starts = Vec::new(self.alloc);
         for activity in 0..end {
             starts.push(self.trail.least(activity))?;
         }
-        let mut last = 0;
-        for edge in self.instance.entering(end) {
-            if edge.from != end {
-                last = self
-                    .trail
-                    .least(edge.from)
-                    .wrapping_add(edge.weight)
-                    .max(last);
-            }
-        }
-        starts.push(last)?;
+        let inner = self
+            .instance
+            .entering(end)
+            .iter()
+            .filter(|edge| edge.from != end);
+        let ends = inner.map(|edge| self.trail.least(edge.from).wrapping_add(edge.weight));
+        starts.push(ends.max().unwrap_or(0))?;
         Ok(starts)
     }
 
     /// Schedules have to end by a time from now on. Goes back to the root.
-    pub fn end_by(&mut self, time: i32) -> Result<(), AllocError> {
+    pub fn end_by(&mut self, time: i32) -> Result<()> {
         self.go_back(0)?;
         let end = Literal::at_most(self.instance.end(), time);
         if self.is_refuted {
             return Ok(());
         }
-        match self.trail.force(end, Reason::Given) {
-            Ok(()) => Ok(()),
-            Err(Stop::Conflict(_)) => self.refute(Ground::Arcs),
-            Err(Stop::Memory) => Err(AllocError),
+        match conflict_of(self.trail.force(end, Reason::Given))? {
+            Some(_) => self.refute(Ground::Arcs),
+            None => Ok(()),
         }
     }
 
     /// No schedule ends before this, as far as the root knows. Goes back to the root.
-    pub fn least_end(&mut self) -> Result<i32, AllocError> {
+    pub fn least_end(&mut self) -> Result<i32> {
         self.go_back(0)?;
         Ok(self.trail.least(self.instance.end()))
     }
 
     /// The proof ends without a refutation: it shows the bound of the root.
-    pub fn close_log(&mut self) -> Result<(), AllocError> {
+    pub fn close_log(&mut self) -> Result<()> {
         if self.is_refuted {
             return Ok(());
         }
@@ -312,7 +274,7 @@ impl<'a> Engine<'a> {
     }
 
     /// Whether a literal holds at the root, to which the search goes back.
-    pub fn holds_always(&mut self, literal: Literal) -> Result<bool, AllocError> {
+    pub fn holds_always(&mut self, literal: Literal) -> Result<bool> {
         self.go_back(0)?;
         Ok(self.trail.holds(literal))
     }

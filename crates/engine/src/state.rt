@@ -2,15 +2,15 @@
 
 use crate::choices::Choices;
 use crate::marks::Marks;
-use instance::{Instance, Rivals, Settled, Walks, greedy_cliques, paired, start_sequence};
+use instance::{Instance, Rivals, Settled, greedy_cliques, start_sequence};
 use literals::{Lemmas, Literal, Stop, Trail};
 use proof_log::Log;
 use propagation::{Cliques, Edges, TimeTable};
-use std::alloc::{AllocError, Global};
-use tables::{Rows, Table};
+use std::alloc::Global;
+use tables::{Result, Rows, Table};
 
 /// What a search is made with.
-#[derive(Clone, Copy, Debug)]
+#[derive(Clone, Copy)]
 pub struct Options {
     /// Whether the log of its proof is kept.
     pub has_log: bool,
@@ -50,26 +50,8 @@ impl Counts {
     }
 }
 
-/// The first reduction of the store comes after so many conflicts, each further one so many later than the one before.
-const FIRST_REDUCTION: u64 = 2_000;
-
-const NEXT_REDUCTION: u64 = 200;
-
-/// When lemmas are forgotten.
-#[derive(Clone, Copy, Debug)]
-pub(crate) struct Reductions {
-    /// The count of conflicts at which the next ones go.
-    pub(crate) next: u64,
-    step: u64,
-}
-
-impl Reductions {
-    /// Lemmas were forgotten at so many conflicts.
-    pub(crate) fn put_off(&mut self, conflicts: u64) {
-        self.step = self.step.wrapping_add(NEXT_REDUCTION);
-        self.next = conflicts.wrapping_add(self.step);
-    }
-}
+/// The first reduction of the store comes after so many conflicts.
+pub(crate) const FIRST_REDUCTION: u64 = 2_000;
 
 /// A search of a project for schedules below a ceiling.
 #[derive(Drop)]
@@ -78,7 +60,7 @@ pub struct Engine<'a> {
     pub(crate) instance: &'a Instance,
     pub(crate) trail: Trail,
     pub(crate) edges: Edges,
-    pub(crate) table: TimeTable,
+    pub(crate) table: TimeTable<'a>,
     pub(crate) cliques: Cliques,
     pub(crate) lemmas: Lemmas,
     pub(crate) choices: Choices,
@@ -94,7 +76,9 @@ pub struct Engine<'a> {
     pub(crate) is_refuted: bool,
     /// 1 where several first decisions stand on the first level, else 0.
     pub(crate) floor: u32,
-    pub(crate) reductions: Reductions,
+    /// The count of conflicts at which lemmas are forgotten next, and how far it is from one such count to the next.
+    pub(crate) reduction: u64,
+    pub(crate) reduction_step: u64,
     pub(crate) counts: Counts,
 }
 
@@ -104,78 +88,36 @@ fn first_values(
     instance: &Instance,
     settled: &Settled,
     most: i32,
-) -> Result<Table<i32>, AllocError> {
+) -> Result<Table<i32>> {
     let mut values = Table::new(alloc, 0);
     let walks = &settled.walks;
     for activity in 0..instance.count() {
         let tail = walks.direct(activity, instance.end()).unwrap_or(0);
-        let latest = match walks.direct(activity, 0) {
-            Some(back) => back.wrapping_neg(),
-            None => i32::MAX,
-        };
-        let greatest = most.wrapping_sub(tail).min(latest);
+        let back = walks.direct(activity, 0).unwrap_or(i32::MIN);
         values.push(walks.direct(0, activity).unwrap_or(0))?;
-        values.push(greatest.wrapping_neg())?;
+        values.push(tail.wrapping_sub(most).max(back))?;
     }
-    for _ in 0..settled.open.len() {
-        values.push(0)?;
-        values.push(-1)?;
+    for _ in &settled.open {
+        values.push_all(&[0, -1])?;
     }
     Ok(values)
 }
 
-/// What parts two users of a resource: windows, arcs or an order that is a variable.
-#[derive(Drop)]
-struct Parting<'a> {
-    instance: &'a Instance,
-    walks: &'a Walks,
-    paired: Table<bool>,
-    trail: &'a Trail,
-}
-
-impl Parting<'_> {
-    /// Whether one activity ends before another one starts, by windows or arcs.
-    fn is_before(&self, first: u32, second: u32) -> bool {
-        let duration = self.instance.duration(first);
-        let end = self.trail.greatest(first).wrapping_add(duration);
-        self.walks.reaches(first, second, duration) || end <= self.trail.least(second)
-    }
-
-    /// Whether two activities never run at once.
-    fn are_apart(&self, a: u32, b: u32) -> bool {
-        let place = (a as usize)
-            .wrapping_mul(self.instance.count() as usize)
-            .wrapping_add(b as usize);
-        self.paired.get(place) || self.is_before(a, b) || self.is_before(b, a)
-    }
-
-    /// Whether some of a list may run at once.
-    fn may_overlap(&self, users: &[u32]) -> bool {
-        for a in users {
-            for b in users {
-                if *a < *b && !self.are_apart(*a, *b) {
-                    return true;
-                }
+/// Whether some of a list may run at once: no window, arc or order parts them.
+fn may_overlap(instance: &Instance, settled: &Settled, trail: &Trail, users: &[u32]) -> bool {
+    let is_before = |a: u32, b: u32| {
+        let duration = instance.duration(a);
+        let end = trail.greatest(a).wrapping_add(duration);
+        settled.walks.reaches(a, b, duration) || end <= trail.least(b)
+    };
+    for a in users {
+        for b in users {
+            if *a < *b && !settled.is_open(*a, *b) && !is_before(*a, *b) && !is_before(*b, *a) {
+                return true;
             }
         }
-        false
     }
-}
-
-/// The users of a resource; none where there is enough for all.
-fn users_of(alloc: Global, instance: &Instance, resource: u32) -> Result<Vec<u32>, AllocError> {
-    let mut users = Vec::new(alloc);
-    let mut sum = 0i64;
-    for activity in 0..instance.count() {
-        if instance.uses(activity, resource) {
-            users.push(activity)?;
-            sum = sum.wrapping_add(i64::from(instance.demand(activity, resource)));
-        }
-    }
-    if sum <= i64::from(instance.capacity(resource)) {
-        users.clear();
-    }
-    Ok(users)
+    false
 }
 
 /// The resources of which some users may run at once, and not all fit.
@@ -184,17 +126,16 @@ fn shared_resources(
     instance: &Instance,
     settled: &Settled,
     trail: &Trail,
-) -> Result<Vec<u32>, AllocError> {
-    let parting = Parting {
-        instance,
-        walks: &settled.walks,
-        paired: paired(alloc, instance, &settled.open)?,
-        trail,
-    };
+) -> Result<Vec<u32>> {
     let mut shared = Vec::new(alloc);
     for resource in 0..instance.resource_count() {
-        let users = users_of(alloc, instance, resource)?;
-        if parting.may_overlap(&users) {
+        let users = instance.users(alloc, resource)?;
+        let demands = users
+            .iter()
+            .map(|user| i64::from(instance.demand(*user, resource)));
+        let all = demands.fold(0i64, |sum: i64, demand: i64| sum.wrapping_add(demand));
+        let fit = all <= i64::from(instance.capacity(resource));
+        if !fit && may_overlap(instance, settled, trail, &users) {
             shared.push(resource)?;
         }
     }
@@ -210,7 +151,7 @@ impl<'a> Engine<'a> {
         settled: &Settled,
         most: i32,
         options: Options,
-    ) -> Result<Engine<'a>, AllocError> {
+    ) -> Result<Engine<'a>> {
         let walks = &settled.walks;
         let trail = Trail::new(alloc, first_values(alloc, instance, settled, most)?)?;
         let resources = shared_resources(alloc, instance, settled, &trail)?;
@@ -221,16 +162,14 @@ impl<'a> Engine<'a> {
             Rows::new(alloc, 0)
         };
         let sequence = start_sequence(alloc, instance, walks)?;
-        let cliques = Cliques::new(alloc, instance, &edges, &found)?;
-        let lemmas = Lemmas::new(alloc, trail.slot_count())?;
         let only_orders = resources.is_empty();
         Ok(Engine {
             alloc,
             instance,
             table: TimeTable::new(alloc, instance, &resources)?,
-            cliques,
+            cliques: Cliques::new(alloc, instance, &edges, &found)?,
             edges,
-            lemmas,
+            lemmas: Lemmas::new(alloc, trail.slots())?,
             choices: Choices::new(alloc, &trail, sequence, only_orders, options.seed)?,
             trail,
             marks: Marks::new(alloc),
@@ -240,22 +179,16 @@ impl<'a> Engine<'a> {
             table_marks: Table::new(alloc, 0),
             is_refuted: false,
             floor: 0,
-            reductions: Reductions {
-                next: FIRST_REDUCTION,
-                step: FIRST_REDUCTION,
-            },
+            reduction: FIRST_REDUCTION,
+            reduction_step: FIRST_REDUCTION,
             counts: Counts::NOTHING,
         })
     }
 
     /// Whether each start has a value that it may have.
     pub(crate) fn has_room(&self) -> bool {
-        for activity in 0..self.instance.count() {
-            if self.trail.least(activity) > self.trail.greatest(activity) {
-                return false;
-            }
-        }
-        true
+        (0..self.instance.count()).all(|activity| self.trail.least(activity)
+            <= self.trail.greatest(activity))
     }
 
     /// Looks at all, at the start.
@@ -267,29 +200,29 @@ impl<'a> Engine<'a> {
         self.propagate()
     }
 
-    /// What follows from the next event by arcs, orders and lemmas.
-    #[inline(always)]
+    /// What follows from all events by arcs, orders and lemmas.
     fn follow(&mut self) -> Result<(), Stop> {
-        let number = self.queue;
-        let event = self.trail.event(number);
-        self.queue = number.wrapping_add(1);
-        self.counts.events = self.counts.events.wrapping_add(1);
-        if self.trail.is_last(event.slot, number) {
-            self.edges.follow(&mut self.trail, event.slot)?;
+        for _ in 0..u64::MAX {
+            let number = self.queue;
+            if number >= self.trail.count() {
+                break;
+            }
+            let event = self.trail.event(number);
+            self.queue = number.wrapping_add(1);
+            self.counts.events = self.counts.events.wrapping_add(1);
+            if self.trail.is_last(event.slot, number) {
+                self.edges.follow(&mut self.trail, event.slot)?;
+            }
+            self.lemmas
+                .follow(&mut self.trail, event.slot, event.old, event.new)?;
         }
-        self.lemmas
-            .follow(&mut self.trail, event.slot, event.old, event.new)
+        Ok(())
     }
 
     /// All that follows.
     pub(crate) fn propagate(&mut self) -> Result<(), Stop> {
         for _ in 0..u64::MAX {
-            for _ in 0..u64::MAX {
-                if self.queue >= self.trail.count() {
-                    break;
-                }
-                self.follow()?;
-            }
+            self.follow()?;
             if self.table.step(&mut self.trail)? {
                 continue;
             }
@@ -302,33 +235,31 @@ impl<'a> Engine<'a> {
     }
 
     /// A level begins: a choice, or the first decisions, of which no two contradict each other.
-    pub(crate) fn decide(&mut self, literals: &[Literal]) -> Result<(), AllocError> {
+    pub(crate) fn decide(&mut self, literals: &[Literal]) -> Result<()> {
         self.counts.decisions = self.counts.decisions.wrapping_add(1);
-        let mark = self.table.mark();
-        self.table_marks.push(mark)?;
+        self.table_marks.push(self.table.mark())?;
         self.trail.decide(literals)
     }
 
     /// Goes back to a level. At a decision all propagators are at rest, so that each takes up again at the level's first
     /// event.
-    pub(crate) fn go_back(&mut self, level: u32) -> Result<(), AllocError> {
+    pub(crate) fn go_back(&mut self, level: u32) -> Result<()> {
         if level >= self.trail.level() {
             return Ok(());
         }
-        let count = self.trail.begin_of(level);
+        let begin = self.trail.begin_of(level);
         self.trail.end_levels(level);
-        for _ in count..self.trail.count() {
+        for _ in begin..self.trail.count() {
             if let Some(event) = self.trail.pop() {
                 self.choices.save(&event);
                 self.cliques.forget(&self.trail, &event);
             }
         }
-        let mark = self.table_marks.get(level as usize);
-        self.table_marks.truncate(level as usize);
-        self.table.go_back(mark, count)?;
-        self.cliques.go_back(count);
+        self.table.go_back(self.table_marks[level], begin)?;
+        self.table_marks.truncate(level);
+        self.cliques.go_back(begin);
         self.choices.go_back(&self.trail, level)?;
-        self.queue = count;
+        self.queue = begin;
         Ok(())
     }
 

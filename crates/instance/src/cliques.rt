@@ -2,130 +2,60 @@
 
 use crate::numbers::Instance;
 use crate::walks::Walks;
-use std::alloc::{AllocError, Global};
+use std::alloc::Global;
 use std::cmp::Reverse;
-use tables::{Rows, Table};
+use tables::{Result, Rows, Table};
 
 /// About how many steps greedy cliques may take.
 const BUDGET: u64 = 1_000_000_000;
-
-/// How two activities stand to each other.
-#[derive(Clone, Copy, PartialEq, Eq)]
-enum Relation {
-    /// They may overlap.
-    Free,
-    /// They are rivals whose order is open.
-    Open,
-    /// One runs before the other by lags.
-    Settled,
-}
 
 /// How each two activities stand to each other.
 #[derive(Drop)]
 struct Relations<'a> {
     instance: &'a Instance,
-    count: u32,
-    relations: Table<Relation>,
-    /// All bits of each two that don't overlap, else none.
+    /// All bits of each two that don't overlap, as rivals or by lags; else none.
     apart: Table<i32>,
-}
-
-/// A clique, and how long it takes.
-#[derive(Drop)]
-struct Clique {
-    work: i64,
-    members: Vec<u32>,
-}
-
-fn relation_of(instance: &Instance, walks: &Walks, a: u32, b: u32) -> Relation {
-    let (p, q) = (instance.duration(a), instance.duration(b));
-    if a == b || p == 0 || q == 0 {
-        Relation::Free
-    } else if walks.reaches(a, b, p) || walks.reaches(b, a, q) {
-        Relation::Settled
-    } else if instance.are_rivals(a, b) {
-        Relation::Open
-    } else {
-        Relation::Free
-    }
+    /// Those that are rivals whose order is open.
+    open: Table<bool>,
 }
 
 impl<'a> Relations<'a> {
-    fn new(
-        alloc: Global,
-        instance: &'a Instance,
-        walks: &Walks,
-    ) -> Result<Relations<'a>, AllocError> {
-        let count = instance.count();
-        let mut relations = Table::new(alloc, Relation::Free);
-        let mut apart = Table::new(alloc, 0);
-        for a in 0..count {
-            for b in 0..count {
-                let relation = relation_of(instance, walks, a, b);
-                relations.push(relation)?;
-                apart.push(if relation == Relation::Free { 0 } else { -1 })?;
+    fn new(alloc: Global, instance: &'a Instance, walks: &Walks) -> Result<Relations<'a>> {
+        let (mut apart, mut open) = (Table::new(alloc, 0), Table::new(alloc, false));
+        for a in 0..instance.count() {
+            for b in 0..instance.count() {
+                let (p, q) = (instance.duration(a), instance.duration(b));
+                let is_settled = walks.reaches(a, b, p) || walks.reaches(b, a, q);
+                let both_run = a != b && p > 0 && q > 0;
+                let is_apart = both_run && (is_settled || instance.are_rivals(a, b));
+                apart.push(if is_apart { -1 } else { 0 })?;
+                open.push(is_apart && !is_settled)?;
             }
         }
         Ok(Relations {
             instance,
-            count,
-            relations,
             apart,
+            open,
         })
     }
 
     /// A row of bits of those that don't overlap an activity.
-    #[inline(always)]
     fn row(&self, activity: u32) -> &[i32] {
-        let from = self.place(activity, 0);
+        let from = self.instance.place(activity, 0);
         self.apart
-            .range(from, from.wrapping_add(self.count as usize))
+            .part(from, from.wrapping_add(self.instance.count()))
     }
 
-    #[inline(always)]
-    fn place(&self, a: u32, b: u32) -> usize {
-        (a as usize)
-            .wrapping_mul(self.count as usize)
-            .wrapping_add(b as usize)
-    }
-
-    #[inline(always)]
     fn are_apart(&self, a: u32, b: u32) -> bool {
-        self.relations.get(self.place(a, b)) != Relation::Free
-    }
-
-    fn are_open(&self, a: u32, b: u32) -> bool {
-        self.relations.get(self.place(a, b)) == Relation::Open
+        self.apart[self.instance.place(a, b)] != 0
     }
 
     /// How long an activity takes with all that don't overlap it.
     fn work_beside(&self, activity: u32) -> i32 {
-        let mut work = self.instance.duration(activity);
-        for other in 0..self.count {
-            if self.are_apart(activity, other) {
-                work = work.wrapping_add(self.instance.duration(other));
-            }
-        }
-        work
-    }
-
-    /// Those of a list that don't overlap an activity. The work that others leave is what is beside these.
-    fn beside(
-        &self,
-        alloc: Global,
-        activity: u32,
-        fits: &[u32],
-        leaves: &mut Table<i32>,
-    ) -> Result<Vec<u32>, AllocError> {
-        let mut beside = Vec::new(alloc);
-        for other in fits {
-            if self.are_apart(activity, *other) {
-                beside.push(*other)?;
-            } else {
-                self.leave_out(*other, leaves);
-            }
-        }
-        Ok(beside)
+        (0..self.instance.count())
+            .filter(|other| self.are_apart(activity, *other))
+            .map(|other| self.instance.duration(other))
+            .fold(self.instance.duration(activity), i32::wrapping_add)
     }
 
     /// An activity is not counted any more in the work beside others.
@@ -136,131 +66,82 @@ impl<'a> Relations<'a> {
         }
     }
 
-    /// The clique from an activity on: next comes always the one that leaves most work.
-    fn greedy(&self, alloc: Global, first: u32, leaves: &Table<i32>) -> Result<Clique, AllocError> {
-        let mut left = Table::new(alloc, 0i32);
-        left.push_all(leaves.all())?;
-        let mut fits = Vec::new(alloc);
-        for activity in 0..self.count {
-            fits.push(activity)?;
-        }
-        let mut clique = Clique {
-            work: 0,
-            members: Vec::new(alloc),
-        };
+    /// The clique from an activity on: next comes always the one that leaves most work, the last of these.
+    fn greedy(&self, alloc: Global, first: u32, leaves: &[i32]) -> Result<Vec<u32>> {
+        let mut left = Table::new(alloc, 0);
+        left.push_all(leaves)?;
+        let mut fits: Vec<u32> = (0..self.instance.count()).collect(alloc)?;
+        let mut members = Vec::new(alloc);
         let mut next = Some(first);
-        for _ in 0..self.count {
-            let Some(activity) = next else {
-                break;
-            };
-            clique.members.push(activity)?;
-            clique.work = clique
-                .work
-                .wrapping_add(i64::from(self.instance.duration(activity)));
-            fits = self.beside(alloc, activity, &fits, &mut left)?;
-            next = most_of(&fits, &left);
+        for _ in 0..self.instance.count() {
+            let Some(activity) = next else { break };
+            members.push(activity)?;
+            for other in &fits {
+                if !self.are_apart(activity, *other) {
+                    self.leave_out(*other, &mut left);
+                }
+            }
+            fits.retain(|other| self.are_apart(activity, *other));
+            next = fits.iter().copied().max_by_key(|other| left[*other]);
         }
-        clique.members.sort_unstable();
-        Ok(clique)
+        members.sort_unstable();
+        Ok(members)
     }
 
-    /// How many open pairs a clique has, and how many of these are new; they are seen then if there is enough that is new.
-    fn takes(&self, members: &[u32], seen: &mut Table<bool>) -> bool {
-        let (mut all, mut new) = (0u64, 0u64);
+    /// The greedy cliques with their work, those of most work first. They begin from the longest activities, as many as
+    /// there is time for.
+    fn all(&self, alloc: Global) -> Result<Vec<(Reverse<i64>, Vec<u32>)>> {
+        let instance = self.instance;
+        let work = (0..instance.count()).map(|activity| self.work_beside(activity));
+        let leaves: Vec<i32> = work.collect(alloc)?;
+        let mut seeds: Vec<(Reverse<i32>, u32)> = (1..instance.end())
+            .map(|activity| (Reverse(instance.duration(activity)), activity))
+            .filter(|(duration, _)| duration.0 > 0)
+            .collect(alloc)?;
+        seeds.sort_unstable();
+        let count = u64::from(instance.count().max(1));
+        let most = BUDGET / count.wrapping_mul(count).max(1);
+        let mut cliques = Vec::new(alloc);
+        for (_, first) in seeds.iter().take(most as usize) {
+            let members = self.greedy(alloc, *first, &leaves)?;
+            let durations = members.iter().map(|member| instance.duration(*member));
+            let work = durations.map(i64::from).fold(0, i64::wrapping_add);
+            cliques.push((Reverse(work), members))?;
+        }
+        cliques.sort_unstable();
+        Ok(cliques)
+    }
+
+    /// The places of the open pairs of a clique.
+    fn open_pairs(&self, alloc: Global, members: &[u32]) -> Result<Vec<u32>> {
+        let mut pairs = Vec::new(alloc);
         for a in members {
-            for b in members {
-                if a < b && self.are_open(*a, *b) {
-                    all = all.wrapping_add(1);
-                    if !seen.get(self.place(*a, *b)) {
-                        new = new.wrapping_add(1);
-                    }
+            for b in members.iter().filter(|b| *a < **b) {
+                let place = self.instance.place(*a, *b);
+                if self.open[place] {
+                    pairs.push(place)?;
                 }
             }
         }
-        let is_taken = members.len() > 2 && new > 0 && new.wrapping_mul(12) >= all;
-        if is_taken {
-            self.mark(members, seen);
-        }
-        is_taken
+        Ok(pairs)
     }
-
-    /// The pairs of a clique are seen.
-    fn mark(&self, members: &[u32], seen: &mut Table<bool>) {
-        for a in members {
-            for b in members {
-                seen.set(self.place(*a, *b), true);
-            }
-        }
-    }
-
-    /// The activities that run, the longest first, as many as there is time for.
-    fn seeds(&self, alloc: Global) -> Result<Vec<u32>, AllocError> {
-        let mut seeds = Vec::new(alloc);
-        for activity in 1..self.instance.end() {
-            if self.instance.duration(activity) > 0 {
-                seeds.push(activity)?;
-            }
-        }
-        let instance = self.instance;
-        seeds.sort_unstable_by_key(|activity: &u32| {
-            (Reverse(instance.duration(*activity)), *activity)
-        });
-        let count = u64::from(self.count.max(1));
-        let most = BUDGET / count.wrapping_mul(count).max(1);
-        seeds.truncate(most as usize);
-        Ok(seeds)
-    }
-
-    /// The greedy cliques from all seeds, those of most work first.
-    fn all(&self, alloc: Global) -> Result<Vec<Clique>, AllocError> {
-        let mut leaves = Table::new(alloc, 0i32);
-        for activity in 0..self.count {
-            leaves.push(self.work_beside(activity))?;
-        }
-        let mut cliques = Vec::new(alloc);
-        for first in self.seeds(alloc)?.iter() {
-            cliques.push(self.greedy(alloc, *first, &leaves)?)?;
-        }
-        cliques.sort_unstable_by(|a: &Clique, b: &Clique| {
-            b.work
-                .cmp(&a.work)
-                .then(a.members.as_slice().cmp(b.members.as_slice()))
-        });
-        Ok(cliques)
-    }
-}
-
-/// The activity of a list that leaves most work, the last of these.
-fn most_of(fits: &[u32], leaves: &Table<i32>) -> Option<u32> {
-    let mut best: Option<u32> = None;
-    let mut most = i32::MIN;
-    for activity in fits {
-        let work = leaves.get(*activity as usize);
-        if best.is_none() || work >= most {
-            best = Some(*activity);
-            most = work;
-        }
-    }
-    best
 }
 
 /// Cliques: each two members are rivals, over whatever resources, or in an order by lags. From each activity on greedily
 /// the one that leaves most work. By falling work those stay of whose open pairs a twelfth is in none before.
-pub fn greedy_cliques(
-    alloc: Global,
-    instance: &Instance,
-    walks: &Walks,
-) -> Result<Rows<u32>, AllocError> {
+pub fn greedy_cliques(alloc: Global, instance: &Instance, walks: &Walks) -> Result<Rows<u32>> {
     let relations = Relations::new(alloc, instance, walks)?;
-    let places = relations.place(instance.count(), 0);
+    let places = instance.place(instance.count(), 0) as usize;
     let mut seen = Table::filled(alloc, places, false, true)?;
     let mut cliques = Rows::new(alloc, 0);
-    for clique in relations.all(alloc)?.iter() {
-        if relations.takes(&clique.members, &mut seen) {
-            for member in &clique.members {
-                cliques.push(*member)?;
+    for (_, members) in relations.all(alloc)?.iter() {
+        let pairs = relations.open_pairs(alloc, members)?;
+        let new = pairs.iter().filter(|place| !seen[**place]).count();
+        if members.len() > 2 && new > 0 && new.wrapping_mul(12) >= pairs.len() {
+            cliques.push_row(members)?;
+            for place in &pairs {
+                seen[*place] = true;
             }
-            cliques.close()?;
         }
     }
     Ok(cliques)

@@ -6,12 +6,10 @@
 
 mod cliques;
 mod numbers;
-mod sequence;
-mod settling;
+mod orders;
 mod walks;
 
 pub use cliques::greedy_cliques;
 pub use numbers::{Edge, Instance, MAX_MAKESPAN};
-pub use sequence::start_sequence;
-pub use settling::{Rivals, Settled, paired, settle};
+pub use orders::{Rivals, Settled, settle, start_sequence};
 pub use walks::Walks;

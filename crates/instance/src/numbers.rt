@@ -2,8 +2,8 @@
 
 use horizon::{MAX_HORIZON, horizon_of};
 use network::Project;
-use std::alloc::{AllocError, Global};
-use tables::{Placed, Rows, Table, narrow};
+use std::alloc::Global;
+use tables::{Result, Rows, Table, narrow};
 
 /// No schedule of a makespan above this, in periods, has a record.
 pub const MAX_MAKESPAN: i32 = 1_000_000;
@@ -16,12 +16,12 @@ pub struct Edge {
     pub weight: i32,
 }
 
-/// The edge of no lag.
-pub(crate) const NO_EDGE: Edge = Edge {
-    from: 0,
-    to: 0,
-    weight: 0,
-};
+impl Edge {
+    /// `to` starts at least `weight` periods after `from` starts.
+    pub fn new(from: u32, to: u32, weight: i32) -> Edge {
+        Edge { from, to, weight }
+    }
+}
 
 /// What a search needs to know of a project.
 #[derive(Drop)]
@@ -33,7 +33,8 @@ pub struct Instance {
     /// The lags from each activity, the implied ones too, and those to each.
     leaving: Rows<Edge>,
     entering: Rows<Edge>,
-    horizon: i32,
+    /// Where there is a schedule, there is one that is no longer, in periods.
+    pub horizon: i32,
 }
 
 /// A number of a project, which is at most 1,000,000.
@@ -46,42 +47,23 @@ fn periods(x: i64) -> i32 {
     x.clamp(-1_000_000, 1_000_000) as i32
 }
 
-/// The arcs of a project: the given ones, from the start to each activity, and from each activity to the end.
-fn edges_of(alloc: Global, project: &Project) -> Result<Vec<Edge>, AllocError> {
-    let mut edges = Vec::new(alloc);
-    for lag in project.arcs(alloc, &[])?.iter() {
-        edges.push(Edge {
-            from: narrow(lag.from),
-            to: narrow(lag.to),
-            weight: periods(lag.weight),
-        })?;
-    }
-    Ok(edges)
-}
-
-/// The same edges, each with the row of the activity that it leaves, or enters.
-fn placed(alloc: Global, edges: &[Edge], leaving: bool) -> Result<Vec<Placed<Edge>>, AllocError> {
-    let mut placed = Vec::new(alloc);
-    for edge in edges {
-        let row = if leaving { edge.from } else { edge.to };
-        placed.push(Placed { row, value: *edge })?;
-    }
-    Ok(placed)
-}
-
 impl Instance {
     /// The numbers of a project.
-    pub fn new(alloc: Global, project: &Project) -> Result<Instance, AllocError> {
-        let edges = edges_of(alloc, project)?;
-        let count = project.activity_count();
-        let leaving = Rows::sorted(alloc, count, &placed(alloc, &edges, true)?, NO_EDGE)?;
-        let entering = Rows::sorted(alloc, count, &placed(alloc, &edges, false)?, NO_EDGE)?;
+    pub fn new(alloc: Global, project: &Project) -> Result<Instance> {
+        let (mut leaving, mut entering) = (Vec::new(alloc), Vec::new(alloc));
+        for lag in project.arcs(alloc, &[])?.iter() {
+            let edge = Edge::new(narrow(lag.from), narrow(lag.to), periods(lag.weight));
+            leaving.push((edge.from, edge))?;
+            entering.push((edge.to, edge))?;
+        }
+        let count = narrow(project.activity_count());
+        let none = Edge::new(0, 0, 0);
         let mut instance = Instance {
             durations: Table::new(alloc, 0),
             demands: Table::new(alloc, 0),
             capacities: Table::new(alloc, 0),
-            leaving,
-            entering,
+            leaving: Rows::by_row(alloc, count, &leaving, none)?,
+            entering: Rows::by_row(alloc, count, &entering, none)?,
             horizon: horizon_of(project).clamp(0, MAX_HORIZON) as i32,
         };
         instance.take_amounts(project)?;
@@ -89,13 +71,13 @@ impl Instance {
     }
 
     /// Takes durations, demands and capacities.
-    fn take_amounts(&mut self, project: &Project) -> Result<(), AllocError> {
+    fn take_amounts(&mut self, project: &Project) -> Result<()> {
         for activity in 0..project.activity_count() {
-            self.durations
-                .push(periods(project.duration(activity)).max(0))?;
+            let duration = periods(project.duration(activity)).max(0);
+            self.durations.push(duration)?;
             for resource in 0..project.resource_count() {
-                self.demands
-                    .push(amount(project.demand(resource, activity)))?;
+                let demand = amount(project.demand(resource, activity));
+                self.demands.push(demand)?;
             }
         }
         for resource in 0..project.resource_count() {
@@ -105,42 +87,41 @@ impl Instance {
     }
 
     /// How many activities there are, with the start and the end.
-    #[inline(always)]
     pub fn count(&self) -> u32 {
         self.durations.count()
     }
 
     /// The last activity, the end.
-    #[inline(always)]
     pub fn end(&self) -> u32 {
         self.count().wrapping_sub(1)
     }
 
+    /// The place of two activities in a table that has one for each two.
+    pub fn place(&self, a: u32, b: u32) -> u32 {
+        a.wrapping_mul(self.count()).wrapping_add(b)
+    }
+
     /// How many resources there are.
-    #[inline(always)]
     pub fn resource_count(&self) -> u32 {
         self.capacities.count()
     }
 
     /// The duration of an activity, in periods.
-    #[inline(always)]
     pub fn duration(&self, activity: u32) -> i32 {
-        self.durations.get(activity as usize)
+        self.durations[activity]
     }
 
     /// What an activity needs of a resource.
-    #[inline(always)]
     pub fn demand(&self, activity: u32, resource: u32) -> i32 {
-        let row = (activity as usize).wrapping_mul(self.capacities.len());
-        self.demands.get(row.wrapping_add(resource as usize))
+        let row = activity.wrapping_mul(self.resource_count());
+        self.demands[row.wrapping_add(resource)]
     }
 
     /// What an activity needs of each resource.
-    #[inline(always)]
     pub fn demands(&self, activity: u32) -> &[i32] {
-        let row = (activity as usize).wrapping_mul(self.capacities.len());
-        self.demands
-            .range(row, row.wrapping_add(self.capacities.len()))
+        let row = activity.wrapping_mul(self.resource_count());
+        let end = row.wrapping_add(self.resource_count());
+        self.demands.part(row, end)
     }
 
     /// How much there is of each resource.
@@ -149,9 +130,8 @@ impl Instance {
     }
 
     /// How much there is of a resource.
-    #[inline(always)]
     pub fn capacity(&self, resource: u32) -> i32 {
-        self.capacities.get(resource as usize)
+        self.capacities[resource]
     }
 
     /// All lags, the implied ones too.
@@ -160,42 +140,37 @@ impl Instance {
     }
 
     /// The lags from an activity.
-    #[inline(always)]
     pub fn leaving(&self, activity: u32) -> &[Edge] {
         self.leaving.row(activity)
     }
 
     /// The lags to an activity.
-    #[inline(always)]
     pub fn entering(&self, activity: u32) -> &[Edge] {
         self.entering.row(activity)
     }
 
-    /// Where there is a schedule, there is one that is no longer, in periods.
-    pub fn horizon(&self) -> i32 {
-        self.horizon
-    }
-
     /// Whether an activity runs and needs some of a resource.
-    #[inline(always)]
     pub fn uses(&self, activity: u32, resource: u32) -> bool {
         self.duration(activity) > 0 && self.demand(activity, resource) > 0
     }
 
+    /// The activities that run and need some of a resource.
+    pub fn users(&self, alloc: Global, resource: u32) -> Result<Vec<u32>> {
+        let activities = 0..self.count();
+        activities
+            .filter(|activity: &u32| self.uses(*activity, resource))
+            .collect(alloc)
+    }
+
     /// Whether some resource isn't enough for two activities that run at once.
     pub fn are_rivals(&self, a: u32, b: u32) -> bool {
-        if a == b || self.duration(a) == 0 || self.duration(b) == 0 {
-            return false;
-        }
-        for resource in 0..self.resource_count() {
-            let sum = self
-                .demand(a, resource)
-                .wrapping_add(self.demand(b, resource));
-            if sum > self.capacity(resource) {
-                return true;
-            }
-        }
-        false
+        let demands = self.demands(a).iter().zip(self.demands(b));
+        a != b
+            && self.duration(a) > 0
+            && self.duration(b) > 0
+            && demands.zip(self.capacities()).any(|((first, second), capacity)| first.wrapping_add(
+                *second,
+            ) > *capacity)
     }
 
     /// The duration times the demand of all activities for a resource.
@@ -210,11 +185,10 @@ impl Instance {
 
     /// A makespan that a shortest schedule seldom exceeds: twice the longest walk and the greatest load.
     pub fn likely_end(&self, walk: i32) -> i32 {
-        let mut load = 0i64;
-        for resource in 0..self.resource_count() {
-            let capacity = i64::from(self.capacity(resource).max(1));
-            load = load.max(self.work(resource) / capacity);
-        }
+        let load = (0..self.resource_count())
+            .map(|resource| self.work(resource) / i64::from(self.capacity(resource).max(1)))
+            .max()
+            .unwrap_or(0);
         let end = load.wrapping_add(i64::from(walk)).wrapping_mul(2);
         (end.clamp(0, MAX_HORIZON) as i32).min(self.horizon)
     }
@@ -222,12 +196,12 @@ impl Instance {
     /// An activity and a resource of which it needs more than there is.
     pub fn too_much(&self) -> Option<(u32, u32)> {
         for activity in 0..self.count() {
-            for resource in 0..self.resource_count() {
-                if self.uses(activity, resource)
-                    && self.demand(activity, resource) > self.capacity(resource)
-                {
-                    return Some((activity, resource));
-                }
+            let is_too_much = |resource: &u32| {
+                self.uses(activity, *resource)
+                    && self.demand(activity, *resource) > self.capacity(*resource)
+            };
+            if let Some(resource) = (0..self.resource_count()).find(is_too_much) {
+                return Some((activity, resource));
             }
         }
         None

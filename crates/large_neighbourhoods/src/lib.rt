@@ -4,12 +4,8 @@
 //! Nothing here needs to be trusted: whoever takes a schedule has it checked.
 #![tactic(auto)]
 
-mod nearness;
-mod random;
-mod room;
+mod neighbourhoods;
 mod shifting;
-mod ways;
 
-pub use random::Random;
-pub use shifting::{Shifted, shortened};
-pub use ways::{WAYS, Way, first_decisions};
+pub use neighbourhoods::{Form, Kind, Random, WAYS, first_decisions};
+pub use shifting::shortened;

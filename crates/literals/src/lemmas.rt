@@ -3,33 +3,41 @@
 use crate::literal::{Literal, NEVER};
 use crate::reason::{Conflict, Reason, Stop};
 use crate::trail::Trail;
-use crate::watched::Watched;
 use std::alloc::{AllocError, Global};
 use std::cmp::Reverse;
-use tables::{Lists, Table, narrow};
-
-/// What is noted beside a lemma.
-#[derive(Clone, Copy)]
-pub struct Note {
-    /// How many levels its literals were of when it was learnt (the LBD of Audemard and Simon 2009).
-    pub lbd: u32,
-    /// Its number in the log of the proof.
-    pub number: u32,
-}
+use std::mem;
+use tables::{Result, Table, narrow};
 
 /// What is known of a lemma whose literals stand at a place.
 #[derive(Clone, Copy)]
 struct Head {
     place: u32,
+    /// How many levels its literals were of when it was learnt (the LBD of Audemard and Simon 2009).
+    lbd: u32,
+    /// Its number in the log of the proof.
+    number: u32,
     activity: u64,
-    note: Note,
 }
+
+const NO_HEAD: Head = Head {
+    place: 0,
+    lbd: 0,
+    number: 0,
+    activity: 0,
+};
 
 /// A lemma is watched; where the other literal holds, it does.
 #[derive(Clone, Copy)]
 struct Watch {
     place: u32,
     other: Literal,
+}
+
+/// A value of a slot that is watched, and the list of its watches.
+#[derive(Clone, Copy)]
+struct Watched {
+    value: i32,
+    list: u32,
 }
 
 /// What is found of a watch whose literal is false now.
@@ -39,12 +47,6 @@ enum Found {
     /// All literals are false but this one.
     Leaves(Literal),
 }
-
-const NO_HEAD: Head = Head {
-    place: 0,
-    activity: 0,
-    note: Note { lbd: 0, number: 0 },
-};
 
 /// Lemmas of so few levels stay.
 const SMALL: u32 = 2;
@@ -61,139 +63,151 @@ const SCALE: u64 = 1_000_000_000;
 /// All literals stand in one list. Before those of a lemma stands a header: its length and the number of its head.
 #[derive(Drop)]
 pub struct Lemmas {
+    alloc: Global,
     literals: Table<Literal>,
     heads: Table<Head>,
-    watched: Watched,
-    lists: Lists<Watch>,
+    /// By slot: the values that are watched, rising.
+    watched: Vec<Vec<Watched>>,
+    lists: Vec<Vec<Watch>>,
+    /// Lists that are not in use.
+    spare: Vec<u32>,
     bump: u64,
-}
-
-/// The header of a lemma.
-fn header(length: usize, head: usize) -> Literal {
-    Literal {
-        slot: narrow(length),
-        value: narrow(head).cast_signed(),
-    }
 }
 
 impl Lemmas {
     /// No lemmas, over so many slots.
-    pub fn new(alloc: Global, slots: usize) -> Result<Lemmas, AllocError> {
-        let no_watch = Watch {
-            place: 0,
-            other: NEVER,
-        };
+    pub fn new(alloc: Global, slots: u32) -> Result<Lemmas> {
+        let mut watched = Vec::new(alloc);
+        for _ in 0..slots {
+            watched.push(Vec::new(alloc))?;
+        }
         Ok(Lemmas {
+            alloc,
             literals: Table::new(alloc, NEVER),
             heads: Table::new(alloc, NO_HEAD),
-            watched: Watched::new(alloc, slots)?,
-            lists: Lists::new(alloc, no_watch),
+            watched,
+            lists: Vec::new(alloc),
+            spare: Vec::new(alloc),
             bump: FIRST_BUMP,
         })
     }
 
-    /// How many lemmas there are.
-    pub fn count(&self) -> u32 {
-        self.heads.count()
-    }
-
     /// How many bytes lemmas and their watches take.
     pub fn bytes(&self) -> u64 {
-        let literals = (self.literals.len() as u64).wrapping_mul(8);
-        let heads = (self.heads.len() as u64).wrapping_mul(80);
-        literals.wrapping_add(heads)
+        let literals = u64::from(self.literals.count()).wrapping_mul(8);
+        literals.wrapping_add(u64::from(self.heads.count()).wrapping_mul(80))
     }
 
-    /// How many literals the lemma at a place has.
-    #[inline(always)]
-    fn length(&self, place: u32) -> usize {
-        self.literals.get(place as usize).slot as usize
+    /// The places of the literals of the lemma at a place.
+    fn places(&self, place: u32) -> (u32, u32) {
+        let from = place.wrapping_add(1);
+        (from, from.wrapping_add(self.literals[place].slot))
     }
 
-    /// The head of the lemma at a place.
-    fn head(&self, place: u32) -> usize {
-        self.literals.get(place as usize).value.cast_unsigned() as usize
+    /// The number of the head of the lemma at a place.
+    fn head(&self, place: u32) -> u32 {
+        self.literals[place].value.cast_unsigned()
     }
 
     /// The literals of the lemma at a place. The first is the one that it made hold.
-    #[inline(always)]
     pub fn literals(&self, place: u32) -> &[Literal] {
-        let from = (place as usize).wrapping_add(1);
-        self.literals
-            .range(from, from.wrapping_add(self.length(place)))
+        let (from, to) = self.places(place);
+        self.literals.part(from, to)
     }
 
     /// The number in the log of the lemma at a place.
     pub fn number(&self, place: u32) -> u32 {
-        self.heads.get(self.head(place)).note.number
+        self.heads[self.head(place)].number
+    }
+
+    /// A list of watches that is empty.
+    fn new_list(&mut self) -> Result<u32> {
+        if let Some(list) = self.spare.pop() {
+            return Ok(list);
+        }
+        let list = narrow(self.lists.len());
+        self.lists.push(Vec::new(self.alloc))?;
+        Ok(list)
+    }
+
+    /// The list of the watches of a literal.
+    fn list_of(&mut self, literal: Literal) -> Result<u32> {
+        let Literal { slot, value } = literal;
+        let Some(values) = self.watched.get(slot as usize) else {
+            return Ok(u32::MAX);
+        };
+        let at = values.partition_point(|known: &Watched| known.value < value);
+        if let Some(known) = values.get(at).copied().filter(|known| known.value == value) {
+            return Ok(known.list);
+        }
+        let list = self.new_list()?;
+        if let Some(values) = self.watched.get_mut(slot as usize) {
+            if at <= values.len() && values.insert(at, Watched { value, list }).is_err() {
+                return Err(AllocError);
+            }
+        }
+        Ok(list)
     }
 
     /// The lemma of a watch is to be looked at once this literal gets false.
-    #[inline(always)]
-    fn watch(&mut self, literal: Literal, watch: Watch) -> Result<(), AllocError> {
-        let list = self.watched.list_of(literal.negated(), &mut self.lists)?;
-        self.lists.push(list, watch)
+    fn watch(&mut self, literal: Literal, watch: Watch) -> Result<()> {
+        let list = self.list_of(!literal)?;
+        if let Some(watches) = self.lists.get_mut(list as usize) {
+            watches.push(watch)?;
+        }
+        Ok(())
     }
 
-    /// A lemma of two literals or more. The first is to hold next, the second is of the level that was gone back to.
-    /// Gives its place.
-    pub fn learn(&mut self, literals: &[Literal], note: Note) -> Result<u32, AllocError> {
-        let activity = self.bump;
-        self.add(literals, activity, note)
-    }
-
-    /// Adds a lemma.
-    fn add(&mut self, literals: &[Literal], activity: u64, note: Note) -> Result<u32, AllocError> {
-        let place = self.literals.count();
-        self.literals
-            .push(header(literals.len(), self.heads.len()))?;
-        self.literals.push_all(literals)?;
-        self.heads.push(Head {
-            place,
-            activity,
-            note,
-        })?;
-        let from = place as usize;
-        let first = self.literals.get(from.wrapping_add(1));
-        let second = self.literals.get(from.wrapping_add(2));
-        self.watch(
-            first,
-            Watch {
+    /// A lemma of two literals or more, of so many levels, with its number in the log. The first literal is to hold next,
+    /// the second is of the level that was gone back to. Gives the lemma's place.
+    pub fn learn(&mut self, literals: &[Literal], lbd: u32, number: u32) -> Result<u32> {
+        let (place, activity) = (self.literals.count(), self.bump);
+        self.add(
+            literals,
+            Head {
                 place,
-                other: second,
-            },
-        )?;
-        self.watch(
-            second,
-            Watch {
-                place,
-                other: first,
+                lbd,
+                number,
+                activity,
             },
         )?;
         Ok(place)
     }
 
+    /// Adds a lemma at the end.
+    fn add(&mut self, literals: &[Literal], head: Head) -> Result<()> {
+        let place = self.literals.count();
+        let (slot, value) = (narrow(literals.len()), self.heads.count().cast_signed());
+        self.literals.push(Literal { slot, value })?;
+        self.literals.push_all(literals)?;
+        self.heads.push(Head { place, ..head })?;
+        let first = self.literals[place.wrapping_add(1)];
+        let other = self.literals[place.wrapping_add(2)];
+        self.watch(first, Watch { place, other })?;
+        self.watch(
+            other,
+            Watch {
+                place,
+                other: first,
+            },
+        )
+    }
+
     /// Finds another literal to watch for one that got false.
     #[inline(always)]
-    fn look_at(
-        &mut self,
-        trail: &Trail,
-        bad: Literal,
-        watch: &mut Watch,
-    ) -> Result<Found, AllocError> {
-        let from = (watch.place as usize).wrapping_add(1);
+    fn look_at(&mut self, trail: &Trail, bad: Literal, watch: &mut Watch) -> Result<Found> {
+        let (from, to) = self.places(watch.place);
         let second = from.wrapping_add(1);
-        if self.literals.get(from) == bad {
+        if self.literals[from] == bad {
             self.literals.swap(from, second);
         }
-        let first = self.literals.get(from);
-        let was = watch.other;
-        watch.other = first;
+        let first = self.literals[from];
+        let was = mem::replace(&mut watch.other, first);
         if first != was && trail.holds(first) {
             return Ok(Found::Stays);
         }
-        for at in second.wrapping_add(1)..from.wrapping_add(self.length(watch.place)) {
-            let literal = self.literals.get(at);
+        for at in second.wrapping_add(1)..to {
+            let literal = self.literals[at];
             if !trail.fails(literal) {
                 self.literals.swap(second, at);
                 self.watch(literal, *watch)?;
@@ -212,13 +226,16 @@ impl Lemmas {
         trail.force(left, Reason::Lemma { place })
     }
 
-    /// Looks at the watches of a literal that got false.
-    fn visit(&mut self, trail: &mut Trail, bad: Literal, list: u32) -> Result<(), Stop> {
-        let mut watches = self.lists.take(list);
-        let mut kept = 0usize;
-        let mut flow = Ok(());
+    /// Looks at the watches of a literal that got false. Whether any is left.
+    #[inline(never)]
+    fn visit(&mut self, trail: &mut Trail, bad: Literal, list: u32) -> Result<bool, Stop> {
+        let mut watches = Vec::new(self.alloc);
+        if let Some(found) = self.lists.get_mut(list as usize) {
+            watches = mem::replace(found, watches);
+        }
+        let (mut kept, mut flow) = (0usize, Ok(()));
         for at in 0..watches.len() {
-            let mut watch = watches.get(at);
+            let mut watch = watches[at];
             if flow.is_ok() && !trail.holds(watch.other) {
                 match self.look_at(trail, bad, &mut watch)? {
                     Found::Moves => continue,
@@ -226,85 +243,88 @@ impl Lemmas {
                     Found::Leaves(left) => flow = Lemmas::force(trail, watch.place, left),
                 }
             }
-            watches.set(kept, watch);
+            if kept < watches.len() {
+                watches[kept] = watch;
+            }
             kept = kept.wrapping_add(1);
         }
         watches.truncate(kept);
-        self.lists.put(list, watches);
-        flow
+        if let Some(found) = self.lists.get_mut(list as usize) {
+            *found = watches;
+        }
+        flow.map(|_| kept > 0)
     }
 
     /// A slot rose from a value to another: what follows by the lemmas that watch the values between.
     #[inline(always)]
     pub fn follow(&mut self, trail: &mut Trail, slot: u32, old: i32, new: i32) -> Result<(), Stop> {
-        let mut at = self.watched.first_above(slot, old);
+        let Some(values) = self.watched.get(slot as usize) else {
+            return Ok(());
+        };
+        let mut at = values.partition_point(|known: &Watched| known.value <= old);
         for _ in 0..u64::MAX {
-            let Some(found) = self.watched.get(slot, at) else {
+            let values = self.watched.get(slot as usize);
+            let Some(Watched { value, list }) = values.and_then(|values| values.get(at).copied())
+            else {
                 break;
             };
-            let value = found.value;
             if value > new {
                 break;
             }
-            self.visit(trail, Literal { slot, value }.negated(), found.list)?;
-            if self.lists.is_empty(found.list) {
-                self.watched.remove(slot, at);
-                self.lists.give_back(found.list)?;
-            } else {
+            if self.visit(trail, !Literal { slot, value }, list)? {
                 at = at.wrapping_add(1);
+            } else {
+                self.drop_list(slot, at, list)?;
             }
         }
         Ok(())
     }
 
+    /// Nothing watches a value of a slot any more, whose list is empty.
+    fn drop_list(&mut self, slot: u32, at: usize, list: u32) -> Result<()> {
+        if let Some(values) = self.watched.get_mut(slot as usize) {
+            if at < values.len() {
+                values.remove(at);
+            }
+        }
+        self.spare.push(list)?;
+        Ok(())
+    }
+
     /// An analysis has used the lemma at a place.
     pub fn touch(&mut self, place: u32) {
-        let at = self.head(place);
-        let head = self.heads.get(at);
-        let activity = head.activity.wrapping_add(self.bump);
-        self.heads.set(at, Head { activity, ..head });
+        let (at, bump) = (self.head(place), self.bump);
+        let head = &mut self.heads[at];
+        head.activity = head.activity.wrapping_add(bump);
     }
 
     /// Uses from now on count for more.
     pub fn age(&mut self) {
         self.bump = self.bump.wrapping_add(self.bump / 1_000);
         if self.bump > LAST_BUMP {
-            for head in self.heads.all_mut().iter_mut() {
+            for head in self.heads.all_mut() {
                 head.activity = head.activity / SCALE;
             }
             self.bump = self.bump / SCALE;
         }
     }
 
-    /// Whether a lemma holds always.
-    fn holds(&self, trail: &Trail, head: Head) -> bool {
-        for literal in self.literals(head.place) {
-            if trail.holds(*literal) {
-                return true;
-            }
-        }
-        false
-    }
-
-    /// The lemmas that stay where half of those that did little go.
-    fn kept(&self, alloc: Global, trail: &Trail) -> Result<Vec<Head>, AllocError> {
-        let mut kept = Vec::new(alloc);
-        let mut others = Vec::new(alloc);
+    /// The lemmas that stay where half of those that did little go, and all that hold always.
+    fn kept(&self, trail: &Trail) -> Result<Vec<Head>> {
+        let (mut kept, mut others) = (Vec::new(self.alloc), Vec::new(self.alloc));
         for head in self.heads.all() {
-            if self.holds(trail, *head) {
+            let literals = self.literals(head.place);
+            if literals.iter().any(|literal| trail.holds(*literal)) {
                 continue;
             }
-            if head.note.lbd <= SMALL || self.length(head.place) == 2 {
+            if head.lbd <= SMALL || literals.len() == 2 {
                 kept.push(*head)?;
             } else {
                 others.push(*head)?;
             }
         }
-        others.sort_unstable_by_key(|head: &Head| {
-            (head.note.lbd, Reverse(head.activity), head.place)
-        });
-        let half = others.len() / 2;
-        others.truncate(half);
+        others.sort_unstable_by_key(|head: &Head| (head.lbd, Reverse(head.activity), head.place));
+        others.truncate(others.len() / 2);
         kept.extend_from_slice(&others)?;
         kept.sort_unstable_by_key(|head: &Head| head.place);
         Ok(kept)
@@ -312,14 +332,12 @@ impl Lemmas {
 
     /// Forgets half of the lemmas that did little, and all that hold always. At the root only, where none is a reason
     /// and all that follows is there.
-    pub fn reduce(&mut self, alloc: Global, trail: &Trail) -> Result<(), AllocError> {
-        let kept = self.kept(alloc, trail)?;
-        let mut old = Lemmas::new(alloc, 0)?;
-        old.literals = self.literals.replace(alloc);
-        self.heads.clear();
-        self.watched.clear();
-        self.lists.clear()?;
-        let mut left = Vec::new(alloc);
+    pub fn reduce(&mut self, trail: &Trail) -> Result<()> {
+        let kept = self.kept(trail)?;
+        let empty = Lemmas::new(self.alloc, narrow(self.watched.len()))?;
+        let bump = self.bump;
+        let old = mem::replace(self, Lemmas { bump, ..empty });
+        let mut left = Vec::new(self.alloc);
         for head in &kept {
             left.clear();
             for literal in old.literals(head.place) {
@@ -328,7 +346,7 @@ impl Lemmas {
                 }
             }
             if left.len() > 1 {
-                self.add(&left, head.activity, head.note)?;
+                self.add(&left, *head)?;
             }
         }
         Ok(())

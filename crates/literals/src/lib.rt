@@ -9,9 +9,8 @@ mod lemmas;
 mod literal;
 mod reason;
 mod trail;
-mod watched;
 
-pub use lemmas::{Lemmas, Note};
+pub use lemmas::Lemmas;
 pub use literal::{Literal, NEVER};
 pub use reason::{Conflict, Reason, Stop};
 pub use trail::{Event, Trail};

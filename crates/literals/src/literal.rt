@@ -1,11 +1,13 @@
 //! Literals.
 
+use std::ops::Not;
+
 /// A slot has at least this value.
 ///
 /// A variable x has two slots: the value of slot 2x is its least value, that of 2x + 1 its greatest one, negated. So a
 /// slot's value only grows on the way down. Variables are first the starts of the activities, then the orders of pairs
 /// of rivals: 1 if the first of the two ends before the other starts, 0 if the other way round.
-#[derive(Clone, Copy, PartialEq, Eq, PartialOrd, Ord, Debug)]
+#[derive(Clone, Copy, PartialEq, Eq, PartialOrd, Ord, Hash, Debug)]
 pub struct Literal {
     pub slot: u32,
     pub value: i32,
@@ -17,52 +19,42 @@ pub const NEVER: Literal = Literal {
     value: i32::MAX,
 };
 
-impl Literal {
-    /// The variable is at least so much.
-    #[inline(always)]
-    pub fn at_least(variable: u32, value: i32) -> Literal {
-        Literal {
-            slot: variable.wrapping_mul(2),
-            value,
-        }
-    }
-
-    /// The variable is at most so much.
-    #[inline(always)]
-    pub fn at_most(variable: u32, value: i32) -> Literal {
-        Literal {
-            slot: variable.wrapping_mul(2).wrapping_add(1),
-            value: value.wrapping_neg(),
-        }
-    }
+impl Not for Literal {
+    type Output = Literal;
 
     /// What holds just where the literal does not: values are whole numbers.
-    #[inline(always)]
-    pub fn negated(self) -> Literal {
+    fn not(self) -> Literal {
         Literal {
             slot: self.slot ^ 1,
             value: 1i32.wrapping_sub(self.value),
         }
     }
+}
+
+impl Literal {
+    /// The variable is at least so much.
+    pub fn at_least(variable: u32, value: i32) -> Literal {
+        let slot = variable.wrapping_mul(2);
+        Literal { slot, value }
+    }
+
+    /// The variable is at most so much.
+    pub fn at_most(variable: u32, value: i32) -> Literal {
+        !Literal::at_least(variable, value.wrapping_add(1))
+    }
 
     /// Its variable.
-    #[inline(always)]
     pub fn variable(self) -> u32 {
         self.slot / 2
     }
 
     /// Whether it bounds its variable from below.
-    #[inline(always)]
     pub fn is_lower(self) -> bool {
         self.slot % 2 == 0
     }
 
-    /// The same literal of another value.
-    #[inline(always)]
+    /// The literal of another value of its slot.
     pub fn with(self, value: i32) -> Literal {
-        Literal {
-            slot: self.slot,
-            value,
-        }
+        Literal { value, ..self }
     }
 }

@@ -2,8 +2,8 @@
 
 use crate::literal::Literal;
 use crate::reason::{Conflict, Reason, Stop};
-use std::alloc::{AllocError, Global};
-use tables::Table;
+use std::alloc::Global;
+use tables::{Result, Table};
 
 /// A slot got a greater value.
 #[derive(Clone, Copy, Debug)]
@@ -41,8 +41,8 @@ pub struct Trail {
 
 impl Trail {
     /// The trail of no events over slots with these values.
-    pub fn new(alloc: Global, values: Table<i32>) -> Result<Trail, AllocError> {
-        let last = Table::filled(alloc, values.len(), 0, 0)?;
+    pub fn new(alloc: Global, values: Table<i32>) -> Result<Trail> {
+        let last = Table::filled(alloc, values.count() as usize, 0, 0)?;
         Ok(Trail {
             values,
             last,
@@ -52,62 +52,60 @@ impl Trail {
     }
 
     /// How many slots there are.
-    pub fn slot_count(&self) -> usize {
-        self.values.len()
+    pub fn slots(&self) -> u32 {
+        self.values.count()
     }
 
     /// The value of a slot.
-    #[inline(always)]
     pub fn value(&self, slot: u32) -> i32 {
-        self.values.get(slot as usize)
+        self.values[slot]
     }
 
     /// The least value of a variable.
-    #[inline(always)]
     pub fn least(&self, variable: u32) -> i32 {
-        self.values.get((variable as usize).wrapping_mul(2))
+        self.values[variable.wrapping_mul(2)]
     }
 
     /// The greatest value of a variable.
-    #[inline(always)]
     pub fn greatest(&self, variable: u32) -> i32 {
-        let slot = (variable as usize).wrapping_mul(2).wrapping_add(1);
-        self.values.get(slot).wrapping_neg()
+        self.values[variable.wrapping_mul(2).wrapping_add(1)].wrapping_neg()
     }
 
     /// Whether a literal holds.
     #[inline(always)]
     pub fn holds(&self, literal: Literal) -> bool {
-        self.value(literal.slot) >= literal.value
+        self.values[literal.slot] >= literal.value
     }
 
     /// Whether the negation of a literal holds.
     #[inline(always)]
     pub fn fails(&self, literal: Literal) -> bool {
-        self.value(literal.slot ^ 1).wrapping_add(literal.value) > 0
+        self.values[literal.slot ^ 1].wrapping_add(literal.value) > 0
+    }
+
+    /// Whether neither holds.
+    pub fn is_open(&self, literal: Literal) -> bool {
+        !self.holds(literal) && !self.fails(literal)
     }
 
     /// The level that is searched now.
-    #[inline(always)]
     pub fn level(&self) -> u32 {
         self.levels.count()
     }
 
     /// How many events there are.
-    #[inline(always)]
     pub fn count(&self) -> u32 {
         self.events.count()
     }
 
     /// The event of a number.
-    #[inline(always)]
     pub fn event(&self, number: u32) -> Event {
-        self.events.get(number as usize)
+        self.events[number]
     }
 
     /// Where a level begins.
     pub fn begin_of(&self, level: u32) -> u32 {
-        self.levels.get(level as usize)
+        self.levels[level]
     }
 
     /// The events before this one always hold.
@@ -115,16 +113,16 @@ impl Trail {
         if self.levels.is_empty() {
             self.count()
         } else {
-            self.levels.get(0)
+            self.levels[0]
         }
     }
 
     /// The event that made a literal hold, 0 where it held always.
     #[inline(always)]
     pub fn event_of(&self, literal: Literal) -> u32 {
-        let mut number = self.last.get(literal.slot as usize);
+        let mut number = self.last[literal.slot];
         for _ in 0..u64::MAX {
-            let event = self.event(number);
+            let event = &self.events[number];
             if number == 0 || event.old < literal.value {
                 break;
             }
@@ -133,42 +131,44 @@ impl Trail {
         number
     }
 
+    /// The level of a literal that holds.
+    pub fn level_of(&self, literal: Literal) -> u32 {
+        self.events[self.event_of(literal)].level
+    }
+
     /// The value of a slot before an event.
     pub fn value_at(&self, slot: u32, number: u32) -> i32 {
-        let mut value = self.value(slot);
-        let mut last = self.last.get(slot as usize);
+        let (mut value, mut last) = (self.values[slot], self.last[slot]);
         for _ in 0..u64::MAX {
             if last < number || last == 0 {
                 break;
             }
-            let event = self.event(last);
-            value = event.old;
-            last = event.before;
+            let event = &self.events[last];
+            (value, last) = (event.old, event.before);
         }
         value
     }
 
     /// Whether an event is its slot's last.
-    #[inline(always)]
     pub fn is_last(&self, slot: u32, number: u32) -> bool {
-        self.last.get(slot as usize) == number
+        self.last[slot] == number
     }
 
     /// A slot gets a greater value.
     #[inline(always)]
-    fn raise(&mut self, literal: Literal, reason: Reason) -> Result<(), AllocError> {
-        let slot = literal.slot as usize;
+    fn raise(&mut self, literal: Literal, reason: Reason) -> Result<()> {
+        let Literal { slot, value } = literal;
         let number = self.events.count();
         self.events.push(Event {
-            slot: literal.slot,
-            old: self.values.get(slot),
-            new: literal.value,
+            slot,
+            old: self.values[slot],
+            new: value,
             level: self.levels.count(),
-            before: self.last.get(slot),
+            before: self.last[slot],
             reason,
         })?;
-        self.values.set(slot, literal.value);
-        self.last.set(slot, number);
+        self.values[slot] = value;
+        self.last[slot] = number;
         Ok(())
     }
 
@@ -186,9 +186,8 @@ impl Trail {
     }
 
     /// A level begins with what of these literals doesn't hold yet.
-    pub fn decide(&mut self, literals: &[Literal]) -> Result<(), AllocError> {
-        let begin = self.events.count();
-        self.levels.push(begin)?;
+    pub fn decide(&mut self, literals: &[Literal]) -> Result<()> {
+        self.levels.push(self.events.count())?;
         for literal in literals {
             if !self.holds(*literal) {
                 self.raise(*literal, Reason::Decision)?;
@@ -199,21 +198,20 @@ impl Trail {
 
     /// The levels from one on end. Their events are to be taken back one by one.
     pub fn end_levels(&mut self, level: u32) {
-        self.levels.truncate(level as usize);
+        self.levels.truncate(level);
     }
 
     /// Takes the last event back.
-    #[inline(always)]
     pub fn pop(&mut self) -> Option<Event> {
         let event = self.events.pop()?;
-        self.values.set(event.slot as usize, event.old);
-        self.last.set(event.slot as usize, event.before);
+        self.values[event.slot] = event.old;
+        self.last[event.slot] = event.before;
         Some(event)
     }
 
     /// How many bytes the events and values take.
     pub fn bytes(&self) -> u64 {
-        let events = (self.events.len() as u64).wrapping_mul(32);
-        events.wrapping_add((self.values.len() as u64).wrapping_mul(8))
+        let events = u64::from(self.count()).wrapping_mul(32);
+        events.wrapping_add(u64::from(self.slots()).wrapping_mul(8))
     }
 }

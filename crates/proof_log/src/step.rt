@@ -1,10 +1,36 @@
-//! A step of a proof, as it is read back.
+//! The steps of a proof, and how they are read back.
 
-use crate::bytes::Reader;
-use crate::ground::{Ground, Link, NO_LINK};
 use literals::{Literal, NEVER};
-use std::alloc::{AllocError, Global};
-use tables::Table;
+use std::alloc::Global;
+use tables::Result;
+
+/// Why a literal follows from others, or why literals contradict each other. Times are in periods.
+#[derive(Clone, Copy, PartialEq, Eq, Debug)]
+pub enum Ground {
+    /// By lags and orders alone.
+    Arcs,
+    /// The other order of two rivals does not fit.
+    Force,
+    /// By the lemma of a number.
+    Use { lemma: u32 },
+    /// What must run from one time to another needs too much of a resource.
+    Load { resource: u32, from: i32, to: i32 },
+    /// The members of a clique, a set that the log keeps, need more time than there is from one time to another.
+    Clique { members: u32, from: i32, to: i32 },
+}
+
+/// A literal, and why it follows.
+#[derive(Clone, Copy, PartialEq, Eq, Debug)]
+pub struct Link {
+    pub literal: Literal,
+    pub ground: Ground,
+}
+
+/// What stands past the end of a table of links.
+pub const NO_LINK: Link = Link {
+    literal: NEVER,
+    ground: Ground::Arcs,
+};
 
 /// What a step is.
 #[derive(Clone, Copy, PartialEq, Eq, Debug)]
@@ -17,122 +43,102 @@ pub enum Kind {
     End,
 }
 
-/// A step, in lists that are used again for the next one.
+/// A step of a proof.
 #[derive(Drop)]
 pub struct Step {
-    kind: Kind,
-    nogood: Table<Literal>,
-    links: Table<Link>,
-    end: Ground,
-}
-
-/// The literal that comes next.
-fn literal_of(reader: &mut Reader<'_>) -> Literal {
-    let slot = reader.get_u32();
-    let value = reader.get_i32();
-    Literal { slot, value }
-}
-
-/// A time, and one so many periods later as the next number says.
-fn window_of(reader: &mut Reader<'_>) -> (i32, i32) {
-    let from = reader.get_i32();
-    let to = i64::from(from).wrapping_add(reader.get());
-    (
-        from,
-        to.clamp(i64::from(i32::MIN), i64::from(i32::MAX)) as i32,
-    )
-}
-
-/// The ground that comes next.
-fn ground_of(reader: &mut Reader<'_>) -> Ground {
-    match reader.get() {
-        0 => Ground::Arcs,
-        1 => Ground::Force,
-        2 => Ground::Use {
-            lemma: reader.get_u32(),
-        },
-        3 => {
-            let resource = reader.get_u32();
-            let (from, to) = window_of(reader);
-            Ground::Load { resource, from, to }
-        }
-        _ => {
-            let members = reader.get_u32();
-            let (from, to) = window_of(reader);
-            Ground::Clique { members, from, to }
-        }
-    }
-}
-
-/// The link that comes next.
-fn link_of(reader: &mut Reader<'_>) -> Link {
-    let literal = literal_of(reader);
-    let ground = ground_of(reader);
-    Link { literal, ground }
-}
-
-impl Step {
-    /// A step that is still to be read.
-    pub fn new(alloc: Global) -> Step {
-        Step {
-            kind: Kind::End,
-            nogood: Table::new(alloc, NEVER),
-            links: Table::new(alloc, NO_LINK),
-            end: Ground::Arcs,
-        }
-    }
-
-    /// What it is.
-    pub fn kind(&self) -> Kind {
-        self.kind
-    }
-
+    pub kind: Kind,
     /// The literals that can't all hold.
-    pub fn nogood(&self) -> &[Literal] {
-        self.nogood.all()
-    }
-
+    pub nogood: Vec<Literal>,
     /// What follows, in order.
-    pub fn links(&self) -> &[Link] {
-        self.links.all()
-    }
-
+    pub links: Vec<Link>,
     /// Why no schedule is left.
-    pub fn end(&self) -> Ground {
-        self.end
-    }
+    pub end: Ground,
+}
 
-    /// Reads the literals of a lemma.
-    fn read_nogood(&mut self, reader: &mut Reader<'_>) -> Result<(), AllocError> {
-        for _ in 0..reader.get_u32() {
-            self.nogood.push(literal_of(reader))?;
-        }
-        Ok(())
-    }
+/// Numbers of a step that are still to be read; past their end they are 0. A byte has seven bits of a number. Its
+/// highest bit says that more follow.
+#[derive(Drop)]
+pub(crate) struct Reader<'a>(pub(crate) &'a [u8]);
 
-    /// Reads the links of a lemma.
-    fn read_links(&mut self, reader: &mut Reader<'_>) -> Result<(), AllocError> {
-        for _ in 0..reader.get_u32() {
-            self.links.push(link_of(reader))?;
-        }
-        Ok(())
-    }
-
-    /// Reads a step of a kind.
-    pub(crate) fn read(&mut self, kind: Kind, mut reader: Reader<'_>) -> Result<(), AllocError> {
-        self.kind = kind;
-        self.nogood.clear();
-        self.links.clear();
-        self.end = Ground::Arcs;
-        match kind {
-            Kind::Root => self.links.push(link_of(&mut reader))?,
-            Kind::Lemma => {
-                self.read_nogood(&mut reader)?;
-                self.read_links(&mut reader)?;
-                self.end = ground_of(&mut reader);
+impl Reader<'_> {
+    fn number(&mut self) -> i64 {
+        let mut code = 0u64;
+        for place in 0..10u32 {
+            let Some((byte, rest)) = self.0.split_first() else {
+                break;
+            };
+            self.0 = rest;
+            code |= u64::from(*byte & 127).wrapping_shl(place.wrapping_mul(7));
+            if *byte < 128 {
+                break;
             }
-            Kind::End => self.end = ground_of(&mut reader),
         }
-        Ok(())
+        let half = code.wrapping_shr(1).cast_signed();
+        if code & 1 == 1 { !half } else { half }
+    }
+
+    fn unsigned(&mut self) -> u32 {
+        self.number().clamp(0, i64::from(u32::MAX)) as u32
+    }
+
+    fn signed(&mut self) -> i32 {
+        let (least, most) = (i64::from(i32::MIN), i64::from(i32::MAX));
+        self.number().clamp(least, most) as i32
+    }
+
+    fn literal(&mut self) -> Literal {
+        let (slot, value) = (self.unsigned(), self.signed());
+        Literal { slot, value }
+    }
+
+    /// What a window is of, and its times, of which the second is told by its distance.
+    fn window(&mut self) -> (u32, i32, i32) {
+        let (of, from, length) = (self.unsigned(), self.signed(), self.signed());
+        (of, from, from.wrapping_add(length))
+    }
+
+    fn ground(&mut self) -> Ground {
+        match self.number() {
+            0 => Ground::Arcs,
+            1 => Ground::Force,
+            2 => {
+                let lemma = self.unsigned();
+                Ground::Use { lemma }
+            }
+            3 => {
+                let (resource, from, to) = self.window();
+                Ground::Load { resource, from, to }
+            }
+            _ => {
+                let (members, from, to) = self.window();
+                Ground::Clique { members, from, to }
+            }
+        }
+    }
+
+    fn link(&mut self) -> Link {
+        let (literal, ground) = (self.literal(), self.ground());
+        Link { literal, ground }
+    }
+
+    /// The step of a kind.
+    pub(crate) fn step(mut self, alloc: Global, kind: Kind) -> Result<Step> {
+        let is_lemma = kind == Kind::Lemma;
+        let literals = if is_lemma { self.unsigned() } else { 0 };
+        let nogood = (0..literals).map(|_| self.literal()).collect(alloc)?;
+        let followers = match kind {
+            Kind::Root => 1,
+            Kind::Lemma => self.unsigned(),
+            Kind::End => 0,
+        };
+        let links = (0..followers).map(|_| self.link()).collect(alloc)?;
+        let is_root = kind == Kind::Root;
+        let end = if is_root { Ground::Arcs } else { self.ground() };
+        Ok(Step {
+            kind,
+            nogood,
+            links,
+            end,
+        })
     }
 }

@@ -2,12 +2,13 @@
 //! time. So their work must fit between a least start and a greatest end, and the work of those before (after) one
 //! pushes its least (greatest) start.
 
-use crate::edges::{Edges, Precedence};
-use crate::windows::{Window, find_overload};
+use crate::edges::Edges;
+use crate::windows::{Window, find_overload, reached, sort, turn_round};
 use instance::Instance;
-use literals::{Conflict, Event, Literal, Reason, Stop, Trail};
-use std::alloc::{AllocError, Global};
-use tables::{Placed, Rows, Table, narrow};
+use literals::{Conflict, Event, Literal, NEVER, Reason, Stop, Trail};
+use std::alloc::Global;
+use std::mem;
+use tables::{Result, Rows, Table, narrow};
 
 /// Places of a clique, as bits.
 type Set = u64;
@@ -47,19 +48,25 @@ struct Seat {
 #[derive(Clone, Copy)]
 struct Seats {
     clique: u32,
-    first: u32,
-    second: u32,
+    one: u32,
+    other: u32,
 }
+
+const NO_SEAT: Seat = Seat {
+    clique: 0,
+    place: 0,
+};
 
 const NO_SEATS: Seats = Seats {
     clique: 0,
-    first: 0,
-    second: 0,
+    one: 0,
+    other: 0,
 };
 
 /// The cliques of a search.
 #[derive(Drop)]
 pub struct Cliques {
+    alloc: Global,
     activities: u32,
     members: Rows<u32>,
     /// Those that are looked at at the root and below a supposed end alone.
@@ -78,13 +85,12 @@ pub struct Cliques {
 }
 
 /// The bit of a place.
-#[inline(always)]
 fn bit(place: u32) -> Set {
     1u64.wrapping_shl(place)
 }
 
 /// The cliques that are looked at everywhere, and the long ones.
-fn parted(alloc: Global, found: &Rows<u32>) -> Result<(Rows<u32>, Rows<u32>), AllocError> {
+fn parted(alloc: Global, found: &Rows<u32>) -> Result<(Rows<u32>, Rows<u32>)> {
     let mut work = 0u64;
     for clique in 0..found.count() {
         let size = found.row(clique).len().min(MOST) as u64;
@@ -93,37 +99,11 @@ fn parted(alloc: Global, found: &Rows<u32>) -> Result<(Rows<u32>, Rows<u32>), Al
     let (mut short, mut long) = (Rows::new(alloc, 0), Rows::new(alloc, 0));
     for clique in 0..found.count() {
         let members = found.row(clique);
-        if work <= WORK && members.len() <= MOST {
-            short.push_row(members)?;
-        } else {
-            long.push_row(members)?;
-        }
+        let is_short = work <= WORK && members.len() <= MOST;
+        let rows = if is_short { &mut short } else { &mut long };
+        rows.push_row(members)?;
     }
     Ok((short, long))
-}
-
-/// The cliques of each activity.
-fn seat_rows(
-    alloc: Global,
-    activities: u32,
-    members: &Rows<u32>,
-) -> Result<Rows<Seat>, AllocError> {
-    let mut seats = Vec::new(alloc);
-    for clique in 0..members.count() {
-        let mut place = 0u32;
-        for member in members.row(clique) {
-            seats.push(Placed {
-                row: *member,
-                value: Seat { clique, place },
-            })?;
-            place = place.wrapping_add(1);
-        }
-    }
-    let no_seat = Seat {
-        clique: 0,
-        place: 0,
-    };
-    Rows::sorted(alloc, activities as usize, &seats, no_seat)
 }
 
 impl Cliques {
@@ -133,214 +113,168 @@ impl Cliques {
         instance: &Instance,
         edges: &Edges,
         found: &Rows<u32>,
-    ) -> Result<Cliques, AllocError> {
+    ) -> Result<Cliques> {
         let (members, long) = parted(alloc, found)?;
-        let places = members.all().len();
-        let seats = seat_rows(alloc, instance.count(), &members)?;
-        let all = News {
-            moved: Set::MAX,
-            is_noted: true,
-            ..NO_NEWS
-        };
-        let count = members.count();
+        let all = members.all().len();
         let mut cliques = Cliques {
+            alloc,
             activities: instance.count(),
             members,
             long,
-            before: Table::filled(alloc, places, 0, 0)?,
-            after: Table::filled(alloc, places, 0, 0)?,
-            news: Table::filled(alloc, count as usize, all, NO_NEWS)?,
-            seats,
+            before: Table::filled(alloc, all, 0, 0)?,
+            after: Table::filled(alloc, all, 0, 0)?,
+            news: Table::new(alloc, NO_NEWS),
+            seats: Rows::new(alloc, NO_SEAT),
             pairs: Rows::new(alloc, NO_SEATS),
             todo: Table::new(alloc, 0),
             queue: 0,
             windows: Vec::new(alloc),
         };
-        let mut pairs = Vec::new(alloc);
-        for clique in 0..count {
-            cliques.todo.push(clique)?;
-            cliques.relate(edges, clique, &mut pairs)?;
-        }
-        cliques.pairs = Rows::sorted(alloc, edges.pairs().len(), &pairs, NO_SEATS)?;
+        cliques.seat_all()?;
+        cliques.relate_all(edges)?;
         Ok(cliques)
     }
 
-    /// How the members of a clique stand to each other: in an order by lags, or in one that a literal says.
-    fn relate(
-        &mut self,
-        edges: &Edges,
-        clique: u32,
-        pairs: &mut Vec<Placed<Seats>>,
-    ) -> Result<(), AllocError> {
-        let mut first = 0u32;
-        for at in 0..self.members.row(clique).len() {
-            let Some(a) = self.members.row(clique).get(at).copied() else {
-                break;
-            };
-            self.relate_to_all(edges, clique, (a, first), pairs)?;
-            first = first.wrapping_add(1);
+    /// Finds the cliques of each activity. All are to be looked at.
+    fn seat_all(&mut self) -> Result<()> {
+        let mut seats = Vec::new(self.alloc);
+        for clique in 0..self.members.count() {
+            let numbers = self.members.numbers(clique);
+            let first = numbers.start;
+            for number in numbers {
+                let place = number.wrapping_sub(first);
+                seats.push((self.members[number], Seat { clique, place }))?;
+            }
+            self.news.push(NO_NEWS)?;
+            self.news[clique].moved = Set::MAX;
+            self.note(clique)?;
         }
+        self.seats = Rows::by_row(self.alloc, self.activities, &seats, NO_SEAT)?;
         Ok(())
     }
 
-    /// How one member stands to the others.
-    fn relate_to_all(
-        &mut self,
-        edges: &Edges,
-        clique: u32,
-        (a, first): (u32, u32),
-        pairs: &mut Vec<Placed<Seats>>,
-    ) -> Result<(), AllocError> {
-        let mut second = 0u32;
-        for at in 0..self.members.row(clique).len() {
-            let Some(b) = self.members.row(clique).get(at).copied() else {
-                break;
-            };
-            match edges.precedence(a, b) {
-                Precedence::Always => self.set_before(clique, first, second),
-                Precedence::Where(literal) if a < b => {
-                    let value = Seats {
-                        clique,
-                        first,
-                        second,
-                    };
-                    let row = literal.variable().wrapping_sub(self.activities);
-                    pairs.push(Placed { row, value })?;
+    /// Finds how the members of each clique stand to each other: in an order by lags, or in one that a literal says.
+    fn relate_all(&mut self, edges: &Edges) -> Result<()> {
+        let mut pairs = Vec::new(self.alloc);
+        for clique in 0..self.members.count() {
+            let count = narrow(self.members.row(clique).len()).max(1);
+            for at in 0..count.wrapping_mul(count) {
+                let (one, other) = (at / count, at % count);
+                let a = self.members[self.at(clique, one)];
+                let b = self.members[self.at(clique, other)];
+                match edges.precedence(a, b) {
+                    None => self.set_before(clique, one, other),
+                    Some(literal) if a < b && literal != NEVER => {
+                        let pair = literal.variable().wrapping_sub(self.activities);
+                        pairs.push((pair, Seats { clique, one, other }))?;
+                    }
+                    _ => {}
                 }
-                _ => {}
             }
-            second = second.wrapping_add(1);
         }
+        let count = narrow(edges.pairs().len());
+        self.pairs = Rows::by_row(self.alloc, count, &pairs, NO_SEATS)?;
         Ok(())
     }
 
     /// Where the bits of a place of a clique stand.
-    #[inline(always)]
-    fn at(&self, clique: u32, place: u32) -> usize {
-        self.members.span(clique).from.wrapping_add(place) as usize
+    fn at(&self, clique: u32, place: u32) -> u32 {
+        self.members.numbers(clique).start.wrapping_add(place)
     }
 
     /// One member runs before another one.
-    #[inline(always)]
     fn set_before(&mut self, clique: u32, first: u32, second: u32) {
         let (from, to) = (self.at(clique, first), self.at(clique, second));
-        let after = self.after.get(from) | bit(second);
-        self.after.set(from, after);
-        let before = self.before.get(to) | bit(first);
-        self.before.set(to, before);
+        self.after[from] |= bit(second);
+        self.before[to] |= bit(first);
     }
 
     /// It is not known any more that one member runs before another one.
-    #[inline(always)]
     fn clear_before(&mut self, clique: u32, first: u32, second: u32) {
         let (from, to) = (self.at(clique, first), self.at(clique, second));
-        let after = self.after.get(from) & !bit(second);
-        self.after.set(from, after);
-        let before = self.before.get(to) & !bit(first);
-        self.before.set(to, before);
+        self.after[from] &= !bit(second);
+        self.before[to] &= !bit(first);
     }
 
-    /// Notes what changed in a clique.
+    /// A clique is to be looked at.
     #[inline(always)]
-    fn note(&mut self, clique: u32, news: News) -> Result<(), AllocError> {
-        let known = self.news.get(clique as usize);
-        if !known.is_noted {
+    fn note(&mut self, clique: u32) -> Result<()> {
+        if !mem::replace(&mut self.news[clique].is_noted, true) {
             self.todo.push(clique)?;
         }
-        self.news.set(
-            clique as usize,
-            News {
-                moved: known.moved | news.moved,
-                least: known.least | news.least,
-                greatest: known.greatest | news.greatest,
-                is_noted: true,
-            },
-        );
         Ok(())
     }
 
     /// A bound of an activity moved.
-    #[inline(always)]
-    fn notice_bound(&mut self, activity: u32, is_least: bool) -> Result<(), AllocError> {
-        let seats = self.seats.span(activity);
-        for number in seats.from..seats.to {
-            let seat = self.seats.get(number);
-            let at = self.at(seat.clique, seat.place);
-            let moved = bit(seat.place);
-            let news = if is_least {
-                News {
-                    moved,
-                    least: self.after.get(at),
-                    ..NO_NEWS
-                }
+    fn notice_bound(&mut self, activity: u32, is_least: bool) -> Result<()> {
+        for number in self.seats.numbers(activity) {
+            let Seat { clique, place } = self.seats[number];
+            let at = self.at(clique, place);
+            let (after, before) = (self.after[at], self.before[at]);
+            let news = &mut self.news[clique];
+            news.moved |= bit(place);
+            if is_least {
+                news.least |= after;
             } else {
-                News {
-                    moved,
-                    greatest: self.before.get(at),
-                    ..NO_NEWS
-                }
-            };
-            self.note(seat.clique, news)?;
+                news.greatest |= before;
+            }
+            self.note(clique)?;
         }
         Ok(())
     }
 
+    /// The cliques of a pair, with the places of the activity that is first by an order of it, and of the other one.
+    fn seats_of(&self, number: u32, is_first: bool) -> Seats {
+        let seats = self.pairs[number];
+        if is_first {
+            return seats;
+        }
+        Seats {
+            one: seats.other,
+            other: seats.one,
+            ..seats
+        }
+    }
+
     /// A pair got an order.
-    #[inline(always)]
-    fn notice_order(&mut self, pair: u32, is_first: bool) -> Result<(), AllocError> {
-        let pairs = self.pairs.span(pair);
-        for number in pairs.from..pairs.to {
-            let seats = self.pairs.get(number);
-            let (first, second) = if is_first {
-                (seats.first, seats.second)
-            } else {
-                (seats.second, seats.first)
-            };
-            self.set_before(seats.clique, first, second);
-            let news = News {
-                least: bit(second),
-                greatest: bit(first),
-                ..NO_NEWS
-            };
-            self.note(seats.clique, news)?;
+    fn notice_order(&mut self, pair: u32, is_first: bool) -> Result<()> {
+        for number in self.pairs.numbers(pair) {
+            let Seats { clique, one, other } = self.seats_of(number, is_first);
+            self.set_before(clique, one, other);
+            let news = &mut self.news[clique];
+            news.least |= bit(other);
+            news.greatest |= bit(one);
+            self.note(clique)?;
         }
         Ok(())
     }
 
     /// The last event of the trail is taken back.
-    #[inline(always)]
     pub fn forget(&mut self, trail: &Trail, event: &Event) {
         let variable = event.slot / 2;
         if variable < self.activities || trail.count() >= self.queue {
             return;
         }
-        let pairs = self.pairs.span(variable.wrapping_sub(self.activities));
-        for number in pairs.from..pairs.to {
-            let seats = self.pairs.get(number);
-            if event.slot % 2 == 0 {
-                self.clear_before(seats.clique, seats.first, seats.second);
-            } else {
-                self.clear_before(seats.clique, seats.second, seats.first);
-            }
+        for number in self.pairs.numbers(variable.wrapping_sub(self.activities)) {
+            let Seats { clique, one, other } = self.seats_of(number, event.slot % 2 == 0);
+            self.clear_before(clique, one, other);
         }
     }
 
     /// The trail went back to so many events. Nothing was left to look at then.
     pub fn go_back(&mut self, queue: u32) {
-        for _ in 0..self.todo.len() {
-            if let Some(clique) = self.todo.pop() {
-                self.news.set(clique as usize, NO_NEWS);
-            }
+        for clique in self.todo.all() {
+            self.news[*clique] = NO_NEWS;
         }
+        self.todo.clear();
         self.queue = self.queue.min(queue);
     }
 
     /// Takes notice of all events.
-    fn catch_up(&mut self, trail: &Trail) -> Result<(), AllocError> {
+    fn catch_up(&mut self, trail: &Trail) -> Result<()> {
         for number in self.queue..trail.count() {
-            let event = trail.event(number);
-            let variable = event.slot / 2;
-            let is_lower = event.slot % 2 == 0;
+            let slot = trail.event(number).slot;
+            let (variable, is_lower) = (slot / 2, slot % 2 == 0);
             if variable < self.activities {
                 self.notice_bound(variable, is_lower)?;
             } else {
@@ -355,52 +289,64 @@ impl Cliques {
     pub fn run(&mut self, instance: &Instance, trail: &mut Trail) -> Result<(), Stop> {
         self.catch_up(trail)?;
         for _ in 0..u64::MAX {
-            if self.todo.is_empty() {
+            let Some(clique) = self.todo.all().last().copied() else {
                 break;
-            }
-            let clique = self.todo.get(self.todo.len().wrapping_sub(1));
+            };
             self.look_at(instance, trail, clique)?;
-            self.news.set(clique as usize, NO_NEWS);
+            self.news[clique].is_noted = false;
             self.todo.pop();
         }
         Ok(())
     }
 
     /// The members of a clique, which rise. The long ones have numbers after the others.
-    pub fn members(&self, clique: u32) -> &[u32] {
-        let count = self.members.count();
-        if clique < count {
+    fn members(&self, clique: u32) -> &[u32] {
+        if clique < self.members.count() {
             self.members.row(clique)
         } else {
-            self.long.row(clique.wrapping_sub(count))
+            self.long.row(clique.wrapping_sub(self.members.count()))
         }
     }
 
+    /// How many members a clique has.
+    pub fn size(&self, clique: u32) -> u32 {
+        narrow(self.members(clique).len())
+    }
+
+    /// The member at a place of a clique.
+    pub fn member(&self, clique: u32, place: u32) -> u32 {
+        self.members(clique)
+            .get(place as usize)
+            .copied()
+            .unwrap_or(0)
+    }
+
     /// Lists the windows of a clique's members, by falling least start.
-    fn list_windows(
-        &mut self,
-        instance: &Instance,
-        trail: &Trail,
-        clique: u32,
-    ) -> Result<(), AllocError> {
-        self.windows.clear();
+    fn list_windows(&mut self, instance: &Instance, trail: &Trail, clique: u32) -> Result<()> {
+        let mut windows = mem::replace(&mut self.windows, Vec::new(self.alloc));
+        windows.clear();
         let mut place = 0u32;
-        for at in 0..self.members(clique).len() {
-            let Some(activity) = self.members(clique).get(at).copied() else {
-                break;
-            };
-            let duration = instance.duration(activity);
-            self.windows.push(Window {
-                least: trail.least(activity),
-                end: trail.greatest(activity).wrapping_add(duration),
+        for activity in self.members(clique) {
+            let duration = instance.duration(*activity);
+            windows.push(Window {
+                least: trail.least(*activity),
+                end: trail.greatest(*activity).wrapping_add(duration),
                 duration,
                 place,
             })?;
             place = place.wrapping_add(1);
         }
-        self.windows
-            .sort_unstable_by_key(|window: &Window| window.least.wrapping_neg());
+        sort(&mut windows);
+        self.windows = windows;
         Ok(())
+    }
+
+    /// A conflict where the windows of a clique are overloaded. Those of places that have not moved were looked at before.
+    fn find_overload(&self, clique: u32, moved: Set) -> Result<(), Stop> {
+        match find_overload(&self.windows, moved) {
+            Some((from, to)) => Err(Stop::Conflict(Conflict::Clique { clique, from, to })),
+            None => Ok(()),
+        }
     }
 
     /// Looks for overloads of the long cliques.
@@ -408,31 +354,26 @@ impl Cliques {
         for number in 0..self.long.count() {
             let clique = self.members.count().wrapping_add(number);
             self.list_windows(instance, trail, clique)?;
-            if let Some((from, to)) = find_overload(&self.windows, None) {
-                return Err(Stop::Conflict(Conflict::Clique { clique, from, to }));
-            }
+            self.find_overload(clique, Set::MAX)?;
         }
         Ok(())
     }
 
     /// Looks at what changed in a clique.
     fn look_at(&mut self, instance: &Instance, trail: &mut Trail, clique: u32) -> Result<(), Stop> {
-        let news = self.news.get(clique as usize);
-        self.news.set(
-            clique as usize,
+        let is_noted = true;
+        let news = mem::replace(
+            &mut self.news[clique],
             News {
-                is_noted: true,
+                is_noted,
                 ..NO_NEWS
             },
         );
         self.list_windows(instance, trail, clique)?;
-        if let Some((from, to)) = find_overload(&self.windows, Some(news.moved)) {
-            return Err(Stop::Conflict(Conflict::Clique { clique, from, to }));
-        }
+        self.find_overload(clique, news.moved)?;
         self.push_all(instance, trail, clique, news.least, true)?;
         if news.greatest != 0 {
-            self.windows
-                .sort_unstable_by_key(|window: &Window| window.end);
+            turn_round(&mut self.windows);
             self.push_all(instance, trail, clique, news.greatest, false)?;
         }
         Ok(())
@@ -460,7 +401,7 @@ impl Cliques {
     }
 
     /// Those before a member, seen from the latest on, end when all their work is done at least. Those after it, seen
-    /// from the earliest on, start before all their work: the same with negated times.
+    /// from the earliest on, start before all their work: the same with time turned round.
     fn push(
         &self,
         instance: &Instance,
@@ -469,30 +410,15 @@ impl Cliques {
         is_least: bool,
     ) -> Result<(), Stop> {
         let at = self.at(seat.clique, seat.place);
-        let activity = self.members.get(narrow(at));
+        let activity = self.members[at];
         let duration = instance.duration(activity);
         let (others, bound) = if is_least {
-            (self.before.get(at), trail.least(activity))
+            (self.before[at], trail.least(activity))
         } else {
             let end = trail.greatest(activity).wrapping_add(duration);
-            (self.after.get(at), end.wrapping_neg())
+            (self.after[at], end.wrapping_neg())
         };
-        let (mut sum, mut reached, mut from) = (0i32, bound, 0i32);
-        for window in &self.windows {
-            if others & bit(window.place) == 0 {
-                continue;
-            }
-            let time = if is_least {
-                window.least
-            } else {
-                window.end.wrapping_neg()
-            };
-            sum = sum.wrapping_add(window.duration);
-            if time.wrapping_add(sum) > reached {
-                reached = time.wrapping_add(sum);
-                from = time;
-            }
-        }
+        let (reached, from) = reached(&self.windows, others, bound);
         let (literal, time) = if is_least {
             (Literal::at_least(activity, reached), from)
         } else {

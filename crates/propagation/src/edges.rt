@@ -2,12 +2,12 @@
 
 use instance::{Edge, Instance, Rivals, Walks};
 use literals::{Literal, NEVER, Reason, Stop, Trail};
-use std::alloc::{AllocError, Global};
-use tables::{Placed, Rows, Table, narrow};
+use std::alloc::Global;
+use tables::{Result, Rows, Table};
 
 /// The slot `to` has at least the value of the slot `from` and `weight`: least starts forward over a lag, greatest ones,
 /// negated, backward.
-#[derive(Clone, Copy, PartialEq, Eq, PartialOrd, Ord, Debug)]
+#[derive(Clone, Copy)]
 pub struct Arc {
     pub from: u32,
     pub to: u32,
@@ -15,28 +15,10 @@ pub struct Arc {
 }
 
 /// An arc that holds where a literal does.
-#[derive(Clone, Copy, Debug)]
+#[derive(Clone, Copy)]
 pub struct Order {
     pub arc: Arc,
     pub literal: Literal,
-}
-
-/// Another activity, and the order in which it runs after this one.
-#[derive(Clone, Copy, Debug)]
-pub struct Rival {
-    pub other: u32,
-    pub first: Literal,
-}
-
-/// Whether one activity runs before another.
-#[derive(Clone, Copy, PartialEq, Eq, Debug)]
-pub enum Precedence {
-    /// By lags.
-    Always,
-    /// Where the literal holds.
-    Where(Literal),
-    /// No literal says so.
-    Unknown,
 }
 
 const NO_ARC: Arc = Arc {
@@ -50,9 +32,6 @@ const NO_ORDER: Order = Order {
     literal: NEVER,
 };
 
-/// No order of a slot.
-const NONE: u32 = u32::MAX;
-
 /// The arcs and orders of a project.
 #[derive(Drop)]
 pub struct Edges {
@@ -60,12 +39,12 @@ pub struct Edges {
     /// By the slot that they leave.
     arcs: Rows<Arc>,
     orders: Rows<Order>,
-    /// By slot of a pair, from the first pair's on: the two orders that the slot's literal makes hold.
-    by_slot: Table<[u32; 2]>,
-    /// By first and second activity.
-    precedences: Table<Precedence>,
-    /// By activity.
-    rivals: Rows<Rival>,
+    /// By slot of a pair, from the first pair's on: the orders that the slot's literal makes hold.
+    by_slot: Rows<u32>,
+    /// By first and second activity: the literal by which they run in this order, none where they do so by lags.
+    precedences: Table<Option<Literal>>,
+    /// By activity: others, and the literal by which it comes before.
+    rivals: Rows<(u32, Literal)>,
     pairs: Table<Rivals>,
 }
 
@@ -73,134 +52,61 @@ pub struct Edges {
 fn arcs_of(edge: Edge) -> [Arc; 2] {
     let (from, to) = (edge.from.wrapping_mul(2), edge.to.wrapping_mul(2));
     let weight = edge.weight;
-    [
-        Arc { from, to, weight },
-        Arc {
-            from: to.wrapping_add(1),
-            to: from.wrapping_add(1),
-            weight,
-        },
-    ]
+    let forward = Arc { from, to, weight };
+    let (from, to) = (to.wrapping_add(1), from.wrapping_add(1));
+    [forward, Arc { from, to, weight }]
 }
 
 /// Whether two other edges imply one, not round a closed walk of weight 0.
 fn is_implied(walks: &Walks, edge: Edge) -> bool {
-    for middle in 1..walks.count() {
-        if middle == edge.from || middle == edge.to {
-            continue;
+    let Edge { from, to, weight } = edge;
+    let is_short = |a: u32, b: u32, back: i32| !walks.reaches_directly(a, b, back.wrapping_neg());
+    (1..walks.count()).any(|middle: u32| {
+        if middle == from || middle == to {
+            return false;
         }
-        let (Some(first), Some(last)) = (
-            walks.direct(edge.from, middle),
-            walks.direct(middle, edge.to),
-        ) else {
-            continue;
-        };
-        if first.wrapping_add(last) >= edge.weight
-            && is_short(walks, middle, edge.from, first)
-            && is_short(walks, edge.to, middle, last)
-        {
-            return true;
-        }
-    }
-    false
-}
-
-/// Whether a walk back makes a closed walk of less than 0.
-fn is_short(walks: &Walks, from: u32, to: u32, weight: i32) -> bool {
-    !walks.reaches_directly(from, to, weight.wrapping_neg())
-}
-
-/// The edges that bounds need: the strongest of each two activities, unless two others imply it.
-fn needed(
-    alloc: Global,
-    instance: &Instance,
-    walks: &Walks,
-    forced: &[Edge],
-) -> Result<Vec<Edge>, AllocError> {
-    let mut all = Vec::from_slice(alloc, instance.edges())?;
-    all.extend_from_slice(forced)?;
-    all.sort_unstable();
-    let mut needed = Vec::new(alloc);
-    let mut last = None;
-    for edge in &all {
-        let is_inner = edge.from != 0 && edge.to != 0 && edge.from != edge.to;
-        let stronger = edge.weight.wrapping_add(1);
-        if is_inner
-            && last != Some(*edge)
-            && !walks.reaches_directly(edge.from, edge.to, stronger)
-            && !is_implied(walks, *edge)
-        {
-            needed.push(*edge)?;
-        }
-        last = Some(*edge);
-    }
-    Ok(needed)
-}
-
-/// The arcs by the slot that they leave.
-fn arc_rows(alloc: Global, slots: usize, edges: &[Edge]) -> Result<Rows<Arc>, AllocError> {
-    let mut placed = Vec::new(alloc);
-    for edge in edges {
-        for arc in arcs_of(*edge) {
-            placed.push(Placed {
-                row: arc.from,
-                value: arc,
-            })?;
-        }
-    }
-    Rows::sorted(alloc, slots, &placed, NO_ARC)
-}
-
-/// The orders of pairs, by the slot that they leave.
-fn order_rows(
-    alloc: Global,
-    instance: &Instance,
-    pairs: &[Rivals],
-) -> Result<Rows<Order>, AllocError> {
-    let mut placed = Vec::new(alloc);
-    let mut variable = instance.count();
-    for pair in pairs {
-        let both = [
-            (pair.first, pair.second, Literal::at_least(variable, 1)),
-            (pair.second, pair.first, Literal::at_most(variable, 0)),
-        ];
-        for (from, to, literal) in both {
-            let weight = instance.duration(from);
-            for arc in arcs_of(Edge { from, to, weight }) {
-                placed.push(Placed {
-                    row: arc.from,
-                    value: Order { arc, literal },
-                })?;
+        match (walks.direct(from, middle), walks.direct(middle, to)) {
+            (Some(first), Some(last)) => {
+                first.wrapping_add(last) >= weight
+                    && is_short(middle, from, first)
+                    && is_short(to, middle, last)
             }
+            _ => false,
         }
-        variable = variable.wrapping_add(1);
-    }
-    let slots = (instance.count() as usize).wrapping_mul(2);
-    Rows::sorted(alloc, slots, &placed, NO_ORDER)
+    })
 }
 
-/// The rivals of each activity.
-fn rival_rows(alloc: Global, activities: u32, pairs: &[Rivals]) -> Result<Rows<Rival>, AllocError> {
-    let no_rival = Rival {
-        other: 0,
-        first: NEVER,
-    };
-    let mut placed = Vec::new(alloc);
-    let mut variable = activities;
-    for pair in pairs {
-        let both = [
-            (pair.first, pair.second, Literal::at_least(variable, 1)),
-            (pair.second, pair.first, Literal::at_most(variable, 0)),
-        ];
-        for (row, other, first) in both {
-            placed.push(Placed {
-                row,
-                value: Rival { other, first },
-            })?;
+/// The arcs that bounds need, by the slot that they leave: those of the strongest edge of each two activities, unless
+/// two others imply it.
+fn needed(alloc: Global, instance: &Instance, walks: &Walks, forced: &[Edge]) -> Result<Rows<Arc>> {
+    let mut edges = Vec::from_slice(alloc, instance.edges())?;
+    edges.extend_from_slice(forced)?;
+    edges.sort_unstable();
+    edges.dedup();
+    let mut arcs = Vec::new(alloc);
+    for edge in &edges {
+        let Edge { from, to, weight } = *edge;
+        let is_inner = from != 0 && to != 0 && from != to;
+        let is_strongest = !walks.reaches_directly(from, to, weight.wrapping_add(1));
+        if is_inner && is_strongest && !is_implied(walks, *edge) {
+            let [forward, backward] = arcs_of(*edge);
+            arcs.push((forward.from, forward))?;
+            arcs.push((backward.from, backward))?;
         }
+    }
+    Rows::by_row(alloc, instance.count().wrapping_mul(2), &arcs, NO_ARC)
+}
+
+/// Both orders of each pair: the activities, the first one first, and the literal.
+fn orders_of(alloc: Global, activities: u32, pairs: &[Rivals]) -> Result<Vec<(u32, u32, Literal)>> {
+    let mut orders = Vec::new(alloc);
+    let mut variable = activities;
+    for Rivals { first, second } in pairs {
+        orders.push((*first, *second, Literal::at_least(variable, 1)))?;
+        orders.push((*second, *first, Literal::at_most(variable, 0)))?;
         variable = variable.wrapping_add(1);
     }
-    Rows::sorted(alloc, activities as usize, &placed, no_rival)
+    Ok(orders)
 }
 
 impl Edges {
@@ -211,118 +117,125 @@ impl Edges {
         walks: &Walks,
         forced: &[Edge],
         open: &[Rivals],
-    ) -> Result<Edges, AllocError> {
-        let activities = instance.count();
-        let slots = (activities as usize).wrapping_mul(2);
-        let mut pairs = Table::new(
-            alloc,
-            Rivals {
-                first: 0,
-                second: 0,
-            },
-        );
-        pairs.push_all(open)?;
+    ) -> Result<Edges> {
         let mut edges = Edges {
-            activities,
-            arcs: arc_rows(alloc, slots, &needed(alloc, instance, walks, forced)?)?,
-            orders: order_rows(alloc, instance, open)?,
-            by_slot: Table::filled(
+            activities: instance.count(),
+            arcs: needed(alloc, instance, walks, forced)?,
+            orders: Rows::new(alloc, NO_ORDER),
+            by_slot: Rows::new(alloc, 0),
+            precedences: Table::new(alloc, Some(NEVER)),
+            rivals: Rows::new(alloc, (0, NEVER)),
+            pairs: Table::new(
                 alloc,
-                open.len().wrapping_mul(2),
-                [NONE, NONE],
-                [NONE, NONE],
-            )?,
-            precedences: Table::new(alloc, Precedence::Unknown),
-            rivals: rival_rows(alloc, activities, open)?,
-            pairs,
+                Rivals {
+                    first: 0,
+                    second: 0,
+                },
+            ),
         };
-        edges.list_by_slot();
-        edges.find_precedences(instance, walks)?;
+        edges.pairs.push_all(open)?;
+        let orders = orders_of(alloc, instance.count(), open)?;
+        edges.take_orders(alloc, instance, &orders)?;
+        edges.list_by_slot(alloc)?;
+        edges.find_precedences(instance, walks, &orders)?;
         Ok(edges)
     }
 
-    /// The place of a slot among those of pairs.
-    #[inline(always)]
-    fn place_of(&self, slot: u32) -> usize {
-        slot.wrapping_sub(self.activities.wrapping_mul(2)) as usize
+    /// Takes the orders of pairs.
+    fn take_orders(
+        &mut self,
+        alloc: Global,
+        instance: &Instance,
+        all: &[(u32, u32, Literal)],
+    ) -> Result<()> {
+        let (mut orders, mut rivals) = (Vec::new(alloc), Vec::new(alloc));
+        for (from, to, literal) in all {
+            let (from, to, literal) = (*from, *to, *literal);
+            let weight = instance.duration(from);
+            let [forward, backward] = arcs_of(Edge { from, to, weight });
+            orders.push((
+                forward.from,
+                Order {
+                    arc: forward,
+                    literal,
+                },
+            ))?;
+            orders.push((
+                backward.from,
+                Order {
+                    arc: backward,
+                    literal,
+                },
+            ))?;
+            rivals.push((from, (to, literal)))?;
+        }
+        let slots = self.activities.wrapping_mul(2);
+        self.orders = Rows::by_row(alloc, slots, &orders, NO_ORDER)?;
+        self.rivals = Rows::by_row(alloc, self.activities, &rivals, (0, NEVER))?;
+        Ok(())
     }
 
-    /// Finds the two orders of each slot.
-    fn list_by_slot(&mut self) {
-        for number in 0..narrow(self.orders.all().len()) {
-            let place = self.place_of(self.order(number).literal.slot);
-            let [first, _] = self.by_slot.get(place);
-            let both = if first == NONE {
-                [number, NONE]
-            } else {
-                [first, number]
-            };
-            self.by_slot.set(place, both);
+    /// The place of a slot among those of pairs.
+    fn place_of(&self, slot: u32) -> u32 {
+        slot.wrapping_sub(self.activities.wrapping_mul(2))
+    }
+
+    /// Finds the orders of each slot.
+    fn list_by_slot(&mut self, alloc: Global) -> Result<()> {
+        let mut placed = Vec::new(alloc);
+        let mut number = 0u32;
+        for order in self.orders.all() {
+            placed.push((self.place_of(order.literal.slot), number))?;
+            number = number.wrapping_add(1);
         }
+        self.by_slot = Rows::by_row(alloc, self.pairs.count().wrapping_mul(2), &placed, 0)?;
+        Ok(())
     }
 
     /// Finds what says that activities run in an order.
-    fn find_precedences(&mut self, instance: &Instance, walks: &Walks) -> Result<(), AllocError> {
+    fn find_precedences(
+        &mut self,
+        instance: &Instance,
+        walks: &Walks,
+        orders: &[(u32, u32, Literal)],
+    ) -> Result<()> {
         for a in 0..self.activities {
             let duration = instance.duration(a);
             for b in 0..self.activities {
-                let is_always = a != b && duration > 0 && walks.reaches_directly(a, b, duration);
-                self.precedences.push(if is_always {
-                    Precedence::Always
-                } else {
-                    Precedence::Unknown
-                })?;
+                let is_settled = a != b && duration > 0 && walks.reaches_directly(a, b, duration);
+                self.precedences
+                    .push(if is_settled { None } else { Some(NEVER) })?;
             }
         }
-        let mut variable = self.activities;
-        for at in 0..self.pairs.len() {
-            let pair = self.pairs.get(at);
-            let first = Precedence::Where(Literal::at_least(variable, 1));
-            let second = Precedence::Where(Literal::at_most(variable, 0));
-            self.set_precedence(pair.first, pair.second, first);
-            self.set_precedence(pair.second, pair.first, second);
-            variable = variable.wrapping_add(1);
+        for (first, second, literal) in orders {
+            let place = self.place(*first, *second);
+            self.precedences[place] = Some(*literal);
         }
         Ok(())
     }
 
-    fn place(&self, a: u32, b: u32) -> usize {
-        (a as usize)
-            .wrapping_mul(self.activities as usize)
-            .wrapping_add(b as usize)
+    fn place(&self, a: u32, b: u32) -> u32 {
+        a.wrapping_mul(self.activities).wrapping_add(b)
     }
 
-    fn set_precedence(&mut self, a: u32, b: u32, precedence: Precedence) {
-        let place = self.place(a, b);
-        self.precedences.set(place, precedence);
+    /// The literal by which one activity ends before another one starts; none if it does so by lags.
+    pub fn precedence(&self, a: u32, b: u32) -> Option<Literal> {
+        self.precedences[self.place(a, b)]
     }
 
-    /// What says that one activity ends before another one starts.
-    #[inline(always)]
-    pub fn precedence(&self, a: u32, b: u32) -> Precedence {
-        self.precedences.get(self.place(a, b))
-    }
-
-    /// How many activities there are.
-    #[inline(always)]
-    pub fn activities(&self) -> u32 {
-        self.activities
-    }
-
-    /// An arc.
-    #[inline(always)]
-    pub fn arc(&self, number: u32) -> Arc {
-        self.arcs.get(number)
+    /// The slot that an arc leaves, and its weight.
+    pub fn source_of_arc(&self, number: u32) -> (u32, i32) {
+        let Arc { from, weight, .. } = self.arcs[number];
+        (from, weight)
     }
 
     /// An order.
-    #[inline(always)]
     pub fn order(&self, number: u32) -> Order {
-        self.orders.get(number)
+        self.orders[number]
     }
 
-    /// The rivals of an activity whose order with it is open at first.
-    pub fn rivals_of(&self, activity: u32) -> &[Rival] {
+    /// The rivals of an activity whose order with it was open at first, with the literal by which it comes before.
+    pub fn rivals_of(&self, activity: u32) -> &[(u32, Literal)] {
         self.rivals.row(activity)
     }
 
@@ -335,41 +248,45 @@ impl Edges {
     #[inline(always)]
     pub fn follow(&self, trail: &mut Trail, slot: u32) -> Result<(), Stop> {
         if slot >= self.activities.wrapping_mul(2) {
-            let [first, second] = self.by_slot.get(self.place_of(slot));
-            self.follow_order(trail, first)?;
-            return self.follow_order(trail, second);
+            return self.follow_pair(trail, slot);
         }
         let value = trail.value(slot);
-        let arcs = self.arcs.span(slot);
-        for number in arcs.from..arcs.to {
-            let arc = self.arcs.get(number);
+        for arc in self.arcs.numbers(slot) {
+            let Arc { to, weight, .. } = self.arcs[arc];
             let literal = Literal {
-                slot: arc.to,
-                value: value.wrapping_add(arc.weight),
+                slot: to,
+                value: value.wrapping_add(weight),
             };
-            trail.force(literal, Reason::Arc { arc: number })?;
+            trail.force(literal, Reason::Arc { arc })?;
         }
-        let orders = self.orders.span(slot);
-        for number in orders.from..orders.to {
-            self.follow_order(trail, number)?;
+        for order in self.orders.numbers(slot) {
+            self.follow_order(trail, order)?;
+        }
+        Ok(())
+    }
+
+    /// What follows from the slot of a pair.
+    fn follow_pair(&self, trail: &mut Trail, slot: u32) -> Result<(), Stop> {
+        for order in self.by_slot.row(self.place_of(slot)) {
+            self.follow_order(trail, *order)?;
         }
         Ok(())
     }
 
     /// An order that holds moves a bound; one that has no room is lost.
     #[inline(always)]
-    fn follow_order(&self, trail: &mut Trail, number: u32) -> Result<(), Stop> {
-        let order = self.orders.get(number);
-        let literal = Literal {
-            slot: order.arc.to,
-            value: trail.value(order.arc.from).wrapping_add(order.arc.weight),
+    fn follow_order(&self, trail: &mut Trail, order: u32) -> Result<(), Stop> {
+        let Order { arc, literal } = self.orders[order];
+        let moved = Literal {
+            slot: arc.to,
+            value: trail.value(arc.from).wrapping_add(arc.weight),
         };
-        if trail.holds(literal) {
+        if trail.holds(moved) {
             Ok(())
-        } else if trail.holds(order.literal) {
-            trail.force(literal, Reason::Order { order: number })
-        } else if trail.fails(literal) {
-            trail.force(order.literal.negated(), Reason::Lost { order: number })
+        } else if trail.holds(literal) {
+            trail.force(moved, Reason::Order { order })
+        } else if trail.fails(moved) {
+            trail.force(!literal, Reason::Lost { order })
         } else {
             Ok(())
         }

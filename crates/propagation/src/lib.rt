@@ -8,10 +8,10 @@ mod edges;
 mod energy;
 mod profile;
 mod time_table;
-mod uses;
 mod windows;
 
 pub use cliques::Cliques;
-pub use edges::{Arc, Edges, Order, Precedence, Rival};
+pub use edges::Edges;
 pub use energy::{find_overloads, part};
+pub use profile::{NO_PART, Part, Profile};
 pub use time_table::TimeTable;

@@ -1,11 +1,46 @@
 //! What is left of each resource over time.
 
-use crate::uses::{Part, Uses};
-use std::alloc::{AllocError, Global};
-use tables::{Span, Table, narrow};
+use std::alloc::Global;
+use std::ops::Range;
+use tables::{Result, Table, narrow};
+
+/// From a time on, up to another one.
+#[derive(Clone, Copy, PartialEq, Eq)]
+pub struct Part {
+    pub from: i32,
+    pub to: i32,
+}
+
+/// No time.
+pub const NO_PART: Part = Part { from: 0, to: 0 };
+
+impl Part {
+    /// Whether there is no time in it.
+    pub(crate) fn is_empty(self) -> bool {
+        self.from >= self.to
+    }
+
+    /// What a part has more than before: in front, and behind.
+    pub(crate) fn more_than(self, old: Part) -> [Part; 2] {
+        if old.is_empty() {
+            return [self, NO_PART];
+        }
+        let front = Part {
+            to: old.from,
+            ..self
+        };
+        [
+            front,
+            Part {
+                from: old.to,
+                ..self
+            },
+        ]
+    }
+}
 
 /// From a time on, up to the next segment, the room is that of a row.
-#[derive(Clone, Copy, Debug)]
+#[derive(Clone, Copy)]
 struct Segment {
     from: i32,
     row: u32,
@@ -20,11 +55,11 @@ const PAST: Segment = Segment {
 /// The room of each resource over time, and who runs. A segment begins where a part begins or ends, so the length of a
 /// period does not matter. Segments are named by their places, which rise with time.
 #[derive(Drop)]
-pub(crate) struct Profile {
-    lanes: u32,
+pub struct Profile {
+    resources: u32,
     words: u32,
     segments: Table<Segment>,
-    /// By row and lane.
+    /// By row and resource.
     room: Table<i32>,
     /// By row: bits of activities that run, in words.
     running: Table<u64>,
@@ -32,30 +67,17 @@ pub(crate) struct Profile {
     spare: Table<u32>,
 }
 
-/// The word of an activity, and its bit there.
-#[inline(always)]
-fn bit(activity: u32) -> (u32, u64) {
-    (activity / 64, 1u64.wrapping_shl(activity % 64))
-}
-
 impl Profile {
-    /// All is free.
-    pub(crate) fn new(
-        alloc: Global,
-        activities: u32,
-        capacities: &[i32],
-    ) -> Result<Profile, AllocError> {
+    /// All is free, for so many activities.
+    pub fn new(alloc: Global, activities: u32, capacities: &[i32]) -> Result<Profile> {
         let words = activities.div_ceil(64).max(1);
-        let first = Segment {
-            from: i32::MIN,
-            row: 0,
-        };
+        let (row, from) = (0, i32::MIN);
         let mut room = Table::new(alloc, 0);
         room.push_all(capacities)?;
         Ok(Profile {
-            lanes: room.count(),
+            resources: room.count(),
             words,
-            segments: Table::filled(alloc, 1, first, PAST)?,
+            segments: Table::filled(alloc, 1, Segment { from, row }, PAST)?,
             room,
             running: Table::filled(alloc, words as usize, 0, 0)?,
             spare: Table::new(alloc, 0),
@@ -63,178 +85,180 @@ impl Profile {
     }
 
     /// The segment that has a time.
-    #[inline(always)]
-    pub(crate) fn find(&self, time: i32) -> usize {
-        self.segments
-            .all()
-            .partition_point(|segment: &Segment| segment.from <= time)
-            .saturating_sub(1)
+    pub(crate) fn find(&self, time: i32) -> u32 {
+        let segments = self.segments.all();
+        narrow(segments.partition_point(|segment: &Segment| segment.from <= time)).saturating_sub(1)
     }
 
     /// When a segment begins.
-    #[inline(always)]
-    pub(crate) fn begin(&self, segment: usize) -> i32 {
-        self.segments.get(segment).from
+    pub(crate) fn begin(&self, segment: u32) -> i32 {
+        self.segments[segment].from
     }
 
     /// Where the room of a segment stands.
-    #[inline(always)]
-    fn room_at(&self, segment: usize) -> usize {
-        let row = self.segments.get(segment).row as usize;
-        row.wrapping_mul(self.lanes as usize)
+    fn room_at(&self, segment: u32) -> u32 {
+        self.segments[segment].row.wrapping_mul(self.resources)
     }
 
     /// Where the bits of a segment stand.
-    #[inline(always)]
-    fn bits_at(&self, segment: usize) -> usize {
-        let row = self.segments.get(segment).row as usize;
-        row.wrapping_mul(self.words as usize)
-    }
-
-    /// The places of a row that has so many.
-    fn row_span(row: u32, length: u32) -> Span {
-        let from = row.wrapping_mul(length);
-        Span {
-            from,
-            to: from.wrapping_add(length),
-        }
-    }
-
-    /// A row of its own.
-    fn new_row(&mut self) -> Result<u32, AllocError> {
-        if let Some(row) = self.spare.pop() {
-            return Ok(row);
-        }
-        let row = narrow(self.running.len() / (self.words as usize).max(1));
-        for _ in 0..self.lanes {
-            self.room.push(0)?;
-        }
-        for _ in 0..self.words {
-            self.running.push(0)?;
-        }
-        Ok(row)
+    fn bits_at(&self, segment: u32) -> u32 {
+        self.segments[segment].row.wrapping_mul(self.words)
     }
 
     /// The segment that begins at a time. One that has the time is cut there if need be.
-    pub(crate) fn cut(&mut self, time: i32) -> Result<usize, AllocError> {
-        let at = self.find(time);
-        let found = self.segments.get(at);
-        if found.from == time {
-            return Ok(at);
+    pub(crate) fn cut(&mut self, time: i32) -> Result<u32> {
+        let found = self.find(time);
+        if self.begin(found) == time {
+            return Ok(found);
         }
-        let row = self.new_row()?;
-        let (room, running) = (
-            Profile::row_span(row, self.lanes),
-            Profile::row_span(row, self.words),
-        );
+        let row = match self.spare.pop() {
+            Some(row) => row,
+            None => self.running.count() / self.words.max(1),
+        };
+        let (room, bits) = (self.room_at(found), self.bits_at(found));
+        let (resources, words) = (self.resources, self.words);
         self.room
-            .move_up(Profile::row_span(found.row, self.lanes), room.from);
-        self.running
-            .move_up(Profile::row_span(found.row, self.words), running.from);
-        let next = at.wrapping_add(1);
-        self.segments.insert(next, Segment { from: time, row })?;
+            .copy(room, row.wrapping_mul(resources), resources)?;
+        self.running.copy(bits, row.wrapping_mul(words), words)?;
+        let next = found.wrapping_add(1);
+        self.segments.insert(next, Segment { row, from: time })?;
         Ok(next)
     }
 
     /// Joins the segments before and after a time if the same activities run there.
-    pub(crate) fn join(&mut self, time: i32) -> Result<(), AllocError> {
-        let at = self.find(time);
-        let (before, here) = (self.bits_at(at.wrapping_sub(1)), self.bits_at(at));
-        for word in 0..self.words as usize {
-            let bits = self.running.get(before.wrapping_add(word));
-            if at == 0 || bits != self.running.get(here.wrapping_add(word)) {
-                return Ok(());
-            }
+    pub(crate) fn join(&mut self, time: i32) -> Result<()> {
+        let segment = self.find(time);
+        let (before, here) = (self.bits_at(segment.wrapping_sub(1)), self.bits_at(segment));
+        let is_same = self.running.part(before, before.wrapping_add(self.words))
+            == self.running.part(here, here.wrapping_add(self.words));
+        if segment > 0 && is_same {
+            self.spare.push(self.segments[segment].row)?;
+            self.segments.remove(segment);
         }
-        self.spare.push(self.segments.get(at).row)?;
-        self.segments.remove(at);
         Ok(())
     }
 
-    /// An activity runs from one segment up to another.
-    pub(crate) fn set_running(&mut self, activity: u32, from: usize, to: usize) {
-        let (word, mask) = bit(activity);
-        for segment in from..to {
-            let place = self.bits_at(segment).wrapping_add(word as usize);
-            let bits = self.running.get(place) | mask;
-            self.running.set(place, bits);
-        }
+    /// The room of each resource in a segment.
+    fn room_in(&self, segment: u32) -> &[i32] {
+        let from = self.room_at(segment);
+        self.room.part(from, from.wrapping_add(self.resources))
     }
 
-    /// An activity doesn't run from one segment up to another.
-    fn clear_running(&mut self, activity: u32, from: usize, to: usize) {
-        let (word, mask) = bit(activity);
+    /// An activity with these demands runs in a part from now on, or with a sign of -1 no more. Gives the segments.
+    pub fn put(
+        &mut self,
+        activity: u32,
+        demands: &[i32],
+        part: Part,
+        sign: i32,
+    ) -> Result<Range<u32>> {
+        let (from, to) = (self.cut(part.from)?, self.cut(part.to)?);
+        let mask = 1u64.wrapping_shl(activity % 64);
         for segment in from..to {
-            let place = self.bits_at(segment).wrapping_add(word as usize);
-            let bits = self.running.get(place) & !mask;
-            self.running.set(place, bits);
+            let word = self.bits_at(segment).wrapping_add(activity / 64);
+            self.running[word] ^= mask;
+            self.take(segment, demands, sign);
         }
+        Ok(from..to)
     }
 
-    /// Takes so much of a lane from one segment up to another. Gives the least room there then.
+    /// Takes demands from the room of a segment, or gives them back.
     #[inline(always)]
-    pub(crate) fn take(&mut self, lane: u32, amount: i32, from: usize, to: usize) -> i32 {
-        let mut least = i32::MAX;
-        for segment in from..to {
-            let place = self.room_at(segment).wrapping_add(lane as usize);
-            let room = self.room.get(place).wrapping_sub(amount);
-            self.room.set(place, room);
-            least = least.min(room);
+    fn take(&mut self, segment: u32, demands: &[i32], sign: i32) {
+        let from = self.room_at(segment);
+        let room = self.room.part_mut(from, from.wrapping_add(self.resources));
+        for (room, demand) in room.iter_mut().zip(demands) {
+            *room = room.wrapping_sub(demand.wrapping_mul(sign));
         }
-        least
-    }
-
-    /// The room of a lane in a segment.
-    #[inline(always)]
-    pub(crate) fn room(&self, segment: usize, lane: u32) -> i32 {
-        self.room
-            .get(self.room_at(segment).wrapping_add(lane as usize))
-    }
-
-    /// The first segment from one up to another that has no room in a lane.
-    pub(crate) fn first_overload(&self, lane: u32, from: usize, to: usize) -> Option<usize> {
-        for segment in from..to {
-            if self.room(segment, lane) < 0 {
-                return Some(segment);
-            }
-        }
-        None
     }
 
     /// An activity that ran in a part doesn't.
-    pub(crate) fn clear(
-        &mut self,
-        uses: &Uses,
-        activity: u32,
-        part: Part,
-    ) -> Result<(), AllocError> {
-        let from = self.cut(part.from)?;
-        let to = self.cut(part.to)?;
-        self.clear_running(activity, from, to);
-        for need in uses.of(activity) {
-            self.take(need.lane, need.demand.wrapping_neg(), from, to);
-        }
+    pub(crate) fn clear(&mut self, activity: u32, demands: &[i32], part: Part) -> Result<()> {
+        self.put(activity, demands, part, -1)?;
         self.join(part.from)?;
         self.join(part.to)
     }
 
-    /// The bits of those that run at a time, a word of them.
-    #[inline(always)]
-    pub(crate) fn running(&self, segment: usize, word: u32) -> u64 {
-        self.running
-            .get(self.bits_at(segment).wrapping_add(word as usize))
+    /// The least room of a resource in some segments, and the first one that has it.
+    pub(crate) fn least_room(&self, resource: u32, segments: Range<u32>) -> (i32, u32) {
+        let (mut least, mut first) = (i32::MAX, 0);
+        for segment in segments {
+            let room = self.room[self.room_at(segment).wrapping_add(resource)];
+            if room < least {
+                (least, first) = (room, segment);
+            }
+        }
+        (least, first)
     }
 
-    /// How many words of bits there are.
-    pub(crate) fn words(&self) -> u32 {
-        self.words
+    /// The first resource of which a segment has less room than is demanded; none in the activity's own part.
+    #[inline(always)]
+    fn lacks(&self, segment: u32, demands: &[i32], own: Part) -> Option<u32> {
+        let begin = self.begin(segment);
+        if own.from <= begin && begin < own.to {
+            return None;
+        }
+        let mut resource = 0u32;
+        for (room, demand) in self.room_in(segment).iter().zip(demands) {
+            if room < demand {
+                return Some(resource);
+            }
+            resource = resource.wrapping_add(1);
+        }
+        None
+    }
+
+    /// The last time of a part at which there is no room for an activity beside its own part, and the resource.
+    pub fn last_full(&self, demands: &[i32], part: Part, own: Part) -> Option<(i32, u32)> {
+        let mut end = part.to;
+        let mut segment = self.find(end.wrapping_sub(1));
+        for _ in 0..u64::MAX {
+            if end <= part.from {
+                break;
+            }
+            if let Some(resource) = self.lacks(segment, demands, own) {
+                return Some((end.wrapping_sub(1), resource));
+            }
+            end = self.begin(segment);
+            segment = segment.wrapping_sub(1);
+        }
+        None
+    }
+
+    /// The first time of a part at which there is no room for an activity beside its own part, and the resource.
+    pub fn first_full(&self, demands: &[i32], part: Part, own: Part) -> Option<(i32, u32)> {
+        let mut time = part.from;
+        let mut segment = self.find(time);
+        for _ in 0..u64::MAX {
+            if time >= part.to {
+                break;
+            }
+            if let Some(resource) = self.lacks(segment, demands, own) {
+                return Some((time, resource));
+            }
+            segment = segment.wrapping_add(1);
+            time = self.begin(segment);
+        }
+        None
+    }
+
+    /// Lists the activities that run in a segment.
+    pub(crate) fn list_running(&self, segment: u32, list: &mut Table<u32>) -> Result<()> {
+        for word in 0..self.words {
+            let mut bits = self.running[self.bits_at(segment).wrapping_add(word)];
+            for _ in 0..bits.count_ones() {
+                list.push(word.wrapping_mul(64).wrapping_add(bits.trailing_zeros()))?;
+                bits = bits & bits.wrapping_sub(1);
+            }
+        }
+        Ok(())
     }
 
     /// How many bytes the profile takes.
     pub(crate) fn bytes(&self) -> u64 {
-        let room = (self.room.len() as u64).wrapping_mul(4);
-        let running = (self.running.len() as u64).wrapping_mul(8);
-        room.wrapping_add(running)
-            .wrapping_add((self.segments.len() as u64).wrapping_mul(8))
+        let room = u64::from(self.room.count()).wrapping_mul(4);
+        let running = u64::from(self.running.count()).wrapping_mul(8);
+        let segments = u64::from(self.segments.count()).wrapping_mul(8);
+        room.wrapping_add(running).wrapping_add(segments)
     }
 }

@@ -5,7 +5,6 @@
 #![tactic(auto)]
 
 mod effort;
-mod first;
 mod solver;
 mod turns;
 

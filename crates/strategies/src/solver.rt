@@ -1,14 +1,15 @@
 //! The search of a project, as callers see it.
 
-use crate::first::{First, Opened, Outcome, open_engine};
-use crate::turns::{Finder, Turns};
-use engine::{Counts, Options};
-use instance::{Instance, MAX_MAKESPAN, Walks};
+use crate::turns::{Finder, Opened, Turns};
+use engine::{Counts, Engine, Found, Options, Pace, Run};
+use instance::{Instance, MAX_MAKESPAN, Walks, settle};
 use large_neighbourhoods::shortened;
 use lemma_text::{Claim, Line, Reason, text_of};
 use log_record::record_text;
-use record_text::{Members, Starts};
-use std::alloc::{AllocError, Global};
+use record_text::Members;
+use std::alloc::Global;
+use std::mem;
+use tables::Result;
 
 /// How far a search may go, and from where it breaks ties.
 #[derive(Clone, Copy, PartialEq, Eq, Debug)]
@@ -36,13 +37,40 @@ pub struct Record {
     pub text: Vec<u8>,
 }
 
-/// A project that contradicts itself.
-#[derive(Clone, Copy, Debug)]
-enum Contradiction {
-    /// Lags close a walk of positive weight.
-    Cycle,
-    /// An activity needs more of a resource than there is.
-    Demand { activity: u32, resource: u32 },
+/// How many conflicts a search at the root, and a dive, may meet.
+const ROOT: u64 = 50;
+
+const DIVE: u64 = 5_000;
+
+/// How often a search forgets lemmas where it has no room, before it stops.
+const REDUCTIONS: u64 = 6;
+
+/// The search for a first schedule: a few conflicts at the root, below the horizon, and then dives below likely
+/// ceilings. A dive starts one activity after the other as early as it can.
+#[derive(Drop)]
+struct First<'a> {
+    opened: Opened<'a>,
+    run: Run,
+    pace: Pace,
+    /// The ceiling of the dive, none at the root.
+    dive: Option<i32>,
+}
+
+impl First<'_> {
+    fn search(&mut self, steps: u64) -> Result<Found> {
+        self.opened.0.search(&mut self.run, &mut self.pace, steps)
+    }
+}
+
+/// What a search does.
+#[derive(Drop)]
+enum Stage<'a> {
+    /// Nothing: the project contradicts itself, as this record shows.
+    Contradiction(Vec<u8>),
+    First(First<'a>),
+    /// Strategies take turns from the next step on, with a first schedule or none.
+    Ready(Option<Vec<i32>>),
+    Turns(Turns<'a>),
 }
 
 /// The search of a project for a shortest schedule. Until a schedule is known it looks for a first one; from then on
@@ -51,234 +79,242 @@ enum Contradiction {
 pub struct Solver<'a> {
     alloc: Global,
     instance: &'a Instance,
-    /// None where they are contradictory.
+    /// None where a closed walk has positive weight.
     walks: Option<Walks>,
-    contradiction: Option<Contradiction>,
-    first: Option<First<'a>>,
-    /// The first schedule, until strategies take turns.
-    start: Option<Vec<i32>>,
-    turns: Option<Turns<'a>>,
+    stage: Stage<'a>,
     limits: Limits,
+    /// What was done by engines that are gone.
     done: Counts,
     is_full: bool,
 }
 
-/// How often a search forgets lemmas where it has no room, before it stops.
-const REDUCTIONS: u64 = 6;
-
 impl<'a> Solver<'a> {
     /// A search that has done nothing yet.
-    pub fn new(
-        alloc: Global,
-        instance: &'a Instance,
-        limits: Limits,
-    ) -> Result<Solver<'a>, AllocError> {
+    pub fn new(alloc: Global, instance: &'a Instance, limits: Limits) -> Result<Solver<'a>> {
         let mut solver = Solver {
             alloc,
             instance,
             walks: Walks::new(alloc, instance)?,
-            contradiction: None,
-            first: None,
-            start: None,
-            turns: None,
+            stage: Stage::Ready(None),
             limits,
             done: Counts::NOTHING,
             is_full: false,
         };
-        if let Some((activity, resource)) = instance.too_much() {
-            solver.contradiction = Some(Contradiction::Demand { activity, resource });
-        }
-        match &solver.walks {
-            None => solver.contradiction = Some(Contradiction::Cycle),
-            Some(walks) if solver.contradiction.is_none() => {
-                let ceiling = instance.horizon().wrapping_add(1);
-                let first = First::new(alloc, instance, walks, ceiling, limits.seed)?;
-                solver.first = Some(first);
-            }
-            Some(_) => {}
+        if solver.walks.is_none() {
+            solver.contradict(Reason::Dead)?;
+        } else if let Some((activity, resource)) = instance.too_much() {
+            let resource = resource as usize;
+            let members = Members::new(vec![in alloc; activity as usize]?);
+            solver.contradict(Reason::Set { resource, members })?;
+        } else {
+            solver.begin_first(None)?;
         }
         Ok(solver)
     }
 
-    /// Strategies take turns on an engine below a ceiling.
-    fn take_turns(&mut self, opened: Opened<'a>, ceiling: i32) -> Result<(), AllocError> {
-        let Opened { engine, forced } = opened;
-        let seed = self.limits.seed;
-        let turns = Turns::new(self.alloc, self.instance, engine, forced, ceiling, seed)?;
-        self.turns = Some(turns);
+    /// The project contradicts itself.
+    fn contradict(&mut self, reason: Reason) -> Result<()> {
+        let lines = vec![in self.alloc; Line::End { reason }]?;
+        let text = text_of(self.alloc, &Claim::NoSchedule, &lines)?;
+        self.stage = Stage::Contradiction(text);
+        Ok(())
+    }
+
+    /// An engine for schedules that end before a ceiling; none where no search may begin.
+    fn open(&self, ceiling: i32, has_log: bool, has_cliques: bool) -> Result<Option<Opened<'a>>> {
+        let (alloc, instance) = (self.alloc, self.instance);
+        let Some(walks) = &self.walks else {
+            return Ok(None);
+        };
+        let options = Options {
+            has_log,
+            has_cliques,
+            seed: self.limits.seed,
+        };
+        let most = ceiling.wrapping_sub(1);
+        let settled = settle(alloc, instance, walks.try_copy(alloc)?, most)?;
+        let engine = Engine::open(alloc, instance, &settled, most, options)?;
+        Ok(Some((engine, settled.forced)))
+    }
+
+    /// Begins the search at the root, which keeps a log, or a dive below a ceiling.
+    fn begin_first(&mut self, dive: Option<i32>) -> Result<()> {
+        let last = self.instance.horizon.wrapping_add(1);
+        let dive = dive.map(|ceiling| ceiling.min(last));
+        if let Some(opened) = self.open(dive.unwrap_or(last), dive.is_none(), false)? {
+            let most = if dive.is_some() { DIVE } else { ROOT };
+            let run = Run::new(Vec::new(self.alloc), most);
+            let pace = Pace::NEW;
+            self.stage = Stage::First(First {
+                opened,
+                run,
+                pace,
+                dive,
+            });
+        }
+        Ok(())
+    }
+
+    /// Strategies begin to take turns, with a first schedule or none.
+    fn begin_turns(&mut self, start: Option<Vec<i32>>) -> Result<()> {
+        let last = self.instance.horizon.wrapping_add(1);
+        let end = start.as_ref().and_then(|starts| starts.last().copied());
+        let ceiling = end.unwrap_or(last);
+        if let Some(opened) = self.open(ceiling, true, true)? {
+            let seed = self.limits.seed;
+            let mut turns = Turns::new(self.alloc, self.instance, opened, ceiling, seed)?;
+            if let Some(starts) = &start {
+                turns.take(starts, Finder::Dive)?;
+            }
+            self.stage = Stage::Turns(turns);
+        }
         Ok(())
     }
 
     /// A first schedule is known, and put early. Strategies take turns from the next step on.
-    fn begin_with(&mut self, starts: &[i32]) -> Result<(), AllocError> {
-        let shifted = shortened(self.alloc, self.instance, starts)?;
-        self.start = Some(shifted.early);
-        self.end_first();
+    fn begin_with(&mut self, starts: &[i32]) -> Result<()> {
+        let (early, _) = shortened(self.alloc, self.instance, starts)?;
+        self.done = self.counts();
+        self.stage = Stage::Ready(Some(early));
         Ok(())
-    }
-
-    /// The search for a first schedule is over.
-    fn end_first(&mut self) {
-        if let Some(first) = self.first.take() {
-            self.done = self.done.plus(first.counts());
-        }
-    }
-
-    /// Strategies begin to take turns, with a first schedule or none.
-    fn begin_turns(&mut self) -> Result<(), AllocError> {
-        self.end_first();
-        let starts = self.start.take();
-        let Some(walks) = &self.walks else {
-            return Ok(());
-        };
-        let ceiling = match &starts {
-            Some(starts) => starts.last().copied().unwrap_or(0),
-            None => self.instance.horizon().wrapping_add(1),
-        };
-        let options = Options {
-            has_log: true,
-            has_cliques: true,
-            seed: self.limits.seed,
-        };
-        let opened = open_engine(self.alloc, self.instance, walks, ceiling, options)?;
-        self.take_turns(opened, ceiling)?;
-        if let (Some(turns), Some(starts)) = (&mut self.turns, &starts) {
-            turns.take(starts, Finder::Dive)?;
-        }
-        Ok(())
-    }
-
-    /// There is no schedule below the horizon, as the search at the root found.
-    fn keep_refutation(&mut self) -> Result<(), AllocError> {
-        let ceiling = self.instance.horizon().wrapping_add(1);
-        match self.first.take() {
-            Some(first) => self.take_turns(first.into_opened(), ceiling),
-            None => Ok(()),
-        }
     }
 
     /// Where the search stands.
     pub fn state(&self) -> State {
-        let is_refuted = match &self.turns {
-            Some(turns) => turns.engine.is_refuted(),
-            None => self.contradiction.is_some(),
-        };
-        if is_refuted {
-            State::Ended
-        } else if self.is_full {
-            State::Full
-        } else {
-            State::Going
+        match &self.stage {
+            Stage::Contradiction(_) => State::Ended,
+            Stage::Turns(turns) if turns.engine.is_refuted() => State::Ended,
+            _ if self.is_full => State::Full,
+            _ => State::Going,
         }
     }
 
-    /// Searches for a first schedule, and begins the turns of strategies where it is known.
-    fn find_first(&mut self, steps: u64) -> Result<(), AllocError> {
-        let (Some(first), Some(walks)) = (&mut self.first, &self.walks) else {
-            return self.begin_turns();
+    /// Searches on for a first schedule.
+    fn find_first(&mut self, steps: u64) -> Result<()> {
+        let mut first = match mem::replace(&mut self.stage, Stage::Ready(None)) {
+            Stage::First(first) => first,
+            Stage::Ready(start) => return self.begin_turns(start),
+            _ => return Ok(()),
         };
-        match first.advance(walks, steps)? {
-            Outcome::Open => Ok(()),
-            Outcome::Refuted => self.keep_refutation(),
-            Outcome::Stopped => self.begin_turns(),
-            Outcome::Schedule => {
-                let starts = first.schedule()?;
+        let found = first.search(steps)?;
+        if found == Found::Open {
+            self.stage = Stage::First(first);
+            return Ok(());
+        }
+        if found == Found::Refuted && first.dive.is_none() {
+            let (ceiling, seed) = (self.instance.horizon.wrapping_add(1), self.limits.seed);
+            let turns = Turns::new(self.alloc, self.instance, first.opened, ceiling, seed)?;
+            self.stage = Stage::Turns(turns);
+            return Ok(());
+        }
+        self.done = self.done.plus(first.opened.0.counts());
+        match (found, first.dive) {
+            (Found::Schedule, _) => {
+                let starts = first.opened.0.schedule()?;
                 self.begin_with(&starts)
             }
+            (Found::Stopped, None) => {
+                let walk = self.bound();
+                let likely = self.instance.likely_end(walk);
+                self.begin_first(Some(likely.saturating_add(1)))
+            }
+            (Found::Refuted, Some(ceiling)) if ceiling <= self.instance.horizon => {
+                self.begin_first(Some(ceiling.saturating_mul(2)))
+            }
+            _ => self.begin_turns(None),
         }
     }
 
     /// Forgets lemmas where there is no room. The search is over where that doesn't help.
-    fn make_room(&mut self) -> Result<(), AllocError> {
-        let Some(turns) = &mut self.turns else {
-            return Ok(());
+    fn make_room(&mut self) -> Result<()> {
+        let memory = self.limits.memory;
+        let turns = match &mut self.stage {
+            Stage::Turns(turns) if turns.engine.bytes() > memory => turns,
+            _ => return Ok(()),
         };
-        if turns.engine.bytes() <= self.limits.memory {
-            return Ok(());
-        }
         turns.stop()?;
         for _ in 0..REDUCTIONS {
             turns.engine.reduce()?;
         }
-        self.is_full = turns.engine.bytes() > self.limits.memory / 4 * 3;
+        self.is_full = turns.engine.bytes() > memory / 4 * 3;
         Ok(())
     }
 
     /// Searches on for so many steps: conflicts and decisions.
-    pub fn advance(&mut self, steps: u64) -> Result<(), AllocError> {
+    pub fn advance(&mut self, steps: u64) -> Result<()> {
         if self.state() != State::Going {
             return Ok(());
         }
-        match &mut self.turns {
-            Some(turns) => turns.advance(steps)?,
-            None => self.find_first(steps)?,
+        match &mut self.stage {
+            Stage::Turns(turns) => turns.advance(steps)?,
+            _ => self.find_first(steps)?,
         }
         self.make_room()
     }
 
     /// Takes a feasible schedule by its starts in periods, if it is shorter than the best.
-    pub fn take(&mut self, starts: &[i32]) -> Result<(), AllocError> {
-        if self.contradiction.is_some() {
-            return Ok(());
-        }
-        match &mut self.turns {
-            Some(turns) => turns.take_other(starts),
-            None => self.begin_with(starts),
+    pub fn take(&mut self, starts: &[i32]) -> Result<()> {
+        match &mut self.stage {
+            Stage::Contradiction(_) => Ok(()),
+            Stage::Turns(turns) => turns.take_other(starts),
+            Stage::First(_) | Stage::Ready(_) => self.begin_with(starts),
         }
     }
 
-    /// The starts of the shortest schedule known, in periods.
+    /// The starts of the shortest schedule known, in periods, if it is short enough for a record.
     pub fn best(&self) -> Option<&[i32]> {
-        match &self.turns {
-            Some(turns) => turns.best(),
-            None => self
-                .start
-                .as_deref()
-                .filter(|starts: &&[i32]| is_told(starts)),
-        }
+        let best = match &self.stage {
+            Stage::Contradiction(_) | Stage::First(_) => None,
+            Stage::Ready(start) => start.as_deref(),
+            Stage::Turns(turns) => turns.best.as_deref(),
+        };
+        best.filter(|starts: &&[i32]| starts.last().is_none_or(|end| *end <= MAX_MAKESPAN))
     }
 
     /// Who found it.
     pub fn finder(&self) -> Finder {
-        match &self.turns {
-            Some(turns) => turns.finder,
-            None => Finder::Dive,
+        match &self.stage {
+            Stage::Turns(turns) => turns.finder,
+            _ => Finder::Dive,
         }
     }
 
     /// What no schedule is shorter than, in periods.
     pub fn bound(&self) -> i32 {
-        match (&self.turns, &self.walks) {
-            (Some(turns), _) => turns.bound(),
-            (None, Some(walks)) => walks.longest(0, self.instance.end()).unwrap_or(0),
-            (None, None) => 0,
+        match (&self.stage, &self.walks) {
+            (Stage::Turns(turns), _) => turns.bound(),
+            (_, Some(walks)) => walks.longest(0, self.instance.end()).unwrap_or(0),
+            (_, None) => 0,
         }
     }
 
     /// How much was done.
     pub fn counts(&self) -> Counts {
-        match (&self.turns, &self.first) {
-            (Some(turns), _) => self.done.plus(turns.counts()),
-            (None, Some(first)) => self.done.plus(first.counts()),
-            (None, None) => self.done,
+        match &self.stage {
+            Stage::Turns(turns) => self.done.plus(turns.engine.counts()),
+            Stage::First(first) => self.done.plus(first.opened.0.counts()),
+            _ => self.done,
         }
     }
 
     /// The record of what was found: of a shortest schedule, of none, or of the bound. None where a number is larger than a
     /// record may have.
-    pub fn into_record(mut self) -> Result<Option<Record>, AllocError> {
-        if let Some(contradiction) = self.contradiction {
-            let text = contradiction_text(self.alloc, contradiction)?;
-            return Ok(Some(Record { bound: 0, text }));
+    pub fn into_record(mut self) -> Result<Option<Record>> {
+        match mem::replace(&mut self.stage, Stage::Ready(None)) {
+            Stage::Ready(start) => self.begin_turns(start)?,
+            Stage::First(_) => self.begin_turns(None)?,
+            stage => self.stage = stage,
         }
-        if self.turns.is_none() {
-            self.begin_turns()?;
-        }
-        let (Some(mut turns), Some(walks)) = (self.turns, self.walks) else {
-            return Ok(None);
+        let (mut turns, walks) = match (self.stage, self.walks) {
+            (Stage::Contradiction(text), _) => return Ok(Some(Record { bound: 0, text })),
+            (Stage::Turns(turns), Some(walks)) => (turns, walks),
+            _ => return Ok(None),
         };
-        let bound = turns.proved_bound()?.min(MAX_MAKESPAN);
-        let claim = claim_of(self.alloc, self.instance, &turns, bound)?;
+        if !turns.engine.is_refuted() {
+            turns.bound = turns.engine.least_end()?;
+        }
+        let bound = i64::from(turns.bound().min(MAX_MAKESPAN));
+        let claim = turns.claim(bound)?;
         turns.engine.close_log()?;
         let text = record_text(
             self.alloc,
@@ -289,58 +325,6 @@ impl<'a> Solver<'a> {
             turns.engine.log(),
             claim,
         )?;
-        let bound = i64::from(bound);
-        Ok(match text {
-            Some(text) => Some(Record { bound, text }),
-            None => None,
-        })
+        Ok(text.map(|text| Record { bound, text }))
     }
-}
-
-/// Whether a schedule is short enough for a record.
-fn is_told(starts: &[i32]) -> bool {
-    starts.last().copied().unwrap_or(0) <= MAX_MAKESPAN
-}
-
-/// What a search claims that has proved a bound.
-fn claim_of(
-    alloc: Global,
-    instance: &Instance,
-    turns: &Turns<'_>,
-    bound: i32,
-) -> Result<Claim, AllocError> {
-    let is_refuted = turns.engine.is_refuted();
-    if let (Some(best), true) = (turns.best(), is_refuted) {
-        let mut starts = Vec::new(alloc);
-        for start in best {
-            starts.push(i64::from(*start))?;
-        }
-        let makespan = i64::from(turns.ceiling);
-        let starts = Starts::new(starts);
-        return Ok(Claim::Optimal { makespan, starts });
-    }
-    if is_refuted && turns.ceiling > instance.horizon() {
-        return Ok(Claim::NoSchedule);
-    }
-    Ok(Claim::Bound {
-        bound: i64::from(bound),
-    })
-}
-
-/// The record of a project that contradicts itself.
-fn contradiction_text(alloc: Global, found: Contradiction) -> Result<Vec<u8>, AllocError> {
-    let reason = match found {
-        Contradiction::Cycle => Reason::Dead,
-        Contradiction::Demand { activity, resource } => {
-            let mut members = Vec::new(alloc);
-            members.push(activity as usize)?;
-            Reason::Set {
-                resource: resource as usize,
-                members: Members::new(members),
-            }
-        }
-    };
-    let mut lines = Vec::new(alloc);
-    lines.push(Line::End { reason })?;
-    text_of(alloc, &Claim::NoSchedule, &lines)
 }

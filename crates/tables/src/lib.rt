@@ -1,12 +1,17 @@
 //! Lists that answer at each place, for code that is to be safe whatever its numbers are.
 #![tactic(auto)]
 
-mod lists;
 mod rows;
-mod span;
 mod table;
 
-pub use lists::Lists;
 pub use rows::Rows;
-pub use span::{NO_SPAN, Placed, Span, narrow};
+use std::alloc::AllocError;
 pub use table::Table;
+
+/// What code gives that may run out of memory.
+pub type Result<T, E = AllocError> = std::result::Result<T, E>;
+
+/// The low 32 bits of a place.
+pub fn narrow(place: usize) -> u32 {
+    (place & 0xffff_ffff) as u32
+}

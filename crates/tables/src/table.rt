@@ -1,135 +1,117 @@
 //! A list that answers at each place.
 
-use crate::span::{Span, narrow};
+use crate::{Result, narrow};
 use std::alloc::{AllocError, Global};
 use std::mem;
+use std::ops::{Index, IndexMut};
 
-/// A list that answers at each place: past its end it holds `rest`, and takes nothing.
+/// A list that answers at each place: past its end it holds `rest`, and what is written there is lost.
 #[derive(Drop)]
 pub struct Table<T: Copy> {
     items: Vec<T>,
     rest: T,
+    lost: T,
+}
+
+impl<T: Copy> Index<u32> for Table<T> {
+    type Output = T;
+
+    #[inline(always)]
+    fn index(&self, at: u32) -> &T {
+        if (at as usize) < self.items.len() {
+            &self.items[at as usize]
+        } else {
+            &self.rest
+        }
+    }
+}
+
+impl<T: Copy> IndexMut<u32> for Table<T> {
+    #[inline(always)]
+    fn index_mut(&mut self, at: u32) -> &mut T {
+        if (at as usize) < self.items.len() {
+            return &mut self.items[at as usize];
+        }
+        self.lost = self.rest;
+        &mut self.lost
+    }
 }
 
 impl<T: Copy> Table<T> {
     /// An empty table.
     pub fn new(alloc: Global, rest: T) -> Table<T> {
-        Table {
-            items: Vec::new(alloc),
-            rest,
-        }
+        let items = Vec::new(alloc);
+        let lost = rest;
+        Table { items, rest, lost }
     }
 
     /// So many places, all of one value.
-    pub fn filled(alloc: Global, count: usize, value: T, rest: T) -> Result<Table<T>, AllocError> {
+    pub fn filled(alloc: Global, count: usize, value: T, rest: T) -> Result<Table<T>> {
         let mut items = Vec::with_capacity(alloc, count)?;
         for _ in 0..count {
             items.push(value)?;
         }
-        Ok(Table { items, rest })
+        let lost = rest;
+        Ok(Table { items, rest, lost })
     }
 
     /// How many places there are.
-    #[inline(always)]
-    pub fn len(&self) -> usize {
-        self.items.len()
-    }
-
-    /// How many places there are, in 32 bits.
-    #[inline(always)]
     pub fn count(&self) -> u32 {
         narrow(self.items.len())
     }
 
     /// Whether there are none.
-    #[inline(always)]
     pub fn is_empty(&self) -> bool {
         self.items.is_empty()
     }
 
-    /// What a place holds.
-    #[inline(always)]
-    pub fn get(&self, at: usize) -> T {
-        if at < self.items.len() {
-            self.items[at]
-        } else {
-            self.rest
-        }
-    }
-
-    /// Writes a place.
-    #[inline(always)]
-    pub fn set(&mut self, at: usize, value: T) {
-        if at < self.items.len() {
-            self.items[at] = value;
-        }
-    }
-
     /// One more place.
-    #[inline(always)]
-    pub fn push(&mut self, value: T) -> Result<(), AllocError> {
+    pub fn push(&mut self, value: T) -> Result<()> {
         self.items.push(value)?;
         Ok(())
     }
 
-    /// More places, with these values. Gives where they are.
-    pub fn push_all(&mut self, values: &[T]) -> Result<Span, AllocError> {
-        let from = self.count();
-        for value in values {
-            self.push(*value)?;
-        }
-        Ok(self.span_from(from))
+    /// More places, with these values.
+    pub fn push_all(&mut self, values: &[T]) -> Result<()> {
+        self.items.extend_from_slice(values)
     }
 
-    /// The places from one on.
-    pub fn span_from(&self, from: u32) -> Span {
-        Span {
-            from,
-            to: self.count(),
+    /// Copies so many places from one on to another one on, which may be the end.
+    pub fn copy(&mut self, from: u32, to: u32, count: u32) -> Result<()> {
+        for x in 0..count {
+            let (value, at) = (self[from.wrapping_add(x)], to.wrapping_add(x));
+            if at == self.count() {
+                self.push(value)?;
+            } else {
+                self[at] = value;
+            }
         }
-    }
-
-    /// What some places hold moves up to a place. Gives where it is then.
-    pub fn move_up(&mut self, places: Span, to: u32) -> Span {
-        let mut at = to;
-        for x in places.from..places.to {
-            let value = self.get(x as usize);
-            self.set(at as usize, value);
-            at = at.wrapping_add(1);
-        }
-        Span { from: to, to: at }
+        Ok(())
     }
 
     /// A place before another one, which moves up with all after it.
-    pub fn insert(&mut self, at: usize, value: T) -> Result<(), AllocError> {
-        if at <= self.items.len() && self.items.insert(at, value).is_err() {
+    pub fn insert(&mut self, at: u32, value: T) -> Result<()> {
+        if (at as usize) <= self.items.len() && self.items.insert(at as usize, value).is_err() {
             return Err(AllocError);
         }
         Ok(())
     }
 
     /// Takes a place away. Those after it move down.
-    pub fn remove(&mut self, at: usize) {
-        if at < self.items.len() {
-            self.items.remove(at);
+    pub fn remove(&mut self, at: u32) {
+        if (at as usize) < self.items.len() {
+            self.items.remove(at as usize);
         }
     }
 
     /// Takes the last place away.
-    #[inline(always)]
     pub fn pop(&mut self) -> Option<T> {
         self.items.pop()
     }
 
     /// Leaves the first places.
-    pub fn truncate(&mut self, count: usize) {
-        self.items.truncate(count);
-    }
-
-    /// Takes all places out of the table, which is empty then.
-    pub fn replace(&mut self, alloc: Global) -> Table<T> {
-        let rest = self.rest;
-        mem::replace(self, Table::new(alloc, rest))
+    pub fn truncate(&mut self, count: u32) {
+        self.items.truncate(count as usize);
     }
 
     /// No place is left.
@@ -137,10 +119,22 @@ impl<T: Copy> Table<T> {
         self.items.clear();
     }
 
+    /// Takes all places out of the table, which is empty then.
+    pub fn take(&mut self, alloc: Global) -> Vec<T> {
+        mem::replace(&mut self.items, Vec::new(alloc))
+    }
+
+    /// Two places change what they hold.
+    pub fn swap(&mut self, x: u32, y: u32) {
+        let (first, second) = (self[x], self[y]);
+        self[x] = second;
+        self[y] = first;
+    }
+
     /// The places from `from` up to `to`, none where these are no places.
     #[inline(always)]
-    pub fn range(&self, from: usize, to: usize) -> &[T] {
-        let items = self.items.as_slice();
+    pub fn part(&self, from: u32, to: u32) -> &[T] {
+        let (items, from, to) = (self.items.as_slice(), from as usize, to as usize);
         if from <= to && to <= items.len() {
             &items[from..to]
         } else {
@@ -148,10 +142,15 @@ impl<T: Copy> Table<T> {
         }
     }
 
-    /// The places of a span.
+    /// The same places, to be changed.
     #[inline(always)]
-    pub fn part(&self, span: Span) -> &[T] {
-        self.range(span.from as usize, span.to as usize)
+    pub fn part_mut(&mut self, from: u32, to: u32) -> &mut [T] {
+        let (items, from, to) = (self.items.as_mut_slice(), from as usize, to as usize);
+        if from <= to && to <= items.len() {
+            &mut items[from..to]
+        } else {
+            &mut items[..0]
+        }
     }
 
     /// All places.
@@ -162,19 +161,5 @@ impl<T: Copy> Table<T> {
     /// All places, to be changed.
     pub fn all_mut(&mut self) -> &mut [T] {
         self.items.as_mut_slice()
-    }
-
-    /// All places hold one value.
-    pub fn fill(&mut self, value: T) {
-        for place in self.items.iter_mut() {
-            *place = value;
-        }
-    }
-
-    /// Two places change what they hold.
-    pub fn swap(&mut self, x: usize, y: usize) {
-        let (first, second) = (self.get(x), self.get(y));
-        self.set(x, second);
-        self.set(y, first);
     }
 }

@@ -1,0 +1,154 @@
+//! Orders of rivals that lags settle, and a sequence to start activities in.
+
+use crate::numbers::{Edge, Instance};
+use crate::walks::Walks;
+use std::alloc::Global;
+use std::cmp::Reverse;
+use std::mem;
+use tables::{Result, Table, narrow};
+
+/// Two rivals whose order is open.
+#[derive(Clone, Copy, PartialEq, Eq, PartialOrd, Ord, Debug)]
+pub struct Rivals {
+    pub first: u32,
+    pub second: u32,
+}
+
+/// The orders that every schedule has, and the pairs that are left open.
+#[derive(Drop)]
+pub struct Settled {
+    /// The walks over the lags and the settled orders.
+    pub walks: Walks,
+    /// The edges of settled orders that the walks before them did not have.
+    pub forced: Vec<Edge>,
+    /// In rising order.
+    pub open: Vec<Rivals>,
+    /// Whether there is no schedule.
+    pub is_dead: bool,
+}
+
+impl Settled {
+    /// Whether the order of two activities, the lesser one first, is open.
+    pub fn is_open(&self, first: u32, second: u32) -> bool {
+        self.open.binary_search(&Rivals { first, second }).is_ok()
+    }
+}
+
+/// Orders of more pairs than this would cost more than they bring.
+const MOST_PAIRS: usize = 20_000;
+
+/// About how many entries of the matrix may be looked at.
+const BUDGET: u64 = 500_000_000;
+
+impl Settled {
+    /// Whether the first activity of an order can end before the other starts, if no schedule ends after `most`.
+    fn fits(&self, instance: &Instance, order: Edge, most: i32) -> bool {
+        let head = self.walks.direct(0, order.from).unwrap_or(0);
+        let tail = self.walks.direct(order.to, instance.end()).unwrap_or(0);
+        let sum = i64::from(head).wrapping_add(i64::from(tail));
+        let end = sum.wrapping_add(i64::from(order.weight));
+        end <= i64::from(most) && !self.walks.closes(order)
+    }
+
+    /// Puts in the order of a pair if only one fits. Whether it stays open.
+    fn stays_open(
+        &mut self,
+        alloc: Global,
+        instance: &Instance,
+        Rivals { first, second }: Rivals,
+        most: i32,
+    ) -> Result<bool> {
+        let before = Edge::new(first, second, instance.duration(first));
+        let after = Edge::new(second, first, instance.duration(second));
+        let fits_before = self.fits(instance, before, most);
+        let fits_after = self.fits(instance, after, most);
+        if fits_before && fits_after {
+            return Ok(true);
+        }
+        let order = if fits_before { before } else { after };
+        self.is_dead = !fits_before && !fits_after;
+        if self.is_dead || !self.walks.reaches(order.from, order.to, order.weight) {
+            self.forced.push(order)?;
+            self.is_dead = self.is_dead || !self.walks.insert(alloc, order)?;
+            self.walks.forget();
+        }
+        Ok(false)
+    }
+
+    /// Settles each open pair once, up to where there is no schedule.
+    fn pass(&mut self, alloc: Global, instance: &Instance, most: i32) -> Result<()> {
+        let above = most.wrapping_add(1);
+        self.is_dead = self.walks.reaches(0, instance.end(), above);
+        for pair in mem::replace(&mut self.open, Vec::new(alloc)).iter() {
+            if self.is_dead {
+                break;
+            }
+            if self.stays_open(alloc, instance, *pair, most)? {
+                self.open.push(*pair)?;
+            }
+        }
+        Ok(())
+    }
+}
+
+/// The orders of rivals that every schedule of a makespan at most `most` has, and the pairs that are left open, settled
+/// until nothing follows any more, or it gets long. Above 20,000 open pairs none is named.
+pub fn settle(alloc: Global, instance: &Instance, walks: Walks, most: i32) -> Result<Settled> {
+    let after = |first: u32| first.wrapping_add(1)..instance.count();
+    let pairs = (0..instance.count())
+        .flat_map(|first| after(first).map(move |second| Rivals { first, second }))
+        .filter(|pair| instance.are_rivals(pair.first, pair.second));
+    let mut settled = Settled {
+        walks,
+        forced: Vec::new(alloc),
+        open: pairs.collect(alloc)?,
+        is_dead: false,
+    };
+    let count = u64::from(instance.count().max(1));
+    let limit = BUDGET / count.wrapping_mul(count).max(1);
+    for _ in 0..u64::MAX {
+        let before = settled.forced.len();
+        settled.pass(alloc, instance, most)?;
+        let forced = settled.forced.len();
+        if settled.is_dead || forced == before || forced as u64 >= limit {
+            break;
+        }
+    }
+    if settled.is_dead || settled.open.len() > MOST_PAIRS {
+        settled.open.clear();
+    }
+    Ok(settled)
+}
+
+/// Whether a walk leads from one activity to another and none back.
+fn is_before(walks: &Walks, first: u32, second: u32) -> bool {
+    walks.direct(first, second).is_some() && walks.direct(second, first).is_none()
+}
+
+/// Activities in an order to start them at once: by their latest starts, but after all that a walk leads from, unless
+/// one leads back. So what ends a maximum lag has its other predecessors placed before.
+pub fn start_sequence(alloc: Global, instance: &Instance, walks: &Walks) -> Result<Vec<u32>> {
+    let end = instance.end();
+    let mut waits = Table::new(alloc, 0);
+    for activity in 0..instance.count() {
+        let before = (0..instance.count()).filter(|other| is_before(walks, *other, activity));
+        waits.push(narrow(before.count()))?;
+    }
+    let mut left: Vec<u32> = (0..instance.count()).collect(alloc)?;
+    left.sort_unstable_by_key(|activity: &u32| {
+        let tail = walks.direct(*activity, end).unwrap_or(0);
+        (Reverse(tail), *activity)
+    });
+    let mut sequence = Vec::new(alloc);
+    for _ in 0..instance.count() {
+        let Some(at) = left.iter().position(|activity| waits[*activity] == 0) else {
+            break;
+        };
+        let first = left.remove(at);
+        for activity in left.iter().filter(|other| is_before(walks, first, **other)) {
+            waits[*activity] = waits[*activity].wrapping_sub(1);
+        }
+        sequence.push(first)?;
+    }
+    Ok(sequence)
+}
