@@ -1,0 +1,3 @@
+pub mod Raising
+pub mod Implying
+pub mod Raised
