@@ -1,3 +1,4 @@
 pub mod Raising
 pub mod Implying
 pub mod Raised
+pub mod Passing

@@ -4,7 +4,7 @@ use Rattle.std.specs.Int.{int_max}
 use Rattle.std.specs.List.{All, Contains}
 use Rattle.std.proofs.lemmas.Int.{ints, clamps, by_lt_z}
 use Rattle.std.proofs.lemmas.List.{get_or-map, length-map}
-use Rattle.std.proofs.lemmas.List.Elements.{All-get_or, Contains-append_left, Contains-append_right}
+use Rattle.std.proofs.lemmas.List.Elements.{All-get_or, Contains-append_left, Contains-append_right, Contains-push_cases}
 use Rattle.std.proofs.Math.Seq.{take-append_seam}
 use Rattle.network.specs.declared.parts.Lag.{Lag}
 use Rattle.network.specs.declared.limits.TheConstants.{MAX_WALK_WEIGHT}
@@ -16,9 +16,9 @@ use Rattle.longest_path.specs.Matrix.{IsMatrix, IsFull, Reaches, IsSquare}
 use Rattle.longest_path.proofs.Over.{transitive}
 use Rattle.longest_path.proofs.Reach.{same_some}
 use Rattle.longest_path.proofs.Weights.{square_of, IsSquare-inside}
-use Rattle.block.specs.declared.raise.TheConstants.{MAX_HEAD}
+use Rattle.block.specs.declared.raise.TheConstants.{MAX_HEAD, MAX_TRIED}
 use Rattle.block.specs.Implied.{Implies, ImpliesWith, MeetsRows, AreReached}
-use Rattle.block.specs.Heads.{HeadsOf, AreHeads, AreSmall, IsLight, rows_of}
+use Rattle.block.specs.Heads.{HeadsOf, AreHeads, AreSmall, IsLight, table_rows}
 use Rattle.block.proofs.Implying.{implied_part, implied_joined, implied_arc, implied_entry, implied_lower, part_after}
 
 -- the cells are row a of rows in which every entry is there
@@ -26,9 +26,6 @@ pub record IsFullRow (rows : Rows) (a : ℕ) (cells : List ℤ) : Type 0 where
   pub long : length cells ≡ length rows
   pub says : (b : ℕ) → b < length rows → entry rows a b ≡ Some (start cells b)
   pub small : (b : ℕ) → b < length rows → IsWithin MAX_WALK_WEIGHT (start cells b)
-
-abbrev pub table_rows : List (Vec ℤ Global) → Rows
-table_rows table = rows_of (map (λ row. row.items) table)
 
 pub row_at : (table : List (Vec ℤ Global)) (rows : Rows) (a : ℕ) (v : Vec ℤ Global) → table_rows table ≡ rows → IsMatrix rows → a < length rows → v ≡ get_or table a v → IsFullRow rows a v.items
 row_at table rows a v is m la at =
@@ -131,3 +128,89 @@ written n old new e = rw e (take-append_seam new (drop (length new) old))
 
 pub table_long : (table : List (Vec ℤ Global)) (rows : Rows) → table_rows table ≡ rows → length rows ≡ length table
 table_long table rows is = ap length (sym is) ∙ length-map (map (λ row. row.items) table) (λ row. map Some row) ∙ length-map table (λ row. row.items)
+
+-- ---- the other lists
+
+-- a row of a matrix as heads
+row_small : (rows : Rows) (via : List ℤ) → IsFullRow rows 0 via → AreSmall MAX_HEAD (length rows) via
+row_small rows via row = record {
+  long = row.long;
+  small = λ i li. let small : IsWithin MAX_WALK_WEIGHT (start via i) = row.small i li in record { at_least = omega (arith, ints, small.at_least); at_most = omega (arith, ints, small.at_most) };
+}
+
+row_met : (rows : Rows) (via : List ℤ) → IsMatrix rows → 0 < length rows → IsFullRow rows 0 via → MeetsRows rows via
+row_met rows via m some row a b w is =
+    let ends = IsSquare-inside (length rows) a b w rows (square_of rows m) is in
+    let through = transitive (length rows) m.arcs rows m.matrix 0 a b (start via a) w (row.says a ends.0) is in
+    let same : through.0 ≡ start via b = same_some through.0 (start via b) (entry rows 0 b) through.1 (row.says b ends.1) in
+    let on : (start via a +ℤ w) ≤ℤ through.0 = through.2 in
+    omega (arith, ints, same, on)
+
+row_reached : (rows : Rows) (more : List Lag) (via : List ℤ) → 0 < length rows → IsFullRow rows 0 via → AreReached (length rows) rows more via
+row_reached rows more via some row i li own m =
+    implied_part own (own ++ more) (arc_of 0 i (start via i)) (λ f d. Contains-append_left own more f d) (implied_entry (length rows) own rows 0 i (start via i) m some li (row.says i li))
+
+pub begun_heads : (x : HeadsOf) (via : List ℤ) → AreHeads x → IsFullRow x.rows 0 via → AreHeads (record { rows = x.rows; arcs = []; heads = via; tried = x.tried })
+begun_heads x via h row = record {
+  matrix = h.matrix;
+  full = h.full;
+  some = h.some;
+  arcs_light = λ e c. absurd (omega (arith, c.1));
+  heads_small = row_small x.rows via row;
+  tried_small = h.tried_small;
+  met = row_met x.rows via h.matrix h.some row;
+  reached = row_reached x.rows [] via h.some row;
+}
+
+pub new_heads : (rows : Rows) (heads tried : List ℤ) → IsMatrix rows → IsFull rows → 0 < length rows → IsFullRow rows 0 heads → IsFullRow rows 0 tried → AreHeads (record { rows = rows; arcs = []; heads = heads; tried = tried })
+new_heads rows heads tried m full some row other = record {
+  matrix = m;
+  full = full;
+  some = some;
+  arcs_light = λ e c. absurd (omega (arith, c.1));
+  heads_small = row_small rows heads row;
+  tried_small = record { long = other.long; small = λ i li. let small : IsWithin MAX_WALK_WEIGHT (start tried i) = other.small i li in record { at_least = omega (arith, ints, small.at_least); at_most = omega (arith, ints, small.at_most) } };
+  met = row_met rows heads m some row;
+  reached = row_reached rows [] heads some row;
+}
+
+more_reached : (n : ℕ) (rows : Rows) (arcs last : List Lag) (s : List ℤ) → AreReached n rows arcs s → AreReached n rows (arcs ++ last) s
+more_reached n rows arcs last s reached i li own m = implied_part (own ++ arcs) (own ++ (arcs ++ last)) (arc_of 0 i (start s i)) (part_after own arcs last) (reached i li own m)
+
+pub pushed_heads : (x : HeadsOf) (e : Lag) → AreHeads x → IsLight (length x.rows) e → AreHeads (record x { arcs = x.arcs ++ e ∷ [] })
+pushed_heads x e h light = record {
+  matrix = h.matrix;
+  full = h.full;
+  some = h.some;
+  arcs_light = λ f c. elim (Contains-push_cases x.arcs e f c) [ inl old ↦ h.arcs_light f old | inr is ↦ rw (← is) light ];
+  heads_small = h.heads_small;
+  tried_small = h.tried_small;
+  met = h.met;
+  reached = more_reached (length x.rows) x.rows x.arcs (e ∷ []) x.heads h.reached;
+}
+
+tried_within : (x : HeadsOf) (e : Lag) (via new : List ℤ) → AreHeads x → IsLight (length x.rows) e → IsRaise x e via new → (i : ℕ) → i < length x.rows → IsWithin MAX_TRIED (start new i)
+tried_within x e via new h light r i li =
+    let old : IsWithin MAX_HEAD (start x.heads i) = h.heads_small.small i li in
+    let from : IsWithin MAX_HEAD (start x.heads e.from) = h.heads_small.small e.from light.from_activity in
+    let on : IsWithin MAX_WALK_WEIGHT (start via i) = r.row.small i li in
+    let is = r.raised i li in
+    let w = light.light in
+    record { at_least = omega (arith, ints, clamps, is, old.at_least); at_most = omega (arith, ints, clamps, is, old.at_most, from.at_most, w.at_most, on.at_most) }
+
+pub tried_heads : (x : HeadsOf) (e : Lag) (via new : List ℤ) → AreHeads x → IsLight (length x.rows) e → IsRaise x e via new → AreHeads (record x { tried = new })
+tried_heads x e via new h light r = record {
+  matrix = h.matrix;
+  full = h.full;
+  some = h.some;
+  arcs_light = h.arcs_light;
+  heads_small = h.heads_small;
+  tried_small = record { long = r.long; small = tried_within x e via new h light r };
+  met = h.met;
+  reached = h.reached;
+}
+
+pub tried_reached : (x : HeadsOf) (e : Lag) (via new : List ℤ) → AreHeads x → IsLight (length x.rows) e → IsRaise x e via new → AreReached (length x.rows) x.rows (x.arcs ++ e ∷ []) new
+tried_reached x e via new h light r =
+    raised_reached x.rows (x.arcs ++ e ∷ []) x.heads via new e (more_reached (length x.rows) x.rows x.arcs (e ∷ []) x.heads h.reached)
+    (Contains-append_right x.arcs (e ∷ []) e (0, omega arith, refl)) light.from_activity light.to_activity r.row r.raised

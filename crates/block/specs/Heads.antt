@@ -1,5 +1,6 @@
 -- Heads: the weights of walks from 0 over a matrix and arcs beside it.
-use Rattle.std.specs.Prelude.{ℤ, pos, ◌+ℤ◌, ◌≤ℤ◌, ◌≡◌, ◌<◌, ℕ, List, [], ◌∷◌, ◌++◌, Some, map, length, Option}
+use Rattle.std.specs.Prelude.{ℤ, pos, ◌+ℤ◌, ◌≤ℤ◌, ◌≡◌, ◌<◌, ℕ, List, [], ◌∷◌, ◌++◌, Some, map, length, Option, Vec}
+use Rattle.std.specs.declared.alloc.Global.{Global}
 use Rattle.std.specs.List.{All, Contains}
 use Rattle.network.specs.declared.parts.Lag.{Lag}
 use Rattle.network.specs.declared.limits.TheConstants.{MAX_WALK_WEIGHT}
@@ -7,12 +8,15 @@ use Rattle.network.specs.Problem.{IsWithin}
 use Rattle.network.specs.Schedule.{start, Meets}
 use Rattle.network.specs.Walk.{AreInside, Rows}
 use Rattle.longest_path.specs.Matrix.{IsMatrix, IsFull}
-use Rattle.block.specs.declared.raise.TheConstants.{MAX_HEAD}
+use Rattle.block.specs.declared.raise.TheConstants.{MAX_HEAD, MAX_TRIED}
 use Rattle.block.specs.Implied.{ImpliesWith, MeetsRows, AreReached}
 
 -- the rows of a table, in which every entry is there
 abbrev pub rows_of : List (List ℤ) → Rows
 rows_of table = map (λ row. map Some row) table
+
+abbrev pub table_rows : List (Vec ℤ Global) → Rows
+table_rows table = rows_of (map (λ row. row.items) table)
 
 -- a matrix, arcs beside it, and the weights of walks from 0 over both; and weights for a trial
 pub record HeadsOf : Type 0 where
@@ -21,10 +25,10 @@ pub record HeadsOf : Type 0 where
   pub heads : List ℤ
   pub tried : List ℤ
 
--- a list of n weights that are not too great
-pub record AreSmall (n : ℕ) (s : List ℤ) : Type 0 where
+-- a list of n weights that are at most m away from 0
+pub record AreSmall (m : ℤ) (n : ℕ) (s : List ℤ) : Type 0 where
   pub long : length s ≡ n
-  pub small : (i : ℕ) → i < n → IsWithin MAX_HEAD (start s i)
+  pub small : (i : ℕ) → i < n → IsWithin m (start s i)
 
 -- an arc between two of n activities, which weighs no more than a walk may
 pub record IsLight (n : ℕ) (e : Lag) : Type 0 where
@@ -38,8 +42,8 @@ pub record AreHeads (x : HeadsOf) : Type 0 where
   pub full : IsFull x.rows
   pub some : 0 < length x.rows
   pub arcs_light : (e : Lag) → Contains x.arcs e → IsLight (length x.rows) e
-  pub heads_small : AreSmall (length x.rows) x.heads
-  pub tried_small : AreSmall (length x.rows) x.tried
+  pub heads_small : AreSmall MAX_HEAD (length x.rows) x.heads
+  pub tried_small : AreSmall MAX_TRIED (length x.rows) x.tried
   pub met : MeetsRows x.rows x.heads
   pub reached : AreReached (length x.rows) x.rows x.arcs x.heads
 

@@ -1,6 +1,6 @@
 //! The weights of walks from 0 over a matrix and arcs beside it.
 
-ghost use Rattle.std.specs.Prelude.{◌≡◌, ◌<◌, ◌≤ℤ◌, ◌<ℤ◌, pos, ℕ, length, [], ◌∷◌, ◌++◌, IsTrue, IfOk, OnOk, OnErr, Some};
+ghost use Rattle.std.specs.Prelude.{◌≡◌, ◌<◌, ◌^◌, ◌≤ℤ◌, ◌<ℤ◌, pos, ℕ, length, [], ◌∷◌, ◌++◌, IsTrue, IfOk, OnOk, OnErr, Some, slice_index_or};
 ghost use Rattle.std.specs.List.{Contains};
 ghost use Rattle.std.specs.Bool.{MatchBool};
 ghost use Rattle.network.specs.declared.limits.TheConstants.{MAX_WALK_WEIGHT};
@@ -8,11 +8,13 @@ ghost use Rattle.network.specs.Problem.{IsWithin};
 ghost use Rattle.network.specs.Schedule.{start, Meets};
 ghost use Rattle.network.specs.Walk.{entry};
 ghost use Rattle.longest_path.specs.Matrix.{IsMatrix, IsFull};
-ghost use Rattle.block.specs.declared.raise.TheConstants.{MAX_HEAD};
+ghost use Rattle.block.specs.declared.raise.TheConstants.{MAX_HEAD, MAX_TRIED};
 ghost use Rattle.block.specs.Implied.{AreReached};
 
 
-use crate::raise::raise;
+ghost use Rattle.block.specs.Heads.{AreSettled, IsLight, table_rows};
+
+use crate::raise::{raise, raise_from};
 use network::Lag;
 use std::alloc::{AllocError, Global};
 use std::marker::Model;
@@ -28,20 +30,19 @@ pub(crate) struct Heads {
 }
 
 impl Model for Heads {
-    ghost use Rattle.std.specs.Prelude.{map};
-    ghost use Rattle.block.specs.Heads.{HeadsOf, AreHeads, rows_of};
+    ghost use Rattle.block.specs.Heads.{HeadsOf, AreHeads, table_rows};
 
     ghost Value = { HeadsOf };
 
     ghost view = { λ s. record {
-      rows = rows_of (map (λ row. row.items) s.table.items);
+      rows = table_rows s.table.items;
       arcs = s.arcs.items;
       heads = s.heads.items;
       tried = s.tried.items;
     } };
 
     ghost invariant = { λ s. AreHeads (record {
-      rows = rows_of (map (λ row. row.items) s.table.items);
+      rows = table_rows s.table.items;
       arcs = s.arcs.items;
       heads = s.heads.items;
       tried = s.tried.items;
@@ -72,7 +73,7 @@ impl Heads {
     pub(crate) fn tried(&self, i: usize) -> i64
         requires { i < length self.now.rows }
         ensures value { result ≡ start self.now.tried i }
-        ensures small { IsWithin MAX_HEAD result }
+        ensures small { IsWithin MAX_TRIED result }
     {
         self.tried[i]
     }
@@ -91,5 +92,124 @@ impl Heads {
         }
         raise(self.heads.as_mut_slice(), way, self.table[arc.to].as_slice());
         true
+    }
+
+    /// Whether the head of 0 is above 0: then a closed walk has positive weight.
+    pub(crate) fn is_late(&self) -> bool
+        ensures { MatchBool result (pos 0 <ℤ start self.now.heads 0) (start self.now.heads 0 ≤ℤ pos 0) }
+    {
+        self.heads[0] > 0
+    }
+
+    /// How many arcs there are.
+    fn arc_count(&self) -> usize
+        ensures value { result ≡ length self.now.arcs }
+        ensures small { result < 2 ^ 63 }
+    {
+        self.arcs.len()
+    }
+
+    /// An arc.
+    fn arc(&self, index: usize) -> Lag
+        requires { index < length self.now.arcs }
+        ensures { slice_index_or self.now.arcs index result ≡ result }
+    {
+        self.arcs[index]
+    }
+
+    /// Raises the heads by each arc in turn, and stops where that of 0 is above 0. Whether it raised one or stopped.
+    fn pass(&mut self) -> bool
+        ensures heads { self.new ≡ record self.old { heads = self.new.heads } }
+        ensures settled { MatchBool result (Unit {0}) (AreSettled self.new) }
+    {
+        let mut raised = false;
+        for index in 0..self.arc_count() {
+            if self.is_late() {
+                return true;
+            }
+            let arc = self.arc(index);
+            if self.raise_by(arc) {
+                raised = true;
+            }
+        }
+        raised
+    }
+
+    /// Passes over the arcs until a pass raises nothing, but no oftener than walks without a closed part need. Whether
+    /// the heads meet all arcs then.
+    fn settle(&mut self) -> bool
+        ensures heads { self.new ≡ record self.old { heads = self.new.heads } }
+        ensures settled { MatchBool result (AreSettled self.new) (Unit {0}) }
+    {
+        for _round in 0..self.arc_count() + 1 {
+            if !self.pass() {
+                return true;
+            }
+        }
+        false
+    }
+
+    /// Adds an arc. Whether the heads meet all arcs then.
+    pub(crate) fn add(&mut self, arc: Lag) -> Result<bool, AllocError>
+        requires { IsLight (length self.old.rows) arc }
+        ensures added { OnOk result (self.new ≡ record self.old { arcs = self.old.arcs ++ arc ∷ []; heads = self.new.heads }) }
+        ensures settled { IfOk result (λ settled. MatchBool settled (AreSettled self.new) (Unit {0})) }
+        ensures unchanged { OnErr result (self.new ≡ self.old) }
+    {
+        self.push(arc)?;
+        Ok(self.settle())
+    }
+
+    /// Adds an arc to the list.
+    fn push(&mut self, arc: Lag) -> Result<(), AllocError>
+        requires { IsLight (length self.old.rows) arc }
+        ensures added { OnOk result (self.new ≡ record self.old { arcs = self.old.arcs ++ arc ∷ [] }) }
+        ensures unchanged { OnErr result (self.new ≡ self.old) }
+    {
+        self.arcs.push(arc)?;
+        Ok(())
+    }
+
+    /// Begins anew, with the matrix alone.
+    pub(crate) fn begin(&mut self)
+        ensures { self.new ≡ record self.old { arcs = []; heads = self.new.heads } }
+    {
+        self.arcs.clear();
+        self.heads
+            .as_mut_slice()
+            .copy_from_slice(self.table[0].as_slice());
+    }
+
+    /// Takes for the trial the heads, raised by the way over one arc more.
+    pub(crate) fn try_arc(&mut self, arc: Lag)
+        requires { IsLight (length self.old.rows) arc }
+        ensures tried { self.new ≡ record self.old { tried = self.new.tried } }
+        ensures reached { AreReached (length self.old.rows) self.old.rows (self.old.arcs ++ arc ∷ []) self.new.tried }
+    {
+        let way = self.head(arc.from) + arc.weight;
+        raise_from(
+            self.tried.as_mut_slice(),
+            self.heads.as_slice(),
+            way,
+            self.table[arc.to].as_slice(),
+        );
+    }
+
+    /// Those of the matrix of these rows, with no arc beside it.
+    pub(crate) fn new(alloc: Global, table: Vec<Vec<i64>>) -> Result<Heads, AllocError>
+        requires matrix { IsMatrix (table_rows table.items) }
+        requires full { IsFull (table_rows table.items) }
+        requires some { 0 < length (table_rows table.items) }
+        ensures { IfOk result (λ x. x ≡ record {
+            rows = table_rows table.items; arcs = []; heads = x.heads; tried = x.tried }) }
+    {
+        let heads = Vec::from_slice(alloc, table[0].as_slice())?;
+        let tried = Vec::from_slice(alloc, table[0].as_slice())?;
+        Ok(Heads {
+            table,
+            arcs: Vec::new(alloc),
+            heads,
+            tried,
+        })
     }
 }

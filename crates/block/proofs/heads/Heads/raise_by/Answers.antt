@@ -6,8 +6,8 @@ use Rattle.network.specs.Problem.{IsWithin}
 use Rattle.network.specs.Schedule.{start}
 use Rattle.network.specs.declared.limits.TheConstants.{MAX_WALK_WEIGHT}
 use Rattle.block.specs.declared.raise.TheConstants.{MAX_HEAD}
-use Rattle.block.specs.Heads.{HeadsOf, AreHeads, IsLight}
-use Rattle.block.proofs.Raised.{IsFullRow, IsRaise, row_at, small_way, raised_heads, written, table_rows, table_long}
+use Rattle.block.specs.Heads.{HeadsOf, AreHeads, IsLight, table_rows}
+use Rattle.block.proofs.Raised.{IsFullRow, IsRaise, row_at, small_way, raised_heads, written, table_long}
 use Rattle.block.proofs.heads.Heads.raise_by.Goals as goal
 
 pub head-requires : goal.head-requires
