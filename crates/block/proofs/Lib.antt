@@ -2,3 +2,4 @@ pub mod Raising
 pub mod Implying
 pub mod Raised
 pub mod Passing
+pub mod Converse

@@ -4,3 +4,4 @@
 
 mod raise;
 mod heads;
+mod table;
