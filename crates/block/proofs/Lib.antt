@@ -3,3 +3,4 @@ pub mod Implying
 pub mod Raised
 pub mod Passing
 pub mod Converse
+pub mod Blocks

@@ -7,7 +7,7 @@ use Rattle.network.specs.Schedule.{start}
 use Rattle.network.specs.Walk.{Rows, entry, IsMatrixOf, HasPositiveCycle, HasNoPositiveCycle}
 use Rattle.longest_path.specs.Insert.{arc_of}
 use Rattle.longest_path.specs.Matrix.{IsMatrix, IsFull, greater}
-use Rattle.block.specs.declared.raise.TheConstants.{MAX_HEAD, MAX_TRIED}
+use Rattle.block.specs.declared.raise.TheConstants.{MAX_HEAD}
 use Rattle.block.specs.Implied.{ImpliesWith, AreReached}
 use Rattle.block.specs.Heads.{AreSmall, HeadsOf}
 

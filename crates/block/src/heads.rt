@@ -12,7 +12,7 @@ ghost use Rattle.block.specs.declared.raise.TheConstants.{MAX_HEAD, MAX_TRIED};
 ghost use Rattle.block.specs.Implied.{AreReached};
 
 
-ghost use Rattle.block.specs.Heads.{AreSettled, IsLight, table_rows};
+ghost use Rattle.block.specs.Heads.{AreHeads, AreSettled, IsLight, table_rows};
 
 use crate::raise::{raise, raise_from};
 use network::Lag;
@@ -50,6 +50,14 @@ impl Model for Heads {
 }
 
 impl Heads {
+    /// How many activities there are.
+    pub(crate) fn activity_count(&self) -> usize
+        ensures value { result ≡ length self.now.rows }
+        ensures law { AreHeads self.now }
+    {
+        self.table.len()
+    }
+
     /// The weight of an entry of the matrix.
     pub(crate) fn weight(&self, a: usize, b: usize) -> i64
         requires from_activity { a < length self.now.rows }
@@ -96,21 +104,23 @@ impl Heads {
 
     /// Whether the head of 0 is above 0: then a closed walk has positive weight.
     pub(crate) fn is_late(&self) -> bool
-        ensures { MatchBool result (pos 0 <ℤ start self.now.heads 0) (start self.now.heads 0 ≤ℤ pos 0) }
+        ensures late { MatchBool result (pos 0 <ℤ start self.now.heads 0) (start self.now.heads 0 ≤ℤ pos 0) }
+        ensures law { AreHeads self.now }
     {
         self.heads[0] > 0
     }
 
     /// How many arcs there are.
-    fn arc_count(&self) -> usize
+    pub(crate) fn arc_count(&self) -> usize
         ensures value { result ≡ length self.now.arcs }
         ensures small { result < 2 ^ 63 }
+        ensures law { AreHeads self.now }
     {
         self.arcs.len()
     }
 
     /// An arc.
-    fn arc(&self, index: usize) -> Lag
+    pub(crate) fn arc(&self, index: usize) -> Lag
         requires { index < length self.now.arcs }
         ensures { slice_index_or self.now.arcs index result ≡ result }
     {

@@ -2,6 +2,9 @@
 //! and back to it. With these a checker sees most of what the arcs imply, and needs no second matrix.
 #![tactic(auto)]
 
-mod raise;
+mod block;
 mod heads;
+mod raise;
 mod table;
+
+pub use block::{Block, MAX_SEEN};

@@ -2,6 +2,7 @@
 
 ghost use Rattle.std.specs.Prelude.{◌≡◌, ◌<◌, length, map, IfOk};
 ghost use Rattle.std.specs.List.{range_with_len};
+ghost use Rattle.longest_path.specs.Matrix.{IsMatrix};
 ghost use Rattle.block.specs.Tables.{row_cells, column_cells};
 
 use longest_path::Matrix;
@@ -33,7 +34,9 @@ fn column(alloc: Global, matrix: &Matrix, b: usize) -> Result<Vec<i64>, AllocErr
 
 /// The rows of a matrix.
 pub(crate) fn rows(alloc: Global, matrix: &Matrix) -> Result<Vec<Vec<i64>>, AllocError>
-    ensures { IfOk result (λ table. map (λ cells. cells.items) table.items ≡ map (row_cells matrix.now) (range_with_len 0 (length matrix.now))) }
+    ensures rows { IfOk result (λ table. map (λ cells. cells.items) table.items ≡
+        map (row_cells matrix.now) (range_with_len 0 (length matrix.now))) }
+    ensures law { IsMatrix matrix.now }
 {
     let mut table = Vec::with_capacity(alloc, matrix.activity_count())?;
     for a in 0..matrix.activity_count() {
@@ -44,7 +47,8 @@ pub(crate) fn rows(alloc: Global, matrix: &Matrix) -> Result<Vec<Vec<i64>>, Allo
 
 /// The columns of a matrix.
 pub(crate) fn columns(alloc: Global, matrix: &Matrix) -> Result<Vec<Vec<i64>>, AllocError>
-    ensures { IfOk result (λ table. map (λ cells. cells.items) table.items ≡ map (column_cells matrix.now) (range_with_len 0 (length matrix.now))) }
+    ensures { IfOk result (λ table. map (λ cells. cells.items) table.items ≡
+        map (column_cells matrix.now) (range_with_len 0 (length matrix.now))) }
 {
     let mut table = Vec::with_capacity(alloc, matrix.activity_count())?;
     for b in 0..matrix.activity_count() {
