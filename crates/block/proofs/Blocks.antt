@@ -57,6 +57,7 @@ is_block x y halves h k = record {
   matrix = h.matrix;
   full = h.full;
   some = h.some;
+  light = h.arcs_light;
   ends = record {
     reached = h.reached;
     reaching = reached_back x.rows y.rows x.arcs y.arcs y.heads (converse_square x y halves k) halves.converse halves.part k.reached;

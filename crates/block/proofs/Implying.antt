@@ -13,7 +13,7 @@ use Rattle.block.specs.Implied.{Implies}
 abbrev pub IsPartOf : List Lag → List Lag → Type 0
 IsPartOf arcs others = (e : Lag) → Contains arcs e → Contains others e
 
-IsWalk-part : (arcs others : List Lag) (a b : ℕ) (es : List Lag) → IsPartOf arcs others → IsWalk arcs a es b → IsWalk others a es b
+pub IsWalk-part : (arcs others : List Lag) (a b : ℕ) (es : List Lag) → IsPartOf arcs others → IsWalk arcs a es b → IsWalk others a es b
 IsWalk-part arcs others a b [] part w = w
 IsWalk-part arcs others a b (e ∷ es) part w = (part e w.0, w.1, IsWalk-part arcs others e.to b es part w.2)
 

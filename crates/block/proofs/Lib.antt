@@ -4,3 +4,4 @@ pub mod Raised
 pub mod Passing
 pub mod Converse
 pub mod Blocks
+pub mod Existing

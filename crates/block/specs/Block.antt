@@ -1,15 +1,15 @@
 -- A block: the matrix of the record's own arcs, arcs beside it, and the weights of walks from 0 and back to it.
-use Rattle.std.specs.Prelude.{ℤ, pos, ◌+ℤ◌, ◌≡◌, ◌==◌, ◌<◌, ℕ, Bool, true, false, if◌then◌else◌, List, [], ◌∷◌, ◌++◌, Option, None, Some, length}
+use Rattle.std.specs.Prelude.{ℤ, pos, ◌+ℤ◌, ◌≡◌, ◌==◌, ◌<◌, ℕ, Bool, true, false, if◌then◌else◌, List, [], ◌∷◌, ◌++◌, Option, None, Some, length, MatchOption}
 use Rattle.std.specs.List.{Contains}
 use Rattle.std.specs.Bool.{MatchBool}
 use Rattle.network.specs.declared.parts.Lag.{Lag}
 use Rattle.network.specs.Schedule.{start}
 use Rattle.network.specs.Walk.{Rows, entry, IsMatrixOf, HasPositiveCycle, HasNoPositiveCycle}
-use Rattle.longest_path.specs.Insert.{arc_of}
+use Rattle.longest_path.specs.Insert.{arc_of, AddsArc, ClosesCycle}
+use Rattle.longest_path.specs.Saved.{Marked}
 use Rattle.longest_path.specs.Matrix.{IsMatrix, IsFull, greater}
-use Rattle.block.specs.declared.raise.TheConstants.{MAX_HEAD}
 use Rattle.block.specs.Implied.{ImpliesWith, AreReached}
-use Rattle.block.specs.Heads.{AreSmall, HeadsOf}
+use Rattle.block.specs.Heads.{HeadsOf, IsLight}
 
 -- the arc in the other direction
 abbrev pub converse_of : Lag → Lag
@@ -39,6 +39,7 @@ pub record IsBlock (x : BlockOf) : Type 0 where
   pub matrix : IsMatrix x.rows
   pub full : IsFull x.rows
   pub some : 0 < length x.rows
+  pub light : (e : Lag) → Contains x.more e → IsLight (length x.rows) e
   pub ends : AreEnds x.rows x.more x.heads x.tails
 
 -- whether the arcs close a walk of positive weight, where it is known
@@ -67,3 +68,16 @@ pub record AreHalves (x y : HeadsOf) : Type 0 where
 
 abbrev pub block_of : HeadsOf → HeadsOf → BlockOf
 block_of x y = record { rows = x.rows; more = x.arcs; heads = x.heads; tails = y.heads; tried_heads = x.tried; tried_tails = y.tried }
+
+-- ---- The matrix of all arcs.
+
+-- that of the arcs of these rows and these more, or none where they close a walk of positive weight
+abbrev pub IsMatrixWith : Rows → List Lag → Option Marked → Type 0
+IsMatrixWith rows more found =
+    (own : List Lag) → IsMatrixOf (length rows) own rows →
+    MatchOption found (HasPositiveCycle (own ++ more)) (λ m. IsMatrixOf (length rows) (own ++ more) m.rows)
+
+-- the arc closes a walk of positive weight, and the matrix is as it was, or it is that with the arc
+abbrev pub IsTaken : Lag → Marked → Marked → Bool → Type 0
+IsTaken e old new true = ClosesCycle e old.rows × (new ≡ old)
+IsTaken e old new false = AddsArc e old.rows new.rows × (new.marks ≡ old.marks)

@@ -102,6 +102,13 @@ impl Block {
         self.heads.activity_count()
     }
 
+    /// The arcs beside the matrix.
+    pub fn more(&self) -> &[Lag]
+        ensures { result.now ≡ self.now.more }
+    {
+        self.heads.arcs()
+    }
+
     /// Begins anew, with no arc beside the matrix.
     pub fn begin(&mut self)
         ensures rows { self.new.rows ≡ self.old.rows }

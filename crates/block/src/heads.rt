@@ -110,6 +110,13 @@ impl Heads {
         self.heads[0] > 0
     }
 
+    /// The arcs beside the matrix.
+    pub(crate) fn arcs(&self) -> &[Lag]
+        ensures { result.now ≡ self.now.arcs }
+    {
+        self.arcs.as_slice()
+    }
+
     /// How many arcs there are.
     pub(crate) fn arc_count(&self) -> usize
         ensures value { result ≡ length self.now.arcs }

@@ -3,8 +3,10 @@
 #![tactic(auto)]
 
 mod block;
+mod dense;
 mod heads;
 mod raise;
 mod table;
 
 pub use block::{Block, MAX_SEEN};
+pub use dense::matrix_with;
