@@ -184,7 +184,8 @@ impl Block {
 
     /// Whether a way over one of the arcs beside the matrix shows that they imply this one.
     pub fn implies_by_one(&self, arc: Lag) -> bool
-        requires { IsLight (length self.now.rows) arc }
+        requires from_activity { arc.from < length self.now.rows }
+        requires to_activity { arc.to < length self.now.rows }
         ensures { IsTrue result → ImpliesWith (length self.now.rows) self.now.rows self.now.more arc }
     {
         for index in 0..self.heads.arc_count() {

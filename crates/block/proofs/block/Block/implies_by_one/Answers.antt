@@ -38,3 +38,8 @@ returns-then-arc-first c = λ yes own m.
     let to : c.args.arc.to < length c.self.inside.heads.rows = rw (sym c.self.view_is) at c.requires.to_activity in
     let all = implied_over x c.args.arc c.arc-over.result c.weight-first.result c.weight-last.result c.arc_count-index-end.ensures.law there from to c.weight-first.ensures.value c.weight-last.ensures.value le in
     subst (λ (b : BlockOf). ImpliesWith (length b.rows) b.rows b.more c.args.arc) c.self.view_is all own m
+
+pub weight-first-requires-clause-to_activity : goal.weight-first-requires-clause-to_activity
+weight-first-requires-clause-to_activity c =
+    let there : Contains c.self.inside.heads.arcs c.arc-over.result = (c.loop-index.index, omega arith, c.arc-over.ensures) in
+    (c.arc_count-index-end.ensures.law.arcs_light c.arc-over.result there).from_activity
