@@ -10,8 +10,6 @@ ghost use Rattle.network.specs.Walk.{entry};
 ghost use Rattle.longest_path.specs.Matrix.{IsMatrix, IsFull};
 ghost use Rattle.block.specs.declared.raise.TheConstants.{MAX_HEAD, MAX_TRIED};
 ghost use Rattle.block.specs.Implied.{AreReached};
-
-
 ghost use Rattle.block.specs.Heads.{AreHeads, AreSettled, IsLight, table_rows};
 
 use crate::raise::{raise, raise_from};
@@ -98,7 +96,11 @@ impl Heads {
         if way <= self.head(arc.to) {
             return false;
         }
-        raise(self.heads.as_mut_slice(), way, self.table[arc.to].as_slice());
+        raise(
+            self.heads.as_mut_slice(),
+            way,
+            self.table[arc.to].as_slice(),
+        );
         true
     }
 
@@ -218,7 +220,11 @@ impl Heads {
         requires full { IsFull (table_rows table.items) }
         requires some { 0 < length (table_rows table.items) }
         ensures { IfOk result (λ x. x ≡ record {
-            rows = table_rows table.items; arcs = []; heads = x.heads; tried = x.tried }) }
+          rows = table_rows table.items;
+          arcs = [];
+          heads = x.heads;
+          tried = x.tried;
+        }) }
     {
         let heads = Vec::from_slice(alloc, table[0].as_slice())?;
         let tried = Vec::from_slice(alloc, table[0].as_slice())?;

@@ -9,4 +9,4 @@ mod raise;
 mod table;
 
 pub use block::{Block, MAX_SEEN};
-pub use dense::matrix_with;
+pub use dense::{matrix_with, take};
