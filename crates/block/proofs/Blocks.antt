@@ -1,6 +1,6 @@
 -- What heads tell of a block, and its two halves.
-use Rattle.std.proofs.Common.{◌≡◌, refl, sym, ◌∙◌, ap, subst, ℕ, ◌<◌, arith, ℤ, pos, neg_ℤ, ◌+ℤ◌, ◌≤ℤ◌, ◌<ℤ◌, List, [], ◌∷◌, ◌++◌, map, length, get_or, Option, None, Some, inl, inr, Vec, Global}
-use Rattle.std.specs.List.{All, Contains, range_with_len}
+use Rattle.std.proofs.Common.{◌≡◌, refl, sym, ◌∙◌, ap, subst, ℕ, ◌<◌, arith, ℤ, pos, ◌+ℤ◌, ◌≤ℤ◌, ◌<ℤ◌, List, [], ◌∷◌, ◌++◌, map, length, get_or, Option, None, Some, inl, inr, Vec, Global}
+use Rattle.std.specs.List.{Contains, range_with_len}
 use Rattle.std.specs.Option.{unwrap_or}
 use Rattle.std.proofs.lemmas.Int.{ints}
 use Rattle.std.proofs.lemmas.List.{length-map, get_or-map}
@@ -8,17 +8,17 @@ use Rattle.std.proofs.lemmas.List.FromFn.{get_or-map-range_with_len, length-map-
 use Rattle.std.proofs.lemmas.List.Elements.{Contains-append_cases, Contains-append_left, Contains-append_right, Contains-push_cases, All-from_get_or}
 use Rattle.network.specs.declared.parts.Lag.{Lag}
 use Rattle.network.specs.Schedule.{start, Meets}
-use Rattle.network.specs.Walk.{IsWalk, weight, IsMatrixOf, IsGreatestWeight, HasPositiveCycle, HasNoPositiveCycle, Rows, entry}
+use Rattle.network.specs.Walk.{weight, IsMatrixOf, HasPositiveCycle, HasNoPositiveCycle, Rows, entry}
 use Rattle.network.proofs.Schedules.{walk_holds}
 use Rattle.longest_path.specs.Insert.{arc_of}
-use Rattle.longest_path.specs.Matrix.{IsMatrix, IsFull, IsSquare, Reaches}
+use Rattle.longest_path.specs.Matrix.{IsFull, IsSquare}
 use Rattle.longest_path.proofs.OneArc.{IsGreatest-matrix}
 use Rattle.longest_path.proofs.Bound.{same_rows}
 use Rattle.longest_path.proofs.Weights.{square_of}
-use Rattle.block.specs.Implied.{Implies, ImpliesWith, AreReached, MeetsRows}
+use Rattle.block.specs.Implied.{Implies, ImpliesWith}
 use Rattle.block.specs.Heads.{HeadsOf, AreHeads, AreSettled, table_rows}
 use Rattle.block.specs.Tables.{cell, row_cells, column_cells}
-use Rattle.block.specs.Block.{converse_of, AreConverse, AreHalves, BlockOf, IsBlock, block_of}
+use Rattle.block.specs.Block.{converse_of, AreConverse, AreHalves, IsBlock, block_of}
 use Rattle.block.proofs.Converse.{reached_back}
 use Rattle.block.proofs.Implying.{IsPartOf, implied_part, implied_entry, implied_arc, implied_joined, implied_lower}
 

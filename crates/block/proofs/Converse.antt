@@ -1,19 +1,18 @@
 -- Walks over arcs that go the other way.
-use Rattle.std.proofs.Common.{◌≡◌, refl, sym, ◌∙◌, ap, subst, ℕ, ◌<◌, arith, ℤ, pos, ◌+ℤ◌, ◌≤ℤ◌, List, [], ◌∷◌, ◌++◌, map, length, get_or, Option, None, Some, inl, inr}
-use Rattle.std.specs.List.{All, Contains}
+use Rattle.std.proofs.Common.{◌≡◌, refl, sym, ◌∙◌, ap, subst, ℕ, ◌<◌, arith, ℤ, pos, ◌≤ℤ◌, List, [], ◌∷◌, ◌++◌, map, length, get_or, Option, None, Some, inl, inr}
+use Rattle.std.specs.List.{Contains}
 use Rattle.std.proofs.lemmas.Int.{ints}
-use Rattle.std.proofs.lemmas.List.{length-map, get_or-map, map-append}
+use Rattle.std.proofs.lemmas.List.{length-map, get_or-map}
 use Rattle.std.proofs.lemmas.List.Elements.{Contains-get_or, Contains-append_cases, Contains-append_left, Contains-append_right}
 use Rattle.network.specs.declared.parts.Lag.{Lag}
 use Rattle.network.specs.Schedule.{start}
-use Rattle.network.specs.Walk.{IsWalk, weight, IsMatrixOf, IsGreatestWeight, HasNoPositiveCycle, AreInside, Rows, entry}
+use Rattle.network.specs.Walk.{IsWalk, weight, IsMatrixOf, IsGreatestWeight, Rows, entry}
 use Rattle.network.proofs.Walks.{IsWalk-append, weight-append}
 use Rattle.longest_path.specs.Insert.{arc_of}
 use Rattle.longest_path.specs.Matrix.{IsMatrix, IsFull, IsSquare}
 use Rattle.longest_path.proofs.Weights.{IsSquare-inside}
-use Rattle.block.specs.Implied.{Implies, ImpliesWith, AreReached}
+use Rattle.block.specs.Implied.{Implies, AreReached}
 use Rattle.block.specs.Block.{converse_of, AreConverse, AreReaching}
-use Rattle.block.proofs.Implying.{implied_part}
 
 -- the walk in the other direction
 back : List Lag → List Lag

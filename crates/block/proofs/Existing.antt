@@ -1,11 +1,11 @@
 -- The matrix of arcs of which no closed walk is positive.
-use Rattle.std.proofs.Common.{◌≡◌, refl, sym, ap, subst, ℕ, ◌<◌, arith, ℤ, pos, ◌+ℤ◌, ◌≤ℤ◌, List, [], ◌∷◌, ◌++◌, length, Some, append_assoc, ◌∙◌, neg_ℤ, inl, inr, take, drop, get_or, ◌+◌}
+use Rattle.std.proofs.Common.{◌≡◌, refl, sym, ap, subst, ℕ, ◌<◌, arith, pos, ◌≤ℤ◌, List, [], ◌∷◌, ◌++◌, length, Some, append_assoc, ◌∙◌, neg_ℤ, take, drop, get_or, ◌+◌}
 use Rattle.std.specs.List.{Contains}
 use Rattle.std.proofs.lemmas.Int.{ints}
 use Rattle.std.proofs.lemmas.List.{take_more, take-append-drop}
-use Rattle.std.proofs.lemmas.List.Elements.{Contains-append_cases, Contains-append_left, Contains-append_right}
+use Rattle.std.proofs.lemmas.List.Elements.{Contains-append_left, Contains-append_right}
 use Rattle.network.specs.declared.parts.Lag.{Lag}
-use Rattle.network.specs.Walk.{IsWalk, weight, IsMatrixOf, IsGreatestWeight, HasPositiveCycle, HasNoPositiveCycle, Rows, entry}
+use Rattle.network.specs.Walk.{IsWalk, weight, IsMatrixOf, IsGreatestWeight, HasPositiveCycle, HasNoPositiveCycle, Rows}
 use Rattle.network.proofs.Walks.{IsWalk-append, weight-append}
 use Rattle.longest_path.specs.Insert.{rows_over, ClosesNone}
 use Rattle.longest_path.proofs.Inserted.{length-rows_over, AddsArc-rows_over}

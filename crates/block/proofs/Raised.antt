@@ -1,7 +1,7 @@
 -- Heads that are raised by the way over an arc.
-use Rattle.std.proofs.Common.{◌≡◌, refl, sym, ◌∙◌, ap, subst, ℕ, ◌<◌, ◌≤◌, ◌⊎◌, inl, inr, ⊎_elim, arith, ℤ, pos, neg_ℤ, ◌+ℤ◌, ◌≤ℤ◌, ◌<ℤ◌, List, [], ◌∷◌, ◌++◌, Some, None, length, map, get_or, take, drop, Vec, Global, Option}
+use Rattle.std.proofs.Common.{◌≡◌, refl, sym, ◌∙◌, ap, subst, ℕ, ◌<◌, inl, inr, arith, ℤ, pos, neg_ℤ, ◌+ℤ◌, ◌≤ℤ◌, List, [], ◌∷◌, ◌++◌, Some, None, length, map, get_or, take, drop, Vec, Global, Option}
 use Rattle.std.specs.Int.{int_max}
-use Rattle.std.specs.List.{All, Contains}
+use Rattle.std.specs.List.{Contains}
 use Rattle.std.proofs.lemmas.Int.{ints, clamps, by_lt_z}
 use Rattle.std.proofs.lemmas.List.{get_or-map, length-map}
 use Rattle.std.proofs.lemmas.List.Elements.{All-get_or, Contains-append_left, Contains-append_right, Contains-push_cases}
@@ -9,15 +9,15 @@ use Rattle.std.proofs.Math.Seq.{take-append_seam}
 use Rattle.network.specs.declared.parts.Lag.{Lag}
 use Rattle.network.specs.declared.limits.TheConstants.{MAX_WALK_WEIGHT}
 use Rattle.network.specs.Problem.{IsWithin}
-use Rattle.network.specs.Schedule.{start, Meets}
-use Rattle.network.specs.Walk.{Rows, entry, IsMatrixOf}
-use Rattle.longest_path.specs.Insert.{arc_of, IsTransitive}
-use Rattle.longest_path.specs.Matrix.{IsMatrix, IsFull, Reaches, IsSquare}
+use Rattle.network.specs.Schedule.{start}
+use Rattle.network.specs.Walk.{Rows, entry}
+use Rattle.longest_path.specs.Insert.{arc_of}
+use Rattle.longest_path.specs.Matrix.{IsMatrix, IsFull, Reaches}
 use Rattle.longest_path.proofs.Over.{transitive}
 use Rattle.longest_path.proofs.Reach.{same_some}
 use Rattle.longest_path.proofs.Weights.{square_of, IsSquare-inside}
 use Rattle.block.specs.declared.raise.TheConstants.{MAX_HEAD, MAX_TRIED}
-use Rattle.block.specs.Implied.{Implies, ImpliesWith, MeetsRows, AreReached}
+use Rattle.block.specs.Implied.{Implies, MeetsRows, AreReached}
 use Rattle.block.specs.Heads.{HeadsOf, AreHeads, AreSmall, IsLight, table_rows}
 use Rattle.block.proofs.Implying.{implied_part, implied_joined, implied_arc, implied_entry, implied_lower, part_after}
 

@@ -1,5 +1,5 @@
 -- A block: the matrix of the record's own arcs, arcs beside it, and the weights of walks from 0 and back to it.
-use Rattle.std.specs.Prelude.{ℤ, pos, ◌+ℤ◌, ◌≡◌, ◌==◌, ◌<◌, ℕ, Bool, true, false, if◌then◌else◌, List, [], ◌∷◌, ◌++◌, Option, None, Some, length, MatchOption}
+use Rattle.std.specs.Prelude.{ℤ, ◌+ℤ◌, ◌≡◌, ◌==◌, ◌<◌, ℕ, Bool, true, false, if◌then◌else◌, List, ◌++◌, Option, None, Some, length, MatchOption}
 use Rattle.std.specs.List.{Contains}
 use Rattle.std.specs.Bool.{MatchBool}
 use Rattle.network.specs.declared.parts.Lag.{Lag}

@@ -1,15 +1,15 @@
 -- Heads: the weights of walks from 0 over a matrix and arcs beside it.
-use Rattle.std.specs.Prelude.{ℤ, pos, ◌+ℤ◌, ◌≤ℤ◌, ◌≡◌, ◌<◌, ℕ, List, [], ◌∷◌, ◌++◌, Some, map, length, Option, Vec}
+use Rattle.std.specs.Prelude.{ℤ, ◌≡◌, ◌<◌, ℕ, List, Some, map, length, Vec}
 use Rattle.std.specs.declared.alloc.Global.{Global}
-use Rattle.std.specs.List.{All, Contains}
+use Rattle.std.specs.List.{Contains}
 use Rattle.network.specs.declared.parts.Lag.{Lag}
 use Rattle.network.specs.declared.limits.TheConstants.{MAX_WALK_WEIGHT}
 use Rattle.network.specs.Problem.{IsWithin}
 use Rattle.network.specs.Schedule.{start, Meets}
-use Rattle.network.specs.Walk.{AreInside, Rows}
+use Rattle.network.specs.Walk.{Rows}
 use Rattle.longest_path.specs.Matrix.{IsMatrix, IsFull}
 use Rattle.block.specs.declared.raise.TheConstants.{MAX_HEAD, MAX_TRIED}
-use Rattle.block.specs.Implied.{ImpliesWith, MeetsRows, AreReached}
+use Rattle.block.specs.Implied.{MeetsRows, AreReached}
 
 -- the rows of a table, in which every entry is there
 abbrev pub rows_of : List (List ℤ) → Rows

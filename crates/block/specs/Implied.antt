@@ -1,5 +1,5 @@
 -- What walks over some arcs imply.
-use Rattle.std.specs.Prelude.{ℤ, pos, ◌+ℤ◌, ◌≤ℤ◌, ◌≡◌, ◌<◌, ℕ, List, ◌++◌, Some}
+use Rattle.std.specs.Prelude.{ℤ, ◌+ℤ◌, ◌≤ℤ◌, ◌≡◌, ◌<◌, ℕ, List, ◌++◌, Some}
 use Rattle.network.specs.declared.parts.Lag.{Lag}
 use Rattle.network.specs.Schedule.{start}
 use Rattle.network.specs.Walk.{IsWalk, weight, IsMatrixOf, Rows, entry}

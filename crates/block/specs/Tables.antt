@@ -1,5 +1,5 @@
 -- The rows and the columns of a matrix as tables.
-use Rattle.std.specs.Prelude.{ℤ, pos, ◌≡◌, ◌<◌, ℕ, List, map, length}
+use Rattle.std.specs.Prelude.{ℤ, pos, ℕ, List, map, length}
 use Rattle.std.specs.List.{range_with_len}
 use Rattle.std.specs.Option.{unwrap_or}
 use Rattle.network.specs.Walk.{Rows, entry}

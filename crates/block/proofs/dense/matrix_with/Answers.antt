@@ -1,10 +1,9 @@
-use Rattle.std.proofs.Common.{◌≡◌, refl, ◌+◌, sym, ◌∙◌, ap, subst, ◌++◌, ◌∷◌, [], ◌<◌, pos, List, length, take, get_or}
+use Rattle.std.proofs.Common.{refl, ◌+◌, ◌∙◌, subst, ◌++◌, pos, List, length, take, get_or}
 use Rattle.std.proofs.lemmas.List.{take_all}
 use Rattle.network.specs.declared.parts.Lag.{Lag}
 use Rattle.network.specs.Walk.{IsMatrixOf, HasPositiveCycle}
 use Rattle.longest_path.specs.Matrix.{IsFull}
 use Rattle.longest_path.proofs.Full.{full_over}
-use Rattle.block.specs.Heads.{IsLight}
 use Rattle.block.proofs.Existing.{cycle_part, full_more, taken_more, taken_part}
 use Rattle.block.proofs.dense.matrix_with.Goals as goal
 

@@ -2,7 +2,7 @@ use Rattle.std.proofs.Common.{◌≡◌, ◌∙◌, ap, arith, pos, rules, w64, 
 use Rattle.std.specs.Option.{unwrap_or}
 use Rattle.std.proofs.lemmas.Int.{to_z-of_z}
 use Rattle.network.proofs.FaultLaws.{appended_more}
-use Rattle.block.specs.Tables.{cell, row_cells}
+use Rattle.block.specs.Tables.{cell}
 use Rattle.block.proofs.table.row.Goals as goal
 
 pub loop-b-preserved : goal.loop-b-preserved

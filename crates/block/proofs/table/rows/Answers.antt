@@ -1,4 +1,4 @@
-use Rattle.std.proofs.Common.{◌≡◌, refl, ◌∙◌, ap, arith, length, [], ◌∷◌, ◌++◌, map, ℤ, List, Vec, Global}
+use Rattle.std.proofs.Common.{◌≡◌, ◌∙◌, ap, arith, length, [], ◌∷◌, ◌++◌, map, ℤ, Vec, Global}
 use Rattle.std.proofs.lemmas.List.{map-append}
 use Rattle.network.proofs.FaultLaws.{appended_more}
 use Rattle.block.specs.Tables.{row_cells}

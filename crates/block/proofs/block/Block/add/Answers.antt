@@ -1,6 +1,5 @@
-use Rattle.std.proofs.Common.{◌≡◌, sym, ap, ◌∙◌, ◌++◌, ◌∷◌, [], List}
+use Rattle.std.proofs.Common.{ap, ◌++◌, ◌∷◌, []}
 use Rattle.std.specs.List.{Contains}
-use Rattle.network.specs.declared.parts.Lag.{Lag}
 use Rattle.block.specs.Heads.{HeadsOf}
 use Rattle.block.specs.Block.{converse_of}
 use Rattle.block.proofs.Blocks.{same_halves, first_more, both_more}

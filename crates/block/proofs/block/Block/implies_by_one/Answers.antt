@@ -1,11 +1,8 @@
-use Rattle.std.proofs.Common.{rules, arith, ◌≡◌, refl, sym, ap, subst, ◌∙◌, ◌++◌, ◌+ℤ◌, ◌≤ℤ◌, ◌<◌, ℤ, List, length, w64, SFits}
+use Rattle.std.proofs.Common.{rules, arith, sym, subst, ◌+ℤ◌, ◌≤ℤ◌, ◌<◌, length, w64, SFits}
 use Rattle.std.specs.List.{Contains}
 use Rattle.std.proofs.lemmas.Int.{ints, to_z-of_z}
-use Rattle.network.specs.declared.parts.Lag.{Lag}
-use Rattle.longest_path.specs.Insert.{arc_of}
 use Rattle.block.specs.Implied.{ImpliesWith}
-use Rattle.block.specs.Heads.{HeadsOf, AreHeads, IsLight}
-use Rattle.block.specs.Block.{block_of, BlockOf}
+use Rattle.block.specs.Block.{BlockOf}
 use Rattle.block.proofs.Blocks.{implied_over}
 use Rattle.block.proofs.block.Block.implies_by_one.Goals as goal
 

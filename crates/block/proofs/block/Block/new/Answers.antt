@@ -1,10 +1,8 @@
-use Rattle.std.proofs.Common.{◌≡◌, refl, sym, ap, ◌∙◌, subst, ◌++◌, ◌∷◌, [], ◌<◌, List, length, arith}
-use Rattle.longest_path.specs.Matrix.{IsMatrix, IsFull}
+use Rattle.std.proofs.Common.{◌≡◌, sym, ap, ◌∙◌, subst, length, arith}
+use Rattle.longest_path.specs.Matrix.{IsFull}
 use Rattle.longest_path.proofs.Weights.{square_of}
-use Rattle.network.specs.Walk.{Rows}
 use Rattle.block.specs.Heads.{HeadsOf, table_rows}
-use Rattle.block.specs.Block.{AreHalves, AreConverse}
-use Rattle.block.proofs.Blocks.{AreColumns, rows_table, columns_table}
+use Rattle.block.proofs.Blocks.{rows_table, columns_table}
 use Rattle.block.proofs.Converse.{is_matrix_back}
 use Rattle.block.proofs.block.Block.new.Goals as goal
 

@@ -1,6 +1,5 @@
-use Rattle.std.proofs.Common.{◌≡◌, refl, sym, ap, ◌∙◌, ◌++◌, ◌∷◌, [], List, length}
+use Rattle.std.proofs.Common.{sym, ap, ◌++◌, ◌∷◌, [], length}
 use Rattle.std.specs.List.{Contains}
-use Rattle.network.specs.declared.parts.Lag.{Lag}
 use Rattle.block.specs.Implied.{AreReached}
 use Rattle.block.specs.Heads.{HeadsOf}
 use Rattle.block.specs.Block.{AreEnds, converse_of}

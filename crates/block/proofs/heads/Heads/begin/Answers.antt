@@ -1,4 +1,4 @@
-use Rattle.std.proofs.Common.{arith, ◌≡◌, refl, sym, ◌∙◌, ap, ◌<◌, ℕ, ℤ, List, [], length}
+use Rattle.std.proofs.Common.{arith, ◌≡◌, refl, ◌∙◌, ap, length}
 use Rattle.block.specs.Heads.{HeadsOf, table_rows}
 use Rattle.block.proofs.Raised.{IsFullRow, row_at, begun_heads, written}
 use Rattle.block.proofs.heads.Heads.begin.Goals as goal

@@ -1,4 +1,4 @@
-use Rattle.std.proofs.Common.{◌≡◌, refl, sym, ◌∙◌}
+use Rattle.std.proofs.Common.{◌≡◌, refl, ◌∙◌}
 use Rattle.block.specs.Heads.{table_rows}
 use Rattle.block.proofs.Raised.{IsFullRow, row_at, new_heads}
 use Rattle.block.proofs.heads.Heads.new.Goals as goal

@@ -1,6 +1,4 @@
-use Rattle.std.proofs.Common.{◌≡◌, refl, arith, length, ◌<◌}
-use Rattle.std.specs.Bool.{MatchBool}
-use Rattle.network.specs.Schedule.{Meets}
+use Rattle.std.proofs.Common.{arith}
 use Rattle.block.proofs.Passing.{passed_raised, passed_met, passed_all}
 use Rattle.block.proofs.heads.Heads.pass.Goals as goal
 use Rattle.block.proofs.heads.Heads.pass.Goals.{then-raise_by, else-raise_by}

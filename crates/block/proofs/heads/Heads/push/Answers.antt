@@ -1,4 +1,4 @@
-use Rattle.std.proofs.Common.{◌≡◌, sym, ap, ◌∙◌, ◌++◌, ◌∷◌, [], length}
+use Rattle.std.proofs.Common.{sym, length}
 use Rattle.block.specs.Heads.{HeadsOf, IsLight, table_rows}
 use Rattle.block.proofs.Raised.{pushed_heads}
 use Rattle.block.proofs.heads.Heads.push.Goals as goal

@@ -1,13 +1,10 @@
-use Rattle.std.proofs.Common.{rules, arith, ◌≡◌, refl, sym, ◌∙◌, ap, subst, ◌<◌, ◌≤ℤ◌, ◌+ℤ◌, ◌++◌, pos, ℕ, ℤ, List, length, take, drop, w64, get_or, SFits, Vec, Global}
+use Rattle.std.proofs.Common.{rules, arith, ◌≡◌, refl, sym, ◌∙◌, ap, subst, ◌<◌, ◌≤ℤ◌, ◌+ℤ◌, pos, ℕ, length, w64, SFits}
 use Rattle.std.specs.Int.{int_max}
 use Rattle.std.specs.List.{Contains}
 use Rattle.std.proofs.lemmas.Int.{ints, to_z-of_z}
-use Rattle.network.specs.Problem.{IsWithin}
 use Rattle.network.specs.Schedule.{start}
-use Rattle.network.specs.declared.limits.TheConstants.{MAX_WALK_WEIGHT}
-use Rattle.block.specs.declared.raise.TheConstants.{MAX_HEAD}
-use Rattle.block.specs.Heads.{HeadsOf, AreHeads, IsLight, table_rows}
-use Rattle.block.proofs.Raised.{IsFullRow, IsRaise, row_at, small_way, raised_heads, written, table_long}
+use Rattle.block.specs.Heads.{HeadsOf, AreHeads, table_rows}
+use Rattle.block.proofs.Raised.{IsFullRow, row_at, raised_heads, written, table_long}
 use Rattle.block.proofs.heads.Heads.raise_by.Goals as goal
 
 pub head-requires : goal.head-requires

@@ -1,10 +1,8 @@
-use Rattle.std.proofs.Common.{rules, arith, ◌≡◌, refl, sym, ◌∙◌, ap, subst, ◌<◌, ◌≤ℤ◌, ◌+ℤ◌, ◌++◌, ◌∷◌, [], pos, ℕ, ℤ, List, length, w64, SFits}
+use Rattle.std.proofs.Common.{rules, arith, ◌≡◌, refl, sym, ◌∙◌, ap, ◌<◌, ◌+ℤ◌, ℕ, length, w64, SFits}
 use Rattle.std.specs.Int.{int_max}
 use Rattle.std.proofs.lemmas.Int.{ints, to_z-of_z}
-use Rattle.network.specs.Problem.{IsWithin}
 use Rattle.network.specs.Schedule.{start}
-use Rattle.block.specs.Implied.{AreReached}
-use Rattle.block.specs.Heads.{HeadsOf, AreHeads, IsLight, table_rows}
+use Rattle.block.specs.Heads.{HeadsOf, IsLight, table_rows}
 use Rattle.block.proofs.Raised.{IsFullRow, IsRaise, row_at, written, tried_heads, tried_reached}
 use Rattle.block.proofs.heads.Heads.try_arc.Goals as goal
 

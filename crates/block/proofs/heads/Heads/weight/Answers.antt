@@ -1,4 +1,4 @@
-use Rattle.std.proofs.Common.{rules, ◌≡◌, ◌∙◌, ◌<◌, pos, ℕ, length, arith, subst, sym, ap, Some, w64, get_or, SFits}
+use Rattle.std.proofs.Common.{rules, ◌≡◌, ◌∙◌, pos, arith, subst, sym, ap, Some, w64, SFits}
 use Rattle.std.proofs.lemmas.Int.{to_z-of_z}
 use Rattle.std.proofs.lemmas.List.{get_or_default}
 use Rattle.network.specs.Schedule.{start}
