@@ -1,6 +1,5 @@
 -- What is right in a block whose arcs close a walk of positive weight.
-use Rattle.std.proofs.Common.{◌≡◌, refl, sym, subst, Bool, Option, None, List, ◌↔◌, IsTrue}
-use Rattle.network.specs.declared.parts.Lag.{Lag}
+use Rattle.std.proofs.Common.{◌≡◌, refl, subst, Bool, Option, ◌↔◌, IsTrue}
 use Rattle.network.specs.Problem.{Problem}
 use Rattle.network.specs.Walk.{HasPositiveCycle}
 use Rattle.lemma_text.specs.declared.line.Line.{Line}

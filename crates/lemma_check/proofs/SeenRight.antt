@@ -1,12 +1,11 @@
 -- What walks that are easily seen show of an arc and its reverse.
-use Rattle.std.proofs.Common.{Bool, ◌≡◌, refl, sym, ap, ◌∙◌, subst, ℕ, ◌<◌, arith, ℤ, ◌≤ℤ◌, ◌⊎◌, inl, inr, ⊎_elim, List, [], ◌∷◌, ◌++◌, length, append_assoc, Option, None, Some, true, false, IsTrue}
+use Rattle.std.proofs.Common.{Bool, ◌≡◌, refl, sym, subst, ℕ, ◌<◌, arith, ℤ, ◌≤ℤ◌, ◌⊎◌, inl, inr, ⊎_elim, List, [], ◌∷◌, ◌++◌, length, append_assoc, Option, None, Some, true, false, IsTrue}
 use Rattle.std.specs.List.{Contains}
 use Rattle.std.proofs.lemmas.Int.{ints, by_lt_z}
 use Rattle.network.specs.declared.parts.Lag.{Lag}
 use Rattle.network.specs.Problem.{Problem, activity_count}
 use Rattle.network.specs.Walk.{Rows, entry, weight, IsMatrixOf, HasNoPositiveCycle}
 use Rattle.longest_path.specs.Matrix.{Reaches}
-use Rattle.longest_path.specs.Insert.{arc_of}
 use Rattle.longest_path.proofs.OneArc.{IsGreatest-matrix}
 use Rattle.longest_path.proofs.Reach.{Reaches-weaker}
 use Rattle.lemma_text.specs.declared.reason.Reason.{Reason}

@@ -7,7 +7,7 @@ use Rattle.std.proofs.lemmas.List.{map-append, take_more, take_all, drop_more, t
 use Rattle.std.proofs.lemmas.List.Elements.{All-push, All-nil, Contains-append_left}
 use Rattle.network.specs.declared.parts.Lag.{Lag}
 use Rattle.network.specs.Problem.{Problem, IsProject, activity_count, end_of, rules, arcs_of}
-use Rattle.network.specs.Walk.{Rows, IsWalk, weight, HasPositiveCycle, HasNoPositiveCycle, IsMatrixOf, IsLeastCycleTop}
+use Rattle.network.specs.Walk.{Rows, weight, HasPositiveCycle, HasNoPositiveCycle, IsMatrixOf, IsLeastCycleTop}
 use Rattle.longest_path.specs.Insert.{AddsArc, ClosesCycle, FillsRows}
 use Rattle.longest_path.specs.Matrix.{IsFull}
 use Rattle.longest_path.specs.Saved.{Marked}
@@ -18,7 +18,7 @@ use Rattle.lemma_text.specs.declared.record.Claim.{Claim}
 use Rattle.lemma_text.specs.declared.line.Line.{Line}
 use Rattle.lemma_check.specs.Places.{lemma_at, lemmas_of, place, open_lemma, Opened, arcs_in, with_arc, ended, bound_of, deadline, first_place, Place, after, Placed, placed}
 use Rattle.lemma_check.specs.Right.{JoinsActivities, IsRightAt, IsRightLine, why_wrong, IsFirstWrong}
-use Rattle.lemma_check.specs.Standing.{AreKept, IsKnownAt, IsKnownInside, IsKnownOwn, IsLiveAt, IsRecordLag, IsSeenAt, Kept, Stands, IsDeadAt}
+use Rattle.lemma_check.specs.Standing.{AreKept, IsKnownInside, IsKnownOwn, IsLiveAt, IsRecordLag, IsSeenAt, Kept, Stands, IsDeadAt}
 use Rattle.lemma_check.proofs.FullBlocks.{deadline_first, deadline_more, fills_more, full_by_deadline}
 use Rattle.record_text.specs.declared.fault.RecordFault.{RecordFault}
 use Rattle.record_text.specs.declared.fault.Why.TheVariants.{Memory}

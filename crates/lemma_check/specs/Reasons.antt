@@ -5,7 +5,7 @@ use Rattle.network.specs.declared.parts.Lag.{Lag}
 use Rattle.network.specs.declared.parts.Pair.{Pair}
 use Rattle.network.specs.Schedule.{IsForbidden}
 use Rattle.network.specs.Problem.{Problem, activities, activity_count, resource_count, duration, demand, capacity, IsWithin}
-use Rattle.network.specs.Walk.{IsWalk, weight, HasPositiveCycle, HasNoPositiveCycle, Rows, entry, IsMatrixOf}
+use Rattle.network.specs.Walk.{HasPositiveCycle, HasNoPositiveCycle, Rows, entry, IsMatrixOf}
 use Rattle.longest_path.specs.Insert.{arc_of, rows_over}
 pub use Rattle.block.specs.Implied.{Implies}
 use Rattle.block.specs.Implied.{ImpliesWith}

@@ -1,5 +1,4 @@
 -- Where weights of walks come from.
-use Rattle.std.specs.Prelude.{Bool, Option}
 use Rattle.lemma_check.specs.declared.weights.Source.{Source}
 use Rattle.lemma_check.specs.declared.weights.Source.TheVariants.{Matrix, Seen}
 use Rattle.lemma_check.specs.Reasons.{Entries, MayBeWith, entries_of_block, entries_of_matrix, rows_with}

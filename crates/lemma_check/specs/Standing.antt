@@ -1,10 +1,10 @@
 -- What is kept of a line's place: a matrix, and the lines that lemmas begin with.
-use Rattle.std.specs.Prelude.{◌≡◌, ◌<◌, ℕ, ℤ, neg_ℤ, ◌≤ℤ◌, Bool, true, false, Option, None, Some, List, [], ◌∷◌, ◌++◌, length, is_some, slice_get}
+use Rattle.std.specs.Prelude.{◌≡◌, ◌<◌, ℕ, ℤ, neg_ℤ, ◌≤ℤ◌, Bool, true, false, Option, None, Some, List, ◌++◌, length, is_some, slice_get}
 use Rattle.std.specs.List.{All, Contains}
 use Rattle.network.specs.declared.parts.Lag.{Lag}
 use Rattle.network.specs.Problem.{Problem, IsProject, IsWithin, activity_count, end_of, rules}
 use Rattle.network.specs.Walk.{Rows, HasPositiveCycle, HasNoPositiveCycle, IsMatrixOf}
-use Rattle.longest_path.specs.Insert.{AddsArc, ClosesCycle, arc_of}
+use Rattle.longest_path.specs.Insert.{arc_of}
 use Rattle.longest_path.specs.Saved.{Marked}
 use Rattle.lemma_text.specs.declared.limits.TheConstants.{MAX_WEIGHT}
 use Rattle.lemma_text.specs.declared.line.Line.{Line}

@@ -1,4 +1,4 @@
-use Rattle.std.proofs.Common.{rules, get_or, w64, ◌↔◌, IsTrue, SFits}
+use Rattle.std.proofs.Common.{rules, get_or, w64, SFits}
 use Rattle.std.proofs.lemmas.Int.{to_z-of_z}
 use Rattle.std.proofs.lemmas.List.Elements.{All-more}
 use Rattle.lemma_check.specs.Reasons.{Tells, RunsWithin}

@@ -1,4 +1,4 @@
-use Rattle.std.proofs.Common.{◌≡◌, arith, rules, ◌+ℤ◌, pos, w64, ◌↔◌, IsTrue, ◌<ℤ◌, unsigned_abs, SFits, to_z}
+use Rattle.std.proofs.Common.{◌≡◌, arith, rules, ◌+ℤ◌, pos, w64, ◌<ℤ◌, unsigned_abs, SFits, to_z}
 use Rattle.std.specs.List.{All, sum_by}
 use Rattle.std.proofs.lemmas.Int.{ints, to_z-of_z}
 use Rattle.network.specs.Problem.{duration}

@@ -1,4 +1,4 @@
-use Rattle.std.proofs.Common.{rules, arith, ◌-ℤ◌, w64, ◌↔◌, IsTrue, SFits}
+use Rattle.std.proofs.Common.{rules, arith, ◌-ℤ◌, w64, SFits}
 use Rattle.std.proofs.lemmas.Int.{ints, to_z-of_z}
 use Rattle.network.specs.Problem.{duration}
 use Rattle.longest_path.specs.Insert.{arc_of}

@@ -1,4 +1,4 @@
-use Rattle.std.proofs.Common.{rules, w64, ◌↔◌, IsTrue, SFits}
+use Rattle.std.proofs.Common.{rules, w64, SFits}
 use Rattle.std.proofs.lemmas.Int.{to_z-of_z}
 use Rattle.longest_path.specs.Insert.{arc_of}
 use Rattle.lemma_check.specs.Reasons.{Tells, Implies}

@@ -1,4 +1,4 @@
-use Rattle.std.proofs.Common.{rules, Bool, List, w64, ◌↔◌, IsTrue, SFits}
+use Rattle.std.proofs.Common.{rules, Bool, List, w64, SFits}
 use Rattle.std.proofs.lemmas.Int.{to_z-of_z}
 use Rattle.network.specs.declared.parts.Lag.{Lag}
 use Rattle.network.specs.Walk.{HasNoPositiveCycle}

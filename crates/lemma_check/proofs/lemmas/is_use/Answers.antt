@@ -1,4 +1,4 @@
-use Rattle.std.proofs.Common.{[], get_or, ◌↔◌, IsTrue}
+use Rattle.std.proofs.Common.{[], get_or}
 use Rattle.std.specs.List.{All}
 use Rattle.lemma_check.specs.Reasons.{Tells, Implies}
 use Rattle.lemma_check.proofs.lemmas.is_use.Goals as goal

@@ -1,4 +1,4 @@
-use Rattle.std.proofs.Common.{refl, true, ◌↔◌, IsTrue}
+use Rattle.std.proofs.Common.{true, ◌↔◌, IsTrue}
 use Rattle.network.specs.Problem.{activity_count}
 use Rattle.lemma_check.specs.Reasons.{Tells, Ends}
 use Rattle.lemma_check.specs.Places.{arcs_at}

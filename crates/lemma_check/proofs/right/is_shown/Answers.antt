@@ -1,6 +1,4 @@
-use Rattle.std.proofs.Common.{◌≡◌, ◌∙◌, sym, rules, arith, refl, inl, inr, ⊎_elim, List, [], ◌∷◌, ◌++◌, length, ◌↔◌, IsTrue, true}
-use Rattle.std.proofs.lemmas.Bool.{iff_false}
-use Rattle.network.specs.declared.parts.Lag.{Lag}
+use Rattle.std.proofs.Common.{◌≡◌, ◌∙◌, refl, inl, inr, ⊎_elim, [], ◌∷◌, ◌++◌, true}
 use Rattle.network.specs.Problem.{activity_count}
 use Rattle.network.specs.Walk.{IsMatrixOf}
 use Rattle.longest_path.specs.Insert.{rows_over}

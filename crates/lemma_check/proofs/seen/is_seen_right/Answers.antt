@@ -1,5 +1,4 @@
-use Rattle.std.proofs.Common.{◌≡◌, false, sym, ◌∙◌, ap, subst, ◌++◌, length, List}
-use Rattle.network.specs.declared.parts.Lag.{Lag}
+use Rattle.std.proofs.Common.{false, ◌∙◌, ap, ◌++◌, length}
 use Rattle.network.specs.Problem.{activity_count}
 use Rattle.lemma_check.specs.Reasons.{Entries, Ends}
 use Rattle.lemma_check.specs.Right.{IsForced, IsShown}

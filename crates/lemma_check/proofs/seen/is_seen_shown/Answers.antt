@@ -1,8 +1,7 @@
-use Rattle.std.proofs.Common.{◌≡◌, sym, ◌∙◌, ap, subst, ◌<◌, ◌++◌, ◌∷◌, [], length, rules, arith, true, false, inl, List}
-use Rattle.network.specs.declared.parts.Lag.{Lag}
+use Rattle.std.proofs.Common.{◌≡◌, sym, ◌∙◌, ap, ◌++◌, ◌∷◌, [], length, true, false, inl}
 use Rattle.network.specs.Problem.{activity_count}
 use Rattle.block.specs.Block.{AreEnds}
-use Rattle.lemma_check.specs.Reasons.{Entries, Tells, TellsWhether, Implies, Ends, entries_of_block}
+use Rattle.lemma_check.specs.Reasons.{Entries, TellsWhether, Implies, Ends, entries_of_block}
 use Rattle.lemma_check.specs.Right.{JoinsActivities, reverse_of}
 use Rattle.lemma_check.proofs.KnownWalks.{length-entries}
 use Rattle.lemma_check.proofs.SeenRight.{shown_by_trial, told_by}

@@ -1,4 +1,4 @@
-use Rattle.std.proofs.Common.{rules, arith, get_or, ◌-ℤ◌, pos, w64, ◌↔◌, IsTrue, SFits}
+use Rattle.std.proofs.Common.{rules, arith, get_or, ◌-ℤ◌, pos, w64, SFits}
 use Rattle.std.proofs.lemmas.Int.{ints, to_z-of_z}
 use Rattle.std.proofs.lemmas.List.Elements.{All-more}
 use Rattle.longest_path.specs.Insert.{arc_of}

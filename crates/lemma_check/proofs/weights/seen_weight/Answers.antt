@@ -1,4 +1,4 @@
-use Rattle.std.proofs.Common.{◌≡◌, sym, ◌∙◌, rules, w64, SFits}
+use Rattle.std.proofs.Common.{◌∙◌, rules, w64, SFits}
 use Rattle.std.proofs.lemmas.Int.{to_z-of_z}
 use Rattle.lemma_check.proofs.KnownWalks.{entry-seen_rows}
 use Rattle.lemma_check.proofs.weights.seen_weight.Goals as goal

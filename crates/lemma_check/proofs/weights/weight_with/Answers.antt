@@ -1,6 +1,5 @@
-use Rattle.std.proofs.Common.{◌≡◌, refl, sym, ap, ◌∙◌, ◌<◌, length, rules, w64, Some, SFits}
+use Rattle.std.proofs.Common.{◌≡◌, refl, sym, ◌∙◌, rules, w64, Some, SFits}
 use Rattle.std.proofs.lemmas.Int.{to_z-of_z}
-use Rattle.network.specs.Walk.{entry}
 use Rattle.longest_path.specs.Matrix.{joined}
 use Rattle.longest_path.specs.Insert.{entry_over}
 use Rattle.longest_path.proofs.Inserted.{entry-rows_over}

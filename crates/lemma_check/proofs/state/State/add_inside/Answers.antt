@@ -1,5 +1,4 @@
-use Rattle.std.proofs.Common.{◌≡◌, refl, sym, ◌∙◌, ap, length, None, Some, Option}
-use Rattle.longest_path.specs.Saved.{Marked}
+use Rattle.std.proofs.Common.{refl, sym, ◌∙◌}
 use Rattle.lemma_check.specs.Standing.{kept}
 use Rattle.lemma_check.proofs.Standings.{fills_dense, own_full, stands_taken, stands_told, stands_made}
 use Rattle.lemma_check.proofs.state.State.add_inside.Goals as goal

@@ -1,4 +1,4 @@
-use Rattle.std.proofs.Common.{◌≡◌, refl, sym, ◌∙◌, ap, length}
+use Rattle.std.proofs.Common.{refl, ◌∙◌, ap}
 use Rattle.longest_path.specs.Saved.{Marked}
 use Rattle.lemma_check.specs.Standing.{kept}
 use Rattle.lemma_check.proofs.Standings.{fills_own, some_activity, stands_closed, stands_added, added_full}

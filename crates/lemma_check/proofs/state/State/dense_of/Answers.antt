@@ -1,7 +1,6 @@
-use Rattle.std.proofs.Common.{◌≡◌, sym, ◌∙◌, ap, ◌<◌, length, List}
+use Rattle.std.proofs.Common.{sym, length}
 use Rattle.std.specs.List.{All, Contains}
 use Rattle.std.proofs.lemmas.List.Elements.{All-weaker, All-contains_itself}
-use Rattle.network.specs.declared.parts.Lag.{Lag}
 use Rattle.block.specs.Heads.{IsLight}
 use Rattle.lemma_check.proofs.state.State.dense_of.Goals as goal
 

@@ -1,4 +1,4 @@
-use Rattle.std.proofs.Common.{◌≡◌, arith, refl, sym, ap, ◌∙◌, rules, w64, length, [], SFits}
+use Rattle.std.proofs.Common.{◌≡◌, arith, refl, ap, ◌∙◌, rules, w64, length, SFits}
 use Rattle.std.proofs.lemmas.Int.{to_z-of_z}
 use Rattle.network.specs.Problem.{activity_count}
 use Rattle.longest_path.specs.Insert.{AddsArc, ClosesCycle}

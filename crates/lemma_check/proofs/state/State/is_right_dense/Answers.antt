@@ -1,4 +1,4 @@
-use Rattle.std.proofs.Common.{◌≡◌, refl, sym, ap, ◌∙◌}
+use Rattle.std.proofs.Common.{◌≡◌, sym, ap, ◌∙◌}
 use Rattle.lemma_check.specs.Places.{lemmas_of}
 use Rattle.lemma_check.specs.Standing.{kept}
 use Rattle.lemma_check.proofs.Standings.{dense_live}

@@ -1,4 +1,4 @@
-use Rattle.std.proofs.Common.{◌≡◌, refl, ◌∙◌, ap, length, pos, take, Some}
+use Rattle.std.proofs.Common.{◌≡◌, refl, ◌∙◌, ap, pos, take, Some}
 use Rattle.std.proofs.lemmas.List.{take_more, take_all}
 use Rattle.network.specs.declared.parts.Lag.{Lag}
 use Rattle.lemma_check.specs.Places.{first_arcs, Place}

@@ -1,4 +1,4 @@
-use Rattle.std.proofs.Common.{◌≡◌, sym, ap, ◌∙◌, ◌<◌, length}
+use Rattle.std.proofs.Common.{sym, ap, ◌∙◌, length}
 use Rattle.lemma_check.specs.Reasons.{Entries}
 use Rattle.lemma_check.proofs.Weighing.{length-rows_with}
 use Rattle.lemma_check.proofs.KnownWalks.{length-entries}

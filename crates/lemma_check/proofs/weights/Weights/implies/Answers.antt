@@ -1,4 +1,4 @@
-use Rattle.std.proofs.Common.{◌≡◌, sym, ◌∙◌, length, rules, w64, SFits}
+use Rattle.std.proofs.Common.{rules, w64, SFits}
 use Rattle.std.proofs.lemmas.Int.{to_z-of_z}
 use Rattle.longest_path.specs.Matrix.{Reaches}
 use Rattle.lemma_check.proofs.KnownWalks.{yes_by_entry, told_beside}

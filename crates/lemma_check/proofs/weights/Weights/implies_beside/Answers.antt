@@ -1,4 +1,4 @@
-use Rattle.std.proofs.Common.{◌≡◌, subst, sym, ap, ◌∙◌, ◌<◌, length}
+use Rattle.std.proofs.Common.{subst, sym, ap, ◌∙◌, length}
 use Rattle.block.specs.Implied.{ImpliesWith}
 use Rattle.lemma_check.specs.Reasons.{Entries, entries_of_block}
 use Rattle.lemma_check.proofs.KnownWalks.{length-entries, own-entries, more-entries}
