@@ -16,7 +16,7 @@ use Rattle.longest_path.proofs.OneArc.{IsGreatest-matrix}
 use Rattle.longest_path.proofs.Bound.{same_rows}
 use Rattle.longest_path.proofs.Weights.{square_of}
 use Rattle.block.specs.Implied.{Implies, ImpliesWith}
-use Rattle.block.specs.Heads.{HeadsOf, AreHeads, AreSettled, table_rows}
+use Rattle.block.specs.Heads.{HeadsOf, IsLight, AreHeads, AreSettled, table_rows}
 use Rattle.block.specs.Tables.{cell, row_cells, column_cells}
 use Rattle.block.specs.Block.{converse_of, AreConverse, AreHalves, IsBlock, block_of}
 use Rattle.block.proofs.Converse.{reached_back}
@@ -143,3 +143,14 @@ implied_over x e over first last h there from to is_first is_last le own m =
     let three = implied_part own (own ++ x.arcs) (arc_of over.to e.to last) sub (implied_entry (length x.rows) own x.rows over.to e.to last m light.to_activity to is_last) in
     let way = implied_joined (own ++ x.arcs) e.from over.to e.to (first +ℤ over.weight) last (implied_joined (own ++ x.arcs) e.from over.from over.to first over.weight one two) three in
     implied_lower (own ++ x.arcs) e.from e.to e.weight ((first +ℤ over.weight) +ℤ last) le way
+
+pub implied_by_arc : (rows : Rows) (e over : Lag) (first last : ℤ) → IsLight (length rows) over → e.from < length rows → e.to < length rows → entry rows e.from over.from ≡ Some first → entry rows over.to e.to ≡ Some last → e.weight ≤ℤ ((first +ℤ over.weight) +ℤ last) →
+    ImpliesWith (length rows) rows (over ∷ []) e
+implied_by_arc rows e over first last light from to is_first is_last le own m =
+    let all : List Lag = own ++ over ∷ [] in
+    let sub : IsPartOf own (own ++ over ∷ []) = λ f d. Contains-append_left own (over ∷ []) f d in
+    let one = implied_part own (own ++ over ∷ []) (arc_of e.from over.from first) sub (implied_entry (length rows) own rows e.from over.from first m from light.from_activity is_first) in
+    let two : Implies (own ++ over ∷ []) (arc_of over.from over.to over.weight) = implied_arc (own ++ over ∷ []) over (Contains-append_right own (over ∷ []) over (0, omega arith, refl)) in
+    let three = implied_part own (own ++ over ∷ []) (arc_of over.to e.to last) sub (implied_entry (length rows) own rows over.to e.to last m light.to_activity to is_last) in
+    let way = implied_joined (own ++ over ∷ []) e.from over.to e.to (first +ℤ over.weight) last (implied_joined (own ++ over ∷ []) e.from over.from over.to first over.weight one two) three in
+    implied_lower (own ++ over ∷ []) e.from e.to e.weight ((first +ℤ over.weight) +ℤ last) le way

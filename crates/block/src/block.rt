@@ -182,6 +182,18 @@ impl Block {
         )
     }
 
+    /// Whether the way over this arc shows that the matrix's arcs and it imply the other.
+    pub fn implies_over(&self, over: Lag, arc: Lag) -> bool
+        requires over { IsLight (length self.now.rows) over }
+        requires from_activity { arc.from < length self.now.rows }
+        requires to_activity { arc.to < length self.now.rows }
+        ensures { IsTrue result → ImpliesWith (length self.now.rows) self.now.rows (over ∷ []) arc }
+    {
+        let first = self.heads.weight(arc.from, over.from);
+        let last = self.heads.weight(over.to, arc.to);
+        arc.weight <= first + over.weight + last
+    }
+
     /// Whether a way over one of the arcs beside the matrix shows that they imply this one.
     pub fn implies_by_one(&self, arc: Lag) -> bool
         requires from_activity { arc.from < length self.now.rows }

@@ -1,7 +1,7 @@
 -- Weights of walks that are easily seen, and what is known by them or by a matrix.
-use Rattle.std.proofs.Common.{◌≡◌, refl, sym, ap, ◌∙◌, subst, ℕ, ◌<◌, arith, ℤ, ◌+ℤ◌, Bool, true, false, eqb, inl, inr, List, [], ◌++◌, length, get_or, Option, None, Some, if◌then◌else◌, IsTrue}
+use Rattle.std.proofs.Common.{◌≡◌, refl, sym, ap, ◌∙◌, subst, ℕ, ◌<◌, arith, ℤ, ◌+ℤ◌, Bool, true, false, eqb, inl, inr, List, [], ◌++◌, length, get_or, Option, None, Some, if◌then◌else◌, IsTrue, ◌∷◌}
 use Rattle.std.proofs.lemmas.Bool.{eqb-true, false≢true}
-use Rattle.std.proofs.lemmas.List.Elements.{Contains-append_left}
+use Rattle.std.proofs.lemmas.List.Elements.{Contains-append_cases, Contains-append_left, Contains-append_right}
 use Rattle.std.proofs.lemmas.List.FromFn.{get_or-map-range_with_len, length-map-range_with_len}
 use Rattle.network.specs.declared.parts.Lag.{Lag}
 use Rattle.network.specs.Schedule.{start}
@@ -12,7 +12,7 @@ use Rattle.longest_path.proofs.Reach.{greater-cases, same_some, Reaches-weaker}
 use Rattle.longest_path.proofs.OneArc.{IsGreatest-matrix}
 use Rattle.block.specs.Implied.{Implies, ImpliesWith}
 use Rattle.block.specs.Block.{AreEnds, BlockOf, seen}
-use Rattle.block.proofs.Implying.{IsPartOf, implied_part, implied_joined, implied_entry, implied_lower}
+use Rattle.block.proofs.Implying.{IsPartOf, part_after, implied_part, implied_joined, implied_entry, implied_lower}
 use Rattle.block.proofs.Existing.{nil_right}
 use Rattle.lemma_check.specs.Reasons.{Entries, AreBelow, IsKnown, TellsWhether, entries_of_block, entries_of_matrix, seen_row, seen_rows}
 
@@ -26,17 +26,27 @@ entry-seen_rows rows heads tails a b la lb =
     ap (λ (r : List (Option ℤ)). get_or r b None) (get_or-map-range_with_len (seen_row rows heads tails) 0 (length rows) a a [] la (omega arith))
     ∙ get_or-map-range_with_len (seen rows heads tails a) 0 (length rows) b b None lb (omega arith)
 
-pub length-entries : (trial : Bool) (x : BlockOf) → length (entries_of_block trial x).rows ≡ length x.rows
-length-entries false x = length-seen_rows x.rows x.heads x.tails
-length-entries true x = length-seen_rows x.rows x.tried_heads x.tried_tails
+pub length-entries : (tried : Option Lag) (x : BlockOf) → length (entries_of_block tried x).rows ≡ length x.rows
+length-entries None x = length-seen_rows x.rows x.heads x.tails
+length-entries (Some e) x = length-seen_rows x.rows x.tried_heads x.tried_tails
 
-pub own-entries : (trial : Bool) (x : BlockOf) → (entries_of_block trial x).own ≡ x.rows
-own-entries false x = refl
-own-entries true x = refl
+pub own-entries : (tried : Option Lag) (x : BlockOf) → (entries_of_block tried x).own ≡ x.rows
+own-entries None x = refl
+own-entries (Some e) x = refl
 
-pub more-entries : (trial : Bool) (x : BlockOf) → (entries_of_block trial x).more ≡ x.more
-more-entries false x = refl
-more-entries true x = refl
+-- what the block's arcs imply, they do with the trial's
+pub beside_more : (tried : Option Lag) (x : BlockOf) (n : ℕ) (e : Lag) → ImpliesWith n x.rows x.more e → ImpliesWith n x.rows (entries_of_block tried x).more e
+beside_more None x n e by = by
+beside_more (Some over) x n e by = λ own m. implied_part (own ++ x.more) (own ++ (x.more ++ over ∷ [])) e (part_after own x.more (over ∷ [])) (by own m)
+
+pub beside_over : (over : Lag) (x : BlockOf) (n : ℕ) (e : Lag) → ImpliesWith n x.rows (over ∷ []) e → ImpliesWith n x.rows (x.more ++ over ∷ []) e
+beside_over over x n e by own m =
+    implied_part (own ++ over ∷ []) (own ++ (x.more ++ over ∷ [])) e
+    (λ f there. elim (Contains-append_cases own (over ∷ []) f there) [
+      | inl first ↦ Contains-append_left own (x.more ++ over ∷ []) f first
+      | inr last ↦ Contains-append_right own (x.more ++ over ∷ []) f (Contains-append_right x.more (over ∷ []) f last)
+    ])
+    (by own m)
 
 -- ---- what is known by a matrix
 

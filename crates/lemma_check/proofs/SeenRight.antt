@@ -33,31 +33,31 @@ implied_or_not n arcs rows e m from to =
     (reaches_or_not e.weight (entry rows e.from e.to))
 
 -- what is known of a block
-pub known_block : (n : ℕ) (x : BlockOf) (own : List Lag) → length x.rows ≡ n → IsBlock x → IsMatrixOf n own x.rows → HasNoPositiveCycle (own ++ x.more) → IsKnown false n (own ++ x.more) (entries_of_block false x)
+pub known_block : (n : ℕ) (x : BlockOf) (own : List Lag) → length x.rows ≡ n → IsBlock x → IsMatrixOf n own x.rows → HasNoPositiveCycle (own ++ x.more) → IsKnown false n (own ++ x.more) (entries_of_block None x)
 known_block n x own long is m live =
     let here : IsMatrixOf (length x.rows) own x.rows = rw long m in
     let below = below_seen x.rows own x.more x.more x.heads x.tails here (λ e c. c) is.ends live in
-    let below_n : AreBelow n (own ++ x.more) (entries_of_block false x) = subst (λ (k : ℕ). AreBelow k (own ++ x.more) (entries_of_block false x)) long below in
-    known_below n (own ++ x.more) (entries_of_block false x) below_n
+    let below_n : AreBelow n (own ++ x.more) (entries_of_block None x) = subst (λ (k : ℕ). AreBelow k (own ++ x.more) (entries_of_block None x)) long below in
+    known_below n (own ++ x.more) (entries_of_block None x) below_n
 
 -- a fact that an answer tells of what is seen
-pub told_by : (n : ℕ) (x : BlockOf) (own : List Lag) (P : List Lag → Type 0) (answer : Bool) (y : Entries) → length x.rows ≡ n → IsBlock x → IsMatrixOf n own x.rows → HasNoPositiveCycle (own ++ x.more) → y ≡ entries_of_block false x → TellsWhether n y answer P → IsTrue answer → P (own ++ x.more)
+pub told_by : (n : ℕ) (x : BlockOf) (own : List Lag) (P : List Lag → Type 0) (answer : Bool) (y : Entries) → length x.rows ≡ n → IsBlock x → IsMatrixOf n own x.rows → HasNoPositiveCycle (own ++ x.more) → y ≡ entries_of_block None x → TellsWhether n y answer P → IsTrue answer → P (own ++ x.more)
 told_by n x own P answer y long is m live same tells granted =
-    let here : TellsWhether n (entries_of_block false x) answer P = subst (λ (z : Entries). TellsWhether n z answer P) same tells in
+    let here : TellsWhether n (entries_of_block None x) answer P = subst (λ (z : Entries). TellsWhether n z answer P) same tells in
     (here false (own ++ x.more) (known_block n x own long is m live)).shown granted
 
 -- and of its trial, where the arc's reverse closes no walk of positive weight
-known_trial : (n : ℕ) (x : BlockOf) (own more : List Lag) (e : Lag) → length x.rows ≡ n → x.more ≡ more → AreEnds x.rows (more ++ e ∷ []) x.tried_heads x.tried_tails → IsMatrixOf n own x.rows → HasNoPositiveCycle (own ++ (more ++ e ∷ [])) → IsKnown false n (own ++ (more ++ e ∷ [])) (entries_of_block true x)
+known_trial : (n : ℕ) (x : BlockOf) (own more : List Lag) (e : Lag) → length x.rows ≡ n → x.more ≡ more → AreEnds x.rows (more ++ e ∷ []) x.tried_heads x.tried_tails → IsMatrixOf n own x.rows → HasNoPositiveCycle (own ++ (more ++ e ∷ [])) → IsKnown false n (own ++ (more ++ e ∷ [])) (entries_of_block (Some e) x)
 known_trial n x own more e long same ends m live =
     let here : IsMatrixOf (length x.rows) own x.rows = rw long m in
-    let part : IsPartOf (own ++ x.more) (own ++ (more ++ e ∷ [])) = rw same (part_after own more (e ∷ [])) in
-    let below = below_seen x.rows own x.more (more ++ e ∷ []) x.tried_heads x.tried_tails here part ends live in
-    let below_n : AreBelow n (own ++ (more ++ e ∷ [])) (entries_of_block true x) = subst (λ (k : ℕ). AreBelow k (own ++ (more ++ e ∷ [])) (entries_of_block true x)) long below in
-    known_below n (own ++ (more ++ e ∷ [])) (entries_of_block true x) below_n
+    let part : IsPartOf (own ++ (x.more ++ e ∷ [])) (own ++ (more ++ e ∷ [])) = rw same (λ f c. c) in
+    let below = below_seen x.rows own (x.more ++ e ∷ []) (more ++ e ∷ []) x.tried_heads x.tried_tails here part ends live in
+    let below_n : AreBelow n (own ++ (more ++ e ∷ [])) (entries_of_block (Some e) x) = subst (λ (k : ℕ). AreBelow k (own ++ (more ++ e ∷ [])) (entries_of_block (Some e) x)) long below in
+    known_below n (own ++ (more ++ e ∷ [])) (entries_of_block (Some e) x) below_n
 
 pub shown_by_trial : (p : Problem) (lemmas : List (List Lag)) (x : BlockOf) (own more : List Lag) (e : Lag) (reason : Reason) → length x.rows ≡ activity_count p → x.more ≡ more → JoinsActivities p e → ((f : Lag) → Contains more f → (f.from < activity_count p) × (f.to < activity_count p)) →
     AreEnds x.rows (more ++ reverse_of e ∷ []) x.tried_heads x.tried_tails → IsMatrixOf (activity_count p) own x.rows → HasNoPositiveCycle (own ++ more) →
-    ((arcs : List Lag) → IsKnown false (activity_count p) arcs (entries_of_block true x) → Ends p lemmas arcs reason) → IsShown p lemmas (own ++ more) e reason
+    ((arcs : List Lag) → IsKnown false (activity_count p) arcs (entries_of_block (Some (reverse_of e)) x) → Ends p lemmas arcs reason) → IsShown p lemmas (own ++ more) e reason
 shown_by_trial p lemmas x own more e reason long same joins inside ends m live by =
     let n : ℕ = activity_count p in
     let all = matrix_there n own more x.rows long m inside live in

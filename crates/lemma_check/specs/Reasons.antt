@@ -1,5 +1,5 @@
 -- Why no feasible schedule meets all arcs of a block: what walks over them show of each schedule that does.
-use Rattle.std.specs.Prelude.{◌≡◌, ℕ, ◌*◌, ◌<◌, ◌≤◌, ◌⊎◌, ℤ, pos, ◌+ℤ◌, ◌-ℤ◌, ◌≤ℤ◌, ◌<ℤ◌, unsigned_abs, List, [], length, slice_index_or, Option, None, Some, map, Bool, true, false, IsTrue}
+use Rattle.std.specs.Prelude.{◌≡◌, ℕ, ◌*◌, ◌<◌, ◌≤◌, ◌⊎◌, ℤ, pos, ◌+ℤ◌, ◌-ℤ◌, ◌≤ℤ◌, ◌<ℤ◌, unsigned_abs, List, [], ◌∷◌, ◌++◌, length, slice_index_or, Option, None, Some, map, Bool, true, false, IsTrue}
 use Rattle.std.specs.List.{All, AllPairs, sum_by, range_with_len}
 use Rattle.network.specs.declared.parts.Lag.{Lag}
 use Rattle.network.specs.declared.parts.Pair.{Pair}
@@ -137,10 +137,10 @@ seen_row rows heads tails a = map (seen rows heads tails a) (range_with_len 0 (l
 abbrev pub seen_rows : Rows → List ℤ → List ℤ → Rows
 seen_rows rows heads tails = map (seen_row rows heads tails) (range_with_len 0 (length rows))
 
--- those of a block, or of its trial
-abbrev pub entries_of_block : Bool → BlockOf → Entries
-entries_of_block false x = record { rows = seen_rows x.rows x.heads x.tails; own = x.rows; more = x.more }
-entries_of_block true x = record { rows = seen_rows x.rows x.tried_heads x.tried_tails; own = x.rows; more = x.more }
+-- those of a block, or of its trial with an arc more
+abbrev pub entries_of_block : Option Lag → BlockOf → Entries
+entries_of_block None x = record { rows = seen_rows x.rows x.heads x.tails; own = x.rows; more = x.more }
+entries_of_block (Some e) x = record { rows = seen_rows x.rows x.tried_heads x.tried_tails; own = x.rows; more = x.more ++ e ∷ [] }
 
 -- no closed walk over the arcs is positive, each weight is at most that of a walk, and what the arcs beside the matrix
 -- imply with it, these do

@@ -42,11 +42,17 @@ fn is_seen_shown(
     if !joins_activities(project, arc) {
         return false;
     }
-    if Weights::seen(block, false).implies(arc) {
+    if Weights::seen(block, None).implies(arc) {
         return true;
     }
-    block.try_arc(reverse_of(arc));
-    ends(project, &Weights::seen(block, true), lemmas, reason)
+    let reverse = reverse_of(arc);
+    block.try_arc(reverse);
+    ends(
+        project,
+        &Weights::seen(block, Some(reverse)),
+        lemmas,
+        reason,
+    )
 }
 
 /// Whether walks that are easily seen show that a line of a lemma is right.
@@ -67,8 +73,8 @@ pub(crate) fn is_seen_right(
     prove!(block.activity_count() > 0);
     match line {
         Line::Lemma { .. } => false,
-        Line::Force(pair) => is_forced(project, &Weights::seen(block, false), *pair),
+        Line::Force(pair) => is_forced(project, &Weights::seen(block, None), *pair),
         Line::Add { arc, reason } => is_seen_shown(project, block, lemmas, *arc, reason),
-        Line::End { reason } => ends(project, &Weights::seen(block, false), lemmas, reason),
+        Line::End { reason } => ends(project, &Weights::seen(block, None), lemmas, reason),
     }
 }

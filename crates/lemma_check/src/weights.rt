@@ -9,6 +9,7 @@ ghost use Rattle.longest_path.specs.Insert.{rows_over};
 ghost use Rattle.std.specs.Bool.{MatchBool};
 ghost use Rattle.longest_path.specs.Matrix.{greater, joined, Reaches};
 ghost use Rattle.block.specs.Implied.{ImpliesWith};
+ghost use Rattle.lemma_check.specs.Sources.{MayTry};
 ghost use Rattle.lemma_check.specs.Reasons.{Implies, MayBeAdded, MayBeWith, TellsWhether, entries_of_block, entries_of_matrix, rows_with};
 
 use block::{Block, MAX_SEEN};
@@ -79,17 +80,32 @@ fn weight_with(matrix: &Matrix, added: Option<Lag>, a: usize, b: usize) -> Optio
 }
 
 /// The weight of a walk that is easily seen in a block, or in its trial.
-fn seen_weight(block: &Block, is_trial: bool, a: usize, b: usize) -> i64
+fn seen_weight(block: &Block, tried: Option<Lag>, a: usize, b: usize) -> i64
     requires from_activity { a < length block.now.rows }
     requires to_activity { b < length block.now.rows }
-    ensures value { entry (entries_of_block is_trial block.now).rows a b ≡ Some result }
+    ensures value { entry (entries_of_block tried block.now).rows a b ≡ Some result }
     ensures small { IsWithin MAX_SEEN result }
 {
-    if is_trial {
-        block.tried_weight(a, b)
-    } else {
-        block.weight(a, b)
+    match tried {
+        Some(_) => block.tried_weight(a, b),
+        None => block.weight(a, b),
     }
+}
+
+/// Whether a way over an arc beside the matrix, or over that of the trial, shows that the arcs imply this one.
+fn seen_beside(block: &Block, tried: Option<Lag>, arc: Lag) -> bool
+    requires tried { MayTry tried block.now.rows }
+    requires from_activity { arc.from < length block.now.rows }
+    requires to_activity { arc.to < length block.now.rows }
+    ensures { IsTrue result → ImpliesWith (length block.now.rows) block.now.rows
+        (entries_of_block tried block.now).more arc }
+{
+    if let Some(over) = tried {
+        if block.implies_over(over, arc) {
+            return true;
+        }
+    }
+    block.implies_by_one(arc)
 }
 
 /// Where weights come from.
@@ -97,8 +113,8 @@ fn seen_weight(block: &Block, is_trial: bool, a: usize, b: usize) -> i64
 enum Source<'a> {
     /// A matrix, and an arc more, which is not inserted.
     Matrix(&'a Matrix, Option<Lag>),
-    /// What is easily seen in a block, or in its trial.
-    Seen(&'a Block, bool),
+    /// What is easily seen in a block, or in its trial with an arc more.
+    Seen(&'a Block, Option<Lag>),
 }
 
 /// Weights of walks over the arcs of a block, or over these and one arc more: the greatest ones, or those that are
@@ -139,12 +155,13 @@ impl<'a> Weights<'a> {
         }
     }
 
-    /// Those that are easily seen in a block, or in its trial.
-    pub(crate) fn seen(block: &'a Block, is_trial: bool) -> Weights<'a>
-        ensures { result ≡ entries_of_block is_trial block.now }
+    /// Those that are easily seen in a block, or in its trial with an arc more.
+    pub(crate) fn seen(block: &'a Block, tried: Option<Lag>) -> Weights<'a>
+        requires { MayTry tried block.now.rows }
+        ensures { result ≡ entries_of_block tried block.now }
     {
         Weights {
-            source: Source::Seen(block, is_trial),
+            source: Source::Seen(block, tried),
         }
     }
 
@@ -157,7 +174,7 @@ impl<'a> Weights<'a> {
     {
         match self.source {
             Source::Matrix(matrix, added) => weight_with(matrix, added, a, b),
-            Source::Seen(block, is_trial) => Some(seen_weight(block, is_trial, a, b)),
+            Source::Seen(block, tried) => Some(seen_weight(block, tried, a, b)),
         }
     }
 
@@ -169,7 +186,7 @@ impl<'a> Weights<'a> {
     {
         match self.source {
             Source::Matrix(_, _) => false,
-            Source::Seen(block, _) => block.implies_by_one(arc),
+            Source::Seen(block, tried) => seen_beside(block, tried, arc),
         }
     }
 

@@ -1,4 +1,4 @@
-use Rattle.std.proofs.Common.{false, ◌∙◌, ap, ◌++◌, length}
+use Rattle.std.proofs.Common.{None, ◌∙◌, ap, ◌++◌, length}
 use Rattle.network.specs.Problem.{activity_count}
 use Rattle.lemma_check.specs.Reasons.{Entries, Ends}
 use Rattle.lemma_check.specs.Right.{IsForced, IsShown}
@@ -7,10 +7,10 @@ use Rattle.lemma_check.proofs.SeenRight.{told_by}
 use Rattle.lemma_check.proofs.seen.is_seen_right.Goals as goal
 
 pub is_forced-requires : goal.is_forced-requires
-is_forced-requires c = ap (λ (x : Entries). length x.rows) c.seen.ensures ∙ length-entries false c.args.block.now ∙ c.requires.size
+is_forced-requires c = ap (λ (x : Entries). length x.rows) c.seen.ensures ∙ length-entries None c.args.block.now ∙ c.requires.size
 
 pub ends-requires-clause-size : goal.ends-requires-clause-size
-ends-requires-clause-size c = ap (λ (x : Entries). length x.rows) c.seen-in-End.ensures ∙ length-entries false c.args.block.now ∙ c.requires.size
+ends-requires-clause-size c = ap (λ (x : Entries). length x.rows) c.seen-in-End.ensures ∙ length-entries None c.args.block.now ∙ c.requires.size
 
 pub returns-in-Force-clause-right : goal.returns-in-Force-clause-right
 returns-in-Force-clause-right c = λ yes at here.

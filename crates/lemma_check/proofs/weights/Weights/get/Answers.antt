@@ -17,9 +17,9 @@ weight_with-requires-clause-to_activity c =
 pub seen_weight-requires-clause-from_activity : goal.seen_weight-requires-clause-from_activity
 seen_weight-requires-clause-from_activity c =
     let view = rw c.in-Seen.is at c.self.view_is in
-    rw (sym (length-entries c.in-Seen.is_trial c.in-Seen.block.now) ∙ ap (λ (x : Entries). length x.rows) view) c.requires.from_activity
+    rw (sym (length-entries c.in-Seen.tried c.in-Seen.block.now) ∙ ap (λ (x : Entries). length x.rows) view) c.requires.from_activity
 
 pub seen_weight-requires-clause-to_activity : goal.seen_weight-requires-clause-to_activity
 seen_weight-requires-clause-to_activity c =
     let view = rw c.in-Seen.is at c.self.view_is in
-    rw (sym (length-entries c.in-Seen.is_trial c.in-Seen.block.now) ∙ ap (λ (x : Entries). length x.rows) view) c.requires.to_activity
+    rw (sym (length-entries c.in-Seen.tried c.in-Seen.block.now) ∙ ap (λ (x : Entries). length x.rows) view) c.requires.to_activity
