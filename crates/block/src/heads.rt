@@ -17,6 +17,9 @@ use network::Lag;
 use std::alloc::{AllocError, Global};
 use std::marker::Model;
 
+/// How many passes are made beyond one for each arc.
+const MORE_PASSES: usize = 256;
+
 /// A matrix, arcs beside it, and the weights of walks from 0 over both; and weights for a trial.
 #[derive(Drop)]
 pub(crate) struct Heads {
@@ -154,13 +157,15 @@ impl Heads {
         raised
     }
 
-    /// Passes over the arcs until a pass raises nothing, but no oftener than walks without a closed part need. Whether
-    /// the heads meet all arcs then.
+    /// Passes over the arcs until a pass raises nothing, but no oftener than this. Whether the heads meet all arcs then.
+    ///
+    /// Without a positive closed walk a pass for each arc is enough. Round one that avoids 0 heads rise pass by pass,
+    /// until that of 0 does: some passes more cost less than a matrix.
     fn settle(&mut self) -> bool
         ensures heads { self.new ≡ record self.old { heads = self.new.heads } }
         ensures settled { MatchBool result (AreSettled self.new) (Unit {0}) }
     {
-        for _round in 0..self.arc_count() + 1 {
+        for _round in 0..self.arc_count() + MORE_PASSES {
             if !self.pass() {
                 return true;
             }
