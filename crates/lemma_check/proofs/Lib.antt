@@ -6,3 +6,6 @@ pub mod Loops
 pub mod FullBlocks
 pub mod Standings
 pub mod DeadLines
+pub mod KnownWalks
+pub mod SeenRight
+pub mod DeadRight

@@ -1,120 +1,261 @@
 -- What is kept of a place, from line to line.
-use Rattle.std.proofs.Common.{◌≡◌, refl, sym, ap, ◌∙◌, subst, ℕ, ◌<◌, true, false, Bool, Option, None, Some, List, [], ◌∷◌, ◌++◌, length, append_assoc, append-nil, arith, pos, ◌≤ℤ◌, ◌≢◌, ◌+◌, ◌≤◌, get_or, take, drop, is_some, Result, Ok, Err, IsErrAnd, IfErr}
+use Rattle.std.proofs.Common.{◌≡◌, refl, sym, ap, ◌∙◌, subst, ℕ, ◌<◌, true, false, Bool, Option, None, Some, List, [], ◌∷◌, ◌++◌, length, append_assoc, append-nil, arith, pos, ◌≤ℤ◌, ◌≢◌, ◌+◌, ◌≤◌, get_or, take, drop, IsSome, is_some, not, MatchOption, Result, Ok, Err, IsErrAnd, IfErr}
 use Rattle.std.specs.List.{All}
 use Rattle.std.proofs.lemmas.Int.{ints}
+use Rattle.std.proofs.lemmas.Bool.{false≢true}
 use Rattle.std.proofs.lemmas.List.{map-append, take_more, take_all, drop_more, take-append-drop, length-take-le}
 use Rattle.std.proofs.lemmas.List.Elements.{All-push, All-nil, Contains-append_left}
 use Rattle.network.specs.declared.parts.Lag.{Lag}
 use Rattle.network.specs.Problem.{Problem, IsProject, activity_count, end_of, rules, arcs_of}
-use Rattle.network.specs.Walk.{Rows, IsWalk, weight, HasPositiveCycle, HasNoPositiveCycle, IsMatrixOf, IsLeastCycleTop}
+use Rattle.network.specs.Walk.{Rows, weight, HasPositiveCycle, HasNoPositiveCycle, IsMatrixOf, IsLeastCycleTop}
 use Rattle.longest_path.specs.Insert.{AddsArc, ClosesCycle, FillsRows}
+use Rattle.longest_path.specs.Matrix.{IsFull}
 use Rattle.longest_path.specs.Saved.{Marked}
+use Rattle.std.specs.Bool.{MatchBool}
+use Rattle.block.specs.Block.{IsMatrixWith, IsTaken, IsToldOf}
+use Rattle.block.proofs.Existing.{cycle_part}
 use Rattle.lemma_text.specs.declared.record.Claim.{Claim}
 use Rattle.lemma_text.specs.declared.line.Line.{Line}
 use Rattle.lemma_check.specs.Places.{lemma_at, lemmas_of, place, open_lemma, Opened, arcs_in, with_arc, ended, bound_of, deadline, first_place, Place, after, Placed, placed}
 use Rattle.lemma_check.specs.Right.{JoinsActivities, IsRightAt, IsRightLine, why_wrong, IsFirstWrong}
-use Rattle.lemma_check.specs.Standing.{kept, IsKnown, IsRecordLag, IsTaken, Stands, IsDeadAt}
-use Rattle.lemma_check.proofs.FullBlocks.{deadline_first, deadline_in, deadline_more, fills_more}
+use Rattle.lemma_check.specs.Standing.{AreKept, IsKnownInside, IsKnownOwn, IsLiveAt, IsRecordLag, IsSeenAt, Kept, Stands, IsDeadAt}
+use Rattle.lemma_check.proofs.FullBlocks.{deadline_first, deadline_more, fills_more, full_by_deadline}
 use Rattle.record_text.specs.declared.fault.RecordFault.{RecordFault}
 use Rattle.record_text.specs.declared.fault.Why.TheVariants.{Memory}
 use Rattle.record_text.proofs.FirstWrong.{fault_at}
 use Rattle.lemma_check.proofs.Passed.{passed, passed-append}
 
-walk_more : (arcs more : List Lag) (a b : ℕ) (es : List Lag) → IsWalk arcs a es b → IsWalk (arcs ++ more) a es b
-walk_more arcs more a b [] w = w
-walk_more arcs more a b (e ∷ es) w = (Contains-append_left arcs more e w.0, w.1, walk_more arcs more e.to b es w.2)
-
 -- a closed walk stays where arcs are added
 pub cycle_more : (arcs more : List Lag) → HasPositiveCycle arcs → HasPositiveCycle (arcs ++ more)
-cycle_more arcs more cycle = (cycle.0, cycle.1, record { closed = walk_more arcs more cycle.0 cycle.0 cycle.1 cycle.2.closed; positive = cycle.2.positive })
+cycle_more arcs more cycle = cycle_part arcs (arcs ++ more) (λ e c. Contains-append_left arcs more e c) cycle
+
+pub not_both : (arcs : List Lag) → HasNoPositiveCycle arcs → HasPositiveCycle arcs → ⊥
+not_both arcs live cycle =
+    let low : weight cycle.1 ≤ℤ pos 0 = live cycle.0 cycle.1 cycle.2.closed in
+    omega (arith, ints)
 
 -- ---- an arc more
 
-stands_with : (p : Problem) (lines : List Line) (lemmas : List (List Lag)) (own : List Lag) (lemma_open : Option Opened) (m : Marked) (is_dead : Bool) (begins : List ℕ) (opened : Option ℕ) (e : Lag) (new : Marked) (now_dead : Bool) →
-    Stands p lines (place lemmas own lemma_open) (kept m is_dead begins opened) → IsKnown (activity_count p) (arcs_in own lemma_open ++ e ∷ []) now_dead new.rows → length new.rows ≡ activity_count p → new.marks ≡ m.marks →
-    Stands p lines (with_arc e lemmas own lemma_open) (kept new now_dead begins opened)
-stands_with p lines lemmas own None m is_dead begins opened e new now_dead s known size marks = record { size = size; known = known; back = marks ∙ s.back; before = s.before; begins_at = s.begins_at; named = s.named; deadline = deadline_more p own (e ∷ []) s.deadline }
-stands_with p lines lemmas own (Some lemma) m is_dead begins opened e new now_dead s known size marks = record {
+-- to the record's own block
+stands_own : (p : Problem) (lines : List Line) (lemmas : List (List Lag)) (own : List Lag) (x new : Kept) (e : Lag) → Stands p lines (place lemmas own None) x → length new.rows ≡ activity_count p → new.seen ≡ new.rows → new.begins ≡ x.begins → new.opened ≡ x.opened → IsKnownOwn (activity_count p) (own ++ e ∷ []) new.is_dead new.rows →
+    Stands p lines (place lemmas (own ++ e ∷ []) None) new
+stands_own p lines lemmas own x new e s size same begins opened known = record {
   size = size;
-  known = subst (λ (arcs : List Lag). IsKnown (activity_count p) arcs now_dead new.rows) (append_assoc own lemma.arcs (e ∷ [])) known;
-  back = (s.back.0, marks ∙ s.back.1, s.back.2);
-  before = s.before;
-  begins_at = s.begins_at;
+  same = same;
+  known = known;
+  before = s.before ∙ ap (lemmas_of lines) (sym begins);
+  begins_at = opened ∙ s.begins_at;
+  named = s.named;
+  deadline = deadline_more p own (e ∷ []) s.deadline;
+}
+
+-- to a lemma
+stands_inside : (p : Problem) (lines : List Line) (lemmas : List (List Lag)) (own : List Lag) (lemma : Opened) (x new : Kept) (e : Lag) → Stands p lines (place lemmas own (Some lemma)) x → new.rows ≡ x.rows → new.seen ≡ x.seen → new.begins ≡ x.begins → new.opened ≡ x.opened → IsKnownInside (activity_count p) own (lemma.arcs ++ e ∷ []) new.is_dead new.more new.dense →
+    Stands p lines (place lemmas own (open_lemma lemma.first (lemma.arcs ++ e ∷ []))) new
+stands_inside p lines lemmas own lemma x new e s rows seen begins opened known = record {
+  size = ap length rows ∙ s.size;
+  same = seen ∙ s.same ∙ sym rows;
+  known = (rw rows s.known.0, known);
+  before = s.before ∙ ap (lemmas_of lines) (sym begins);
+  begins_at = rw opened s.begins_at;
   named = s.named;
   deadline = s.deadline;
 }
 
-pub stands_dead : (p : Problem) (lines : List Line) (lemmas : List (List Lag)) (own : List Lag) (lemma_open : Option Opened) (m : Marked) (is_dead : Bool) (begins : List ℕ) (opened : Option ℕ) (e : Lag) →
-    is_dead ≡ true → Stands p lines (place lemmas own lemma_open) (kept m is_dead begins opened) → Stands p lines (with_arc e lemmas own lemma_open) (kept m is_dead begins opened)
-stands_dead p lines lemmas own lemma_open m is_dead begins opened e dead s =
-    let known : IsKnown (activity_count p) (arcs_in own lemma_open) true m.rows = subst (λ (b : Bool). IsKnown (activity_count p) (arcs_in own lemma_open) b m.rows) dead s.known in
-    stands_with p lines lemmas own lemma_open m is_dead begins opened e m is_dead s (subst (λ (b : Bool). IsKnown (activity_count p) (arcs_in own lemma_open ++ e ∷ []) b m.rows) (sym dead) (cycle_more (arcs_in own lemma_open) (e ∷ []) known)) s.size refl
+pub stands_dead : (p : Problem) (lines : List Line) (lemmas : List (List Lag)) (own : List Lag) (lemma_open : Option Opened) (x : Kept) (e : Lag) →
+    x.is_dead ≡ true → Stands p lines (place lemmas own lemma_open) x → Stands p lines (with_arc e lemmas own lemma_open) x
+stands_dead p lines lemmas own None x e dead s =
+    let cycle : IsKnownOwn (activity_count p) own true x.rows = subst (λ (b : Bool). IsKnownOwn (activity_count p) own b x.rows) dead s.known in
+    stands_own p lines lemmas own x x e s s.size s.same refl refl (subst (λ (b : Bool). IsKnownOwn (activity_count p) (own ++ e ∷ []) b x.rows) (sym dead) (cycle_more own (e ∷ []) cycle))
+stands_dead p lines lemmas own (Some lemma) x e dead s =
+    let cycle : IsKnownInside (activity_count p) own lemma.arcs true x.more x.dense = subst (λ (b : Bool). IsKnownInside (activity_count p) own lemma.arcs b x.more x.dense) dead s.known.1 in
+    let more : HasPositiveCycle (own ++ (lemma.arcs ++ e ∷ [])) = subst HasPositiveCycle (append_assoc own lemma.arcs (e ∷ [])) (cycle_more (own ++ lemma.arcs) (e ∷ []) cycle) in
+    stands_inside p lines lemmas own lemma x x e s refl refl refl refl (subst (λ (b : Bool). IsKnownInside (activity_count p) own (lemma.arcs ++ e ∷ []) b x.more x.dense) (sym dead) more)
 
--- the matrix of a block that isn't dead
-pub live_matrix : (p : Problem) (lines : List Line) (lemmas : List (List Lag)) (own : List Lag) (lemma_open : Option Opened) (m : Marked) (is_dead : Bool) (begins : List ℕ) (opened : Option ℕ) →
-    is_dead ≡ false → Stands p lines (place lemmas own lemma_open) (kept m is_dead begins opened) → IsMatrixOf (activity_count p) (arcs_in own lemma_open) m.rows
-live_matrix p lines lemmas own lemma_open m is_dead begins opened live s = subst (λ (b : Bool). IsKnown (activity_count p) (arcs_in own lemma_open) b m.rows) live s.known
+-- the matrix of the record's own arcs
+own_matrix : (p : Problem) (lines : List Line) (lemmas : List (List Lag)) (own : List Lag) (lemma_open : Option Opened) (x : Kept) → x.is_dead ≡ false → Stands p lines (place lemmas own lemma_open) x → IsMatrixOf (activity_count p) own x.rows
+own_matrix p lines lemmas own None x live s = subst (λ (b : Bool). IsKnownOwn (activity_count p) own b x.rows) live s.known
+own_matrix p lines lemmas own (Some lemma) x live s = s.known.0
 
-pub stands_added : (p : Problem) (lines : List Line) (lemmas : List (List Lag)) (own : List Lag) (lemma_open : Option Opened) (m : Marked) (is_dead : Bool) (begins : List ℕ) (opened : Option ℕ) (e : Lag) (new : Marked) →
-    is_dead ≡ false → Stands p lines (place lemmas own lemma_open) (kept m is_dead begins opened) → AddsArc e m.rows new.rows → new.marks ≡ m.marks → length new.rows ≡ length m.rows →
-    Stands p lines (with_arc e lemmas own lemma_open) (kept new is_dead begins opened)
-stands_added p lines lemmas own lemma_open m is_dead begins opened e new live s adds marks size =
-    let n : ℕ = activity_count p in
-    let arcs : List Lag = arcs_in own lemma_open in
-    let before : IsMatrixOf (activity_count p) arcs m.rows = live_matrix p lines lemmas own lemma_open m is_dead begins opened live s in
-    let more : IsMatrixOf (length m.rows) (arcs ++ e ∷ []) new.rows = adds arcs (subst (λ (k : ℕ). IsMatrixOf k arcs m.rows) (sym s.size) before) in
-    let known : IsMatrixOf (activity_count p) (arcs ++ e ∷ []) new.rows = subst (λ (k : ℕ). IsMatrixOf k (arcs ++ e ∷ []) new.rows) s.size more in
-    stands_with p lines lemmas own lemma_open m is_dead begins opened e new is_dead s (subst (λ (b : Bool). IsKnown (activity_count p) (arcs ++ e ∷ []) b new.rows) (sym live) known) (size ∙ s.size) marks
+pub own_full : (p : Problem) (lines : List Line) (at : Place) (x : Kept) → x.is_dead ≡ false → Stands p lines at x → IsFull x.rows
+own_full p lines at x live s = full_by_deadline p at.own x.rows s.deadline (own_matrix p lines at.lemmas at.own at.opened x live s)
 
-pub stands_closed : (p : Problem) (lines : List Line) (lemmas : List (List Lag)) (own : List Lag) (lemma_open : Option Opened) (m : Marked) (is_dead : Bool) (begins : List ℕ) (opened : Option ℕ) (e : Lag) →
-    is_dead ≡ false → Stands p lines (place lemmas own lemma_open) (kept m is_dead begins opened) → ClosesCycle e m.rows →
-    Stands p lines (with_arc e lemmas own lemma_open) (kept m true begins opened)
-stands_closed p lines lemmas own lemma_open m is_dead begins opened e live s closes =
-    let arcs : List Lag = arcs_in own lemma_open in
-    let before : IsMatrixOf (activity_count p) arcs m.rows = live_matrix p lines lemmas own lemma_open m is_dead begins opened live s in
-    let cycle = closes arcs (subst (λ (k : ℕ). IsMatrixOf k arcs m.rows) (sym s.size) before) in
-    stands_with p lines lemmas own lemma_open m is_dead begins opened e m true s (e.from, cycle.0, cycle.1) s.size refl
+pub some_activity : (p : Problem) (lines : List Line) (at : Place) (x : Kept) → Stands p lines at x → 0 < length x.rows
+some_activity p lines at x s = let two = s.deadline.limits.two_dummies in omega (arith, s.size, two)
 
-pub stands_taken : (p : Problem) (lines : List Line) (lemmas : List (List Lag)) (own : List Lag) (lemma_open : Option Opened) (m : Marked) (is_dead : Bool) (begins : List ℕ) (opened : Option ℕ) (e : Lag) (new : Marked) (now_dead : Bool) →
-    is_dead ≡ false → Stands p lines (place lemmas own lemma_open) (kept m is_dead begins opened) → length new.rows ≡ length m.rows → IsTaken e m new now_dead →
-    Stands p lines (with_arc e lemmas own lemma_open) (kept new now_dead begins opened)
-stands_taken p lines lemmas own lemma_open m is_dead begins opened e new true live s size (closes, same) =
-    subst (λ (k : Marked). Stands p lines (with_arc e lemmas own lemma_open) (kept k true begins opened)) (sym same) (stands_closed p lines lemmas own lemma_open m is_dead begins opened e live s closes)
-stands_taken p lines lemmas own lemma_open m is_dead begins opened e new false live s size (adds, marks) =
-    subst (λ (b : Bool). Stands p lines (with_arc e lemmas own lemma_open) (kept new b begins opened)) live (stands_added p lines lemmas own lemma_open m is_dead begins opened e new live s adds marks size)
+pub fills_own : (p : Problem) (lines : List Line) (at : Place) (x : Kept) (e : Lag) → x.is_dead ≡ false → Stands p lines at x → IsRecordLag (length x.rows) e → FillsRows e x.rows
+fills_own p lines at x e live s lag = fills_more p at.own x.rows e s.deadline (own_matrix p lines at.lemmas at.own at.opened x live s) lag
 
--- an arc more fills the matrix of a block that isn't dead
-pub fills_there : (p : Problem) (lines : List Line) (lemmas : List (List Lag)) (own : List Lag) (lemma_open : Option Opened) (m : Marked) (is_dead : Bool) (begins : List ℕ) (opened : Option ℕ) (e : Lag) →
-    is_dead ≡ false → Stands p lines (place lemmas own lemma_open) (kept m is_dead begins opened) → IsRecordLag (length m.rows) e → FillsRows e m.rows
-fills_there p lines lemmas own lemma_open m is_dead begins opened e live s lag =
-    fills_more p (arcs_in own lemma_open) m.rows e (deadline_in p own lemma_open s.deadline) (live_matrix p lines lemmas own lemma_open m is_dead begins opened live s) lag
+-- the record's own block with an arc that was taken, or that closes a walk of positive weight
+pub stands_closed : (p : Problem) (lines : List Line) (lemmas : List (List Lag)) (own : List Lag) (lemma_open : Option Opened) (x new : Kept) (e : Lag) → x.is_dead ≡ false → x.opened ≡ None → Stands p lines (place lemmas own lemma_open) x →
+    ClosesCycle e x.rows → new.rows ≡ x.rows → new.seen ≡ x.seen → new.begins ≡ x.begins → new.opened ≡ x.opened → new.is_dead ≡ true → Stands p lines (with_arc e lemmas own lemma_open) new
+stands_closed p lines lemmas own (Some lemma) x new e live none s closes rows seen begins opened dead = absurd (let bad : None ≡ Some s.begins_at.index = sym none ∙ s.begins_at.is in cc)
+stands_closed p lines lemmas own None x new e live none s closes rows seen begins opened dead =
+    let m : IsMatrixOf (activity_count p) own x.rows = own_matrix p lines lemmas own None x live s in
+    let found = closes own (rw s.size m) in
+    let cycle : HasPositiveCycle (own ++ e ∷ []) = (e.from, found.0, found.1) in
+    stands_own p lines lemmas own x new e s (ap length rows ∙ s.size) (seen ∙ s.same ∙ sym rows) begins opened (subst (λ (b : Bool). IsKnownOwn (activity_count p) (own ++ e ∷ []) b new.rows) (sym dead) cycle)
+
+pub stands_added : (p : Problem) (lines : List Line) (lemmas : List (List Lag)) (own : List Lag) (lemma_open : Option Opened) (x new : Kept) (e : Lag) → x.is_dead ≡ false → x.opened ≡ None → Stands p lines (place lemmas own lemma_open) x →
+    AddsArc e x.rows new.rows → length new.rows ≡ length x.rows → new.seen ≡ new.rows → new.begins ≡ x.begins → new.opened ≡ x.opened → new.is_dead ≡ x.is_dead → Stands p lines (with_arc e lemmas own lemma_open) new
+stands_added p lines lemmas own (Some lemma) x new e live none s adds size seen begins opened dead = absurd (let bad : None ≡ Some s.begins_at.index = sym none ∙ s.begins_at.is in cc)
+stands_added p lines lemmas own None x new e live none s adds size seen begins opened dead =
+    let m : IsMatrixOf (activity_count p) own x.rows = own_matrix p lines lemmas own None x live s in
+    let more : IsMatrixOf (activity_count p) (own ++ e ∷ []) new.rows = rw s.size at (adds own (rw s.size m)) in
+    stands_own p lines lemmas own x new e s (size ∙ s.size) seen begins opened (subst (λ (b : Bool). IsKnownOwn (activity_count p) (own ++ e ∷ []) b new.rows) (sym (dead ∙ live)) more)
+
+-- the matrix of a lemma's block is full
+pub added_full : (p : Problem) (lines : List Line) (lemmas : List (List Lag)) (own : List Lag) (lemma_open : Option Opened) (x : Kept) (e : Lag) (rows : Rows) → x.is_dead ≡ false → x.opened ≡ None → Stands p lines (place lemmas own lemma_open) x → AddsArc e x.rows rows → length rows ≡ length x.rows → IsFull rows
+added_full p lines lemmas own lemma_open x e rows live none s adds size =
+    let m : IsMatrixOf (activity_count p) own x.rows = own_matrix p lines lemmas own lemma_open x live s in
+    let more : IsMatrixOf (activity_count p) (own ++ e ∷ []) rows = rw s.size at (adds own (rw s.size m)) in
+    full_by_deadline p (own ++ e ∷ []) rows (deadline_more p own (e ∷ []) s.deadline) more
+
+-- ---- an arc more in a lemma
+
+pub not_some : {X : Type 0} (o : Option X) → is_some o ≡ false → o ≡ None
+not_some None is = refl
+not_some (Some x) is = absurd (cc)
+
+none_open : (o : Option ℕ) → o ≡ None → IsSome o → ⊥
+none_open None is some = false≢true some
+none_open (Some i) is some = absurd (cc)
+
+kept_inside : (p : Problem) (lines : List Line) (lemmas : List (List Lag)) (own : List Lag) (lemma : Opened) (x : Kept) → x.is_dead ≡ false → Stands p lines (place lemmas own (Some lemma)) x → AreKept (activity_count p) own lemma.arcs x.more x.dense
+kept_inside p lines lemmas own lemma x live s = subst (λ (b : Bool). IsKnownInside (activity_count p) own lemma.arcs b x.more x.dense) live s.known.1
+
+pub fills_dense : (p : Problem) (lines : List Line) (lemmas : List (List Lag)) (own : List Lag) (lemma_open : Option Opened) (x : Kept) (d : Marked) (e : Lag) → x.is_dead ≡ false → IsSome x.opened → x.dense ≡ Some d → Stands p lines (place lemmas own lemma_open) x → IsRecordLag (length x.rows) e → (length d.rows ≡ length x.rows) × FillsRows e d.rows
+fills_dense p lines lemmas own None x d e live inside is s lag = absurd (none_open x.opened s.begins_at inside)
+fills_dense p lines lemmas own (Some lemma) x d e live inside is s lag =
+    let m : IsMatrixOf (activity_count p) (own ++ lemma.arcs) d.rows = rw is at (kept_inside p lines lemmas own lemma x live s) in
+    let long : length d.rows ≡ length x.rows = m.square.0 ∙ sym s.size in
+    (long, fills_more p (own ++ lemma.arcs) d.rows e (deadline_more p own lemma.arcs s.deadline) m (rw long lag))
+
+inside_told : (p : Problem) (own arcs : List Lag) (e : Lag) (d new : Marked) (more : List Lag) (dead : Bool) → IsMatrixOf (activity_count p) (own ++ arcs) d.rows → length d.rows ≡ activity_count p → IsTaken e d new dead → IsKnownInside (activity_count p) own (arcs ++ e ∷ []) dead more (Some new)
+inside_told p own arcs e d new more true m size (closes, same) =
+    let found = closes (own ++ arcs) (rw size m) in
+    subst HasPositiveCycle (append_assoc own arcs (e ∷ [])) (e.from, found.0, found.1)
+inside_told p own arcs e d new more false m size (adds, same) =
+    let with : IsMatrixOf (activity_count p) ((own ++ arcs) ++ e ∷ []) new.rows = rw size at (adds (own ++ arcs) (rw size m)) in
+    subst (λ (all : List Lag). IsMatrixOf (activity_count p) all new.rows) (append_assoc own arcs (e ∷ [])) with
+
+pub stands_taken : (p : Problem) (lines : List Line) (lemmas : List (List Lag)) (own : List Lag) (lemma_open : Option Opened) (x new : Kept) (e : Lag) (d dense : Marked) → x.is_dead ≡ false → IsSome x.opened → x.dense ≡ Some d → Stands p lines (place lemmas own lemma_open) x →
+    IsTaken e d dense new.is_dead → new.dense ≡ Some dense → new.rows ≡ x.rows → new.seen ≡ x.seen → new.begins ≡ x.begins → new.opened ≡ x.opened → Stands p lines (with_arc e lemmas own lemma_open) new
+stands_taken p lines lemmas own None x new e d dense live inside is s taken now rows seen begins opened = absurd (none_open x.opened s.begins_at inside)
+stands_taken p lines lemmas own (Some lemma) x new e d dense live inside is s taken now rows seen begins opened =
+    let m : IsMatrixOf (activity_count p) (own ++ lemma.arcs) d.rows = rw is at (kept_inside p lines lemmas own lemma x live s) in
+    let known : IsKnownInside (activity_count p) own (lemma.arcs ++ e ∷ []) new.is_dead new.more (Some dense) = inside_told p own lemma.arcs e d dense new.more new.is_dead m m.square.0 taken in
+    stands_inside p lines lemmas own lemma x new e s rows seen begins opened (rw now known)
+
+by_told : (p : Problem) (own arcs : List Lag) (more : List Lag) (dead : Bool) → more ≡ arcs → MatchBool dead (HasPositiveCycle (own ++ more)) (HasNoPositiveCycle (own ++ more)) → IsKnownInside (activity_count p) own arcs dead more None
+by_told p own arcs more true same told = rw same at told
+by_told p own arcs more false same told = (same, rw same at told)
+
+pub stands_told : (p : Problem) (lines : List Line) (lemmas : List (List Lag)) (own : List Lag) (lemma_open : Option Opened) (x new : Kept) (e : Lag) → x.is_dead ≡ false → IsSome x.opened → x.dense ≡ None → Stands p lines (place lemmas own lemma_open) x →
+    IsToldOf (length new.seen) new.seen new.more (Some new.is_dead) → new.more ≡ x.more ++ e ∷ [] → new.dense ≡ None → new.rows ≡ x.rows → new.seen ≡ x.seen → new.begins ≡ x.begins → new.opened ≡ x.opened → Stands p lines (with_arc e lemmas own lemma_open) new
+stands_told p lines lemmas own None x new e live inside is s told more now rows seen begins opened = absurd (none_open x.opened s.begins_at inside)
+stands_told p lines lemmas own (Some lemma) x new e live inside is s told more now rows seen begins opened =
+    let kept : AreKept (activity_count p) own lemma.arcs x.more None = rw is at (kept_inside p lines lemmas own lemma x live s) in
+    let here : new.seen ≡ x.rows = seen ∙ s.same in
+    let m : IsMatrixOf (length new.seen) own new.seen = rw (here, s.size) s.known.0 in
+    let all : new.more ≡ lemma.arcs ++ e ∷ [] = more ∙ ap (λ (arcs : List Lag). arcs ++ e ∷ []) kept.0 in
+    stands_inside p lines lemmas own lemma x new e s rows seen begins opened (rw now (by_told p own (lemma.arcs ++ e ∷ []) new.more new.is_dead all (told own m)))
+
+by_matrix : (p : Problem) (own arcs more : List Lag) (found : Option Marked) (dead : Bool) → more ≡ arcs → MatchOption found (HasPositiveCycle (own ++ more)) (λ d. IsMatrixOf (activity_count p) (own ++ more) d.rows) → is_some found ≡ not dead → IsKnownInside (activity_count p) own arcs dead more found
+by_matrix p own arcs more None true same told is = rw (sym same) told
+by_matrix p own arcs more None false same told is = absurd (false≢true is)
+by_matrix p own arcs more (Some d) false same told is = rw (sym same) told
+by_matrix p own arcs more (Some d) true same told is = absurd (false≢true (sym is))
+
+pub stands_made : (p : Problem) (lines : List Line) (lemmas : List (List Lag)) (own : List Lag) (lemma_open : Option Opened) (x new : Kept) (e : Lag) → x.is_dead ≡ false → IsSome x.opened → x.dense ≡ None → Stands p lines (place lemmas own lemma_open) x →
+    IsMatrixWith x.rows new.more new.dense → is_some new.dense ≡ not new.is_dead → new.more ≡ x.more ++ e ∷ [] → new.rows ≡ x.rows → new.seen ≡ x.seen → new.begins ≡ x.begins → new.opened ≡ x.opened → Stands p lines (with_arc e lemmas own lemma_open) new
+stands_made p lines lemmas own None x new e live inside is s told dead more rows seen begins opened = absurd (none_open x.opened s.begins_at inside)
+stands_made p lines lemmas own (Some lemma) x new e live inside is s told dead more rows seen begins opened =
+    let kept : AreKept (activity_count p) own lemma.arcs x.more None = rw is at (kept_inside p lines lemmas own lemma x live s) in
+    let all : new.more ≡ lemma.arcs ++ e ∷ [] = more ∙ ap (λ (arcs : List Lag). arcs ++ e ∷ []) kept.0 in
+    let found = rw s.size at (told own (rw s.size s.known.0)) in
+    stands_inside p lines lemmas own lemma x new e s rows seen begins opened (by_matrix p own (lemma.arcs ++ e ∷ []) new.more new.dense new.is_dead all found dead)
+
+-- ---- the matrix of a lemma is made
+
+-- the lemma's arcs, where they are those beside the matrix
+pub seen_inside : (p : Problem) (lines : List Line) (lemmas : List (List Lag)) (own : List Lag) (lemma_open : Option Opened) (x : Kept) → x.is_dead ≡ false → IsSome x.opened → x.dense ≡ None → Stands p lines (place lemmas own lemma_open) x → (those : List (List Lag)) → lemmas ≡ those → IsSeenAt p (place lemmas own lemma_open) x.seen x.more those
+seen_inside p lines lemmas own None x live inside is s those same = absurd (none_open x.opened s.begins_at inside)
+seen_inside p lines lemmas own (Some lemma) x live inside is s those same =
+    let kept : AreKept (activity_count p) own lemma.arcs x.more None = rw is at (kept_inside p lines lemmas own lemma x live s) in
+    record { own = own; matrix = rw s.same s.known.0; live = rw kept.0 kept.1; arcs = ap (λ (arcs : List Lag). own ++ arcs) (sym kept.0); before = same }
+
+pub stands_dense : (p : Problem) (lines : List Line) (lemmas : List (List Lag)) (own : List Lag) (lemma_open : Option Opened) (x new : Kept) → x.is_dead ≡ false → IsSome x.opened → x.dense ≡ None → Stands p lines (place lemmas own lemma_open) x →
+    IsMatrixWith x.rows x.more new.dense → new.is_dead ≡ x.is_dead → new.rows ≡ x.rows → new.seen ≡ x.seen → new.begins ≡ x.begins → new.opened ≡ x.opened → Stands p lines (place lemmas own lemma_open) new
+stands_dense p lines lemmas own None x new live inside is s told dead rows seen begins opened = absurd (none_open x.opened s.begins_at inside)
+stands_dense p lines lemmas own (Some lemma) x new live inside is s told dead rows seen begins opened =
+    let kept : AreKept (activity_count p) own lemma.arcs x.more None = rw is at (kept_inside p lines lemmas own lemma x live s) in
+    let found = rw s.size at (told own (rw s.size s.known.0)) in
+    let known : AreKept (activity_count p) own lemma.arcs new.more new.dense = by_found new.dense kept.0 kept.1 found in
+    record {
+      size = ap length rows ∙ s.size;
+      same = seen ∙ s.same ∙ sym rows;
+      known = (rw rows s.known.0, subst (λ (b : Bool). IsKnownInside (activity_count p) own lemma.arcs b new.more new.dense) (sym (dead ∙ live)) known);
+      before = s.before ∙ ap (lemmas_of lines) (sym begins);
+      begins_at = rw opened s.begins_at;
+      named = s.named;
+      deadline = s.deadline;
+    }
+  where
+    by_found : (found : Option Marked) → x.more ≡ lemma.arcs → HasNoPositiveCycle (own ++ lemma.arcs) → MatchOption found (HasPositiveCycle (own ++ x.more)) (λ d. IsMatrixOf (activity_count p) (own ++ x.more) d.rows) → AreKept (activity_count p) own lemma.arcs new.more found
+    by_found None same none told = absurd (not_both (own ++ lemma.arcs) none (rw same at told))
+    by_found (Some d) same none told = rw same at told
+
+-- it is there
+pub dense_there : (p : Problem) (lines : List Line) (lemmas : List (List Lag)) (own : List Lag) (lemma_open : Option Opened) (x : Kept) (found : Option Marked) → x.is_dead ≡ false → IsSome x.opened → x.dense ≡ None → Stands p lines (place lemmas own lemma_open) x → IsMatrixWith x.rows x.more found → IsSome found
+dense_there p lines lemmas own None x found live inside is s told = absurd (none_open x.opened s.begins_at inside)
+dense_there p lines lemmas own (Some lemma) x found live inside is s told =
+    let kept : AreKept (activity_count p) own lemma.arcs x.more None = rw is at (kept_inside p lines lemmas own lemma x live s) in
+    by_found found kept.0 kept.1 (told own (rw s.size s.known.0))
+  where
+    by_found : (found : Option Marked) → x.more ≡ lemma.arcs → HasNoPositiveCycle (own ++ lemma.arcs) → MatchOption found (HasPositiveCycle (own ++ x.more)) (λ d. IsMatrixOf (length x.rows) (own ++ x.more) d.rows) → IsSome found
+    by_found None same none cycle = absurd (not_both (own ++ lemma.arcs) none (rw same at cycle))
+    by_found (Some d) same none m = refl
+
+-- the dense matrix is that of the block
+pub dense_live : (p : Problem) (lines : List Line) (lemmas : List (List Lag)) (own : List Lag) (lemma_open : Option Opened) (x : Kept) (d : Marked) → x.is_dead ≡ false → IsSome x.opened → x.dense ≡ Some d → Stands p lines (place lemmas own lemma_open) x → (those : List (List Lag)) → lemmas ≡ those → IsLiveAt p (place lemmas own lemma_open) d.rows those true
+dense_live p lines lemmas own None x d live inside is s those same = absurd (none_open x.opened s.begins_at inside)
+dense_live p lines lemmas own (Some lemma) x d live inside is s those same =
+    record { matrix = rw is at (kept_inside p lines lemmas own lemma x live s); before = same; opened = refl }
+
+pub own_live : (p : Problem) (lines : List Line) (lemmas : List (List Lag)) (own : List Lag) (lemma_open : Option Opened) (x : Kept) → x.is_dead ≡ false → x.opened ≡ None → Stands p lines (place lemmas own lemma_open) x → (those : List (List Lag)) → lemmas ≡ those → IsLiveAt p (place lemmas own lemma_open) x.rows those false
+own_live p lines lemmas own (Some lemma) x live none s those same = absurd (let bad : None ≡ Some s.begins_at.index = sym none ∙ s.begins_at.is in cc)
+own_live p lines lemmas own None x live none s those same = record { matrix = own_matrix p lines lemmas own None x live s; before = same; opened = refl }
+
+pub cycle_there : (p : Problem) (lines : List Line) (lemmas : List (List Lag)) (own : List Lag) (lemma_open : Option Opened) (x : Kept) → x.is_dead ≡ true → Stands p lines (place lemmas own lemma_open) x → HasPositiveCycle (arcs_in own lemma_open)
+cycle_there p lines lemmas own None x dead s = subst (λ (b : Bool). IsKnownOwn (activity_count p) own b x.rows) dead s.known
+cycle_there p lines lemmas own (Some lemma) x dead s = subst (λ (b : Bool). IsKnownInside (activity_count p) own lemma.arcs b x.more x.dense) dead s.known.1
 
 -- ---- the first place
 
--- the matrix of the rules takes the deadline
-pub stands_first : (p : Problem) (lines : List Line) (claim : Claim) (rows : Rows) (new : Marked) (dead : Bool) → IsProject p → IsMatrixOf (activity_count p) (arcs_of p []) rows → IsRecordLag (activity_count p) (deadline p (bound_of p claim)) →
-    length new.rows ≡ length rows → IsTaken (deadline p (bound_of p claim)) (record { rows = rows; marks = [] }) new dead → Stands p lines (first_place p claim) (kept new dead [] None)
-stands_first p lines claim rows new dead is m lag size taken =
+pub stands_first : (p : Problem) (lines : List Line) (claim : Claim) (rows : Rows) (new : Kept) → IsProject p → IsMatrixOf (activity_count p) (arcs_of p []) rows → IsRecordLag (activity_count p) (deadline p (bound_of p claim)) →
+    length new.rows ≡ length rows → AddsArc (deadline p (bound_of p claim)) rows new.rows → new.seen ≡ new.rows → new.is_dead ≡ false → new.begins ≡ [] → new.opened ≡ None → Stands p lines (first_place p claim) new
+stands_first p lines claim rows new is m lag size adds seen live begins opened =
     let e : Lag = deadline p (bound_of p claim) in
     let long : length rows ≡ activity_count p = m.square.0 in
     let own : IsMatrixOf (length rows) (rules p) rows = subst (λ (arcs : List Lag). IsMatrixOf (length rows) arcs rows) (append-nil (rules p)) (rw long m) in
+    let with : IsMatrixOf (activity_count p) (rules p ++ deadline p (bound_of p claim) ∷ []) new.rows = rw long at (adds (rules p) own) in
     record {
       size = size ∙ long;
-      known = known dead own taken;
-      back = back dead taken;
-      before = refl;
-      begins_at = refl;
+      same = seen;
+      known = subst (λ (b : Bool). IsKnownOwn (activity_count p) (rules p ++ deadline p (bound_of p claim) ∷ []) b new.rows) (sym live) with;
+      before = ap (lemmas_of lines) (sym begins);
+      begins_at = opened;
       named = All-nil (All (JoinsActivities p));
       deadline = deadline_first p (bound_of p claim) is lag;
     }
-  where
-    known : (dead : Bool) → IsMatrixOf (length rows) (rules p) rows → IsTaken (deadline p (bound_of p claim)) (record { rows = rows; marks = [] }) new dead → IsKnown (activity_count p) (rules p ++ deadline p (bound_of p claim) ∷ []) dead new.rows
-    known true own taken = let cycle = taken.0 (rules p) own in (end_of p, cycle.0, cycle.1)
-    known false own taken = let long : length rows ≡ activity_count p = m.square.0 in subst (λ (k : ℕ). IsMatrixOf k (rules p ++ deadline p (bound_of p claim) ∷ []) new.rows) long (taken.0 (rules p) own)
 
-    back : (dead : Bool) → IsTaken (deadline p (bound_of p claim)) (record { rows = rows; marks = [] }) new dead → new.marks ≡ []
-    back true taken = ap (λ (k : Marked). k.marks) taken.1
-    back false taken = taken.1
+pub first_full : (p : Problem) (claim : Claim) (rows new : Rows) → IsProject p → IsMatrixOf (activity_count p) (arcs_of p []) rows → IsRecordLag (activity_count p) (deadline p (bound_of p claim)) → AddsArc (deadline p (bound_of p claim)) rows new → IsFull new
+first_full p claim rows new is m lag adds =
+    let long : length rows ≡ activity_count p = m.square.0 in
+    let own : IsMatrixOf (length rows) (rules p) rows = subst (λ (arcs : List Lag). IsMatrixOf (length rows) arcs rows) (append-nil (rules p)) (rw long m) in
+    let with : IsMatrixOf (activity_count p) (rules p ++ deadline p (bound_of p claim) ∷ []) new = rw long at (adds (rules p) own) in
+    full_by_deadline p (rules p ++ deadline p (bound_of p claim) ∷ []) new (deadline_first p (bound_of p claim) is lag) with
 
 -- where the project's own rules close a walk of positive weight, so do they with a deadline
 pub first_dead : (p : Problem) (claim : Claim) (top : ℕ) → IsLeastCycleTop (arcs_of p []) top → IsDeadAt (first_place p claim)
@@ -123,59 +264,54 @@ first_dead p claim top least =
     let cycle : HasPositiveCycle (rules p) = subst HasPositiveCycle (append-nil (rules p)) (found.0, found.1, found.2) in
     record { none = refl; cycle = cycle_more (rules p) (deadline p (bound_of p claim) ∷ []) cycle }
 
+-- and where the deadline does
+pub deadline_dead : (p : Problem) (claim : Claim) (rows : Rows) → IsMatrixOf (activity_count p) (arcs_of p []) rows → ClosesCycle (deadline p (bound_of p claim)) rows → IsDeadAt (first_place p claim)
+deadline_dead p claim rows m closes =
+    let long : length rows ≡ activity_count p = m.square.0 in
+    let own : IsMatrixOf (length rows) (rules p) rows = subst (λ (arcs : List Lag). IsMatrixOf (length rows) arcs rows) (append-nil (rules p)) (rw long m) in
+    let found = closes (rules p) own in
+    record { none = refl; cycle = (end_of p, found.0, found.1) }
+
 -- ---- a lemma begins and ends
 
-pub not_both : (arcs : List Lag) → HasNoPositiveCycle arcs → HasPositiveCycle arcs → ⊥
-not_both arcs live cycle =
-    let low : weight cycle.1 ≤ℤ pos 0 = live cycle.0 cycle.1 cycle.2.closed in
-    omega (arith, ints)
+pub stands_opened : (p : Problem) (lines : List Line) (lemmas : List (List Lag)) (own : List Lag) (lemma_open : Option Opened) (x new : Kept) (index : ℕ) (arcs : List Lag) →
+    Stands p lines (place lemmas own lemma_open) x → lemma_open ≡ None → HasNoPositiveCycle own → All (JoinsActivities p) arcs → lemma_at lines index ≡ arcs →
+    new.rows ≡ x.rows → new.seen ≡ x.seen → new.more ≡ [] → new.dense ≡ None → new.is_dead ≡ x.is_dead → new.begins ≡ x.begins → new.opened ≡ Some index → Stands p lines (place lemmas own (open_lemma arcs [])) new
+stands_opened p lines lemmas own (Some lemma) x new index arcs s none live joins at rows seen more dense dead begins opened = absurd (cc)
+stands_opened p lines lemmas own None x new index arcs s none live joins at rows seen more dense dead begins opened = record {
+  size = ap length rows ∙ s.size;
+  same = seen ∙ s.same ∙ sym rows;
+  known = (rw rows (by_own x.is_dead s.known), rw (dead, dense) (by_dead x.is_dead s.known));
+  before = s.before ∙ ap (lemmas_of lines) (sym begins);
+  begins_at = record { index = index; is = opened; line = sym at; joined = joins };
+  named = s.named;
+  deadline = s.deadline;
+}
+  where
+    by_own : (b : Bool) → IsKnownOwn (activity_count p) own b x.rows → IsMatrixOf (activity_count p) own x.rows
+    by_own true known = absurd (not_both own live known)
+    by_own false known = known
 
--- a mark is made, and the lemma has none of its arcs yet
-pub stands_opened : (p : Problem) (lines : List Line) (lemmas : List (List Lag)) (own : List Lag) (lemma_open : Option Opened) (m : Marked) (is_dead : Bool) (begins : List ℕ) (opened : Option ℕ) (index : ℕ) (arcs : List Lag) (new : Marked) →
-    Stands p lines (place lemmas own lemma_open) (kept m is_dead begins opened) → lemma_open ≡ None → HasNoPositiveCycle own → All (JoinsActivities p) arcs → lemma_at lines index ≡ arcs → new ≡ record { rows = m.rows; marks = m.rows ∷ m.marks } →
-    Stands p lines (place lemmas own (open_lemma arcs [])) (kept new is_dead begins (Some index))
-stands_opened p lines lemmas own (Some lemma) m is_dead begins opened index arcs new s none live joins at marked = absurd (cc)
-stands_opened p lines lemmas own None m true begins opened index arcs new s none live joins at marked = absurd (not_both own live s.known)
-stands_opened p lines lemmas own None m false begins opened index arcs new s none live joins at marked =
-    let rows : new.rows ≡ m.rows = ap (λ (x : Marked). x.rows) marked in
-    let marks : new.marks ≡ m.rows ∷ [] = ap (λ (x : Marked). x.marks) marked ∙ ap (λ (marks : List Rows). m.rows ∷ marks) s.back in
-    record {
-      size = ap length rows ∙ s.size;
-      known = rw (rows, append-nil own) s.known;
-      back = (m.rows, marks, s.known);
-      before = s.before;
-      begins_at = record { index = index; is = refl; line = sym at; joined = joins };
-      named = s.named;
-      deadline = s.deadline;
-    }
+    by_dead : (b : Bool) → IsKnownOwn (activity_count p) own b x.rows → IsKnownInside (activity_count p) own [] b new.more None
+    by_dead true known = absurd (not_both own live known)
+    by_dead false known = (more, rw append-nil live)
 
-pub stands_ended : (p : Problem) (lines : List Line) (lemmas : List (List Lag)) (own : List Lag) (lemma_open : Option Opened) (m : Marked) (is_dead : Bool) (begins : List ℕ) (opened : Option ℕ) (index : ℕ) (new : Marked) (now : List ℕ) →
-    Stands p lines (place lemmas own lemma_open) (kept m is_dead begins opened) → opened ≡ Some index → m.marks ≡ new.rows ∷ new.marks → now ≡ begins ++ index ∷ [] →
-    Stands p lines (ended lemmas own lemma_open) (kept new false now None)
-stands_ended p lines lemmas own None m is_dead begins opened index new now s is marks more = absurd (let bad : None ≡ Some index = sym s.begins_at ∙ is in cc)
-stands_ended p lines lemmas own (Some lemma) m is_dead begins opened index new now s is marks more =
+pub stands_ended : (p : Problem) (lines : List Line) (lemmas : List (List Lag)) (own : List Lag) (lemma_open : Option Opened) (x new : Kept) (index : ℕ) →
+    Stands p lines (place lemmas own lemma_open) x → x.opened ≡ Some index → new.rows ≡ x.rows → new.seen ≡ x.seen → new.is_dead ≡ false → new.begins ≡ x.begins ++ index ∷ [] → new.opened ≡ None → Stands p lines (ended lemmas own lemma_open) new
+stands_ended p lines lemmas own None x new index s is rows seen live more opened = absurd (let bad : None ≡ Some index = sym s.begins_at ∙ is in cc)
+stands_ended p lines lemmas own (Some lemma) x new index s is rows seen live more opened =
     let at : Some s.begins_at.index ≡ Some index = sym s.begins_at.is ∙ is in
     let same : s.begins_at.index ≡ index = cc in
-    let one : s.back.0 ∷ [] ≡ new.rows ∷ new.marks = sym s.back.1 ∙ marks in
-    let rows : s.back.0 ≡ new.rows = cc in
-    let none : new.marks ≡ [] = cc in
-    let known : IsMatrixOf (activity_count p) own new.rows = rw rows at s.back.2 in
     let first : lemma.first ≡ lemma_at lines index = s.begins_at.line ∙ ap (lemma_at lines) same in
     record {
-      size = known.square.0;
-      known = known;
-      back = none;
-      before = ap (λ (ls : List (List Lag)). ls ++ lemma.first ∷ []) s.before ∙ ap (λ (l : List Lag). lemmas_of lines begins ++ l ∷ []) first ∙ sym (ap (lemmas_of lines) more ∙ map-append (lemma_at lines) begins (index ∷ []));
-      begins_at = refl;
+      size = ap length rows ∙ s.size;
+      same = seen ∙ s.same ∙ sym rows;
+      known = rw (live, rows) s.known.0;
+      before = ap (λ (ls : List (List Lag)). ls ++ lemma.first ∷ []) s.before ∙ ap (λ (l : List Lag). lemmas_of lines x.begins ++ l ∷ []) first ∙ sym (ap (lemmas_of lines) more ∙ map-append (lemma_at lines) x.begins (index ∷ []));
+      begins_at = opened;
       named = All-push (All (JoinsActivities p)) lemmas lemma.first s.named s.begins_at.joined;
       deadline = s.deadline;
     }
-
--- whether a lemma is open
-pub is_open : (p : Problem) (lines : List Line) (lemmas : List (List Lag)) (own : List Lag) (lemma_open : Option Opened) (m : Marked) (is_dead : Bool) (begins : List ℕ) (opened : Option ℕ) →
-    Stands p lines (place lemmas own lemma_open) (kept m is_dead begins opened) → is_some opened ≡ is_some lemma_open
-is_open p lines lemmas own None m is_dead begins opened s = ap (λ (o : Option ℕ). is_some o) s.begins_at
-is_open p lines lemmas own (Some lemma) m is_dead begins opened s = ap (λ (o : Option ℕ). is_some o) s.begins_at.is
 
 -- ---- How far a check of a record's lines has come.
 

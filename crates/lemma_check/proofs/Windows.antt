@@ -10,7 +10,8 @@ use Rattle.network.specs.Schedule.{start, is_running, IsFeasible}
 use Rattle.longest_path.specs.Insert.{arc_of}
 use Rattle.bounds.proofs.Tasks.{over, over-const, over-sum_by, over-span, sum_by-filter, sum_by-le-each, abs_is}
 use Rattle.rivals.proofs.Apart.{runs_when, apart, BeginsFrom, StartsLast, starts_last, not_all_run}
-use Rattle.lemma_check.specs.Reasons.{MustRun, IsLoad, pair_of, RunsWithin, StartsAfterEnd, RunApart, IsClique, EndsAfterStart, IsSet, least_part, part_of, load_of}
+use Rattle.lemma_check.specs.Reasons.{AreBelow, Entries, Implies, MustRun, IsLoad, pair_of, RunsWithin, StartsAfterEnd, RunApart, IsClique, EndsAfterStart, IsSet, least_part, part_of, load_of}
+use Rattle.block.proofs.Implying.{implied_lower}
 use Rattle.lemma_check.proofs.Weighing.{MeetsAll, implied_met}
 use Rattle.std.proofs.lemmas.List.Sums.{sum_by-cons}
 use Rattle.rivals.specs.Incompatible.{AreIncompatible}
@@ -220,7 +221,7 @@ at_most_least a b c d m below =
 
 -- ---- an activity's part
 
-part_by : (p : Problem) (arcs : List Lag) (from to : ℤ) (i : ℕ) (head back : Option ℤ) → IsGreatestWeight arcs 0 i head → IsGreatestWeight arcs i 0 back →
+part_by : (p : Problem) (arcs : List Lag) (from to : ℤ) (i : ℕ) (head back : Option ℤ) → ((w : ℤ) → head ≡ Some w → Implies arcs (arc_of 0 i w)) → ((w : ℤ) → back ≡ Some w → Implies arcs (arc_of i 0 w)) →
     (least_part (duration p i) from to head back ≡ 0) ⊎ MustRun p arcs from to i (least_part (duration p i) from to head back)
 part_by p arcs from to i None back of_head of_back = inl refl
 part_by p arcs from to i (Some h) None of_head of_back = inl refl
@@ -230,13 +231,11 @@ part_by p arcs from to i (Some h) (Some b) of_head of_back =
     ⊎_elim
     (λ (none : least_part (duration p i) from to (Some h) (Some b) ≡ 0). inl none)
     (λ (below : IsLeastOf (duration p i) (to -ℤ from) ((h +ℤ duration p i) -ℤ from) (to +ℤ b) (least_part (duration p i) from to (Some h) (Some b))).
-    let head : weight of_head.0.0 ≡ h = of_head.0.2 in
-    let back : weight of_back.0.0 ≡ b = of_back.0.2 in
     inr (record {
       within_activity = below.first;
       within_window = add_back from to m below.second;
-      late = record { walk = of_head.0.0; goes = of_head.0.1; weighs = rw head (move_late from h d m below.third) };
-      early = record { walk = of_back.0.0; goes = of_back.0.1; weighs = rw back (move_early to b m below.fourth) };
+      late = implied_lower arcs 0 i ((from +ℤ pos m) -ℤ d) h (move_late from h d m below.third) (of_head h refl);
+      early = implied_lower arcs i 0 (pos m -ℤ to) b (move_early to b m below.fourth) (of_back b refl);
     }))
     (least_or_none (duration p i) (to -ℤ from) ((h +ℤ duration p i) -ℤ from) (to +ℤ b))
   where
@@ -258,10 +257,10 @@ most_by p arcs from to i m (Some h) (Some b) of_head of_back must =
     let short : pos m ≤ℤ duration p i = must.within_activity in
     at_most_least (duration p i) (to -ℤ from) ((h +ℤ duration p i) -ℤ from) (to +ℤ b) m (record { first = short; second = omega (arith, ints); third = omega (arith, ints); fourth = omega (arith, ints) })
 
-pub part_is : (p : Problem) (arcs : List Lag) (rows : Rows) (from to : ℤ) (i : ℕ) → IsMatrixOf (activity_count p) arcs rows → i < activity_count p → (part_of p rows from to i ≡ 0) ⊎ MustRun p arcs from to i (part_of p rows from to i)
-part_is p arcs rows from to i m lt =
+pub part_is : (p : Problem) (arcs : List Lag) (x : Entries) (from to : ℤ) (i : ℕ) → AreBelow (activity_count p) arcs x → i < activity_count p → (part_of p x.rows from to i ≡ 0) ⊎ MustRun p arcs from to i (part_of p x.rows from to i)
+part_is p arcs x from to i below lt =
     let some : 0 < activity_count p = omega arith in
-    part_by p arcs from to i (entry rows 0 i) (entry rows i 0) (m.greatest 0 i some lt) (m.greatest i 0 lt some)
+    part_by p arcs from to i (entry x.rows 0 i) (entry x.rows i 0) (λ w is. below.walks 0 i w some lt is) (λ w is. below.walks i 0 w lt some is)
 
 pub part_most : (p : Problem) (arcs : List Lag) (rows : Rows) (from to : ℤ) (i k : ℕ) → IsMatrixOf (activity_count p) arcs rows → i < activity_count p → MustRun p arcs from to i k → k ≤ part_of p rows from to i
 part_most p arcs rows from to i k m lt must =

@@ -2,3 +2,4 @@ pub mod Reasons
 pub mod Places
 pub mod Right
 pub mod Standing
+pub mod Sources

@@ -1,24 +1,21 @@
 -- Why no feasible schedule meets all arcs of a block: what walks over them show of each schedule that does.
-use Rattle.std.specs.Prelude.{◌≡◌, ℕ, ◌*◌, ◌<◌, ◌≤◌, ◌⊎◌, ℤ, pos, ◌+ℤ◌, ◌-ℤ◌, ◌≤ℤ◌, ◌<ℤ◌, unsigned_abs, List, [], length, slice_index_or, Option, None, Some, ◌↔◌, Bool, IsTrue}
-use Rattle.std.specs.List.{All, AllPairs, sum_by}
+use Rattle.std.specs.Prelude.{◌≡◌, ℕ, ◌*◌, ◌<◌, ◌≤◌, ◌⊎◌, ℤ, pos, ◌+ℤ◌, ◌-ℤ◌, ◌≤ℤ◌, ◌<ℤ◌, unsigned_abs, List, [], ◌∷◌, ◌++◌, length, slice_index_or, Option, None, Some, map, Bool, true, false, IsTrue}
+use Rattle.std.specs.List.{All, AllPairs, sum_by, range_with_len}
 use Rattle.network.specs.declared.parts.Lag.{Lag}
 use Rattle.network.specs.declared.parts.Pair.{Pair}
 use Rattle.network.specs.Schedule.{IsForbidden}
 use Rattle.network.specs.Problem.{Problem, activities, activity_count, resource_count, duration, demand, capacity, IsWithin}
-use Rattle.network.specs.Walk.{IsWalk, weight, HasPositiveCycle, HasNoPositiveCycle, Rows, entry, IsMatrixOf}
+use Rattle.network.specs.Walk.{HasPositiveCycle, HasNoPositiveCycle, Rows, entry, IsMatrixOf}
 use Rattle.longest_path.specs.Insert.{arc_of, rows_over}
+pub use Rattle.block.specs.Implied.{Implies}
+use Rattle.block.specs.Implied.{ImpliesWith}
+use Rattle.block.specs.Block.{BlockOf, seen}
 use Rattle.rivals.specs.Incompatible.{AreIncompatible}
 use Rattle.schedule_check.specs.Members.{AreMembers}
 use Rattle.lemma_text.specs.declared.reason.Reason.{Reason}
 use Rattle.lemma_text.specs.declared.reason.Reason.TheVariants as reasons
 use Rattle.std.specs.Int.{int_max, int_min}
 use Rattle.lemma_check.specs.declared.weights.TheConstants.{MAX_REVERSE_WEIGHT}
-
--- the arcs imply this one: some walk between its ends weighs at least as much
-pub record Implies (arcs : List Lag) (e : Lag) : Type 0 where
-  pub walk : List Lag
-  pub goes : IsWalk arcs e.from walk e.to
-  pub weighs : e.weight ≤ℤ weight walk
 
 -- activity i ends after j starts
 abbrev pub EndsAfterStart : Problem → List Lag → ℕ → ℕ → Type 0
@@ -121,6 +118,47 @@ abbrev pub MayBeWith : Option Lag → Rows → Type 0
 MayBeWith None rows = Unit {0}
 MayBeWith (Some e) rows = MayBeAdded rows e
 
--- the answer says of the arcs that these rows are the matrix of whether they have the property
-abbrev pub TellsWhether : ℕ → Rows → Bool → (List Lag → Type 0) → Type 0
-TellsWhether n rows answer P = (arcs : List Lag) → IsMatrixOf n arcs rows → IsTrue answer ↔ P arcs
+-- ---- What is known of the walks over the arcs of a block.
+
+-- weights of walks, and arcs beside a matrix
+pub record Entries : Type 0 where
+  pub rows : Rows
+  pub own : Rows
+  pub more : List Lag
+
+-- those of a matrix
+abbrev pub entries_of_matrix : Rows → Entries
+entries_of_matrix rows = record { rows = rows; own = rows; more = [] }
+
+-- the weights of walks that are easily seen
+abbrev pub seen_row : Rows → List ℤ → List ℤ → ℕ → List (Option ℤ)
+seen_row rows heads tails a = map (seen rows heads tails a) (range_with_len 0 (length rows))
+
+abbrev pub seen_rows : Rows → List ℤ → List ℤ → Rows
+seen_rows rows heads tails = map (seen_row rows heads tails) (range_with_len 0 (length rows))
+
+-- those of a block, or of its trial with an arc more
+abbrev pub entries_of_block : Option Lag → BlockOf → Entries
+entries_of_block None x = record { rows = seen_rows x.rows x.heads x.tails; own = x.rows; more = x.more }
+entries_of_block (Some e) x = record { rows = seen_rows x.rows x.tried_heads x.tried_tails; own = x.rows; more = x.more ++ e ∷ [] }
+
+-- no closed walk over the arcs is positive, each weight is at most that of a walk, and what the arcs beside the matrix
+-- imply with it, these do
+pub record AreBelow (n : ℕ) (arcs : List Lag) (x : Entries) : Type 0 where
+  pub no_cycle : HasNoPositiveCycle arcs
+  pub walks : (a b : ℕ) (w : ℤ) → a < n → b < n → entry x.rows a b ≡ Some w → Implies arcs (arc_of a b w)
+  pub beside : (e : Lag) → ImpliesWith n x.own x.more e → Implies arcs e
+
+-- the same, and if it is exact, the weights are the matrix of the arcs
+pub record IsKnown (exact : Bool) (n : ℕ) (arcs : List Lag) (x : Entries) : Type 0 where
+  pub below : AreBelow n arcs x
+  pub matrix : exact ≡ true → IsMatrixOf n arcs x.rows
+
+-- where the answer is yes, the fact holds; and where what is known is exact, only there
+pub record Tells (exact answer : Bool) (P : Type 0) : Type 0 where
+  pub shown : IsTrue answer → P
+  pub only : exact ≡ true → P → IsTrue answer
+
+-- the answer tells by what is known of the arcs whether they have the property
+abbrev pub TellsWhether : ℕ → Entries → Bool → (List Lag → Type 0) → Type 0
+TellsWhether n x answer P = (exact : Bool) (arcs : List Lag) → IsKnown exact n arcs x → Tells exact answer (P arcs)

@@ -1,10 +1,10 @@
 -- What is kept of a line's place: a matrix, and the lines that lemmas begin with.
-use Rattle.std.specs.Prelude.{◌≡◌, ◌<◌, ℕ, ℤ, neg_ℤ, ◌≤ℤ◌, Bool, true, false, Option, None, Some, List, [], ◌∷◌, length, is_some, slice_get}
+use Rattle.std.specs.Prelude.{◌≡◌, ◌<◌, ℕ, ℤ, neg_ℤ, ◌≤ℤ◌, Bool, true, false, Option, None, Some, List, ◌++◌, length, is_some, slice_get}
 use Rattle.std.specs.List.{All, Contains}
 use Rattle.network.specs.declared.parts.Lag.{Lag}
 use Rattle.network.specs.Problem.{Problem, IsProject, IsWithin, activity_count, end_of, rules}
-use Rattle.network.specs.Walk.{Rows, HasPositiveCycle, IsMatrixOf}
-use Rattle.longest_path.specs.Insert.{AddsArc, ClosesCycle, arc_of}
+use Rattle.network.specs.Walk.{Rows, HasPositiveCycle, HasNoPositiveCycle, IsMatrixOf}
+use Rattle.longest_path.specs.Insert.{arc_of}
 use Rattle.longest_path.specs.Saved.{Marked}
 use Rattle.lemma_text.specs.declared.limits.TheConstants.{MAX_WEIGHT}
 use Rattle.lemma_text.specs.declared.line.Line.{Line}
@@ -12,15 +12,36 @@ use Rattle.lemma_check.specs.Places.{lemma_at, lemmas_of, Opened, Place, arcs_at
 use Rattle.lemma_check.specs.Right.{JoinsActivities, IsRightAt}
 use Rattle.lemma_check.specs.declared.state.State.{State}
 
--- the arcs close a walk of positive weight, or these rows are their matrix
-abbrev pub IsKnown : ℕ → List Lag → Bool → Rows → Type 0
-IsKnown n arcs true rows = HasPositiveCycle arcs
-IsKnown n arcs false rows = IsMatrixOf n arcs rows
+-- what is kept of the walks over the arcs of an open lemma that close none of positive weight: the matrix of all
+-- arcs, or the arcs beside the matrix of the record's own
+abbrev pub AreKept : ℕ → List Lag → List Lag → List Lag → Option Marked → Type 0
+AreKept n own arcs more None = (more ≡ arcs) × HasNoPositiveCycle (own ++ arcs)
+AreKept n own arcs more (Some dense) = IsMatrixOf n (own ++ arcs) dense.rows
 
--- in a lemma there is one mark, which leads back to the matrix of the record's own arcs
-abbrev pub LeadsBack : ℕ → List Lag → Option Opened → List Rows → Type 0
-LeadsBack n own None marks = marks ≡ []
-LeadsBack n own (Some lemma) marks = (rows : Rows) × (marks ≡ rows ∷ []) × IsMatrixOf n own rows
+abbrev pub IsKnownInside : ℕ → List Lag → List Lag → Bool → List Lag → Option Marked → Type 0
+IsKnownInside n own arcs true more dense = HasPositiveCycle (own ++ arcs)
+IsKnownInside n own arcs false more dense = AreKept n own arcs more dense
+
+-- the record's own arcs close a walk of positive weight, or these rows are their matrix
+abbrev pub IsKnownOwn : ℕ → List Lag → Bool → Rows → Type 0
+IsKnownOwn n own true rows = HasPositiveCycle own
+IsKnownOwn n own false rows = IsMatrixOf n own rows
+
+-- a matrix, arcs beside it, the matrix of all arcs, whether the block is dead, and the lines with which the lemmas begin
+-- that ended, and the open one
+pub record Kept : Type 0 where
+  pub rows : Rows
+  pub seen : Rows
+  pub more : List Lag
+  pub dense : Option Marked
+  pub is_dead : Bool
+  pub begins : List ℕ
+  pub opened : Option ℕ
+
+-- in a lemma the record's own arcs have this matrix
+abbrev pub IsKnownAt : ℕ → List Lag → Option Opened → Kept → Type 0
+IsKnownAt n own None of = IsKnownOwn n own of.is_dead of.rows
+IsKnownAt n own (Some lemma) of = IsMatrixOf n own of.rows × IsKnownInside n own lemma.arcs of.is_dead of.more of.dense
 
 -- the open lemma, of these arcs at first, begins with the line of this index, and they join activities
 pub record BeginsWith (p : Problem) (lines : List Line) (arcs : List Lag) (opened : Option ℕ) : Type 0 where
@@ -38,16 +59,6 @@ pub record IsDeadAt (at : Place) : Type 0 where
   pub none : at.opened ≡ None
   pub cycle : HasPositiveCycle at.own
 
--- a matrix, whether the block is dead, and the lines with which the lemmas begin that ended, and the open one
-pub record Kept : Type 0 where
-  pub matrix : Marked
-  pub is_dead : Bool
-  pub begins : List ℕ
-  pub opened : Option ℕ
-
-abbrev pub kept : Marked → Bool → List ℕ → Option ℕ → Kept
-kept matrix is_dead begins opened = record { matrix = matrix; is_dead = is_dead; begins = begins; opened = opened }
-
 -- among the arcs are the project's rules and a deadline: the end starts by some time, which is within the limits
 pub record HaveDeadline (p : Problem) (arcs : List Lag) : Type 0 where
   pub limits : IsProject p
@@ -58,9 +69,9 @@ pub record HaveDeadline (p : Problem) (arcs : List Lag) : Type 0 where
 
 -- this is kept of a place
 pub record Stands (p : Problem) (lines : List Line) (at : Place) (of : Kept) : Type 0 where
-  pub size : length of.matrix.rows ≡ activity_count p
-  pub known : IsKnown (activity_count p) (arcs_at at) of.is_dead of.matrix.rows
-  pub back : LeadsBack (activity_count p) at.own at.opened of.matrix.marks
+  pub size : length of.rows ≡ activity_count p
+  pub same : of.seen ≡ of.rows
+  pub known : IsKnownAt (activity_count p) at.own at.opened of
   pub before : at.lemmas ≡ lemmas_of lines of.begins
   pub begins_at : BeginsAt p lines at.opened of.opened
   pub named : All (All (JoinsActivities p)) at.lemmas
@@ -72,11 +83,6 @@ pub record IsRecordLag (n : ℕ) (e : Lag) : Type 0 where
   pub to_activity : e.to < n
   pub light : IsWithin MAX_WEIGHT e.weight
 
--- the arc closes a walk of positive weight, and the matrix is as it was, or it is that with the arc
-abbrev pub IsTaken : Lag → Marked → Marked → Bool → Type 0
-IsTaken e old new true = ClosesCycle e old.rows × (new ≡ old)
-IsTaken e old new false = AddsArc e old.rows new.rows × (new.marks ≡ old.marks)
-
 -- ---- A place of which the block's arcs have a matrix.
 
 -- these are the matrix of the block, the lemmas before it, and whether it is a lemma's
@@ -85,10 +91,22 @@ pub record IsLiveAt (p : Problem) (at : Place) (rows : Rows) (lemmas : List (Lis
   pub before : at.lemmas ≡ lemmas
   pub opened : is_open ≡ is_some at.opened
 
+-- a lemma's block without a closed walk of positive weight: these are the matrix of the record's own arcs, the arcs
+-- beside it, and the lemmas before
+pub record IsSeenAt (p : Problem) (at : Place) (rows : Rows) (more : List Lag) (lemmas : List (List Lag)) : Type 0 where
+  pub own : List Lag
+  pub matrix : IsMatrixOf (activity_count p) own rows
+  pub live : HasNoPositiveCycle (own ++ more)
+  pub arcs : arcs_at at ≡ own ++ more
+  pub before : at.lemmas ≡ lemmas
+
 -- ---- A state of the check of a record's lines, at a place.
 
+abbrev pub kept : State → Kept
+kept s = record { rows = s.matrix.rows; seen = s.block.rows; more = s.block.more; dense = s.dense; is_dead = s.is_dead; begins = s.begins.items; opened = s.opened }
+
 abbrev pub IsAt : Problem → List Line → Place → State → Type 0
-IsAt p lines at s = Stands p lines at (kept s.matrix s.is_dead s.begins.items s.opened)
+IsAt p lines at s = Stands p lines at (kept s)
 
 -- the state is at some place
 pub record IsSomewhere (p : Problem) (lines : List Line) (s : State) : Type 0 where

@@ -14,7 +14,7 @@ use schedule_check::are_members;
 
 /// Whether the second activity starts once the first has ended.
 fn starts_after_end(project: &Project, weights: &Weights, first: usize, second: usize) -> bool
-    requires size { length weights.now ≡ activity_count project.now }
+    requires size { length weights.now.rows ≡ activity_count project.now }
     requires first { first < activity_count project.now }
     requires second { second < activity_count project.now }
     ensures { TellsWhether (activity_count project.now) weights.now result
@@ -29,7 +29,7 @@ fn starts_after_end(project: &Project, weights: &Weights, first: usize, second: 
 
 /// Whether two activities don't run at the same time.
 fn run_apart(project: &Project, weights: &Weights, one: usize, other: usize) -> bool
-    requires size { length weights.now ≡ activity_count project.now }
+    requires size { length weights.now.rows ≡ activity_count project.now }
     requires one { one < activity_count project.now }
     requires other { other < activity_count project.now }
     ensures { TellsWhether (activity_count project.now) weights.now result
@@ -50,7 +50,7 @@ fn run_apart(project: &Project, weights: &Weights, one: usize, other: usize) -> 
 
 /// Whether none of these activities runs at the same time as this one.
 fn all_run_apart(project: &Project, weights: &Weights, others: &[usize], activity: usize) -> bool
-    requires size { length weights.now ≡ activity_count project.now }
+    requires size { length weights.now.rows ≡ activity_count project.now }
     requires others { All (λ i. i < activity_count project.now) others.now }
     requires activity { activity < activity_count project.now }
     ensures { TellsWhether (activity_count project.now) weights.now result
@@ -66,7 +66,7 @@ fn all_run_apart(project: &Project, weights: &Weights, others: &[usize], activit
 
 /// Whether the members run one at a time.
 fn run_one_at_a_time(project: &Project, weights: &Weights, members: &[usize]) -> bool
-    requires size { length weights.now ≡ activity_count project.now }
+    requires size { length weights.now.rows ≡ activity_count project.now }
     requires members { AreMembers project.now members.now }
     ensures { TellsWhether (activity_count project.now) weights.now result
         (λ arcs. AllPairs (RunApart project.now arcs) members.now) }
@@ -81,7 +81,7 @@ fn run_one_at_a_time(project: &Project, weights: &Weights, members: &[usize]) ->
 
 /// Whether an activity runs within the window, whenever it starts.
 fn runs_within(project: &Project, weights: &Weights, from: i64, to: i64, activity: usize) -> bool
-    requires size { length weights.now ≡ activity_count project.now }
+    requires size { length weights.now.rows ≡ activity_count project.now }
     requires activity { activity < activity_count project.now }
     requires time { IsTime to }
     ensures { TellsWhether (activity_count project.now) weights.now result
@@ -111,7 +111,7 @@ fn all_run_within(
     to: i64,
     members: &[usize],
 ) -> bool
-    requires size { length weights.now ≡ activity_count project.now }
+    requires size { length weights.now.rows ≡ activity_count project.now }
     requires members { AreMembers project.now members.now }
     requires time { IsTime to }
     ensures { TellsWhether (activity_count project.now) weights.now result
@@ -147,7 +147,7 @@ pub(crate) fn is_clique(
     to: i64,
     members: &[usize],
 ) -> bool
-    requires size { length weights.now ≡ activity_count project.now }
+    requires size { length weights.now.rows ≡ activity_count project.now }
     requires from_time { IsTime from }
     requires to_time { IsTime to }
     ensures { TellsWhether (activity_count project.now) weights.now result

@@ -18,7 +18,7 @@ use network::Project;
 
 /// Whether the reason ends the block of these weights, whose arcs close no walk of positive weight.
 pub(crate) fn ends(project: &Project, weights: &Weights, lemmas: &Lemmas, reason: &Reason) -> bool
-    requires size { length weights.now ≡ activity_count project.now }
+    requires size { length weights.now.rows ≡ activity_count project.now }
     requires named { All (All (JoinsActivities project.now)) lemmas.now }
     requires writable { IsWritableReason reason.now }
     ensures { TellsWhether (activity_count project.now) weights.now result

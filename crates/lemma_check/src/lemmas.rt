@@ -60,8 +60,8 @@ impl<'a> Lemmas<'a> {
 
 /// Whether the arcs of a block imply each of these.
 fn implies_all(weights: &Weights, lemma: &[Lag]) -> bool
-    requires { All (λ e. (e.from < length weights.now) × (e.to < length weights.now)) lemma.now }
-    ensures { TellsWhether (length weights.now) weights.now result (λ arcs. All (Implies arcs) lemma.now) }
+    requires { All (λ e. (e.from < length weights.now.rows) × (e.to < length weights.now.rows)) lemma.now }
+    ensures { TellsWhether (length weights.now.rows) weights.now result (λ arcs. All (Implies arcs) lemma.now) }
 {
     for arc in lemma {
         if !weights.implies(*arc) {
@@ -73,8 +73,8 @@ fn implies_all(weights: &Weights, lemma: &[Lag]) -> bool
 
 /// Whether the lemma is there, and the arcs of a block imply each of its own.
 pub(crate) fn is_use(weights: &Weights, lemmas: &Lemmas, lemma: usize) -> bool
-    requires { (p : Problem) × (length weights.now ≡ activity_count p) × All (All (JoinsActivities p)) lemmas.now }
-    ensures { TellsWhether (length weights.now) weights.now result (λ arcs. IsUse lemmas.now arcs lemma) }
+    requires { (p : Problem) × (length weights.now.rows ≡ activity_count p) × All (All (JoinsActivities p)) lemmas.now }
+    ensures { TellsWhether (length weights.now.rows) weights.now result (λ arcs. IsUse lemmas.now arcs lemma) }
 {
     match lemmas.get(lemma) {
         Some(arcs) => implies_all(weights, arcs),

@@ -7,6 +7,7 @@ mod lemmas;
 mod lines;
 mod load;
 mod right;
+mod seen;
 mod set;
 mod state;
 mod verification;

@@ -64,7 +64,8 @@ pub(crate) fn check_lines(
         return check_dead(first, lines);
     };
     for (index, line) in lines.iter().enumerate() {
-        if !state.is_right(project, lines, line) {
+        let is_right = state.is_right(project, lines, line)?;
+        if !is_right {
             return Err(RecordFault {
                 line: first + index,
                 why: why_wrong(line),

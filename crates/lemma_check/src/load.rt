@@ -10,11 +10,11 @@ use network::Project;
 
 /// How long an activity runs in the window at least, in periods.
 fn part(project: &Project, weights: &Weights, from: i64, to: i64, activity: usize) -> u64
-    requires size { length weights.now ≡ activity_count project.now }
+    requires size { length weights.now.rows ≡ activity_count project.now }
     requires activity { activity < activity_count project.now }
     requires from_time { IsTime from }
     requires to_time { IsTime to }
-    ensures value { result ≡ part_of project.now weights.now from to activity }
+    ensures value { result ≡ part_of project.now weights.now.rows from to activity }
     ensures small { result ≤ 1_000_000 }
 {
     let duration = project.duration(activity);
@@ -29,11 +29,11 @@ fn part(project: &Project, weights: &Weights, from: i64, to: i64, activity: usiz
 
 /// What all activities ask of a resource in the window at least.
 fn load(project: &Project, weights: &Weights, resource: usize, from: i64, to: i64) -> u64
-    requires size { length weights.now ≡ activity_count project.now }
+    requires size { length weights.now.rows ≡ activity_count project.now }
     requires resource { resource < resource_count project.now }
     requires from_time { IsTime from }
     requires to_time { IsTime to }
-    ensures { result ≡ load_of project.now weights.now resource from to (activities project.now) }
+    ensures { result ≡ load_of project.now weights.now.rows resource from to (activities project.now) }
 {
     let mut total = 0;
     for activity in 0..project.activity_count() {
@@ -51,7 +51,7 @@ pub(crate) fn is_load(
     from: i64,
     to: i64,
 ) -> bool
-    requires size { length weights.now ≡ activity_count project.now }
+    requires size { length weights.now.rows ≡ activity_count project.now }
     requires from_time { IsTime from }
     requires to_time { IsTime to }
     ensures { TellsWhether (activity_count project.now) weights.now result

@@ -8,7 +8,8 @@ ghost use Rattle.network.specs.Problem.{IsWithin, activity_count};
 ghost use Rattle.lemma_text.specs.Text.{IsWritableLine, IsWritableReason};
 ghost use Rattle.lemma_check.specs.Standing.{IsLiveAt};
 ghost use Rattle.lemma_check.specs.Places.{Place};
-ghost use Rattle.lemma_check.specs.Right.{IsForced, IsRightAt, IsShown, JoinsActivities};
+ghost use Rattle.network.specs.Walk.{IsMatrixOf};
+ghost use Rattle.lemma_check.specs.Right.{IsForced, IsRightAt, IsShown, JoinsActivities, reverse_of};
 ghost use Rattle.lemma_check.specs.Reasons.{TellsWhether};
 
 use crate::ending::ends;
@@ -20,7 +21,7 @@ use network::{Lag, Pair, Project};
 use rivals::are_incompatible;
 
 /// Whether both ends of an arc are activities.
-fn joins_activities(project: &Project, arc: Lag) -> bool
+pub(crate) fn joins_activities(project: &Project, arc: Lag) -> bool
     ensures { IsTrue result ↔ JoinsActivities project.now arc }
 {
     let count = project.activity_count();
@@ -39,20 +40,31 @@ fn all_join_activities(project: &Project, arcs: &[Lag]) -> bool
     true
 }
 
-/// Whether the pair is forced, by the matrix of its block.
-fn is_forced(project: &Project, matrix: &Matrix, pair: Pair) -> bool
-    requires { length matrix.now ≡ activity_count project.now }
-    ensures { TellsWhether (activity_count project.now) matrix.now result (λ arcs. IsForced project.now arcs pair) }
+/// Whether the pair is forced.
+pub(crate) fn is_forced(project: &Project, weights: &Weights, pair: Pair) -> bool
+    requires { length weights.now.rows ≡ activity_count project.now }
+    ensures { TellsWhether (activity_count project.now) weights.now result (λ arcs. IsForced project.now arcs pair) }
 {
     if !are_incompatible(project, pair) {
         return false;
     }
-    let weights = Weights::of(matrix);
     weights.implies(Lag {
         from: pair.before,
         to: pair.after,
         weight: 1 - project.duration(pair.after),
     })
+}
+
+/// The arc that is met where this one isn't.
+pub(crate) fn reverse_of(arc: Lag) -> Lag
+    requires { IsWithin MAX_WEIGHT arc.weight }
+    ensures { result ≡ reverse_of arc }
+{
+    Lag {
+        from: arc.to,
+        to: arc.from,
+        weight: 1 - arc.weight,
+    }
 }
 
 /// Whether the matrix of its block implies the arc, or the reason ends the block with the arc's reverse, which is not
@@ -62,8 +74,8 @@ fn is_shown(project: &Project, matrix: &Matrix, lemmas: &Lemmas, arc: Lag, reaso
     requires named { All (All (JoinsActivities project.now)) lemmas.now }
     requires light { IsWithin MAX_WEIGHT arc.weight }
     requires writable { IsWritableReason reason.now }
-    ensures { TellsWhether (activity_count project.now) matrix.now result
-        (λ arcs. IsShown project.now lemmas.now arcs arc reason.now) }
+    ensures { (arcs : List Lag) → IsMatrixOf (activity_count project.now) arcs matrix.now →
+        IsTrue result ↔ IsShown project.now lemmas.now arcs arc reason.now }
 {
     if !joins_activities(project, arc) {
         return false;
@@ -71,12 +83,7 @@ fn is_shown(project: &Project, matrix: &Matrix, lemmas: &Lemmas, arc: Lag, reaso
     if Weights::of(matrix).implies(arc) {
         return true;
     }
-    let reverse = Lag {
-        from: arc.to,
-        to: arc.from,
-        weight: 1 - arc.weight,
-    };
-    let weights = Weights::with(matrix, reverse);
+    let weights = Weights::with(matrix, reverse_of(arc));
     ends(project, &weights, lemmas, reason)
 }
 
@@ -101,7 +108,7 @@ pub(crate) fn is_right_by(
             }
             all_join_activities(project, arcs.as_slice())
         }
-        Line::Force(pair) => is_forced(project, matrix, *pair),
+        Line::Force(pair) => is_forced(project, &Weights::of(matrix), *pair),
         Line::Add { arc, reason } => is_shown(project, matrix, lemmas, *arc, reason),
         Line::End { reason } => ends(project, &Weights::of(matrix), lemmas, reason),
     }

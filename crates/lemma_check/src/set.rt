@@ -13,7 +13,7 @@ use schedule_check::{are_members, is_forbidden};
 
 /// Whether an activity ends after each of the members starts.
 fn ends_after_all(project: &Project, weights: &Weights, activity: usize, members: &[usize]) -> bool
-    requires size { length weights.now ≡ activity_count project.now }
+    requires size { length weights.now.rows ≡ activity_count project.now }
     requires activity { activity < activity_count project.now }
     requires members { AreMembers project.now members.now }
     ensures { TellsWhether (activity_count project.now) weights.now result
@@ -35,7 +35,7 @@ fn ends_after_all(project: &Project, weights: &Weights, activity: usize, members
 
 /// Whether each two of the members overlap.
 fn all_overlap(project: &Project, weights: &Weights, members: &[usize]) -> bool
-    requires size { length weights.now ≡ activity_count project.now }
+    requires size { length weights.now.rows ≡ activity_count project.now }
     requires members { AreMembers project.now members.now }
     ensures { TellsWhether (activity_count project.now) weights.now result
         (λ arcs. All (λ i. All (EndsAfterStart project.now arcs i) members.now) members.now) }
@@ -55,7 +55,7 @@ pub(crate) fn is_set(
     resource: usize,
     members: &[usize],
 ) -> bool
-    requires { length weights.now ≡ activity_count project.now }
+    requires { length weights.now.rows ≡ activity_count project.now }
     ensures { TellsWhether (activity_count project.now) weights.now result
         (λ arcs. IsSet project.now arcs resource members.now) }
 {

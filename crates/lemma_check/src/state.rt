@@ -1,9 +1,10 @@
 //! The block that a line stands in: its matrix, and the lemmas before.
 
-ghost use Rattle.std.specs.Prelude.{◌≡◌, ◌↔◌, pos, ◌-ℤ◌, ◌<◌, List, length, IsTrue, IfOk, OnOk, MatchOption};
+ghost use Rattle.std.specs.Prelude.{◌≡◌, ◌↔◌, pos, ◌-ℤ◌, List, None, length, false, IsTrue, IsSome, IfOk, OnOk, MatchOption};
 ghost use Rattle.std.specs.List.{All};
 ghost use Rattle.network.specs.Problem.{IsProject, IsWithin, Problem, activity_count};
-ghost use Rattle.longest_path.specs.Insert.{FillsRows};
+ghost use Rattle.longest_path.specs.Matrix.{IsFull};
+ghost use Rattle.block.specs.Block.{IsMatrixWith};
 ghost use Rattle.lemma_text.specs.declared.limits.TheConstants.{MAX_WEIGHT};
 ghost use Rattle.lemma_text.specs.declared.line.Line.{Line};
 ghost use Rattle.lemma_text.specs.declared.line.Line.TheVariants as kind;
@@ -11,10 +12,12 @@ ghost use Rattle.lemma_text.specs.declared.reason.Reason.TheVariants as reasons;
 ghost use Rattle.lemma_text.specs.Text.{IsWritableClaim, IsWritableLine};
 ghost use Rattle.lemma_check.specs.Places.{Place, bound_of, deadline, ended, first_place, with_arc};
 ghost use Rattle.lemma_check.specs.Right.{IsRightAt};
-ghost use Rattle.lemma_check.specs.Standing.{IsDeadAt, IsRecordLag, IsTaken};
+ghost use Rattle.lemma_check.specs.Standing.{IsDeadAt, IsRecordLag};
 
 use crate::lemmas::Lemmas;
 use crate::right::is_right_by;
+use crate::seen::is_seen_right;
+use block::{Block, matrix_with, take};
 use horizon::horizon_of;
 use lemma_text::{Claim, Line, Reason};
 use longest_path::{MarkedMatrix, PathFault, longest};
@@ -24,9 +27,13 @@ use std::alloc::{AllocError, Global};
 /// What is kept of a line's place.
 #[derive(Drop)]
 pub(crate) struct State {
-    /// The matrix of the arcs of the block, or of those before the one that closes a walk of positive weight. In a
-    /// lemma it has a mark at the record's own arcs.
+    alloc: Global,
+    /// The matrix of the record's own arcs, or of those before the one that closes a walk of positive weight.
     matrix: MarkedMatrix,
+    /// This matrix, and in a lemma the arcs beside it.
+    block: Block,
+    /// The matrix of all arcs of the lemma, where heads and tails didn't show enough.
+    dense: Option<MarkedMatrix>,
     /// Whether the arcs of the block close a walk of positive weight.
     is_dead: bool,
     /// The lines that the lemmas begin with which have ended.
@@ -62,22 +69,6 @@ fn deadline(project: &Project, bound: i64) -> Lag
     }
 }
 
-/// Adds an arc with which every activity reaches every other. Whether it closes a walk of positive weight, and is not
-/// added.
-fn take(matrix: &mut MarkedMatrix, arc: Lag) -> Result<bool, AllocError>
-    requires from_activity { arc.from < length matrix.old.rows }
-    requires to_activity { arc.to < length matrix.old.rows }
-    requires fills { FillsRows arc matrix.old.rows }
-    ensures size { length matrix.new.rows ≡ length matrix.old.rows }
-    ensures taken { IfOk result (IsTaken arc matrix.old matrix.new) }
-{
-    match matrix.insert_filling(arc.from, arc.to, arc.weight) {
-        Ok(()) => Ok(false),
-        Err(PathFault::PositiveCycle { .. }) => Ok(true),
-        Err(PathFault::Memory) => Err(AllocError),
-    }
-}
-
 /// Whether this is the line `end dead`.
 pub(crate) fn ends_dead(line: &Line) -> bool
     ensures { IsTrue result ↔ (line.now ≡ kind.End reasons.Dead) }
@@ -93,8 +84,8 @@ pub(crate) fn ends_dead(line: &Line) -> bool
 impl State {
     ghost use Rattle.lemma_check.specs.Standing.{GoesOn, IsAt, IsRightSomewhere, IsSomewhere, Leads};
 
-    /// The state at the first line of a record with this claim. None if the project's own rules close a walk of
-    /// positive weight.
+    /// The state at the first line of a record with this claim. None if the project's own rules and the deadline close
+    /// a walk of positive weight.
     pub(crate) fn first(
         alloc: Global,
         project: &Project,
@@ -110,29 +101,165 @@ impl State {
             Err(PathFault::Memory) => return Err(AllocError),
         };
         let mut matrix = MarkedMatrix::new(alloc, matrix);
-        let deadline = deadline(project, bound_of(project, claim));
-        let is_dead = take(&mut matrix, deadline)?;
+        if take(&mut matrix, deadline(project, bound_of(project, claim)))? {
+            return Ok(None);
+        }
+        let block = Block::new(alloc, matrix.matrix())?;
         Ok(Some(State {
+            alloc,
             matrix,
-            is_dead,
+            block,
+            dense: None,
+            is_dead: false,
             begins: Vec::new(alloc),
             opened: None,
         }))
     }
 
-    /// Whether a line is right.
-    pub(crate) fn is_right(&self, project: &Project, lines: &[Line], line: &Line) -> bool
+    /// The matrix of all arcs of the lemma. None if they close a walk of positive weight.
+    fn dense_of(&self) -> Result<Option<MarkedMatrix>, AllocError>
+        requires same { self.now.block.rows ≡ self.now.matrix.rows }
+        requires full { IsFull self.now.matrix.rows }
+        ensures { IfOk result (IsMatrixWith self.now.matrix.rows self.now.block.more) }
+    {
+        prove!(self.block.activity_count() > 0);
+        matrix_with(self.alloc, self.matrix.matrix(), self.block.more())
+    }
+
+    /// Whether walks that are easily seen show that a line of a lemma is right.
+    fn is_seen(&mut self, project: &Project, lines: &[Line], line: &Line) -> bool
+        requires somewhere { IsSomewhere project.now lines.now self.old }
+        requires open { IsSome self.old.opened }
+        requires live { self.old.is_dead ≡ false }
+        requires light { self.old.dense ≡ None }
+        requires writable { IsWritableLine line.now }
+        ensures block { self.new ≡ record self.old { block = self.new.block } }
+        ensures rows { self.new.block.rows ≡ self.old.block.rows }
+        ensures more { self.new.block.more ≡ self.old.block.more }
+        ensures right { IsTrue result → (at : Place) → IsAt project.now lines.now at self.old →
+            IsRightAt project.now at line.now }
+    {
+        let lemmas = Lemmas::of(lines, self.begins.as_slice());
+        is_seen_right(project, &mut self.block, &lemmas, line)
+    }
+
+    /// Whether a line of a lemma is right, by the matrix of all arcs.
+    fn is_right_dense(&self, project: &Project, lines: &[Line], line: &Line) -> bool
         requires somewhere { IsSomewhere project.now lines.now self.now }
+        requires open { IsSome self.now.opened }
+        requires live { self.now.is_dead ≡ false }
+        requires dense { IsSome self.now.dense }
         requires writable { IsWritableLine line.now }
         ensures { (at : Place) → IsAt project.now lines.now at self.now →
             IsTrue result ↔ IsRightAt project.now at line.now }
     {
+        let Some(dense) = &self.dense else {
+            return false;
+        };
+        let lemmas = Lemmas::of(lines, self.begins.as_slice());
+        is_right_by(project, dense.matrix(), &lemmas, true, line)
+    }
+
+    /// Makes the matrix of all arcs of the lemma, if there is none.
+    fn make_dense(&mut self) -> Result<(), AllocError>
+        requires somewhere { (p : Problem) × (lines : List Line) × IsSomewhere p lines self.old }
+        requires open { IsSome self.old.opened }
+        requires live { self.old.is_dead ≡ false }
+        requires light { self.old.dense ≡ None }
+        ensures dense { OnOk result (IsSome self.new.dense) }
+        ensures same { self.new ≡ record self.old { dense = self.new.dense } }
+        ensures kept { OnOk result (Leads (λ p at. at) self.old self.new) }
+    {
+        self.dense = self.dense_of()?;
+        Ok(())
+    }
+
+    /// Whether a line of a lemma is right. By walks that are easily seen, or else by the matrix of all arcs.
+    fn is_right_inside(
+        &mut self,
+        project: &Project,
+        lines: &[Line],
+        line: &Line,
+    ) -> Result<bool, AllocError>
+        requires somewhere { IsSomewhere project.now lines.now self.old }
+        requires open { IsSome self.old.opened }
+        requires live { self.old.is_dead ≡ false }
+        requires writable { IsWritableLine line.now }
+        ensures kept { OnOk result (Leads (λ p at. at) self.old self.new) }
+        ensures right { IfOk result (λ right. (at : Place) → IsAt project.now lines.now at self.old →
+            IsTrue right ↔ IsRightAt project.now at line.now) }
+    {
+        if self.dense.is_none() {
+            if self.is_seen(project, lines, line) {
+                return Ok(true);
+            }
+            self.make_dense()?;
+        }
+        Ok(self.is_right_dense(project, lines, line))
+    }
+
+    /// Whether a line is right.
+    pub(crate) fn is_right(
+        &mut self,
+        project: &Project,
+        lines: &[Line],
+        line: &Line,
+    ) -> Result<bool, AllocError>
+        requires somewhere { IsSomewhere project.now lines.now self.old }
+        requires writable { IsWritableLine line.now }
+        ensures kept { OnOk result (Leads (λ p at. at) self.old self.new) }
+        ensures right { IfOk result (λ right. (at : Place) → IsAt project.now lines.now at self.old →
+            IsTrue right ↔ IsRightAt project.now at line.now) }
+    {
         if self.is_dead {
-            return ends_dead(line);
+            return Ok(ends_dead(line));
+        }
+        if self.opened.is_some() {
+            return self.is_right_inside(project, lines, line);
         }
         let lemmas = Lemmas::of(lines, self.begins.as_slice());
-        let is_open = self.opened.is_some();
-        is_right_by(project, self.matrix.matrix(), &lemmas, is_open, line)
+        Ok(is_right_by(project, self.matrix.matrix(), &lemmas, false, line))
+    }
+
+    /// Adds an arc to the record's own block.
+    fn add_own(&mut self, arc: Lag) -> Result<(), AllocError>
+        requires somewhere { (p : Problem) × (lines : List Line) × IsSomewhere p lines self.old }
+        requires own { self.old.opened ≡ None }
+        requires live { self.old.is_dead ≡ false }
+        requires arc { IsRecordLag (length self.old.matrix.rows) arc }
+        ensures size { length self.new.matrix.rows ≡ length self.old.matrix.rows }
+        ensures added { OnOk result (Leads (λ p at. with_arc arc at.lemmas at.own at.opened) self.old self.new) }
+    {
+        if take(&mut self.matrix, arc)? {
+            self.is_dead = true;
+            return Ok(());
+        }
+        self.block = Block::new(self.alloc, self.matrix.matrix())?;
+        Ok(())
+    }
+
+    /// Adds an arc to the lemma.
+    fn add_inside(&mut self, arc: Lag) -> Result<(), AllocError>
+        requires somewhere { (p : Problem) × (lines : List Line) × IsSomewhere p lines self.old }
+        requires open { IsSome self.old.opened }
+        requires live { self.old.is_dead ≡ false }
+        requires arc { IsRecordLag (length self.old.matrix.rows) arc }
+        ensures size { length self.new.matrix.rows ≡ length self.old.matrix.rows }
+        ensures added { OnOk result (Leads (λ p at. with_arc arc at.lemmas at.own at.opened) self.old self.new) }
+    {
+        if let Some(mut dense) = self.dense.take() {
+            self.is_dead = take(&mut dense, arc)?;
+            self.dense = Some(dense);
+            return Ok(());
+        }
+        match self.block.add(arc)? {
+            Some(is_dead) => self.is_dead = is_dead,
+            None => {
+                self.dense = self.dense_of()?;
+                self.is_dead = self.dense.is_none();
+            }
+        }
+        Ok(())
     }
 
     /// Adds an arc to the block.
@@ -145,8 +272,10 @@ impl State {
         if self.is_dead {
             return Ok(());
         }
-        self.is_dead = take(&mut self.matrix, arc)?;
-        Ok(())
+        if self.opened.is_some() {
+            return self.add_inside(arc);
+        }
+        self.add_own(arc)
     }
 
     /// Begins a lemma with the line of this index, which has these arcs.
@@ -155,7 +284,8 @@ impl State {
         requires arcs { All (IsRecordLag (length self.old.matrix.rows)) arcs.now }
         ensures { OnOk result ((p : Problem) → GoesOn p index (kind.Lemma arcs.now) self.old self.new) }
     {
-        self.matrix.mark()?;
+        self.block.begin();
+        self.dense = None;
         self.opened = Some(index);
         for arc in arcs {
             self.add(*arc)?;
@@ -172,7 +302,6 @@ impl State {
             return Ok(());
         };
         self.begins.push(begin)?;
-        self.matrix.go_back();
         self.opened = None;
         self.is_dead = false;
         Ok(())

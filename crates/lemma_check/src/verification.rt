@@ -21,9 +21,10 @@ pub fn right_law()
 /// What a right record proves of a project. Otherwise its first fault: of the starts, then of the first line of the
 /// blocks that is not right. [`Why::Memory`] says nothing of the record.
 ///
-/// It checks each line with the matrix of the greatest weights of walks over its block's arcs. There is one matrix (by
-/// Floyd 1962 and Warshall 1962). It takes each arc that a line adds, and goes back where a lemma ends. A lemma that
-/// has ended takes one number of memory.
+/// The record's own arcs have a matrix of the greatest weights of walks (by Floyd 1962 and Warshall 1962), which takes
+/// each arc that a line of the record's own block adds. A lemma has heads and tails, the weights from the start and back
+/// to it. The matrix of all its arcs is made only where these don't show that a line is right. A lemma that has ended
+/// takes one number of memory.
 pub fn verify(alloc: Global, project: &Project, shown: &LemmaRecord) -> Result<Proved, RecordFault>
     ensures { IsVerdict lemma_kind lemma_judge project.now shown.now result }
 {

@@ -1,13 +1,12 @@
-use Rattle.std.proofs.lemmas.Bool.{iff_false}
 use Rattle.lemma_check.specs.Reasons.{RunApart}
-use Rattle.lemma_check.proofs.Loops.{pairs_more, pairs_fail, pairs_hold}
+use Rattle.lemma_check.proofs.Loops.{tells_false, pairs_more, pairs_fail, pairs_hold}
 use Rattle.lemma_check.proofs.clique.run_one_at_a_time.Goals as goal
 
 pub returns-then-not-all_run_apart : goal.returns-then-not-all_run_apart
-returns-then-not-all_run_apart c = λ arcs m. pairs_fail (RunApart c.args.project.now arcs) c.args.members.now c.loop-place.place c.loop-place-test.true (iff_false (c.all_run_apart.ensures arcs m) c.if-not-all_run_apart.true)
+returns-then-not-all_run_apart c = λ exact arcs m. pairs_fail (RunApart c.args.project.now arcs) c.args.members.now c.loop-place.place c.loop-place-test.true (tells_false (c.all_run_apart.ensures exact arcs m) c.if-not-all_run_apart.true)
 
 pub loop-place-preserved : goal.loop-place-preserved
-loop-place-preserved c = λ arcs m. pairs_more (RunApart c.args.project.now arcs) c.args.members.now c.loop-place.place c.loop-place-test.true (c.loop-place.invariant arcs m) ((c.all_run_apart.ensures arcs m).0 c.if-not-all_run_apart.false)
+loop-place-preserved c = λ exact arcs m. pairs_more (RunApart c.args.project.now arcs) c.args.members.now c.loop-place.place c.loop-place-test.true (c.loop-place.invariant exact arcs m) ((c.all_run_apart.ensures exact arcs m).shown c.if-not-all_run_apart.false)
 
 pub returns : goal.returns
-returns c = λ arcs m. pairs_hold (RunApart c.args.project.now arcs) c.args.members.now c.loop-place.place c.loop-place-test.false (c.loop-place.invariant arcs m)
+returns c = λ exact arcs m. pairs_hold (RunApart c.args.project.now arcs) c.args.members.now c.loop-place.place c.loop-place-test.false (c.loop-place.invariant exact arcs m)

@@ -40,7 +40,7 @@ returns-then-not-is_right-clause-fault c = λ _.
     let i = c.loop-index.index in
     let told : fault_at (c.first_line-first.result + c.loop-index.index) c.why_wrong.result ≡ fault_at (c.first_line-first.result + c.loop-index.index) (why_wrong c.index-lines-index.result) = ap (fault_at (c.first_line-first.result + i)) c.why_wrong.ensures in
     rw (sym c.first_line-first.ensures.is) (first_wrong p at c.first_line-first.result c.args.lines.now i c.index-lines-index.result (fault_at (c.first_line-first.result + i) c.why_wrong.result) c.loop-index-test.true c.index-lines-index.is c.loop-index.invariant.right
-    (iff_false (c.is_right.ensures (place_at p at c.args.lines.now i) c.loop-index.invariant.stands) c.if-not-is_right.true) told)
+    (iff_false (c.in_ok-is_right.ensures.right (place_at p at c.args.lines.now i) c.loop-index.invariant.stands) c.if-not-is_right.true) told)
 
 pub returns-in_err-go_on-clause-fault : goal.returns-in_err-go_on-clause-fault
 returns-in_err-go_on-clause-fault c = memory_says (IsFirstWrong c.args.project.now (first_place c.args.project.now c.args.claim.now) (first_line lemma_kind c.args.claim.now) c.args.lines.now) c.from_residual-in_err-go_on.result c.from_residual-in_err-go_on.ensures.1
@@ -53,8 +53,9 @@ loop-index-preserved c =
     let lines = c.args.lines.now in
     let line = c.index-lines-index.result in
     let here : Place = place_at p at lines i in
-    let right : IsRightAt p here line = (c.is_right.ensures here c.loop-index.invariant.stands).0 c.if-not-is_right.false in
-    let next = c.in_ok-go_on.ensures lines here c.loop-index.invariant.stands right (slice_get_read lines _ i line refl c.loop-index-test.true c.index-lines-index.is) in
+    let right : IsRightAt p here line = (c.in_ok-is_right.ensures.right here c.loop-index.invariant.stands).0 c.if-not-is_right.false in
+    let stands = c.in_ok-is_right.ensures.kept p lines here c.loop-index.invariant.stands in
+    let next = c.in_ok-go_on.ensures lines here stands right (slice_get_read lines _ i line refl c.loop-index-test.true c.index-lines-index.is) in
     record {
       stands = rw (place_more p at lines i line c.loop-index-test.true c.index-lines-index.is) next;
       right = right_more p at lines i line c.loop-index-test.true c.index-lines-index.is c.loop-index.invariant.right right;
@@ -62,3 +63,15 @@ loop-index-preserved c =
 
 pub returns-clause-right : goal.returns-clause-right
 returns-clause-right c = right_all c.args.project.now (first_place c.args.project.now c.args.claim.now) c.args.lines.now c.loop-index.index c.loop-index-test.false c.loop-index.invariant.right
+
+pub returns-in_err-is_right-clause-fault : goal.returns-in_err-is_right-clause-fault
+returns-in_err-is_right-clause-fault c = memory_says (IsFirstWrong c.args.project.now (first_place c.args.project.now c.args.claim.now) (first_line lemma_kind c.args.claim.now) c.args.lines.now) c.from_residual-in_err-is_right.result c.from_residual-in_err-is_right.ensures.1
+
+pub go_on-requires-clause-right : goal.go_on-requires-clause-right
+go_on-requires-clause-right c =
+    let p = c.args.project.now in
+    let lines = c.args.lines.now in
+    let line = c.index-lines-index.result in
+    let here : Place = place_at c.args.project.now (first_place c.args.project.now c.args.claim.now) c.args.lines.now c.loop-index.index in
+    let right : IsRightAt p here line = (c.in_ok-is_right.ensures.right here c.loop-index.invariant.stands).0 c.if-not-is_right.false in
+    record { lines = lines; place = here; stands = c.in_ok-is_right.ensures.kept p lines here c.loop-index.invariant.stands; right = right; read = slice_get_read lines _ c.loop-index.index line refl c.loop-index-test.true c.index-lines-index.is }

@@ -5,6 +5,6 @@ use Rattle.lemma_check.proofs.load.load.Given as goal
 
 abbrev pub invariant-loop-activity : goal.invariant-loop-activity
 invariant-loop-activity l = record {
-  so_far : l.total ≡ load_of l.project l.weights l.resource l.from l.to (range_with_len 0 l.activity);
+  so_far : l.total ≡ load_of l.project l.weights.rows l.resource l.from l.to (range_with_len 0 l.activity);
   small : l.total ≤ l.activity * 1000000000000;
 }

@@ -3,28 +3,28 @@ use Rattle.std.specs.Int.{int_max, int_min}
 use Rattle.std.proofs.lemmas.Int.{ints, clamps, to_z-of_z}
 use Rattle.network.specs.Problem.{IsWithin}
 use Rattle.network.specs.Walk.{entry}
-pub use Rattle.lemma_check.specs.declared.weights.TheConstants.{MAX_WAY_WEIGHT}
+pub use Rattle.lemma_check.specs.declared.weights.TheConstants.{MAX_KNOWN_WEIGHT}
 use Rattle.lemma_check.proofs.load.part.Goals as goal
 
 pub overflow_add-head : goal.overflow_add-head
 overflow_add-head c =
-    let small : IsWithin MAX_WAY_WEIGHT c.in-Some-Some.head = rw c.in-Some-Some.is-0 at c.get-head.ensures.fits in
+    let small : IsWithin MAX_KNOWN_WEIGHT c.in-Some-Some.head = rw c.in-Some-Some.is-0 at c.get-head.ensures.fits in
     omega (arith, ints, small.at_least, small.at_most, c.duration-duration.ensures.amount.at_least, c.duration-duration.ensures.amount.at_most)
 
 pub overflow_sub-head : goal.overflow_sub-head
 overflow_sub-head c =
-    let small : IsWithin MAX_WAY_WEIGHT c.in-Some-Some.head = rw c.in-Some-Some.is-0 at c.get-head.ensures.fits in
+    let small : IsWithin MAX_KNOWN_WEIGHT c.in-Some-Some.head = rw c.in-Some-Some.is-0 at c.get-head.ensures.fits in
     omega (arith, ints, small.at_least, small.at_most, c.duration-duration.ensures.amount.at_least, c.duration-duration.ensures.amount.at_most, c.requires.from_time.at_least, c.requires.from_time.at_most)
 
 pub overflow_add-to : goal.overflow_add-to
 overflow_add-to c =
-    let small : IsWithin MAX_WAY_WEIGHT c.in-Some-Some.back = rw c.in-Some-Some.is-1 at c.get-back.ensures.fits in
+    let small : IsWithin MAX_KNOWN_WEIGHT c.in-Some-Some.back = rw c.in-Some-Some.is-1 at c.get-back.ensures.fits in
     omega (arith, ints, small.at_least, small.at_most, c.requires.to_time.at_least, c.requires.to_time.at_most)
 
 pub returns-clause-value : goal.returns-clause-value
 returns-clause-value c =
-    let head_small : IsWithin MAX_WAY_WEIGHT c.in-Some-Some.head = rw c.in-Some-Some.is-0 at c.get-head.ensures.fits in
-    let back_small : IsWithin MAX_WAY_WEIGHT c.in-Some-Some.back = rw c.in-Some-Some.is-1 at c.get-back.ensures.fits in
+    let head_small : IsWithin MAX_KNOWN_WEIGHT c.in-Some-Some.head = rw c.in-Some-Some.is-0 at c.get-head.ensures.fits in
+    let back_small : IsWithin MAX_KNOWN_WEIGHT c.in-Some-Some.back = rw c.in-Some-Some.is-1 at c.get-back.ensures.fits in
     let from_fits : SFits w64 c.args.from = search rules in
     let to_fits : SFits w64 c.args.to = search rules in
     let long_fits : SFits w64 c.duration-duration.result = search rules in
@@ -43,8 +43,8 @@ returns-clause-value c =
     let third : c.min-2.result ≡ int_min c.min-early.result (c.args.to +ℤ c.in-Some-Some.back) = simp to_z-of_z at c.min-2.ensures.value in
     let last : c.max.result ≡ int_max c.min-2.result (pos 0) = simp to_z-of_z at c.max.ensures.value in
     let abs : c.unsigned_abs.result ≡ unsigned_abs c.max.result = simp to_z-of_z at c.unsigned_abs.ensures.value in
-    let head : entry c.args.weights.now 0 c.args.activity ≡ Some c.in-Some-Some.head = sym c.get-head.ensures.value ∙ c.in-Some-Some.is-0 in
-    let back : entry c.args.weights.now c.args.activity 0 ≡ Some c.in-Some-Some.back = sym c.get-back.ensures.value ∙ c.in-Some-Some.is-1 in
+    let head : entry c.args.weights.now.rows 0 c.args.activity ≡ Some c.in-Some-Some.head = sym c.get-head.ensures.value ∙ c.in-Some-Some.is-0 in
+    let back : entry c.args.weights.now.rows c.args.activity 0 ≡ Some c.in-Some-Some.back = sym c.get-back.ensures.value ∙ c.in-Some-Some.is-1 in
     rw (head, back, sym c.duration-duration.ensures.value) (rw (abs, last, third, second, first) refl)
 
 pub returns-clause-small : goal.returns-clause-small

@@ -2,7 +2,7 @@ use Rattle.std.proofs.Common.{pos}
 use Rattle.std.proofs.lemmas.List.Elements.{All-more}
 use Rattle.network.specs.declared.parts.Lag.{Lag}
 use Rattle.lemma_check.specs.Right.{JoinsActivities}
-use Rattle.lemma_check.proofs.Loops.{none_fails}
+use Rattle.lemma_check.proofs.Loops.{none_fails, tells_both}
 use Rattle.lemma_check.proofs.right.all_join_activities.Goals as goal
 
 pub loop-arc-preserved : goal.loop-arc-preserved
@@ -11,4 +11,4 @@ loop-arc-preserved c =
     All-more (JoinsActivities c.args.project.now) c.args.arcs.now c.loop-arc.arc-index d c.loop-arc-test.true c.loop-arc.invariant (c.joins_activities.ensures.0 c.if-not-joins_activities.false)
 
 pub returns : goal.returns
-returns c = none_fails (JoinsActivities c.args.project.now) c.args.arcs.now c.loop-arc.arc-index c.loop-arc-test.false c.loop-arc.invariant
+returns c = tells_both (none_fails (JoinsActivities c.args.project.now) c.args.arcs.now c.loop-arc.arc-index c.loop-arc-test.false c.loop-arc.invariant)

@@ -1,18 +1,16 @@
-use Rattle.std.proofs.Common.{sym, ap, ◌∙◌}
-use Rattle.network.specs.Walk.{IsMatrixOf}
-use Rattle.network.specs.Problem.{activity_count}
-use Rattle.lemma_check.specs.Places.{lemmas_of, arcs_at}
-use Rattle.lemma_check.proofs.Standings.{live_matrix, is_open}
+use Rattle.std.proofs.Common.{◌≡◌, sym, ap, ◌∙◌, None}
+use Rattle.lemma_check.specs.Places.{lemmas_of}
+use Rattle.lemma_check.specs.Standing.{kept}
+use Rattle.lemma_check.proofs.Standings.{own_live, cycle_there, not_some}
+use Rattle.lemma_check.proofs.DeadRight.{dead_right}
 use Rattle.lemma_check.proofs.state.State.is_right.Goals as goal
 
-pub returns : goal.returns
-returns c = λ at s.
+pub returns-then-self-clause-right : goal.returns-then-self-clause-right
+returns-then-self-clause-right c = λ at s. dead_right c.args.project.now at c.args.line.now c.ends_dead.result (cycle_there c.args.project.now c.args.lines.now at.lemmas at.own at.opened (kept c.args.self.now) c.if-self.true s) c.ends_dead.ensures
+
+pub returns-clause-right : goal.returns-clause-right
+returns-clause-right c = λ at s.
     let self = c.args.self.now in
-    let p = c.args.project.now in
-    let lines = c.args.lines.now in
-    let live : IsMatrixOf (activity_count c.args.project.now) (arcs_at at) c.matrix.result.now = rw c.matrix.ensures (live_matrix p lines at.lemmas at.own at.opened self.matrix self.is_dead self.begins.items self.opened c.if-self.false s) in
-    c.is_right_by.ensures at (record {
-      matrix = live;
-      before = s.before ∙ ap (lemmas_of lines) (sym c.as_slice.ensures.value) ∙ sym c.of-lemmas.ensures;
-      opened = c.is_some-is_open.ensures ∙ is_open p lines at.lemmas at.own at.opened self.matrix self.is_dead self.begins.items self.opened s;
-    })
+    let lemmas : at.lemmas ≡ c.of-lemmas.result = s.before ∙ ap (lemmas_of c.args.lines.now) (sym c.as_slice.ensures.value) ∙ sym c.of-lemmas.ensures in
+    let none : c.args.self.now.opened ≡ None = not_some c.args.self.now.opened (sym c.is_some.ensures ∙ c.if-is_some.false) in
+    c.is_right_by.ensures at (rw c.matrix.ensures (own_live c.args.project.now c.args.lines.now at.lemmas at.own at.opened (kept self) c.if-self.false none s c.of-lemmas.result lemmas))

@@ -1,17 +1,16 @@
-use Rattle.std.proofs.Common.{◌≡◌, ◌∙◌, ap, length, pos, take, Some}
+use Rattle.std.proofs.Common.{◌≡◌, refl, ◌∙◌, ap, pos, take, Some}
 use Rattle.std.proofs.lemmas.List.{take_more, take_all}
 use Rattle.network.specs.declared.parts.Lag.{Lag}
-use Rattle.longest_path.specs.Saved.{Marked}
 use Rattle.lemma_check.specs.Places.{first_arcs, Place}
+use Rattle.lemma_check.specs.Standing.{kept}
 use Rattle.lemma_check.proofs.Standings.{stands_opened}
 use Rattle.lemma_check.proofs.state.State.open.Goals as goal
 
 pub loop-arc-init : goal.loop-arc-init
 loop-arc-init c =
-    let self = c.args.self.now in
     record {
-      size = ap (λ (m : Marked). length m.rows) c.in_ok-mark.ensures.ok;
-      so_far = λ p lines at s may first. stands_opened p lines at.lemmas at.own at.opened self.matrix self.is_dead self.begins.items self.opened c.args.index c.args.arcs.now c.mark.new.self s may.none_open may.is_live may.named (ap first_arcs first) c.in_ok-mark.ensures.ok;
+      size = refl;
+      so_far = λ p lines at s may first. stands_opened p lines at.lemmas at.own at.opened (kept c.args.self.now) _ c.args.index c.args.arcs.now s may.none_open may.is_live may.named (ap first_arcs first) refl c.begin.ensures.rows c.begin.ensures.more refl refl refl refl;
     }
 
 pub loop-arc-preserved : goal.loop-arc-preserved

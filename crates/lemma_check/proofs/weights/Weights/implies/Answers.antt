@@ -1,19 +1,17 @@
-use Rattle.std.proofs.Common.{◌≡◌, sym, ◌∙◌, length, rules, w64, Some, None, SFits}
+use Rattle.std.proofs.Common.{rules, w64, SFits}
 use Rattle.std.proofs.lemmas.Int.{to_z-of_z}
-use Rattle.network.specs.Walk.{entry}
-use Rattle.lemma_check.specs.Reasons.{Implies}
-use Rattle.lemma_check.proofs.Weighing.{implied_by, not_implied}
-use Rattle.lemma_check.proofs.Loops.{refused}
+use Rattle.longest_path.specs.Matrix.{Reaches}
+use Rattle.lemma_check.proofs.KnownWalks.{yes_by_entry, told_beside}
 use Rattle.lemma_check.proofs.weights.Weights.implies.Goals as goal
 
-pub returns-in-Some : goal.returns-in-Some
-returns-in-Some c = λ arcs m.
-    let weight_fits : SFits w64 c.in-Some.weight = search rules in
-    let arc_fits : SFits w64 c.args.arc.weight = search rules in
-    let read : entry c.args.self.now c.args.arc.from c.args.arc.to ≡ Some c.in-Some.weight = sym c.get.ensures.value ∙ c.in-Some.is in
-    simp to_z-of_z (implied_by (length c.args.self.now) arcs c.args.self.now c.args.arc c.in-Some.weight m c.requires.from_activity c.requires.to_activity read)
+pub returns-then-is_at_most : goal.returns-then-is_at_most
+returns-then-is_at_most c =
+    let fits : SFits w64 c.args.arc.weight = search rules in
+    let reached : Reaches c.args.arc.weight c.get.result = simp to_z-of_z at (rw c.if-is_at_most.true at c.is_at_most.ensures) in
+    yes_by_entry c.args.self.now c.args.arc c.get.result c.requires.from_activity c.requires.to_activity c.get.ensures.value reached
 
-pub returns-in-None : goal.returns-in-None
-returns-in-None c = λ arcs m.
-    let read : entry c.args.self.now c.args.arc.from c.args.arc.to ≡ None = sym c.get.ensures.value ∙ c.in-None.is in
-    refused (Implies arcs c.args.arc) (not_implied (length c.args.self.now) arcs c.args.self.now c.args.arc m c.requires.from_activity c.requires.to_activity read)
+pub returns : goal.returns
+returns c =
+    let fits : SFits w64 c.args.arc.weight = search rules in
+    let never : ¬ Reaches c.args.arc.weight c.get.result = simp to_z-of_z at (rw c.if-is_at_most.false at c.is_at_most.ensures) in
+    told_beside c.args.self.now c.args.arc c.get.result c.implies_beside.result c.requires.from_activity c.requires.to_activity c.get.ensures.value never c.implies_beside.ensures

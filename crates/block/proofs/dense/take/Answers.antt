@@ -1,7 +1,7 @@
 use Rattle.std.proofs.Common.{rules, w64, SFits}
 use Rattle.std.proofs.lemmas.Int.{to_z-of_z}
 use Rattle.longest_path.specs.Insert.{AddsArc, ClosesCycle}
-use Rattle.lemma_check.proofs.state.take.Goals as goal
+use Rattle.block.proofs.dense.take.Goals as goal
 
 pub returns-in-Ok-clause-taken : goal.returns-in-Ok-clause-taken
 returns-in-Ok-clause-taken c =

@@ -1,0 +1,4 @@
+pub mod Implied
+pub mod Heads
+pub mod Tables
+pub mod Block

@@ -1,0 +1,213 @@
+//! Arcs beside a matrix.
+
+ghost use Rattle.std.specs.Prelude.{◌≡◌, ◌<◌, ◌+ℤ◌, ◌++◌, ◌∷◌, [], length, IsTrue, Some, IfOk, OnOk};
+ghost use Rattle.network.specs.Problem.{IsWithin};
+ghost use Rattle.network.specs.Schedule.{start};
+ghost use Rattle.std.specs.Bool.{MatchBool};
+ghost use Rattle.network.specs.declared.limits.TheConstants.{MAX_WALK_WEIGHT};
+ghost use Rattle.longest_path.specs.Matrix.{IsFull, greater};
+ghost use Rattle.block.specs.declared.raise.TheConstants.{MAX_TRIED};
+ghost use Rattle.block.specs.declared.block.TheConstants.{MAX_SEEN};
+ghost use Rattle.block.specs.Implied.{ImpliesWith};
+ghost use Rattle.block.specs.Heads.{AreSettled, IsLight};
+ghost use Rattle.block.specs.Block.{AreEnds, IsBlock, IsToldOf, converse_of, seen};
+
+use crate::heads::Heads;
+use crate::raise::MAX_TRIED;
+use crate::table::{columns, rows};
+use longest_path::Matrix;
+use network::Lag;
+use std::alloc::{AllocError, Global};
+use std::marker::Model;
+
+/// What the weight of a walk that is easily seen is not beyond.
+pub const MAX_SEEN: i64 = MAX_TRIED + MAX_TRIED;
+
+/// The arc in the other direction.
+fn converse_of(arc: Lag) -> Lag
+    ensures { result ≡ converse_of arc }
+{
+    Lag {
+        from: arc.to,
+        to: arc.from,
+        weight: arc.weight,
+    }
+}
+
+/// Whether the arcs of a matrix and those beside it close a walk of positive weight, by the heads, of which it is told
+/// whether they meet all arcs. None where they don't tell.
+fn told(heads: &Heads, settled: bool) -> Option<bool>
+    requires { MatchBool settled (AreSettled heads.now) (Unit {0}) }
+    ensures { IsToldOf (length heads.now.rows) heads.now.rows heads.now.arcs result }
+{
+    if heads.is_late() {
+        return Some(true);
+    }
+    if settled { Some(false) } else { None }
+}
+
+/// The greater of an entry and the way by 0.
+fn or_by_start(entry: i64, tail: i64, head: i64) -> i64
+    requires entry { IsWithin MAX_WALK_WEIGHT entry }
+    requires tail { IsWithin MAX_TRIED tail }
+    requires head { IsWithin MAX_TRIED head }
+    ensures value { greater (Some entry) (Some (tail +ℤ head)) ≡ Some result }
+    ensures small { IsWithin MAX_SEEN result }
+{
+    let by_start = tail + head;
+    if entry < by_start { by_start } else { entry }
+}
+
+/// The matrix of some arcs by which every activity reaches every other, arcs beside it, and by both the weights of
+/// walks from 0, the heads, and back to it, the tails. An arc more costs a number for each activity, and no matrix.
+///
+/// As long as the heads meet all arcs, no closed walk is positive: they are a list of starts that meets each of them.
+/// Where the head of 0 is above 0, one is.
+#[derive(Drop)]
+pub struct Block {
+    heads: Heads,
+    /// The heads in the other direction.
+    tails: Heads,
+}
+
+impl Model for Block {
+    ghost use Rattle.block.specs.Block.{BlockOf, AreHalves, block_of};
+
+    ghost Value = { BlockOf };
+
+    ghost view = { λ s. block_of s.heads s.tails };
+
+    ghost invariant = { λ s. AreHalves s.heads s.tails };
+}
+
+impl Block {
+    /// That of a matrix, with no arc beside it.
+    pub fn new(alloc: Global, matrix: &Matrix) -> Result<Block, AllocError>
+        requires full { IsFull matrix.now }
+        requires some { 0 < length matrix.now }
+        ensures rows { IfOk result (λ x. x.rows ≡ matrix.now) }
+        ensures more { IfOk result (λ x. x.more ≡ []) }
+    {
+        let heads = Heads::new(alloc, rows(alloc, matrix)?)?;
+        let tails = Heads::new(alloc, columns(alloc, matrix)?)?;
+        Ok(Block { heads, tails })
+    }
+
+    /// How many activities there are.
+    pub fn activity_count(&self) -> usize
+        ensures value { result ≡ length self.now.rows }
+        ensures law { IsBlock self.now }
+    {
+        let _columns = self.tails.activity_count();
+        self.heads.activity_count()
+    }
+
+    /// The arcs beside the matrix.
+    pub fn more(&self) -> &[Lag]
+        ensures { result.now ≡ self.now.more }
+    {
+        self.heads.arcs()
+    }
+
+    /// Begins anew, with no arc beside the matrix.
+    pub fn begin(&mut self)
+        ensures rows { self.new.rows ≡ self.old.rows }
+        ensures more { self.new.more ≡ [] }
+    {
+        self.heads.begin();
+        self.tails.begin();
+    }
+
+    /// Adds an arc. Whether the arcs close a walk of positive weight then; none where the heads don't tell.
+    pub fn add(&mut self, arc: Lag) -> Result<Option<bool>, AllocError>
+        requires { IsLight (length self.old.rows) arc }
+        ensures rows { self.new.rows ≡ self.old.rows }
+        ensures more { OnOk result (self.new.more ≡ self.old.more ++ arc ∷ []) }
+        ensures told { IfOk result (λ dead. IsToldOf (length self.new.rows) self.new.rows self.new.more dead) }
+    {
+        let settled = self.heads.add(arc)?;
+        let _tails_settled = self.tails.add(converse_of(arc))?;
+        Ok(told(&self.heads, settled))
+    }
+
+    /// Takes for the trial heads and tails with one arc more.
+    pub fn try_arc(&mut self, arc: Lag)
+        requires { IsLight (length self.old.rows) arc }
+        ensures rows { self.new.rows ≡ self.old.rows }
+        ensures more { self.new.more ≡ self.old.more }
+        ensures tried { AreEnds self.old.rows (self.old.more ++ arc ∷ []) self.new.tried_heads self.new.tried_tails }
+    {
+        let _columns = self.tails.activity_count();
+        self.heads.try_arc(arc);
+        self.tails.try_arc(converse_of(arc));
+    }
+
+    /// The weight of a walk from activity `a` to activity `b` that is easily seen.
+    pub fn weight(&self, a: usize, b: usize) -> i64
+        requires from_activity { a < length self.now.rows }
+        requires to_activity { b < length self.now.rows }
+        ensures value { seen self.now.rows self.now.heads self.now.tails a b ≡ Some result }
+        ensures small { IsWithin MAX_SEEN result }
+    {
+        if a == 0 {
+            return self.heads.head(b);
+        }
+        if b == 0 {
+            return self.tails.head(a);
+        }
+        or_by_start(
+            self.heads.weight(a, b),
+            self.tails.head(a),
+            self.heads.head(b),
+        )
+    }
+
+    /// The same in the trial.
+    pub fn tried_weight(&self, a: usize, b: usize) -> i64
+        requires from_activity { a < length self.now.rows }
+        requires to_activity { b < length self.now.rows }
+        ensures value { seen self.now.rows self.now.tried_heads self.now.tried_tails a b ≡ Some result }
+        ensures small { IsWithin MAX_SEEN result }
+    {
+        if a == 0 {
+            return self.heads.tried(b);
+        }
+        if b == 0 {
+            return self.tails.tried(a);
+        }
+        or_by_start(
+            self.heads.weight(a, b),
+            self.tails.tried(a),
+            self.heads.tried(b),
+        )
+    }
+
+    /// Whether the way over this arc shows that the matrix's arcs and it imply the other.
+    pub fn implies_over(&self, over: Lag, arc: Lag) -> bool
+        requires over { IsLight (length self.now.rows) over }
+        requires from_activity { arc.from < length self.now.rows }
+        requires to_activity { arc.to < length self.now.rows }
+        ensures { IsTrue result → ImpliesWith (length self.now.rows) self.now.rows (over ∷ []) arc }
+    {
+        let first = self.heads.weight(arc.from, over.from);
+        let last = self.heads.weight(over.to, arc.to);
+        arc.weight <= first + over.weight + last
+    }
+
+    /// Whether a way over one of the arcs beside the matrix shows that they imply this one.
+    pub fn implies_by_one(&self, arc: Lag) -> bool
+        requires from_activity { arc.from < length self.now.rows }
+        requires to_activity { arc.to < length self.now.rows }
+        ensures { IsTrue result → ImpliesWith (length self.now.rows) self.now.rows self.now.more arc }
+    {
+        for index in 0..self.heads.arc_count() {
+            let over = self.heads.arc(index);
+            let first = self.heads.weight(arc.from, over.from);
+            let last = self.heads.weight(over.to, arc.to);
+            if arc.weight <= first + over.weight + last {
+                return true;
+            }
+        }
+        false
+    }
+}
