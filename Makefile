@@ -2,11 +2,15 @@
 # make test     run everything that is run, on the programs at hand; needs no toolchain
 # make gate     everything that must hold: the proofs from nothing, the released programs, and make test on what was proved
 # make release  release what was built
-# make install PREFIX=..
+# make install PREFIX=.., make uninstall PREFIX=..
+# make wheel    a package for pip in build/, with the released programs inside
+# make deb      a Debian package in build/, the same way
+# make lint     mypy and flake8, where they are there
 # make bench    measure the program, and with OTHER=PROGRAM that program in turn with it
 PREFIX ?= /usr/local
 JOBS ?= $(shell nproc)
-MODULES := $(wildcard planner/*.py)
+MODULES := $(shell cd python && find psmax -name '*.py' -o -name '*.html' -o -name '*.json' -o -name py.typed)
+VERSION := $(shell sed -n 's/^__version__ = "\(.*\)"/\1/p' python/psmax/__init__.py)
 SOURCES := crates.txt HANDLES $(shell find crates -path '*/out' -prune -o \( -name '*.rt' -o -name '*.antt' \) -print)
 AT_HAND := $(shell if [ build/psmax -nt release/psmax ]; then echo build; else echo release; fi)
 
@@ -43,14 +47,33 @@ install:
 	install -d $(DESTDIR)$(PREFIX)/bin
 	install -m 755 $(AT_HAND)/psmax $(AT_HAND)/psprove $(DESTDIR)$(PREFIX)/bin
 	install -D -m 755 planner/plan $(DESTDIR)$(PREFIX)/bin/plan
-	install -d $(DESTDIR)$(PREFIX)/share/psmax/planner
-	install -m 644 $(MODULES) planner/report.html $(DESTDIR)$(PREFIX)/share/psmax/planner
+	for file in $(MODULES); do install -D -m 644 python/$$file $(DESTDIR)$(PREFIX)/share/psmax/$$file; done
 	install -m 755 tests/verify.py tests/verify_lemmas.py $(DESTDIR)$(PREFIX)/share/psmax
 	install -d $(DESTDIR)$(PREFIX)/share/man/man1
 	install -m 644 docs/psmax.1 docs/psprove.1 docs/plan.1 $(DESTDIR)$(PREFIX)/share/man/man1
 	python3 docs/install.py $(DESTDIR)$(PREFIX)/share/doc/psmax
 
+uninstall:
+	rm -f $(foreach name,psmax psprove plan,$(DESTDIR)$(PREFIX)/bin/$(name) $(DESTDIR)$(PREFIX)/share/man/man1/$(name).1)
+	rm -rf $(DESTDIR)$(PREFIX)/share/psmax $(DESTDIR)$(PREFIX)/share/doc/psmax
+
+wheel:
+	python3 python/packing.py build
+
+deb:
+	rm -rf build/deb
+	$(MAKE) -s install DESTDIR=build/deb PREFIX=/usr AT_HAND=release
+	install -d build/deb/DEBIAN build/deb/usr/lib/python3/dist-packages
+	ln -s ../../../share/psmax/psmax build/deb/usr/lib/python3/dist-packages/psmax
+	sed 's/VERSION/$(VERSION)/' python/debian-control > build/deb/DEBIAN/control
+	dpkg-deb --root-owner-group --build build/deb build/psmax_$(VERSION)_amd64.deb
+
+lint:
+	@for tool in mypy flake8; do \
+	  if command -v $$tool > /dev/null; then MYPY_CACHE_DIR=build/mypy $$tool || exit 1; \
+	  else echo "$$tool is not here"; fi; done
+
 clean:
 	rm -rf build crates/*/out
 
-.PHONY: all test prove gate release bench install clean
+.PHONY: all test prove gate release bench install uninstall wheel deb lint clean

@@ -35,7 +35,7 @@ Blocks = Sequence[tuple[str, str]]  # the blocks of a document, each with its ki
 SHOWN = {"README.md", "docs/FORMAT.md", "docs/RECORD.md", "docs/WORKERS.md", "docs/PLANNER.md", "docs/LEMMAS.md",
          "docs/BUILDING-SITE.md", "docs/psmax.1", "docs/plan.1",
          "examples/building-site.md", "examples/plant-shutdown.md", "examples/test-bench.md"}
-PARTS = ("examples", "planner", "tests")  # what a command may read, besides the programs
+PARTS = ("examples", "planner", "python", "tests")  # what a command may read, besides the programs
 SKIPPED = {".git", "out", "build", "__pycache__"}
 SECONDS = 60
 

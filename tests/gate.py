@@ -109,6 +109,7 @@ def scripts(folder: pathlib.Path, with_tests: bool) -> Iterator[Script]:
         yield "events", events.verdicts, [book_events, "--refused", "0"]
     yield "devices", devices.verdicts, [psmax]
     yield "plan", planner_tests.verdicts, []
+    yield "package", planner_tests.verdicts, [str(TOP / "python" / "tests")]
     yield "documents", documents.verdicts, [str(folder)]
 
 

@@ -12,7 +12,7 @@ from typing import Any, NamedTuple, NoReturn, TypeVar
 
 TOP = pathlib.Path(__file__).resolve().parent.parent
 INPUTS = TOP / "tests" / "inputs"
-sys.path += [str(TOP), str(TOP / "bench")]
+sys.path += [str(TOP), str(TOP / "bench"), str(TOP / "python")]
 import projects  # noqa: E402
 
 TIMEOUT = 60  # seconds of a run

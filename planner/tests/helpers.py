@@ -11,8 +11,8 @@ import unittest
 from typing import IO
 from unittest import mock
 
-from planner.clock import ENDS
-from planner.main import main
+from psmax.clock import ENDS
+from psmax.planner.main import main
 
 TOP = pathlib.Path(__file__).resolve().parents[2]
 PLAN = TOP / "planner" / "plan"

@@ -1,5 +1,7 @@
 #!/usr/bin/env python3
-"""Runs the tests of plan, and prints last 'N passed, M failed'."""
+"""planner/tests/run.py [FOLDER]
+
+Runs the tests of plan, or those in FOLDER, and prints last 'N passed, M failed'."""
 import pathlib
 import sys
 import unittest
@@ -14,9 +16,11 @@ def names(tests: unittest.TestSuite | unittest.TestCase) -> list[str]:
     return [name for test in tests for name in names(test)]
 
 
-def verdicts(_: Sequence[str] = ()) -> Iterator[tuple[str, str | None]]:
+def verdicts(words: Sequence[str] = ()) -> Iterator[tuple[str, str | None]]:
     """Each test, and whether it failed as is shown above."""
-    tests = unittest.TestLoader().discover(str(TOP / "planner" / "tests"), top_level_dir=str(TOP))
+    sys.path.insert(0, str(TOP / "python"))
+    folder = pathlib.Path(*words).resolve() if words else TOP / "planner" / "tests"
+    tests = unittest.TestLoader().discover(str(folder), top_level_dir=str(TOP))
     told = names(tests)
     result = unittest.TextTestRunner(stream=sys.stdout, verbosity=1).run(tests)
     bad = {test.id().split(" ")[0] for test, _ in [*result.failures, *result.errors]}
@@ -24,6 +28,6 @@ def verdicts(_: Sequence[str] = ()) -> Iterator[tuple[str, str | None]]:
 
 
 if __name__ == "__main__":
-    faults = [fault for _, fault in verdicts()]
+    faults = [fault for _, fault in verdicts(sys.argv[1:])]
     print(f"{faults.count(None)} passed, {len(faults) - faults.count(None)} failed")
     sys.exit(faults.count(None) < len(faults))

@@ -3,8 +3,8 @@ import csv
 import io
 from xml.etree import ElementTree
 
-from planner.project import parse
-from planner.psmax import starts_text
+from psmax.project import parse
+from psmax.psmax import starts_text
 
 from .helpers import EXAMPLES, INPUTS, PSMAX, InFolder, plan, psmax
 

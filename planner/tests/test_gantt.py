@@ -1,9 +1,9 @@
 import unittest
 from xml.etree import ElementTree
 
-from planner.drawing import Load, round_step
-from planner.gantt import load_cells
-from planner.window import Stretch
+from psmax.planner.drawing import Load, round_step
+from psmax.planner.gantt import load_cells
+from psmax.planner.window import Stretch
 
 from .helpers import EXAMPLES, INPUTS, TWO_JOBS, InFolder, plan, psmax
 

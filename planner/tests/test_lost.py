@@ -6,7 +6,7 @@ import subprocess
 import sys
 import time
 
-from planner.clock import ENDS
+from psmax.clock import ENDS
 
 from .helpers import CALLED, EXAMPLES, INPUTS, PLAN, TWO_JOBS, InFolder, plan, psmax, started, told_until
 

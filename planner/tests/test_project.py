@@ -1,9 +1,9 @@
 import unittest
 from dataclasses import replace
 
-from planner.circles import positive_cycle
-from planner.project import Arc, Kind, Part, in_order, lags_only, parse, parts, with_lag, within, without
-from planner.spelled import Spelled
+from psmax.planner.circles import positive_cycle
+from psmax.project import Arc, Kind, Part, in_order, lags_only, parse, parts, with_lag, within, without
+from psmax.spelled import Spelled
 
 from .helpers import EXAMPLES, INPUTS, TWO_JOBS
 

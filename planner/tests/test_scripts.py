@@ -1,6 +1,5 @@
-"""For scripts: answers in JSON, batches, versions, the package and what is installed."""
+"""For scripts: answers in JSON, batches and versions."""
 import csv
-import importlib.util
 import io
 import json
 import os
@@ -10,13 +9,12 @@ import shutil
 import subprocess
 import sys
 import time
-import tomllib
 import unittest
 from typing import Any
 
-from planner import __version__
+from psmax import __version__
 
-from .helpers import CALLED, EXAMPLES, INPUTS, PLAN, PROJECTS, PSMAX, PSPROVE, TOP, TWO_JOBS, InFolder, plan, psmax, started
+from .helpers import CALLED, EXAMPLES, INPUTS, PLAN, PROJECTS, PSPROVE, TOP, TWO_JOBS, InFolder, plan, psmax, started
 
 HEADS = "project,activities,status,makespan,bound,seconds,conflicts,limit,plan,psprove,fault\n"
 
@@ -152,77 +150,3 @@ class Batch(InFolder):
         self.refused(plan("batch", self.folder, "--csv", self.file("t.csv", "a,b\n")), 2, "not a table of `plan batch`")
         (self.folder / "none").mkdir()
         self.refused(plan("batch", self.folder / "none"), 2, "no project in it")
-
-
-class Installed(InFolder):
-    def run_there(self, *words: object) -> subprocess.CompletedProcess[str]:
-        given = {name: value for name, value in os.environ.items() if name not in (*CALLED, "PYTHONPATH")}
-        given["PATH"] = f"{pathlib.Path(sys.executable).parent}:{given['PATH']}"
-        return subprocess.run([*map(str, words)], capture_output=True, text=True, env=given, cwd=self.folder)
-
-    def test_make_install(self) -> None:
-        """The programs, plan, manual pages, documents and verify.py; the last shows no traceback."""
-        words = ["make", "-s", "install", f"PREFIX={self.folder}"]
-        words += [f"AT_HAND={pathlib.Path(PSMAX).parent}"] if "PSMAX" in os.environ else []
-        ran = subprocess.run(words, cwd=TOP, capture_output=True, text=True)
-        self.assertEqual(ran.returncode, 0, ran.stderr)
-        share, site = self.folder / "share", EXAMPLES / "building-site.sch"
-        pages = ("man/man1/plan.1", "man/man1/psmax.1", "man/man1/psprove.1")
-        for name in (*pages, "doc/psmax/README.md", "doc/psmax/docs/PLANNER.md"):
-            self.assertTrue((share / name).is_file(), name)
-        self.no_dead_links(share / "doc" / "psmax")
-        record = self.folder / "record"
-        answer = psmax("solve", "--record", record, given=site.read_bytes())
-        self.assertEqual(self.run_there("bin/plan", "check", site, self.file("best", answer)).stdout, "feasible 36\n")
-        self.assertEqual(self.run_there("bin/plan", "solve", site, "--out", "own").stdout, "optimal 36\n")
-        self.assertEqual(self.run_there("bin/plan", "report", site, "own", "--out", "page.html").returncode, 0)
-        verify = [sys.executable, share / "psmax" / "verify.py"]
-        self.assertEqual(self.run_there(*verify, site, record).stdout, "proved optimal 36\n")
-        for given in ((), ("gone", record), (site, "gone"), (record, record), (site, site)):
-            ran = self.run_there(*verify, *given)
-            self.assertIn(ran.returncode, (1, 2))
-            self.assertEqual((ran.stdout, len(ran.stderr.splitlines())), ("", 1), ran.stderr)
-
-    def no_dead_links(self, documents: pathlib.Path) -> None:
-        """Each relative link of an installed document leads to an installed file; those of the manual pages too."""
-        pages = sorted(documents.rglob("*.md"))
-        self.assertGreater(len(pages), 10)
-        for page in pages:
-            for text, target in re.findall(r"\[((?:[^\[\]]|\[[^\]]*\])*)\]\(([^)\s]+)\)", page.read_text()):
-                name = target.partition("#")[0]
-                if name and not re.match(r"\w+:", name):
-                    self.assertTrue((page.parent / name).exists(), f"{page}: [{text}]({target})")
-        for page in (documents.parents[1] / "man" / "man1").iterdir():
-            for name in re.findall(r"docs/[A-Z-]+\.md", page.read_text()):
-                self.assertTrue((documents / name).is_file(), f"{page}: {name}")
-
-    def test_package(self) -> None:
-        """Name, version, entry point, Python 3.11 and no dependency; its entry point is `plan`."""
-        with open(TOP / "pyproject.toml", "rb") as file:
-            told = tomllib.load(file)
-        project = told["project"]
-        self.assertEqual((project["scripts"], project["requires-python"], project["dependencies"]),
-                         ({"plan": "planner.main:run"}, ">=3.11", []))
-        self.assertIs(told["tool"]["mypy"]["strict"], True)
-        ran = subprocess.run([sys.executable, "-m", "planner", "--version"], cwd=TOP, capture_output=True, text=True,
-                             env={**os.environ, **CALLED})
-        self.assertIn(f"plan {__version__}", ran.stdout)
-
-    @unittest.skipUnless(all(map(importlib.util.find_spec, ("pip", "setuptools", "wheel"))), "no tools for packages here")
-    def test_pip_install(self) -> None:
-        source = self.folder / "source"
-        unused = shutil.ignore_patterns("tests", "projects", "__pycache__")
-        shutil.copytree(TOP / "planner", source / "planner", ignore=unused)
-        shutil.copy(TOP / "pyproject.toml", source)
-        ran = self.run_there(sys.executable, "-m", "pip", "install", "--quiet", "--no-index", "--no-deps",
-                             "--no-build-isolation", "--target", "there", source)
-        self.assertEqual(ran.returncode, 0, ran.stderr)
-        ran = subprocess.run([sys.executable, "there/bin/plan", "--version"], capture_output=True, text=True, cwd=self.folder,
-                             env={**os.environ, **CALLED, "PYTHONPATH": str(self.folder / "there")})
-        self.assertIn(f"plan {__version__}", ran.stdout)
-
-    @unittest.skipUnless(shutil.which("mypy"), "mypy isn't here")
-    def test_types(self) -> None:
-        words = ["mypy", "--strict", "planner", "--cache-dir", str(self.folder / "cache")]
-        ran = subprocess.run(words, cwd=TOP, capture_output=True, text=True)
-        self.assertEqual(ran.returncode, 0, ran.stdout)

@@ -2,7 +2,7 @@ import pathlib
 import re
 import time
 
-from planner.clock import ENDS
+from psmax.clock import ENDS
 
 from .helpers import EXAMPLES, INPUTS, PROJECTS, PSPROVE, TWO_JOBS, InFolder, plan, psmax, started, told_until
 

@@ -1,4 +1,0 @@
-"""`python -m planner` is `plan`."""
-from .main import run
-
-run()

@@ -1,0 +1,4 @@
+"""`python -m psmax.planner` is `plan`."""
+from .main import run
+
+run()

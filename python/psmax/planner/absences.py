@@ -1,0 +1,73 @@
+"""Tables of absences: which units of a resource are away from when until when."""
+from dataclasses import replace
+
+from ..errors import BadInput
+from ..files import read_text
+from ..letters import short
+from ..project import MOST_UNITS, Absence, Project
+from .cells import Faults, fault_at
+from .columns import HEADS, Column, Columns
+from .csv_text import cell, read_sheet
+from .lags import did_you_mean
+from .names import Names
+from .rows import Row, Terms
+
+HEAD = ("resource", "from", "to", "units")
+
+
+def read_absences(path: str, project: Project, names: Names, terms: Terms) -> list[Absence]:
+    """By dates, of which the last is the last day away, or by the numbers of periods, as a resource's use is written. No first
+    one is from the start on, no last one for ever, and no units are all."""
+    sheet, faults, found = read_sheet(path, read_text(path), is_head), Faults(), []
+    heads = [head.lower() for head in sheet.heads]
+    if not {"resource", "from", "to"} <= {*heads}:
+        raise BadInput(f"{path}: row 1 has to name the columns resource, from, to and units")
+    places = {head: heads.index(head) for head in HEAD if head in heads}
+    for place, head in enumerate(heads):
+        with faults.kept():
+            if head and head not in HEAD and HEADS.get(head) is not Column.NOTE:
+                raise fault_at(path, sheet.head_row, place, head, "not a column of absences, which are resource, from, to, "
+                               "units and notes")
+    columns = Columns(sheet.heads)
+    for number, cells in sheet.numbered():
+        row = Row(replace(terms, file=path, columns=columns), number, cells)
+        with faults.kept():
+            one = read_absence(row, {head: cell(cells, place) for head, place in places.items()}, places, project, names)
+            found += [one] if one.ends is None or one.begins < one.ends else []
+            must_be_there(row, places["resource"], project, names, found)
+    faults.tell()
+    return found
+
+
+def is_head(row: list[str]) -> bool:
+    return {"resource", "from"} <= {head.lower() for head in row}
+
+
+def read_absence(row: Row, told: dict[str, str], places: dict[str, int], project: Project, names: Names) -> Absence:
+    if told["resource"] not in names.resources:
+        raise row.fault(places["resource"], f"no resource '{short(told['resource'])}'"
+                        f"{did_you_mean(told['resource'], names.resources)}")
+    resource = names.resources.index(told["resource"])
+    begins = row.begin(places["from"], told["from"]) if told["from"] else 0
+    ends = row.close(places["to"], told["to"]) if told["to"] else None
+    if ends is not None and ends < begins and row.begin(places["to"], told["to"]) < begins:
+        raise row.fault(places["to"], f"'{short(told['to'])}' is before '{short(told['from'])}'")
+    units = row.units(places["units"]) if told.get("units") else project.capacities[resource]
+    if units > project.capacities[resource]:
+        raise row.fault(places["units"], f"{units} of {short(told['resource'])} can't be away, of which there are "
+                        f"{project.capacities[resource]}")
+    if max(begins, ends or 0) > MOST_UNITS:
+        raise row.fault(places["from"], f"an absence is at most {MOST_UNITS:,} periods after the start")
+    return Absence(resource, begins, None if ends is None else max(begins, ends), units)
+
+
+def must_be_there(row: Row, place: int, project: Project, names: Names, found: list[Absence]) -> None:
+    """No more units are away at once than there are."""
+    last = found[-1] if found else None
+    if last is not None:
+        others = [one for one in found if one.resource == last.resource]
+        for time in sorted({one.begins for one in others}):
+            away = sum(one.units for one in others if one.begins <= time and (one.ends is None or time < one.ends))
+            if away > project.capacities[last.resource]:
+                raise row.fault(place, f"with the rows above {away} of {short(names.resources[last.resource])} are away at "
+                                f"{time}, and there are {project.capacities[last.resource]}")

@@ -1,0 +1,17 @@
+"""`plan check`: whether a schedule is feasible, and otherwise what of it is not, by name."""
+from ..clock import Clock
+from ..psmax import Psmax
+from .answer import judged
+from .given import read_answer
+from .opened import ProjectFile
+
+VIOLATED = 4  # the exit status of psmax for the same
+
+
+def check(opened: ProjectFile, given: str | None) -> int:
+    known = judged(opened, read_answer(given), Psmax(Clock(), opened.path))
+    if known.value is not None:
+        print(known.verdict())
+        return 0
+    print(*known.violations, sep="\n")
+    return VIOLATED

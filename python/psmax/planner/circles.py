@@ -1,0 +1,93 @@
+"""Lags that contradict each other: circles around which they add up to more than 0."""
+from collections.abc import Iterator
+
+from ..project import Arc, Goal, Project, lags_only
+from ..psmax import Psmax
+from .wording import Words
+
+MOST = 10
+
+
+def circles(project: Project, psmax: Psmax) -> Iterator[list[Arc]]:
+    """One circle after another, each once psmax finds it positive by itself. The maximum lag of each is left out for the
+    next ones, so that all contradictions are met, and none twice."""
+    arcs = project.rules()
+    for _ in range(MOST):
+        circle = [Arc(*arc) for arc in positive_cycle([(*arc,) for arc in arcs], len(project.durations))]
+        if not circle or psmax.earliest(lags_only(project, circle)) is not None:
+            return
+        yield circle
+        arcs.remove(min((arc for arc in circle if arc in project.arcs), key=lambda arc: arc.lag))
+
+
+def in_words(circle: list[Arc], words: Words) -> list[str]:
+    circle = as_read(circle)
+    over = sum(arc.lag for arc in circle)
+    lead = "These lags contradict each other:" if len(circle) > 1 else "This lag contradicts itself:"
+    return [lead, *(f"  {words.lag(arc)}" for arc in circle),
+            f"  Together they ask for {words.many(over)} more than there {'is' if over == 1 else 'are'}.",
+            f"  {change(circle, over, words)}"]
+
+
+def as_read(circle: list[Arc]) -> list[Arc]:
+    """The circle from the start of the project on where it comes by there, and with a maximum lag last."""
+    places = range(len(circle))
+    first = min(places, key=lambda place: (circle[place].tail != 0, circle[place].lag < 0, circle[place - 1].lag >= 0))
+    return circle[first:] + circle[:first]
+
+
+def change(circle: list[Arc], over: int, words: Words) -> str:
+    """What would help, in a sentence: each maximum lag so much longer, or the longest minimum lag so much shorter."""
+    many, end = words.many(over), words.project.end
+    ways = [allowed(arc, many, words) for arc in circle if arc.lag < 0 or arc.head == 0]
+    if not ways:
+        ways.append("Let one of them go, since each waits for the others")
+    longest = max((arc for arc in circle if arc.head not in (0, end)), key=lambda arc: arc.lag, default=None)
+    if longest is not None and longest.lag >= over:
+        after = f" after {words.names.activity(longest.tail)}" if longest.tail else ""
+        ways.append(f"let {words.names.activity(longest.head)} start {many} sooner{after}")
+    return ", or ".join(ways) + "."
+
+
+def allowed(arc: Arc, many: str, words: Words) -> str:
+    """A maximum lag, and so much more."""
+    if arc.tail == words.project.end:
+        return f"Allow {'a lateness of' if words.project.goal is Goal.LATENESS else 'the project to end'} {many} " + (
+            "more" if words.project.goal is Goal.LATENESS else "later")
+    verb = "end" if arc.head == 0 else "start"
+    return f"Allow {words.names.activity(arc.tail)} to {verb} {many} later"
+
+
+def positive_cycle(arcs: list[tuple[int, int, int]], count: int) -> list[tuple[int, int, int]]:
+    """The arcs of a closed walk of positive weight that visits no activity twice; empty where there is none."""
+    weight = [0] * count
+    came_by: list[tuple[int, int, int] | None] = [None] * count
+    last = None
+    for _ in range(count + 1):
+        last = None
+        for arc in arcs:
+            tail, head, lag = arc
+            if weight[tail] + lag > weight[head]:
+                weight[head] = weight[tail] + lag
+                came_by[head] = arc
+                last = head
+        if last is None:
+            return []
+    return walk_back(came_by, last, count)
+
+
+def walk_back(came_by: list[tuple[int, int, int] | None], last: int | None, count: int) -> list[tuple[int, int, int]]:
+    """The closed walk that one meets on the way back from an activity whose weight rose in the last round."""
+    place = last
+    for _ in range(count):
+        arc = came_by[place] if place is not None else None
+        place = arc[0] if arc else place
+    cycle: list[tuple[int, int, int]] = []
+    begin = place
+    while not cycle or place != begin:
+        arc = came_by[place] if place is not None else None
+        if arc is None:
+            return []
+        cycle.append(arc)
+        place = arc[0]
+    return cycle[::-1]

@@ -1,0 +1,129 @@
+"""The columns of a table of activities: docs/PLANNER.md says what each has."""
+import re
+from dataclasses import dataclass, field
+from enum import Enum
+
+from ..errors import BadInput
+from ..letters import short
+from ..project import MOST_RESOURCES, MOST_UNITS
+from .cells import Faults, fault_at
+from .csv_text import Sheet
+from .quantities import Unit
+
+RESOURCE = re.compile(r"(.*\S)\s*\(\s*(\d+)\s*\)")
+
+
+class Column(Enum):
+    """What a column has. The value is what it is called in faults."""
+
+    NAME = "name"
+    DURATION = "duration"
+    ID = "number of the activity"
+    PREDECESSORS = "predecessors"
+    AFTER = "after"
+    AT_LEAST = "at least"
+    AT_MOST = "at most"
+    NOT_BEFORE = "not before"
+    END_BY = "end by"
+    DUE = "due"
+    STARTED = "started"
+    FINISHED = "finished"
+    REMAINING = "remaining"
+    DONE = "done"
+    WBS = "wbs"
+    LEVEL = "outline level"
+    SUMMARY = "summary"
+    NOTE = "notes"
+    COMPUTED = "what plan computes"
+    RESOURCE = "resource"
+
+
+HEADS = {head: column for column, heads in (
+    (Column.NAME, "activity, name, task name, task"),
+    (Column.DURATION, "duration, weeks, days, hours, minutes, periods"),
+    (Column.ID, "id, no, no., nr, nr."),
+    (Column.PREDECESSORS, "predecessors, predecessor"),
+    (Column.AFTER, "after"),
+    (Column.AT_LEAST, "at least"),
+    (Column.AT_MOST, "at most"),
+    (Column.NOT_BEFORE, "not before"),
+    (Column.END_BY, "end by"),
+    (Column.DUE, "due, due date"),
+    (Column.STARTED, "started, actual start"),
+    (Column.FINISHED, "finished, actual finish"),
+    (Column.REMAINING, "remaining, remaining duration"),
+    (Column.DONE, "done, done %, done (%), % done, % complete"),
+    (Column.WBS, "wbs, outline number"),
+    (Column.LEVEL, "outline level, level"),
+    (Column.SUMMARY, "summary"),
+    (Column.NOTE, "note, notes, remark, remarks, comment, comments"),
+    (Column.COMPUTED, "start, end, finish, first day, last day"),
+) for head in heads.split(", ")}
+MANY = (Column.NOTE, Column.COMPUTED, Column.RESOURCE)  # of which a table may have several
+LAGS = (Column.AFTER, Column.AT_LEAST, Column.AT_MOST, Column.PREDECESSORS)
+
+
+@dataclass(frozen=True)
+class Columns:
+    """Where in a row each thing stands, and what the columns are called."""
+
+    heads: list[str]
+    places: dict[Column, int] = field(default_factory=dict)
+    resources: list[int] = field(default_factory=list)
+
+    def unit(self) -> Unit:
+        """What a bare duration counts."""
+        head = self.heads[self.places[Column.DURATION]].lower()
+        return Unit.PERIODS if head == "duration" else Unit(head)
+
+
+def column_of(head: str) -> Column | None:
+    found = HEADS.get(head.lower())
+    return Column.RESOURCE if found is None and RESOURCE.fullmatch(head) else found
+
+
+def is_head(row: list[str]) -> bool:
+    """Whether a row names the columns of a table of activities."""
+    return {Column.NAME, Column.DURATION} <= {column_of(head) for head in row}
+
+
+def read_heads(file: str, sheet: Sheet, faults: Faults) -> Columns:
+    columns = Columns(sheet.heads)
+    for place, head in enumerate(sheet.heads):
+        found = column_of(head)
+        with faults.kept():
+            if found is None and head:
+                raise fault_at(file, sheet.head_row, place, head, "not a column that plan knows; a resource has its capacity, "
+                               "as in 'crew (5)', and a column of your own words is called notes")
+            if found is Column.RESOURCE:
+                why = why_no_resource(columns, head)
+                columns.resources.append(place)
+                if why:
+                    raise fault_at(file, sheet.head_row, place, head, why)
+            elif found in columns.places and found not in MANY and found is not None:
+                raise fault_at(file, sheet.head_row, place, head, f"a second column for the {found.value}")
+            elif found is not None:
+                columns.places[found] = place
+    missing = [f"{file}: row {sheet.head_row} has no column for the {kind.value}, such as '{example}'"
+               for kind, example in ((Column.NAME, "activity"), (Column.DURATION, "days")) if kind not in columns.places]
+    if missing:
+        raise BadInput(*(str(fault) for fault in faults.found), *missing)
+    return columns
+
+
+def why_no_resource(columns: Columns, head: str) -> str:
+    name, units = resource(head)
+    if len(columns.resources) == MOST_RESOURCES:
+        return f"a project has at most {MOST_RESOURCES} resources"
+    if len(units) > 9 or int(units) > MOST_UNITS:
+        return f"a capacity is at most {MOST_UNITS:,}"
+    if name in [resource(columns.heads[other])[0] for other in columns.resources]:
+        return f"a second resource '{short(name)}'"
+    return ""
+
+
+def resource(head: str) -> tuple[str, str]:
+    """The name and the capacity that the column of a resource has as its own."""
+    found = RESOURCE.fullmatch(head)
+    assert found is not None
+    return found[1], found[2]

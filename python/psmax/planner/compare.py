@@ -1,0 +1,103 @@
+"""`plan compare`: what has moved from one schedule of a project to another."""
+from collections.abc import Callable
+
+from ..errors import BadInput
+from ..letters import short
+from ..project import Goal
+from .answer import Tied, counted, same_names, tie
+from .given import Given, read_answer
+from .opened import ProjectFile
+
+
+class Side:
+    """One schedule, by the numbers that its activities have in its answer. Ends follow from the starts: by how long the answer
+    says that an activity took, else by how long it takes today."""
+
+    def __init__(self, given: Given, opened: ProjectFile) -> None:
+        self.opened = opened
+        given = counted(opened, given.must_have_starts())
+        tied: Tied = tie(opened, given)
+        self.now = {was: now for was, now in tied.pairs.items() if was in given.starts}
+        self.starts = {was: tied.starts[now] for was, now in self.now.items()}
+        for was, name in tied.gone.items():
+            begin = given.starts[was]
+            if begin.period is None:
+                raise BadInput(f"{begin.place}: {short(name)} is no activity of {opened.path}, so its start has to be the "
+                               "number of a period")
+            self.starts[was] = begin.period
+        names = given.names or {was: opened.names.activities.get(now, "") for was, now in self.now.items()}
+        self.names = {was: names.get(was, "") for was in self.starts}
+        takes = {was: opened.project.durations[now] for was, now in self.now.items()} | given.takes
+        unknown = [name for was, name in tied.gone.items() if was not in takes]
+        if unknown:
+            raise BadInput(f"{given.called}: {short(unknown[0])} is no activity of {opened.path}, and no column 'takes' says "
+                           "how long it took")
+        self.ends = {was: start + takes[was] for was, start in self.starts.items()}
+        due = {was: opened.project.due[now] for was, now in self.now.items() if now in opened.project.due}
+        is_whole = opened.table is None and not tied.gone and not tied.new  # of a text that may end behind all of them
+        self.makespan = max([0, *self.ends.values(), *([tied.starts[opened.project.end]] if is_whole else [])])
+        self.lateness = max([self.ends[was] - due[was] for was in due], default=0)
+
+    @property
+    def value(self) -> int:
+        return self.makespan if self.opened.project.goal is Goal.MAKESPAN else self.lateness
+
+    def when(self, was: int) -> str:
+        """When an activity starts."""
+        if was in self.now:
+            return self.opened.times(self.now[was], self.starts[was])[0]
+        calendar = self.opened.calendar
+        return calendar.times(self.starts[was], self.ends[was])[0] if calendar else self.opened.after(self.starts[was])
+
+    def called(self, was: int) -> str:
+        return self.names[was] or f"activity {was}"
+
+
+def compare(opened: ProjectFile, old: str, new: str, why: Callable[[int], int] | None) -> int:
+    """Where the new schedule is later it asks why none ends as soon as the old one."""
+    before, after = Side(read_answer(old), opened), Side(read_answer(new), opened)
+    print(*differences(before, after), sep="\n")
+    return why(before.value) if why is not None and after.value > before.value else 0
+
+
+def same_activities(was: Side, now: Side) -> dict[int, int]:
+    """Which activity of the new schedule each one of the old is: by name, or by number where one side has no names."""
+    if any(was.names.values()) and any(now.names.values()):
+        return same_names(was.names, now.names)
+    return {i: i for i in was.starts if i in now.starts}
+
+
+def differences(was: Side, now: Side) -> list[str]:
+    """What moved, what is new and what is gone, each in the order of the starts."""
+    pairs = same_activities(was, now)
+    moved = [(i, j) for i, j in pairs.items() if was.starts[i] != now.starts[j]]
+    new = [i for i in now.starts if i not in pairs.values()]
+    gone = [i for i in was.starts if i not in pairs]
+    wide = max([len(now.called(i)) for i in [*new, *(j for _, j in moved)]] + [len(was.called(i)) for i in gone] + [0])
+    length = now.opened.length
+    told = [f"makespan {change(was.makespan, now.makespan, length)}{ends(was, now)}"]
+    told += [f"lateness {change(was.lateness, now.lateness, length)}"] if now.opened.project.due else []
+    for i, j in sorted(moved, key=lambda pair: (now.starts[pair[1]], pair[1])):
+        told.append(f"  {now.called(j):{wide}}  {was.when(i)} -> {now.when(j)}{late(now.starts[j] - was.starts[i], length)}")
+    for side, numbers, says in ((now, new, "new, at"), (was, gone, "gone, was at")):
+        for i in sorted(numbers, key=side.starts.__getitem__):
+            told.append(f"  {side.called(i):{wide}}  {says} {side.when(i)}")
+    return [*told, f"{len(pairs) - len(moved)} of {len(now.starts)} start as before"]
+
+
+def ends(was: Side, now: Side) -> str:
+    """The dates of both ends."""
+    calendar = now.opened.calendar
+    if calendar is None:
+        return ""
+    before, after = (calendar.times(side.makespan, side.makespan)[1] for side in (was, now))
+    return f" ({before} -> {after})"
+
+
+def change(was: int, now: int, length: Callable[[int], str]) -> str:
+    return f"{length(was)} -> {length(now)}{late(now - was, length)}"
+
+
+def late(periods: int, length: Callable[[int], str]) -> str:
+    """How much later, in words; empty where it is the same."""
+    return f", {length(abs(periods))} {'later' if periods > 0 else 'earlier'}" if periods else ""

@@ -1,0 +1,115 @@
+"""Texts in CSV, as spreadsheets write and open them: tables, answers and batches."""
+import csv
+import io
+import re
+from collections.abc import Callable, Iterable, Sequence
+from dataclasses import dataclass
+
+from ..errors import BadInput
+
+SEPARATORS = {"comma": ",", "semicolon": ";", "tab": "\t"}
+SEP_LINE = re.compile(r'"?sep=(.)"?[ ,;\t]*\r?\n', re.I)  # what a spreadsheet puts first to tell the separator
+MOST_TITLES = 40  # rows above the columns
+FORCED = re.compile(r'="(?:[^"]|"")*"')
+ODD = re.compile(r"[-=+@\t\r]|[^\w\s]*\d|[^\W\d_]+[\s./-]*\d+(?:[\s.,/-]+\d+)?$|(?:true|false|wahr|falsch)$", re.I)
+MARK = "\ufeff"  # the byte order mark, by which a spreadsheet knows that a text is UTF-8
+
+
+@dataclass(frozen=True)
+class Sheet:
+    """Rows of trimmed cells, one of which names the columns."""
+
+    heads: list[str]
+    rows: list[list[str]]  # those below
+    separator: str
+    above: list[list[str]]  # the rows above: titles
+
+    @property
+    def head_row(self) -> int:
+        """Its number, as a spreadsheet shows it."""
+        return len(self.above) + 1
+
+    def numbered(self) -> list[tuple[int, list[str]]]:
+        """The rows that aren't empty, with the numbers that a spreadsheet shows for them."""
+        return [(number, row) for number, row in enumerate(self.rows, self.head_row + 1) if any(row)]
+
+
+def letters(column: int) -> str:
+    """The letters that a spreadsheet gives a column: A, B, .., Z, AA."""
+    text = ""
+    column += 1
+    while column:
+        column, letter = divmod(column - 1, 26)
+        text = chr(ord("A") + letter) + text
+    return text
+
+
+def cell(row: Sequence[str], column: int | None) -> str:
+    """The text of a cell; empty where the row is shorter, or the table has no such column."""
+    return row[column] if column is not None and column < len(row) else ""
+
+
+def read_sheet(file: str, text: str, names_columns: Callable[[list[str]], bool] = lambda row: True) -> Sheet:
+    """The separator is the one that a line `sep=` tells, else the one of comma, semicolon and tab that most rows have at
+    least once. The first row that names the columns is asked for; where none does, it is row 1. Heads have one blank between
+    words."""
+    text = text.removeprefix(MARK)
+    told = SEP_LINE.match(text)
+    text = text[told.end() :] if told else text
+    separator = told[1] if told else separator_of(text, names_columns)
+    rows = split(file, text, separator)
+    place = head_of(rows, names_columns)
+    if not rows or not any(rows[place]):
+        raise BadInput(f"{file}: row 1 is empty; it must name the columns")
+    return Sheet(heads(rows[place]), rows[place + 1 :], separator, rows[:place])
+
+
+def separator_of(text: str, names_columns: Callable[[list[str]], bool]) -> str:
+    """The one that row 1 has most of; with titles above the columns the one by which a row names these."""
+    for line in text.split("\n", MOST_TITLES)[:MOST_TITLES]:
+        separator = max(SEPARATORS.values(), key=line.count)
+        try:
+            if names_columns(heads([one for row in csv.reader([line], delimiter=separator) for one in row])):
+                return separator
+        except csv.Error:
+            pass
+    return max(SEPARATORS.values(), key=text.partition("\n")[0].count)
+
+
+def split(file: str, text: str, separator: str) -> list[list[str]]:
+    try:
+        found = csv.reader(io.StringIO(text, newline=""), delimiter=separator, strict=True)
+        return [[shown(one.strip()) for one in row] for row in found]
+    except (csv.Error, ValueError) as fault:
+        raise BadInput(f"{file}: not a table in CSV: {fault}") from None
+
+
+def head_of(rows: list[list[str]], names_columns: Callable[[list[str]], bool]) -> int:
+    return next((place for place, row in enumerate(rows[:MOST_TITLES]) if names_columns(heads(row))), 0)
+
+
+def heads(row: list[str]) -> list[str]:
+    return [" ".join(head.split()) for head in row]
+
+
+def shown(cell: str) -> str:
+    """What a spreadsheet shows of a cell that it is told to take for a text: `="2-3"` is 2-3."""
+    return cell[2:-1].replace('""', '"') if FORCED.fullmatch(cell) else cell
+
+
+class Text(str):
+    """Words of the planner's, which a spreadsheet must not take for a formula, a number or a date."""
+
+
+def as_shown(cell: object) -> object:
+    """What makes a spreadsheet show just these words; reading makes the words of it again."""
+    return '="' + cell.replace('"', '""') + '"' if isinstance(cell, Text) and ODD.match(cell) else cell
+
+
+def write_sheet(rows: Iterable[Sequence[object]], separator: str = ",", excel: bool = False) -> str:
+    """The rows as a text; for a spreadsheet with a byte order mark, lines that end as it ends them, and words that it shows
+    as they are."""
+    text = io.StringIO()
+    made = ([as_shown(cell) for cell in row] for row in rows) if excel else rows
+    csv.writer(text, delimiter=separator, lineterminator="\r\n" if excel else "\n").writerows(made)
+    return (MARK if excel else "") + text.getvalue()

@@ -1,0 +1,152 @@
+"""`plan gantt`: a schedule as a chart, in plain text or as SVG."""
+from dataclasses import dataclass
+
+from ..clock import Clock
+from ..files import STANDARD_INPUT, guard, must_be_like, write_whole
+from ..psmax import Psmax
+from . import drawing, svg
+from .answer import judged
+from .drawing import Bar, Drawing, Load
+from .given import read_answer
+from .opened import ProjectFile
+from .window import Stretch
+
+MARK = 10  # columns from one number of the ruler to the next
+LONGEST_NAME = 40
+NUMBER = 6  # columns of a start that is a number
+
+
+def text(shown: Drawing, width: int) -> str:
+    """The chart in lines: the ruler, the activities, the use of each resource, and what is not as it should be."""
+    scale = drawing.round_step((shown.ends - shown.begins) / width)
+    first = shown.begins // (MARK * scale) * MARK * scale
+    columns = -(-(shown.ends - first) // scale)
+    wide = max([len(short(label)) for label in labels(shown)] + [0])
+    when = max([NUMBER, *(len(bar.first) for bar in shown.bars)])
+    column = shown.length(scale)
+    column += " periods" if column.isdigit() else ""
+    lines = [shown.title + (f"   (a column is {column})" if scale > 1 else "")]
+    margin = " " * (wide + when + 7)
+    lines += [margin + line for line in ruler(shown, first, scale, columns)]
+    for bar in shown.bars:
+        number = "" if bar.activity is None else f"{bar.activity}"
+        lines.append(f"{number:>4} {short(bar.name):{wide}} {bar.first:>{when}} {bar_cells(bar, first, scale, columns)}")
+    for load in shown.loads:
+        label = short(load.name)
+        lines.append(f"     {label:{wide}} {'of ' + str(load.capacity):>{when}} {load_cells(load, first, scale, columns)}")
+    lines += [margin + line for line in keys(shown)]
+    return "".join(line.rstrip() + "\n" for line in [*lines, *shown.notes])
+
+
+def keys(shown: Drawing) -> list[str]:
+    """What signs mean that not every chart has."""
+    return [key for key, is_there in (
+        ("9 stands for the whole of a resource of more than 9 units", any(load.capacity > 9 for load in shown.loads)),
+        ("/ units are away, and none is in use", any(load.away for load in shown.loads)),
+        ("+ the last period before the due date is over", any(bar.due is not None for bar in shown.bars)),
+        ("- where it may run too, while the others stay as they are", any(bar.window for bar in shown.bars)),
+        ("* critical: any later, and no schedule is as short", any(bar.is_critical for bar in shown.bars)),
+    ) if is_there]
+
+
+def labels(shown: Drawing) -> list[str]:
+    return [bar.name for bar in shown.bars] + [load.name for load in shown.loads]
+
+
+def short(name: str) -> str:
+    return name if len(name) <= LONGEST_NAME else name[: LONGEST_NAME - 2] + ".."
+
+
+def ruler(shown: Drawing, first: int, scale: int, columns: int) -> list[str]:
+    """A line of numbers or dates, and one of marks."""
+    numbers, marks = "", ""
+    for column in range(0, columns, MARK):
+        number = shown.mark(first + column * scale, column == 0)
+        numbers = f"{numbers:{column}}" + number if len(numbers) < column or not column else numbers
+        marks = f"{marks:{column}}|"
+    return [numbers, marks]
+
+
+def bar_cells(bar: Bar, first: int, scale: int, columns: int) -> str:
+    """A # for each column in which the activity runs, * where it is critical; a | where it takes no time; a group in
+    brackets."""
+    cells = ["."] * columns
+    if bar.window is not None and bar.window.float:
+        fill(cells, "-", bar.window.earliest, bar.window.latest + bar.ends - bar.begins, first, scale)
+    sign = "=" if bar.activity is None else "*" if bar.is_critical else "#"
+    fill(cells, sign, bar.begins, bar.ends, first, scale)
+    begin, end = (min((time - first) // scale, columns - 1) for time in (bar.begins, max(bar.begins, bar.ends - 1)))
+    if bar.activity is None:
+        cells[begin], cells[end] = "[", "]" if end > begin else "["
+    elif bar.begins == bar.ends:
+        cells[begin] = "*" if bar.is_critical else "|"
+    if bar.due is not None and 0 < bar.due and (bar.due - 1 - first) // scale < columns:
+        cells[(bar.due - 1 - first) // scale] = "+"
+    return "".join(cells)
+
+
+def fill(cells: list[str], sign: str, begins: int, ends: int, first: int, scale: int) -> None:
+    for column in range((begins - first) // scale, -(-(ends - first) // scale)):
+        cells[column] = sign
+
+
+def load_cells(load: Load, first: int, scale: int, columns: int) -> str:
+    """The greatest use in each column: the units, or ninths of a larger capacity; ! above what is there, / where units are
+    away and none is in use."""
+    most, gone, over = [0] * columns, [0] * columns, [False] * columns
+    for found, into in ((load.stretches, most), (load.away, gone)):
+        for stretch in found:
+            for column in covered(stretch, first, scale):
+                into[column] = max(into[column], stretch.units)
+    for stretch in load.stretches:
+        for absent in [one for one in load.away if one.begins < stretch.ends and stretch.begins < one.ends]:
+            if stretch.units + absent.units > load.capacity:
+                both = Stretch(max(stretch.begins, absent.begins), min(stretch.ends, absent.ends), 0)
+                for column in covered(both, first, scale):
+                    over[column] = True
+    return "".join("!" if is_over else "/" if absent and not units else use_sign(units, load.capacity)
+                   for units, absent, is_over in zip(most, gone, over))
+
+
+def covered(stretch: Stretch, first: int, scale: int) -> range:
+    return range((stretch.begins - first) // scale, -(-(stretch.ends - first) // scale))
+
+
+def use_sign(units: int, capacity: int) -> str:
+    if units == 0:
+        return "."
+    if units > capacity:
+        return "!"
+    return str(units if capacity <= 9 else -(-9 * units // capacity))
+
+
+@dataclass(frozen=True)
+class Chart:
+    """What the words of a command say of a chart that is drawn."""
+
+    svg: str | None
+    width: int
+    is_wanted: bool = True
+
+    def must_fit(self) -> None:
+        """A file that is there and no picture stays."""
+        must_be_like(self.svg, svg.BEGIN, "picture")
+
+    def show(self, shown: Drawing) -> None:
+        if self.svg is not None:
+            write_whole(self.svg, svg.draw(shown).encode())
+        else:
+            print(text(shown, self.width), end="")
+
+
+def gantt(opened: ProjectFile, given: str | None, chart: Chart) -> int:
+    """Draws starts that are no feasible schedule too, with their violations."""
+    guard([chart.svg], opened.inputs() | {"the answer": given or STANDARD_INPUT})
+    chart.must_fit()
+    answer = read_answer(given)
+    if answer.instead:
+        print(answer.instead)
+        return 0
+    known = judged(opened, answer, Psmax(Clock(), opened.path))
+    chart.show(drawing.make(opened, known.starts, known.title(), known.violations))
+    return 0

@@ -1,0 +1,82 @@
+"""The file that `plan solve --out` keeps: it gets each shorter schedule, and never a longer one of the same project."""
+import json
+import os
+
+from ..clock import Clock, tell
+from ..errors import BadInput, Failed
+from ..files import read_bytes, write_whole
+from ..known import Known
+from ..psmax import Psmax
+from .answer import Answer, feasible
+from .csv_text import write_sheet
+from .given import answer_of
+from .opened import ProjectFile
+from .write import rows
+
+WITHOUT_STARTS = (b"no schedule", b"unknown ")  # the beginnings of answers of a search
+
+
+class Kept:
+    def __init__(self, path: str, opened: ProjectFile) -> None:
+        self.path = path
+        self.opened = opened
+        self.written: bytes | None = None  # what it holds, as far as is known
+        self.there: Answer | None = None  # the schedule that it holds, if another put it there
+
+    def look(self) -> Answer | None:
+        """The schedule of this project that the file holds; psmax finds it feasible."""
+        data = read_bytes(self.path) if os.path.isfile(self.path) else None
+        if data is not None and data != self.written:
+            self.there = self.schedule_in(data)
+        self.written = data
+        return self.there if data is not None else None
+
+    def schedule_in(self, data: bytes) -> Answer | None:
+        """What holds no starts may go, but neither what is no answer nor the starts of another project, or of this one
+        before it was changed."""
+        if not data.strip() or data.startswith(WITHOUT_STARTS):
+            return None
+        try:
+            return feasible(self.opened, answer_of(data, self.path), Psmax(Clock(), self.opened.path))
+        except BadInput as fault:
+            told = f"{self.path} is no schedule of {self.opened.path}, and would be lost; name another file with --out"
+            raise BadInput(told, *fault.args) from None
+
+    def put(self, known: Known) -> bool:
+        """Writes the best schedule, unless another one has put a shorter one there meanwhile. Says whether it is there."""
+        if known.starts is None:
+            return False
+        there = self.look()
+        if there is not None and there.starts[-1] < known.starts[-1]:
+            tell(known.clock, f"{self.path} holds a schedule of {known.goal.words(there.starts[-1])} by now, which stays")
+            return False
+        data = answer_text(known, self.opened, self.path.lower().endswith(".csv"))
+        if data != self.written:
+            write_whole(self.path, data)
+        self.written, self.there = data, None
+        return True
+
+    def put_if_possible(self, known: Known) -> None:
+        """The same while the search goes on; where it fails, that is told, and is tried again at the end."""
+        try:
+            self.put(known)
+        except (BadInput, Failed) as fault:
+            tell(known.clock, f"{fault.args[0]}")
+
+
+def answer_text(known: Known, opened: ProjectFile, as_table: bool) -> bytes:
+    """What is known, with the names of the activities: as a table, or in the lines of psmax, the first of which, which
+    psmax passes over, has the names."""
+    if as_table and known.starts is not None:
+        return write_sheet(rows(opened, known.starts, with_dates=False)).encode()
+    first, _, rest = known.answer().decode().partition("\n")
+    activities = activities_of(opened)
+    told = f" {json.dumps(activities, ensure_ascii=False)}" if any(opened.names.activities.values()) else ""
+    return f"{first}{told}\n{rest}".encode()
+
+
+def activities_of(opened: ProjectFile) -> dict[str, object]:
+    """The names of the activities in their order, empty where one has none, and how long each takes."""
+    durations = opened.project.durations[1:-1]
+    names = [opened.names.activities.get(i, "") for i in range(1, len(durations) + 1)]
+    return {"names": names, "durations": [*durations], "period": opened.names.unit or None}

@@ -1,0 +1,177 @@
+"""A project as it is opened: a table, which is read anew each time, or a .sch file with its page of names."""
+import hashlib
+import os
+import re
+from dataclasses import dataclass, field, replace
+
+from ..clock import Clock
+from ..errors import BadInput
+from ..files import read_bytes, read_text
+from ..project import Project, parse
+from ..psmax import Psmax
+from ..spelled import Spelled
+from .calendars import Calendar
+from .columns import is_head
+from .csv_text import read_sheet
+from .given import WITH_STARTS, answer_sheet
+from .names import Names, read_page
+from .outline import Group
+from .progress import Progress
+from .settings import Settings, calendar, checked, from_rows, time_of
+from .table import Table, read_table
+
+PROJECT = re.compile(rb"\s*\d+[ \t]+\d+[ \t]+0[ \t]+0\s")
+
+
+@dataclass(frozen=True)
+class ProjectFile:
+    path: str
+    project: Project
+    names: Names
+    settings: Settings
+    calendar: Calendar | None
+    sources: dict[str, str]  # what it was read from, and what else lies there as its own, by what that is
+    table: Table | None = None
+    separator: str = ","
+    mornings: dict[int, list[int]] = field(default_factory=dict)
+
+    @property
+    def groups(self) -> tuple[Group, ...]:
+        return self.table.groups if self.table is not None else ()
+
+    @property
+    def progress(self) -> Progress:
+        return self.table.progress if self.table is not None else Progress(None)
+
+    @property
+    def notes(self) -> tuple[str, ...]:
+        return self.table.notes if self.table is not None else ()
+
+    def inputs(self) -> dict[str, str]:
+        """What no output may replace."""
+        return self.sources | self.settings.files()
+
+    def times(self, activity: int, begins: int) -> tuple[str, str]:
+        """When an activity begins and ends, where it begins at this time: as dates, or else as lengths from the start."""
+        ends = begins + self.project.durations[activity]
+        if self.calendar is None:
+            return self.after(begins), self.after(ends)
+        return self.calendar.times(begins, ends, begins in self.mornings.get(activity, ()))
+
+    def length(self, periods: int) -> str:
+        """So many periods as the table writes lengths; their number where a period is what its column names."""
+        return self.table.scale.text(periods) if self.table is not None else f"{periods}"
+
+    def after(self, time: int) -> str:
+        """A time, where there are no dates."""
+        return self.table.scale.time(time) if self.table is not None else f"{time}"
+
+    def is_own(self) -> bool:
+        return self.table is None or self.table.scale.is_own()
+
+    def changeable(self) -> int:
+        """How many of the project's arcs are lags that one could change; those behind keep what has started."""
+        return len(self.project.arcs) - len(self.progress.arcs(self.project.end - 1))
+
+    def time(self, text: str, name: str) -> int:
+        """A date or a number, as a word of the command says it."""
+        scale = self.table.scale if self.table is not None else None
+        return time_of(text, name, self.settings, self.calendar, scale)
+
+
+def page_of(project: str) -> str:
+    return os.path.splitext(project)[0] + ".md"
+
+
+def open_project(path: str, words: Settings = Settings(), page: str | None = None) -> ProjectFile:
+    """The project in a file, with the names of the page that is named, which must be there, or of the one beside it."""
+    data = read_bytes(path)
+    if data.startswith(b"PK\x03\x04"):
+        raise BadInput(f"{path}: this is a spreadsheet file, and no project; save its table as CSV")
+    text = data.decode("utf-8-sig", "replace")
+    if text.startswith(WITH_STARTS) or (not is_table(path, text) and answer_sheet(text) is not None):
+        raise BadInput(f"{path}: this is an answer, and no project")
+    if is_table(path, text):
+        return open_table(path, words, page)
+    return open_text(path, data, words, page)
+
+
+def is_table(path: str, text: str) -> bool:
+    """Whether a file has activities with names and durations, or is called as one that should have."""
+    if PROJECT.match(text.encode("utf-8", "replace")):
+        return False
+    try:
+        sheet = read_sheet(path, text, is_head)
+        return is_head(sheet.heads) or (path.lower().endswith(".csv") and answer_sheet(text) is None)
+    except BadInput:
+        return path.lower().endswith(".csv")
+
+
+def has_activities(path: str) -> bool:
+    """Whether a file is a table of activities, by its columns."""
+    try:
+        return is_head(read_sheet(path, read_bytes(path).decode("utf-8", "replace"), is_head).heads)
+    except BadInput:
+        return False
+
+
+def open_table(path: str, words: Settings, page: str | None = None) -> ProjectFile:
+    """The page beside a table is no part of it; one that is named says what the words and the table don't."""
+    if page is not None:
+        words = words.over(from_rows(read_page(read_bytes(page)).settings, os.path.dirname(page)))
+    text = read_text(path)
+    found = read_table(path, text, words, os.path.dirname(path))
+    sources = {"the table": path} | ({} if page is None else {"the page of names": page})
+    separator = read_sheet(path, text, is_head).separator
+    return of_table(path, found, sources, separator)
+
+
+def of_table(path: str, found: Table, sources: dict[str, str], separator: str) -> ProjectFile:
+    return ProjectFile(path, found.project, found.names, found.settings, found.calendar, sources, found, separator,
+                       found.mornings)
+
+
+def open_text(path: str, data: bytes, words: Settings, page: str | None) -> ProjectFile:
+    """A .sch file. Where its page says which table it was made of, and that is there, the table is read too."""
+    at = page if page is not None else page_of(path)
+    names = read_page(read_bytes(at)) if page is not None or os.path.isfile(at) else Names()
+    told = from_rows(names.settings, os.path.dirname(at))
+    table = os.path.join(os.path.dirname(at), names.source) if names.source else None
+    sources = {"the project": path, "the page of names": at, "the page beside the project": page_of(path)}
+    beside = os.path.splitext(path)[0] + ".csv"
+    sources |= {} if table is None else {"the table of the project": table}
+    sources |= {} if is_answer(beside) else {"the table beside the project": beside}
+    if table is not None and os.path.isfile(table):
+        return made_of(path, data, names, told, words, table, sources)
+    settings = checked(words.over(told))
+    for name in ("absences", "status", "minimize"):
+        if getattr(settings, name) is not None:
+            raise BadInput(f"{path}: --{name} needs the table of the project" + (f", {table}" if table is not None else ""))
+    Psmax(Clock(), path).earliest_of_text(data)
+    found = calendar(settings, names.unit)
+    separator = read_sheet(beside, read_text(beside)).separator if os.path.isfile(beside) and not is_answer(beside) else ","
+    return ProjectFile(path, parse(data), names, settings, found, sources, separator=separator)
+
+
+def made_of(path: str, data: bytes, names: Names, told: Settings, words: Settings, table: str,
+            sources: dict[str, str]) -> ProjectFile:
+    """What the table says, once it is sure that the project is what `plan read` makes of it."""
+    advice = f"give the table itself, or make the project again by `plan read {table}`"
+    if names.digest and hashlib.sha256(read_bytes(table)).hexdigest() != names.digest:
+        raise BadInput(f"{path} is older than its table {table}, which was changed; {advice}")
+    text, folder = read_text(table), os.path.dirname(table)
+    found = read_table(table, text, Settings(), folder, told)
+    if Spelled(found.project).text.split() != data.split():
+        raise BadInput(f"{path} is not what `plan read` makes of {table} today; {advice}")
+    project = found.project
+    if words != Settings():
+        found = read_table(table, text, words, folder, told)
+        if replace(found.project, goal=project.goal) != project:
+            raise BadInput(f"{path} was made with another calendar; {advice}")
+    separator = read_sheet(table, text, is_head).separator
+    return of_table(path, replace(found, names=replace(found.names, source=names.source)), sources, separator)
+
+
+def is_answer(path: str) -> bool:
+    """Whether a file is an answer in CSV, which is no table of activities."""
+    return os.path.isfile(path) and answer_sheet(read_bytes(path).decode("utf-8", "replace")) is not None

@@ -1,0 +1,324 @@
+"""The words of the command line."""
+import argparse
+import os
+import re
+from collections.abc import Callable, Sequence
+from dataclasses import fields
+from functools import partial
+from typing import NoReturn
+
+from ..errors import BadInput
+from ..project import MOST_UNITS
+from . import batch, check, compare, floats, gantt, read, report, solve, verify, whatif, where, why, write
+from .csv_text import SEPARATORS
+from .dates import ORDERS
+from .opened import ProjectFile, open_project
+from .replan import Start
+from .settings import GOALS, Settings, checked
+
+MOST_SECONDS = 1_000_000
+MOST_JOBS = 64  # of psprove
+PROCESSORS = min(len(os.sched_getaffinity(0)), MOST_JOBS)
+MOST_PROJECTS = 256
+
+
+class Parser(argparse.ArgumentParser):
+    """Words that are not what they should be are one line, as every other fault is."""
+
+    def error(self, message: str) -> NoReturn:
+        raise BadInput(f"{message}; see {self.prog} --help")
+
+
+class Version(argparse.Action):
+    """Prints the versions of all that an answer depends on."""
+
+    def __call__(self, parser: argparse.ArgumentParser, *_: object) -> None:
+        found = solve.versions()
+        print(f"plan {found['plan']}, psmax {found['psmax']}, psprove {found['psprove']}, Python {found['python']}")
+        parser.exit()
+
+
+def number(least: int, most: int) -> Callable[[str], int]:
+    """What reads a whole number in digits, from the least to the most."""
+    def read_number(text: str) -> int:
+        if not re.fullmatch("-?[0-9]{1,9}", text) or not least <= int(text) <= most:
+            raise argparse.ArgumentTypeError(f"'{text}' is not a whole number from {least} to {most}")
+        return int(text)
+    return read_number
+
+
+def part(text: str) -> tuple[int, int]:
+    found = re.fullmatch("([0-9]{1,6})/([0-9]{1,6})", text)
+    if found is None or not 1 <= int(found[1]) <= int(found[2]):
+        raise argparse.ArgumentTypeError(f"'{text}' is not a part such as 1/4, the first of four")
+    return int(found[1]), int(found[2])
+
+
+def parser() -> tuple[Parser, dict[str, Parser]]:
+    """The parser of all, and those of the commands."""
+    shown = argparse.RawDescriptionHelpFormatter
+    top = Parser(prog="plan", description=ABOUT, epilog=STATUSES, formatter_class=shown)
+    top.add_argument("--version", action=Version, nargs=0, help="print the versions of plan, its programs and Python")
+    commands: "argparse._SubParsersAction[Parser]" = top.add_subparsers(dest="command", required=True, metavar="COMMAND")
+    for name, add, text, reads, example in COMMANDS:
+        epilog = f"example:\n  plan {name} {example}\n\n{STATUSES}"
+        add(commands.add_parser(name, help=text, description=reads, epilog=epilog, formatter_class=shown))
+    return top, dict(commands.choices)
+
+
+def parsed(words: Sequence[str]) -> argparse.Namespace:
+    """The words, of which files and options may stand in any order behind the command."""
+    top, commands = parser()
+    return commands[words[0]].parse_intermixed_args(words[1:]) if words and words[0] in commands else top.parse_args(words)
+
+
+def add_solve(one: argparse.ArgumentParser) -> None:
+    add_project(one)
+    add_limits(one)
+    add_start(one)
+    one.add_argument("--out", metavar="FILE", help="write each shorter schedule into FILE")
+    one.add_argument("--svg", metavar="FILE", help="draw the schedule into FILE")
+    one.add_argument("--record", metavar="FILE", help="write the record that proves the bound into FILE")
+    one.add_argument("--json", action="store_true", help="print the answer as one line of JSON")
+    one.set_defaults(run=lambda o: solve.solve(opened(o), start(o), solve.Options(
+        o.seconds, o.jobs, o.out, o.svg, o.record, o.json)))
+
+
+def add_project(one: argparse.ArgumentParser) -> None:
+    one.add_argument("project", metavar="PROJECT", help="a table of activities in CSV, or a .sch file")
+    one.add_argument("--names", metavar="PAGE", help="the page of names (default: the .md file beside a .sch file)")
+    add_settings(one)
+
+
+def opened(options: argparse.Namespace) -> ProjectFile:
+    return open_project(options.project, settings(options), options.names)
+
+
+def add_settings(one: argparse.ArgumentParser) -> None:
+    """Of the project. Rows above the table, or else the page of names, say what these options do not."""
+    project = one.add_argument_group("settings of the project, which rows above the table may say too")
+    project.add_argument("--from", dest="first", metavar="DATE", help="the day or the moment at which the project starts")
+    project.add_argument("--period", metavar="P", help="the unit of time: minutes, hours, days, weeks, or '30 minutes' for "
+                         "example (default: as the table says)")
+    project.add_argument("--workdays", metavar="DAYS", help="the days with work, such as mon-fri or Mo-Fr (default: every day)")
+    project.add_argument("--holidays", metavar="FILE", help="a file of days without work, one date a line")
+    project.add_argument("--shift", metavar="HOURS", help="the hours of work of a day, such as 07:00-12:00,13:00-16:00")
+    project.add_argument("--zone", metavar="ZONE", help="the time zone of periods around the clock, such as Europe/Berlin")
+    project.add_argument("--dates", choices=ORDERS, help="what stands first in a date such as 3/2/2026: the day or the month")
+    project.add_argument("--absences", metavar="FILE", help="a table of what is away when: resource, from, to, units")
+    project.add_argument("--status", metavar="DATE", help="the day at which the table says how far the project has come")
+    project.add_argument("--minimize", choices=GOALS, help="what is minimized (default: makespan)")
+
+
+def settings(options: argparse.Namespace) -> Settings:
+    return checked(Settings(**{field.name: getattr(options, field.name) for field in fields(Settings)}))
+
+
+def add_limits(one: argparse.ArgumentParser) -> None:
+    one.add_argument("--seconds", type=number(1, MOST_SECONDS), default=60, metavar="S",
+                     help="stop after S seconds (default 60)")
+    one.add_argument("--jobs", type=number(1, MOST_JOBS), default=PROCESSORS, metavar="N",
+                     help="run N searches side by side (default: the number of processors)")
+
+
+def add_start(one: argparse.ArgumentParser) -> None:
+    one.add_argument("--start", metavar="ANSWER", help="start from this schedule")
+    one.add_argument("--frozen", metavar="DAY", help="keep what starts before this day or period in --start")
+
+
+def start(options: argparse.Namespace) -> Start:
+    return Start(options.start, options.frozen)
+
+
+def add_verify(one: argparse.ArgumentParser) -> None:
+    add_project(one)
+    one.add_argument("record", metavar="RECORD", help="a record of psprove or psmax")
+    add_start(one)
+    one.set_defaults(run=lambda o: verify.verify(opened(o), o.record, start(o)))
+
+
+def add_read(one: argparse.ArgumentParser) -> None:
+    one.add_argument("table", metavar="TABLE", help="a table in CSV, or a .sch file")
+    one.add_argument("--out", metavar="PROJECT", help="write the project there (default: beside the table, as .sch)")
+    add_settings(one)
+    one.set_defaults(run=lambda o: read.read(o.table, o.out, settings(o)))
+
+
+def add_schedule(one: argparse.ArgumentParser) -> None:
+    add_project(one)
+    one.add_argument("answer", metavar="ANSWER", nargs="?",
+                     help="an answer of plan, psmax or psprove, or starts (default: standard input)")
+
+
+def add_table(one: argparse.ArgumentParser) -> None:
+    one.add_argument("--out", metavar="FILE", help="write the table into FILE")
+    one.add_argument("--excel", action="store_true",
+                     help="write for a spreadsheet: a byte order mark, and the table's separator")
+    one.add_argument("--separator", choices=[*SEPARATORS],
+                     help="between cells (default: comma; with --excel that of the table)")
+
+
+def table(options: argparse.Namespace) -> write.Sheet:
+    return write.Sheet(options.out, options.excel, options.separator)
+
+
+def add_write(one: argparse.ArgumentParser) -> None:
+    add_schedule(one)
+    add_table(one)
+    one.set_defaults(run=lambda o: write.write(opened(o), o.answer, table(o)))
+
+
+def add_float(one: argparse.ArgumentParser) -> None:
+    add_schedule(one)
+    add_table(one)
+    add_chart(one)
+    one.add_argument("--chart", action="store_true", help="draw a chart instead of a table")
+    one.add_argument("--total", action="store_true",
+                     help="prove the latest start in any schedule that is no longer; --out is then a new folder, for records")
+    add_start(one)
+    add_limits(one)
+    one.set_defaults(run=lambda o: floats.floats(
+        opened(o), o.answer, table(o), gantt.Chart(o.svg, o.width, o.chart or o.svg is not None),
+        floats.Total(o.seconds, o.jobs, start(o)) if o.total else None))
+
+
+def add_chart(one: argparse.ArgumentParser) -> None:
+    one.add_argument("--svg", metavar="FILE", help="draw a picture into FILE instead")
+    one.add_argument("--width", type=number(20, 500), default=80, metavar="COLUMNS",
+                     help="columns for the time, 20 to 500 (default 80)")
+
+
+def add_gantt(one: argparse.ArgumentParser) -> None:
+    add_schedule(one)
+    add_chart(one)
+    one.set_defaults(run=lambda o: gantt.gantt(opened(o), o.answer, gantt.Chart(o.svg, o.width)))
+
+
+def add_report(one: argparse.ArgumentParser) -> None:
+    add_schedule(one)
+    one.add_argument("--out", metavar="FILE", required=True, help="write the page into FILE")
+    one.add_argument("--record", metavar="RECORD", help="the record that proves the bound")
+    one.add_argument("--paper", choices=["A4", "A3"], default="A4", help="what it is printed on (default A4)")
+    add_start(one)
+    add_limits(one)
+    one.set_defaults(run=lambda o: report.report(opened(o), o.answer, start(o), report.Options(
+        o.record, o.out, o.paper, o.seconds, o.jobs)))
+
+
+def add_check(one: argparse.ArgumentParser) -> None:
+    add_schedule(one)
+    one.set_defaults(run=lambda o: check.check(opened(o), o.answer))
+
+
+def add_compare(one: argparse.ArgumentParser) -> None:
+    add_project(one)
+    one.add_argument("old", metavar="OLD", help="an answer")
+    one.add_argument("new", metavar="NEW", help="a later answer")
+    one.add_argument("--why", action="store_true", help="explain why no schedule ends as early as OLD")
+    one.add_argument("--frozen", metavar="DAY", help="with --why: keep what starts before this day or period in OLD")
+    one.add_argument("--out", metavar="FOLDER", help="write the proof into this new folder")
+    add_limits(one)
+    one.set_defaults(run=run_compare)
+
+
+def run_compare(options: argparse.Namespace) -> int:
+    found = opened(options)
+    begun = Start(options.old if options.frozen is not None else None, options.frozen)
+    cause = partial(why.why, found, begun, seconds=options.seconds, jobs=options.jobs, out=options.out)
+    return compare.compare(found, options.old, options.new, cause if options.why else None)
+
+
+def add_why(one: argparse.ArgumentParser) -> None:
+    add_project(one)
+    one.add_argument("--within", type=number(-MOST_UNITS, MOST_UNITS), metavar="C",
+                     help="explain why no schedule ends by period C, or has a lateness of C")
+    one.add_argument("--out", metavar="FOLDER", help="write the proof into this new folder")
+    add_start(one)
+    add_limits(one)
+    one.set_defaults(run=lambda o: why.why(opened(o), start(o), o.within, o.seconds, o.jobs, o.out))
+
+
+def add_whatif(one: argparse.ArgumentParser) -> None:
+    add_project(one)
+    add_limits(one)
+    add_table(one)
+    one.set_defaults(run=lambda o: whatif.whatif(opened(o), o.seconds, o.jobs, table(o)))
+
+
+def add_where(one: argparse.ArgumentParser) -> None:
+    one.add_argument("project", metavar="PROJECT", help="a project in a .sch file")
+    one.set_defaults(run=lambda o: where.where(o.project))
+
+
+def add_batch(one: argparse.ArgumentParser) -> None:
+    one.add_argument("folder", metavar="FOLDER", nargs="?", help="the folder with .sch files, or with tables")
+    one.add_argument("--seconds", type=number(1, MOST_SECONDS), default=60, metavar="S",
+                     help="stop each search after S seconds (default 60)")
+    one.add_argument("--jobs", type=number(1, MOST_PROJECTS), default=1, metavar="N",
+                     help="search N projects at a time (default 1)")
+    one.add_argument("--csv", metavar="FILE", help="write the table there, and keep its rows (default: standard output)")
+    one.add_argument("--out", metavar="FOLDER", help="write the schedules into this folder")
+    one.add_argument("--part", type=part, default=(1, 1), metavar="I/N",
+                     help="take only each N-th project from the I-th on")
+    one.add_argument("--join", nargs="+", metavar="FILE", help="make one table from these, and do not search")
+    one.set_defaults(run=run_batch)
+
+
+def run_batch(options: argparse.Namespace) -> int:
+    if (options.folder is None) == (options.join is None):
+        raise BadInput("either a FOLDER, or --join and tables; see plan batch --help")
+    if options.join is not None:
+        return batch.join(options.join, options.csv)
+    return batch.batch(batch.Batch(options.folder, options.seconds, options.jobs, options.part, options.csv, options.out))
+
+
+ABOUT = "Plans projects with psmax and psprove. They check or prove every claim."
+
+STATUSES = """exit status:
+  0    answered
+  1    a file or a program failed, or a project of a batch has a fault
+  2    the words of the command or a text have a fault
+  3    the time ran out, or you ended the search, before all was known
+  4    check found a violation, or verify a wrong line
+  130  interrupted before anything was known"""
+
+# Each command: its name, its options, what it does, what it reads and prints, and the words of an example.
+COMMANDS = (
+    ("solve", add_solve, "find a shortest schedule, with a proof",
+     """Reads a project. Searches until it has proved a shortest schedule, or until a
+limit. Prints the answer on standard output, and its progress on standard error.""",
+     "site.csv --seconds 600 --out plan.csv --record plan.rec"),
+    ("verify", add_verify, "say what a record proves of a project",
+     "Reads a project and a record. Prints what it proves, or its first wrong line.", "site.csv plan.rec"),
+    ("write", add_write, "write a schedule as a table in CSV",
+     "Reads a project and an answer. Writes a row for each activity, with its dates.", "site.csv plan.csv"),
+    ("gantt", add_gantt, "draw a schedule as a chart",
+     "Reads a project and an answer. Draws a chart, with every violation.", "site.csv plan.csv --svg site.svg"),
+    ("float", add_float, "show when each activity may start, and which are critical",
+     """Reads a project and an answer. Prints the earliest and the latest start of each
+activity while the others stay; with --total the latest start in any schedule that
+is no longer, proved.""", "site.csv plan.csv --total"),
+    ("compare", add_compare, "show what moved from one schedule to another",
+     "Reads a project and two answers. Prints what moved, what is new and what is gone.", "site.csv old.csv new.csv --why"),
+    ("report", add_report, "write a schedule as a page of HTML, with what is proved",
+     """Reads a project and an answer. Writes one page with a chart, lags, resources and
+floats, which prints on paper.""", "site.csv plan.csv --record plan.rec --out site.html"),
+    ("check", add_check, "check a schedule, and list its violations",
+     "Reads a project and an answer. Prints 'feasible C', or each violation by name.", "site.csv plan.csv"),
+    ("why", add_why, "explain why a project has no schedule",
+     """Reads a project. Prints a smallest set of maximum lags, resources and absences
+that are impossible together, and which maximum lag would open a schedule.""", "site.csv --within 30"),
+    ("whatif", add_whatif, "show which resource, absence or maximum lag would give a shorter schedule",
+     """Reads a project. Prints the makespan with one unit more of each resource, without
+each absence, and with each maximum lag longer by one period or dropped. The shortest
+comes first.""", "site.csv --seconds 60"),
+    ("read", add_read, "make a project text from a table in CSV, or clean a PSPLIB file",
+     "Reads a table or a .sch file. Writes a project text, and a page with its names.", "site.csv"),
+    ("where", add_where, "locate the fault in a project text",
+     """Reads a project text. Prints the line and column of its fault, and what should
+stand there.""", "site.sch"),
+    ("batch", add_batch, "search all projects of a folder, and make a table",
+     """Reads the .sch files of a folder, and its tables that have none. Writes a row for each
+project once it is known. The same command continues a batch that was cut off.""",
+     "projects --seconds 20 --csv all.csv"),
+)

@@ -1,0 +1,109 @@
+"""How far a project has come: what has started stays at its real start, and takes what follows; the rest starts from the
+status date on."""
+import re
+from collections.abc import Sequence
+from dataclasses import dataclass, field
+from fractions import Fraction
+from math import ceil
+
+from ..letters import short
+from ..project import Arc
+from .cells import Faults
+from .columns import Column
+from .rows import Row
+
+TOLD = (Column.STARTED, Column.FINISHED, Column.REMAINING, Column.DONE)
+PERCENT = re.compile(r"([0-9]{1,3}(?:[.,][0-9]{1,3})?)\s*%?")
+
+
+@dataclass
+class Progress:
+    now: int | None  # the status date
+    started: dict[int, int] = field(default_factory=dict)  # the real start of each activity that has one
+
+    def read(self, rows: Sequence[Row], durations: list[int], faults: Faults) -> None:
+        """Takes the real starts, and changes the durations of what has started."""
+        for number, row in enumerate(rows, 1):
+            with faults.kept():
+                told = [column for column in TOLD if row.cell(column) and not is_nothing(row, column, durations[number - 1])]
+                if told and self.now is None:
+                    raise row.fault(told[0], "how far the project has come needs --status, the date at which that is so")
+                if told and Column.STARTED not in told:
+                    raise row.fault(told[0], "what has no start in the column 'started' has not started")
+                if told and self.now is not None:
+                    self.started[number], durations[number - 1] = so_far(row, self.now, durations[number - 1])
+
+    def arcs(self, count: int) -> list[Arc]:
+        """By which what has started stays, and the rest starts from now on."""
+        if self.now is None:
+            return []
+        fixed = [arc for i, start in self.started.items() for arc in (Arc(0, i, start), Arc(i, 0, -start))]
+        return fixed + [Arc(0, i, self.now) for i in range(1, count + 1) if i not in self.started and self.now]
+
+
+def is_nothing(row: Row, column: Column, planned: int) -> bool:
+    """Nothing done and all remaining say that an activity has not started."""
+    if row.cell(Column.STARTED):
+        return False
+    return share(row) == 0 if column is Column.DONE else column is Column.REMAINING and row.duration(column) == planned
+
+
+def so_far(row: Row, now: int, planned: int) -> tuple[int, int]:
+    """The real start, and the duration that follows from what has been done."""
+    start = real_start(row, now, planned)
+    if row.cell(Column.FINISHED):
+        end = row.close(Column.FINISHED, row.cell(Column.FINISHED))
+        if end > now:
+            raise row.fault(Column.FINISHED, "an end behind the status date; what has ended is before it")
+        if end < start:
+            raise row.fault(Column.FINISHED, "an end before the start")
+        return start, end - start
+    left = what_remains(row, planned)
+    if left is None:
+        if start + planned <= now and planned:
+            raise row.fault(Column.STARTED, f"it has started, and would have ended by the status date in its {planned} "
+                            "periods; say what remains, or that 100 % is done")
+        return start, planned
+    if left == 0:
+        return start, min(planned, now - start)
+    return start, now - start + left
+
+
+def real_start(row: Row, now: int, planned: int) -> int:
+    """What takes no time stands at the end of its day, as everywhere."""
+    text = row.cell(Column.STARTED)
+    start = row.begin(Column.STARTED, text) if planned else min(now, row.close(Column.STARTED, text))
+    if start > now:
+        raise row.fault(Column.STARTED, f"'{short(text)}' is behind the status date")
+    if start < 0 or is_before(row, text):
+        raise row.fault(Column.STARTED, f"'{short(text)}' is before the project starts")
+    return start
+
+
+def is_before(row: Row, text: str) -> bool:
+    """Whether a date is before the project's first day."""
+    found, calendar = row.time_in(Column.STARTED, text), row.terms.calendar
+    if isinstance(found, int) or calendar is None:
+        return False
+    return found.next() <= calendar.begins(0) if found.is_day else found.at < calendar.begins(0)
+
+
+def what_remains(row: Row, planned: int) -> int | None:
+    """In periods; none where nothing says so."""
+    if row.cell(Column.REMAINING):
+        left = row.duration(Column.REMAINING)
+        if row.cell(Column.DONE) and (share(row) == 1) != (left == 0):
+            raise row.fault(Column.DONE, "this and what remains contradict each other")
+        return left
+    return ceil(planned * (1 - share(row))) if row.cell(Column.DONE) else None
+
+
+def share(row: Row) -> Fraction:
+    text = row.cell(Column.DONE)
+    found = PERCENT.fullmatch(text)
+    value = Fraction(found[1].replace(",", ".")) / 100 if found else Fraction(-1)
+    if 0 < value <= Fraction(1, 100) and "%" not in text:
+        raise row.fault(Column.DONE, f"'{short(text)}' may be a share of 1 or of 100; write it with %, as in 40 %")
+    if not 0 <= value <= 1:
+        raise row.fault(Column.DONE, f"'{short(text)}' is not a share such as 40 %")
+    return value

@@ -1,0 +1,130 @@
+"""`plan read`: a table to a project and its page of names, or a project file of PSPLIB to one that psmax reads."""
+import hashlib
+import os
+import pathlib
+import re
+import sys
+
+from ..clock import Clock
+from ..errors import BadInput
+from ..files import guard, read_bytes, read_text, write_whole
+from ..letters import printable
+from ..project import Goal, too_needy
+from ..psmax import Psmax
+from ..spelled import Spelled
+from .given import answer_sheet
+from .names import MADE, page, read_page
+from .opened import PROJECT, ProjectFile, of_table, page_of
+from .settings import Settings, from_rows
+from .table import read_table
+from .wording import Words
+
+PSPLIB = (".sch", ".sm", ".mm")
+MARK = b"\xef\xbb\xbf"  # the byte order mark of UTF-8
+CTRL_Z = b"\x1a"  # the end of a file to old systems
+OURS = "psmax reads the .sch files of the single-mode sets of RCPSP/max"
+OTHER_SET = ("a PSPLIB file of another problem: the sets j30, j60, j90, j120 (.sm) have no maximum lags, the "
+             f"multi-mode sets (.mm) choose how each activity is done; {OURS}")
+MODES = f"; a PSPLIB set with several modes for an activity (MRCPSP/max) is another problem; {OURS}"
+
+
+def read(path: str, out: str | None, words: Settings) -> int:
+    if pathlib.Path(path).suffix.lower() in PSPLIB:
+        return read_sch(path, out)
+    return read_activities(path, out, words)
+
+
+def read_activities(path: str, out: str | None, words: Settings) -> int:
+    """The table to a .sch file beside it, or to the one that is named, and the page of names beside that."""
+    text = read_text(path)
+    if answer_sheet(text) is not None:
+        raise BadInput(f"{path}: this is an answer, and no table of activities")
+    target = out if out is not None else os.path.splitext(path)[0] + ".sch"
+    if os.path.basename(target) in ("", ".", "..") or target.endswith(".md"):
+        raise BadInput(f"the project can't be written to '{target}'; name a .sch file with --out")
+    named = page_of(target)
+    guard([target, named], {"the table": path} | words.files())
+    source = printable(os.path.relpath(path, os.path.dirname(named) or "."))
+    there = read_bytes(named) if os.path.exists(named) else None
+    must_be_ours(target, named, source, there, out is not None)
+    told = Settings() if there is None else from_rows(read_page(there).settings, os.path.dirname(named))
+    words = words.over(told)
+    found = read_table(path, text, words, os.path.dirname(path))
+    opened = of_table(path, found, {}, ",")
+    spelled = Spelled(opened.project)
+    names = found.names
+    names.source, names.digest = source, hashlib.sha256(read_bytes(path)).hexdigest()
+    names.settings = (found.settings if words.first is not None else words).rows(os.path.dirname(named))
+    least = Psmax(Clock(), path).earliest(opened.project)
+    write_whole(target, spelled.text)
+    write_whole(named, page(printable(pathlib.Path(target).stem), opened.project, names).encode())
+    sizes = [f"{opened.project.end - 1} activities", many(len(opened.project.capacities), "resource"),
+             many(len(opened.project.arcs), "lag")]
+    sizes += [many(len(opened.project.absences), "absence")] if opened.project.absences else []
+    print(f"{target}: {', '.join(sizes)}; names in {named}")
+    print(*found.notes, *said_of_text(spelled), what_is_clear(least, opened), sep="\n")
+    return 0
+
+
+def many(count: int, what: str) -> str:
+    return f"{count} {what}" + ("" if count == 1 else "s")
+
+
+def said_of_text(spelled: Spelled) -> list[str]:
+    """What its own numbers mean, where they aren't those of the table."""
+    hidden, goal = len(spelled.project.absences), spelled.project.goal.value
+    told = [f"Its last {many(hidden, 'activity') if hidden == 1 else f'{hidden} activities'} before the end are absences."]
+    return (told if hidden else []) + ([f"Its end starts {spelled.offset} after the {goal}."] if spelled.offset else [])
+
+
+def must_be_ours(target: str, named: str, source: str, there: bytes | None, is_named: bool) -> None:
+    """A project and a page that stand there are replaced where they were made of the same table; a project also where
+    it is named."""
+    ours = there is not None and MADE.format(source) in there.decode("utf-8", "replace")
+    for path in (named, target):
+        if os.path.exists(path) and not ours and (path == named or not is_named):
+            raise BadInput(f"{path} is there, and was not made from {source}; move it, or name another file with --out")
+    must_be_project(target)
+
+
+def must_be_project(path: str) -> None:
+    """A plan, a record or a table that is there stays."""
+    there = read_bytes(path) if os.path.isfile(path) else b""
+    if there.strip() and not PROJECT.match(there.removeprefix(MARK)):
+        raise BadInput(f"{path} is there, and no project, and would be lost; name another file with --out")
+
+
+def what_is_clear(least: int | None, opened: ProjectFile) -> str:
+    """What is known at once, before anything is searched."""
+    needy = too_needy(opened.project)
+    if needy:
+        return "\n".join(f"Activity {Words(opened).needs(activity)}, so there is no schedule." for activity in needy)
+    if least is None:
+        return "The lags contradict each other, so there is no schedule; `plan why` says which do."
+    value = f"it takes {least}" if opened.project.goal is Goal.MAKESPAN else f"the lateness is {least}"
+    return (f"By the lags alone {value}; `plan solve` says whether there is a schedule that keeps the resources "
+            "too.")
+
+
+def read_sch(path: str, out: str | None) -> int:
+    """The file without byte order mark and Ctrl-Z, once psmax has read it so; to standard output if none is named."""
+    guard([out], {"the project": path})
+    if out is not None:
+        must_be_project(out)
+    data = read_bytes(path)
+    if b"PRECEDENCE RELATIONS" in data or re.match(rb"\s*\*{10}", data.removeprefix(MARK)):
+        raise BadInput(f"{path}: {OTHER_SET}")
+    clean = data.removeprefix(MARK).rstrip(b" \t\r\n" + CTRL_Z) + b"\n"
+    try:
+        Psmax(Clock(), path).earliest_of_text(clean)
+    except BadInput as fault:
+        raise BadInput(f"{fault}{MODES if is_other_modes(fault) else ''}") from None
+    if out is not None:
+        write_whole(out, clean)
+    else:
+        sys.stdout.buffer.write(clean)
+    return 0
+
+
+def is_other_modes(fault: BadInput) -> bool:
+    return "more than one mode" in str(fault) or "other than renewable" in str(fault)

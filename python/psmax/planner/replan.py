@@ -1,0 +1,119 @@
+"""What a search begins with: nothing, a schedule, or an old one of which a part has started and stays."""
+from dataclasses import dataclass, field, replace
+
+from ..clock import Clock
+from ..errors import BadInput
+from ..letters import at_most
+from ..project import MOST_ARCS, Arc, Project, in_order
+from ..psmax import Psmax
+from .answer import Answer, Tied, counted, feasible, tie
+from .circles import circles, in_words
+from .given import Given, read_answer
+from .opened import ProjectFile
+from .progress import Progress
+from .window import stretches
+from .wording import Words
+
+
+@dataclass(frozen=True)
+class Start:
+    """What the words say of a schedule to begin with, and of what has started."""
+
+    answer: str | None
+    frozen: str | None
+
+    def inputs(self) -> dict[str, str]:
+        return {} if self.answer is None else {"the start": self.answer}
+
+
+@dataclass(frozen=True)
+class Beginning:
+    project: Project  # that is searched
+    schedules: list[tuple[tuple[int, ...], str]] = field(default_factory=list)  # each with what it is called
+    repairs: list[Project] = field(default_factory=list)  # it with more lags, of which a schedule is like an old one
+    frozen: tuple[Arc, ...] = ()  # that keep what has started, and the rest from starting before that
+    started: frozenset[int] = frozenset()
+    told: list[str] = field(default_factory=list)
+
+    def must_keep(self, there: Answer, path: str) -> None:
+        """A shorter schedule of the project that lies in a file stays there, so it can't get one that keeps more."""
+        if any(there.starts[arc.head] < there.starts[arc.tail] + arc.lag for arc in self.frozen):
+            value = there.project.goal.words(there.value)
+            raise BadInput(f"{path} holds a schedule of {value} that doesn't keep what has started; "
+                           "name another file with --out")
+
+
+def begin_with(opened: ProjectFile, start: Start) -> Beginning:
+    """What is broken in what has started is told first: nobody can plan it again."""
+    progress = opened.progress
+    if start.frozen is not None and start.answer is None:
+        raise BadInput("--frozen needs --start, the schedule of which a part has started")
+    if start.frozen is not None and progress.now is not None:
+        raise BadInput("--frozen is for tables without a status date: this one says itself what has started")
+    must_be_possible(opened, opened.path, progress.started)
+    if start.answer is None:
+        return Beginning(opened.project, started=frozenset(progress.started))
+    given = read_answer(start.answer).must_have_starts()
+    if start.frozen is None and progress.now is None:
+        known = feasible(opened, given, Psmax(Clock(), opened.path))
+        return Beginning(opened.project, [(known.starts, given.called)])
+    given = counted(opened, given)
+    tied = tie(opened, given)
+    if start.frozen is None:
+        return from_old(opened, given, tied, progress, opened.settings.status or "")
+    return from_old(opened, given, tied, frozen(opened, tied, start.frozen), start.frozen)
+
+
+def frozen(opened: ProjectFile, tied: Tied, day: str) -> Progress:
+    """What starts before the day in the old schedule has started there."""
+    now = opened.time(day, "--frozen")
+    return Progress(now, {i: tied.starts[i] for i in range(1, opened.project.end) if tied.starts.get(i, now) < now})
+
+
+def from_old(opened: ProjectFile, given: Given, tied: Tied, progress: Progress, day: str) -> Beginning:
+    """What has started stays, and the rest is planned from the status date on, as near as can be to the old schedule."""
+    project, words, now = opened.project, Words(opened), progress.now or 0
+    arcs = () if opened.progress.now is not None else tuple(progress.arcs(project.end - 1))
+    must_be_possible(opened, given.called, progress.started)
+    if len(project.arcs) + len(arcs) > MOST_ARCS:
+        raise BadInput(f"--frozen: the project has {len(project.arcs):,} lags, which leaves too few of {MOST_ARCS:,}")
+    old = {i: start for i, start in tied.starts.items() if 0 < i < project.end and i not in progress.started}
+    where = given.called if opened.progress.now is None else opened.path
+    told = [f"{len(progress.started)} of {project.end - 1} activities start before {day} in {where}, and stay"]
+    told += [f"{words.names.activity(i)} is new" for i in tied.new]
+    told += [f"{name} is no activity any more" + (", and had started" if (given.starts[i].period or 0) < now else "")
+             for i, name in tied.gone.items()]
+    limited, psmax, schedules = replace(project, arcs=(*project.arcs, *arcs)), Psmax(Clock(), opened.path), []
+    if not tied.new:
+        starts = tuple(tied.starts[i] for i in range(project.end + 1))
+        broken = psmax.check(limited, starts).violations
+        told += at_most([f"{given.called}: {words.violation(one, starts)}" for one in broken])
+        schedules += [] if broken else [(starts, given.called)]
+    for circle in circles(limited, psmax):
+        told += in_words(circle, words)
+    return Beginning(limited, schedules, repairs(limited, old), arcs, frozenset(progress.started), told)
+
+
+def repairs(project: Project, old: dict[int, int]) -> list[Project]:
+    """The project in the order of an old schedule: first with no start before the old one, then without that."""
+    ordered = in_order(project, old)
+    later = tuple(Arc(0, i, start) for i, start in old.items())[: MOST_ARCS - len(ordered.arcs)]
+    return [replace(ordered, arcs=ordered.arcs + later), ordered]
+
+
+def must_be_possible(opened: ProjectFile, called: str, started: dict[int, int]) -> None:
+    """The lags and the resources that what has started breaks by itself, whatever comes after, are told."""
+    project, words = opened.project, Words(opened)
+    starts = [started.get(i, 0) for i in range(project.end + 1)]
+    told = [f"has started, but {words.broken(arc, starts)}" for arc in project.rules()
+            if {arc.tail, arc.head} <= {0, *started} and starts[arc.head] < starts[arc.tail] + arc.lag]
+    durations = tuple(length if i in started else 0 for i, length in enumerate(project.durations))
+    alone = replace(project, durations=durations)
+    for resource, units in enumerate(project.capacities):
+        over = next((one for one in stretches(alone, starts, resource)
+                     if one.units > units - max(project.away(resource, time) for time in range(one.begins, one.ends))), None)
+        if over is not None:
+            time = next(time for time in range(over.begins, over.ends) if over.units > units - project.away(resource, time))
+            told.append("has started, but " + Words(replace(opened, project=alone)).overload(time, resource, starts))
+    if told:
+        raise BadInput(*at_most([f"{called}: {fault}" for fault in told]))

@@ -1,0 +1,138 @@
+"""A row of a table of activities, and what its cells say."""
+import datetime
+import re
+from dataclasses import dataclass, field
+
+from ..letters import short
+from ..project import MOST_UNITS
+from .calendars import Calendar
+from .cells import CellFault, fault_at
+from .columns import Column, Columns
+from .csv_text import cell
+from .dates import Moment, read_moment
+from .quantities import Length, Scale, Unit, number, read_length, time_after
+
+DATED = (Column.STARTED, Column.FINISHED, Column.NOT_BEFORE, Column.END_BY, Column.DUE)
+YES, NO = ("yes", "y", "x", "true", "ja", "1"), ("", "no", "n", "false", "nein", "0")
+
+
+@dataclass(frozen=True)
+class Terms:
+    """By what the cells of a table are read."""
+
+    file: str
+    columns: Columns
+    scale: Scale
+    calendar: Calendar | None
+    order: str | None  # of the numbers of a date with slashes
+    head_row: int = 1  # the number of the row with the names of the columns
+    is_guess: bool = False  # whether the hours of work of a day are those that plan takes where nobody says them
+    rounded: list[str] = field(default_factory=list)  # what is said of dates within a period
+
+
+@dataclass(frozen=True)
+class Row:
+    """With its number as a spreadsheet shows it."""
+
+    terms: Terms
+    number: int
+    cells: list[str]
+
+    def cell(self, column: Column) -> str:
+        text = cell(self.cells, self.terms.columns.places.get(column))
+        return "" if column in DATED and text.upper() in ("NA", "N/A") else text
+
+    def fault(self, column: int | Column, text: str) -> CellFault:
+        place = column if isinstance(column, int) else self.terms.columns.places[column]
+        return fault_at(self.terms.file, self.number, place, cell(self.terms.columns.heads, place), text)
+
+    def units(self, place: int) -> int:
+        """The demand in a cell; empty is none."""
+        text = cell(self.cells, place)
+        if not text:
+            return 0
+        if re.fullmatch(r"-[0-9]+", text):
+            raise self.fault(place, f"{short(text)} is below 0")
+        if not re.fullmatch(r"[0-9]{1,9}", text):
+            raise self.fault(place, f"'{short(text)}' is not a whole number")
+        if int(text) > MOST_UNITS:
+            raise self.fault(place, f"{text} is more than {MOST_UNITS:,}")
+        return int(text)
+
+    def length(self, column: Column, text: str) -> Length:
+        """The length in a text of this column."""
+        try:
+            return read_length(text, self.terms.scale.own)
+        except ValueError:
+            raise self.fault(column, f"'{short(text)}' is not a number, or one with min, h, d, w or cd") from None
+
+    def periods(self, column: int | Column, length: Length, instead: str = "'2 d' or '4 h'") -> int:
+        """The same in periods."""
+        scale = self.terms.scale
+        if length.unit is Unit.CALENDAR_DAYS:
+            raise self.fault(column, "calendar days are for lags alone")
+        if scale.is_vague(length):
+            raise self.fault(column, f"{number(length.value)} of what? Durations have units; write {instead}")
+        try:
+            found = scale.periods(length)
+        except ValueError:
+            raise self.fault(column, f"'{length}' is not a whole number of periods, which are {scale.name()}") from None
+        if abs(found) > MOST_UNITS:
+            raise self.fault(column, f"{found} is more than {MOST_UNITS:,}")
+        return found
+
+    def duration(self, column: Column) -> int:
+        text = self.cell(column)
+        if not text:
+            raise self.fault(column, "a whole number is missing")
+        length = self.length(column, text)
+        if length.value < 0:
+            raise self.fault(column, f"{short(text)} is below 0")
+        return self.periods(column, length)
+
+    def time_in(self, column: int | Column, text: str) -> int | Moment:
+        """A time in periods by a number, which counts what a bare duration does; or a date, which needs a calendar."""
+        length = time_after(text, self.terms.scale.own)
+        if length is not None:
+            return self.periods(column, length, "'2 d' or a date")
+        try:
+            moment = read_moment(text, self.terms.order)
+        except ValueError as fault:
+            raise self.fault(column, f"'{short(text)}': {fault}") from None
+        if self.terms.calendar is None:
+            raise self.fault(column, f"'{short(text)}': a date needs --from, the first day of the project")
+        return moment
+
+    def begin(self, column: int | Column, text: str) -> int:
+        """The first time that is not before a date."""
+        found, calendar = self.time_in(column, text), self.terms.calendar
+        if isinstance(found, int) or calendar is None:
+            return found if isinstance(found, int) else 0
+        self.tell_rounded(text, found.at, calendar, "its end")
+        return self.bounded(column, text, calendar.from_on(found.at))
+
+    def close(self, column: int | Column, text: str) -> int:
+        """The last time by which a date is over."""
+        found, calendar = self.time_in(column, text), self.terms.calendar
+        if isinstance(found, int) or calendar is None:
+            return found if isinstance(found, int) else 0
+        self.tell_rounded(text, found.next(), calendar, "its begin")
+        return self.bounded(column, text, calendar.by(found.next()))
+
+    def bounded(self, column: int | Column, text: str, time: int) -> int:
+        if time > MOST_UNITS:
+            raise self.fault(column, f"{short(text)} is {time:,} periods after the start, and may be {MOST_UNITS:,}")
+        return time
+
+    def tell_rounded(self, text: str, moment: datetime.datetime, calendar: Calendar, side: str) -> None:
+        """A moment within a period counts as one of its sides, which is told once."""
+        if moment > calendar.begins(0) and calendar.from_on(moment) > calendar.by(moment):
+            told = f"row {self.number}: {short(text)} is within a period, and counts as {side}"
+            if told not in self.terms.rounded:
+                self.terms.rounded.append(told)
+
+    def is_said(self, column: Column) -> bool:
+        text = self.cell(column).lower()
+        if text not in YES + NO:
+            raise self.fault(column, f"'{short(text)}' is neither yes nor no")
+        return text in YES

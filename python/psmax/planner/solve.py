@@ -1,0 +1,109 @@
+"""`plan solve`: a search by psprove with names, dates and files. What it says psprove has proved."""
+import json
+import platform
+import sys
+from dataclasses import dataclass
+from functools import partial
+
+from .. import __version__
+from ..clock import Clock, tell
+from ..errors import Failed
+from ..files import guard, must_be_like, write_whole
+from ..known import Known
+from ..project import Goal
+from ..psmax import Psmax
+from ..psprove import Psprove
+from ..search import Search
+from . import drawing, svg
+from .again import once_more
+from .kept import Kept, activities_of
+from .opened import ProjectFile
+from .replan import Start, begin_with
+from .verify import RECORD
+
+
+@dataclass(frozen=True)
+class Options:
+    """What the words of the command say, besides what it begins with."""
+
+    seconds: int
+    jobs: int
+    out: str | None
+    svg: str | None
+    record: str | None
+    json: bool
+
+
+def solve(opened: ProjectFile, start: Start, options: Options) -> int:
+    guard([options.out, options.svg, options.record], opened.inputs() | start.inputs())
+    must_be_like(options.record, RECORD, "record")
+    must_be_like(options.svg, svg.BEGIN, "picture")
+    kept = None if options.out is None else Kept(options.out, opened)
+    beginning = begin_with(opened, start)
+    schedules = list(beginning.schedules)
+    there = kept.look() if kept is not None else None
+    if kept is not None and there is not None:
+        beginning.must_keep(there, kept.path)
+        schedules.append((there.starts, kept.path))
+    clock = Clock(options.seconds)
+    clock.listen()
+    for line in [*opened.notes, *beginning.told]:
+        tell(clock, line)
+    known = Known(clock, beginning.project)
+    if kept is not None:
+        known.better = partial(kept.put_if_possible, known)
+    for starts, called in schedules:
+        known.offer(starts, f"{called}, by check")
+    try:
+        Search(beginning.project, Psprove(clock, opened.path), known, options.jobs).run(beginning.repairs, start.answer or "")
+    except Failed:
+        if known.starts is not None:
+            give(known, opened, options, kept)
+        raise
+    give(known, opened, options, kept)
+    once_more(known, opened, beginning.project)
+    return 0 if known.settled else 3
+
+
+def give(known: Known, opened: ProjectFile, options: Options, kept: Kept | None) -> None:
+    """Prints what is known, and writes what was asked for. A schedule that can't be written is printed."""
+    plain = known.answer().decode()
+    try:
+        if kept is not None and kept.put(known):
+            plain = known.first_line() + "\n"
+    finally:
+        sys.stdout.write(as_json(known, opened) if options.json else plain)
+        sys.stdout.flush()
+    if options.record is not None and known.record:
+        write_whole(options.record, known.record)
+    if options.svg is not None and known.starts is not None:
+        write_whole(options.svg, svg.draw(drawing.make(opened, known.starts, known.first_line())).encode())
+
+
+def as_json(known: Known, opened: ProjectFile) -> str:
+    """What is known as one line, with the keys of psmax first. Where the lateness is minimized, the bound is one of it."""
+    starts = None if known.starts is None else opened.project.plain(known.starts)
+    lateness = {"lateness": known.value} if known.goal is Goal.LATENESS else {}
+    told: dict[str, object] = {
+        "bound": known.bound,
+        "makespan": None if starts is None else starts[-1],
+        "starts": starts,
+        "status": known.status(),
+        **lateness,
+        **activities_of(opened),
+        "conflicts": known.conflicts,
+        "seconds": round(known.clock.elapsed(), 3),
+        "versions": versions(),
+    }
+    return json.dumps(told) + "\n"
+
+
+def versions() -> dict[str, str]:
+    """Of plan, of the programs that it calls, and of Python."""
+    found = {"plan": __version__}
+    for program in (Psmax, Psprove):
+        try:
+            found[program.name] = program(Clock()).version()
+        except Failed:
+            found[program.name] = "not found"
+    return found | {"python": platform.python_version()}

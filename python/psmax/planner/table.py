@@ -1,0 +1,313 @@
+"""Tables of activities in CSV: docs/PLANNER.md says what the columns are. Faults name the row and the column."""
+import difflib
+from collections.abc import Iterable, Sequence
+from contextlib import suppress
+from dataclasses import dataclass, replace
+
+from ..errors import BadInput
+from ..letters import printable, short
+from ..project import MOST_ACTIVITIES, MOST_ARCS, Arc, Goal, Project
+from .absences import read_absences
+from .calendar_days import CalendarLag
+from .calendars import Calendar
+from .cells import Faults, fault_at
+from .columns import LAGS, Column, Columns, is_head, read_heads, resource
+from .csv_text import Sheet, cell, read_sheet
+from .dates import is_dated
+from .lags import START, START_OF, WITH, Activities, Lags, lengths_in
+from .names import Names
+from .outline import Group, groups, is_summary, levels
+from .progress import Progress
+from .quantities import Length, Scale, Unit, read_length, scale_of, units_of
+from .rows import Row, Terms
+from .settings import HOURS_OF_WORK, NAMES, Settings, calendar, checked, from_rows, minutes_of, shift, time_of, workdays
+
+
+@dataclass(frozen=True)
+class Table:
+    """What a table of activities says."""
+
+    project: Project
+    names: Names
+    settings: Settings
+    calendar: Calendar | None
+    groups: tuple[Group, ...]
+    mornings: dict[int, list[int]]  # times at which a date says that an activity without duration may be, by activity
+    by_calendar: tuple[CalendarLag, ...]
+    progress: Progress
+    scale: Scale
+    notes: tuple[str, ...]  # what is to be said of it before anything is done with it
+
+
+def read_table(file: str, text: str, words: Settings, folder: str, page: Settings = Settings()) -> Table:
+    """The words of the command go over the rows above the table, and these over the page of names."""
+    sheet, faults = read_sheet(file, text, is_head), Faults()
+    settings = checked(words.over(settings_above(file, sheet, folder)).over(page))
+    columns = read_heads(file, sheet, faults)
+    terms = terms_of(file, sheet, columns, settings)
+    if terms.is_guess and settings.first is not None:
+        settings = replace(settings, shift=HOURS_OF_WORK)
+    reading = Reading(terms, settings, faults)
+    for number, cells in sheet.numbered():
+        reading.add_row(Row(terms, number, cells))
+    return reading.table()
+
+
+def settings_above(file: str, sheet: Sheet, folder: str) -> Settings:
+    """Rows above the columns whose first cell is the name of a setting, with or without a colon. The cells behind it are its
+    value, since a comma in that may have split it. What is nearly such a name is a fault, and no title."""
+    found: dict[str, str] = {}
+    for number, row in enumerate(sheet.above, 1):
+        name, *values = [row[0].rstrip(" :").lower(), *filter(None, row[1:])] if row else [""]
+        near = difflib.get_close_matches(name, NAMES, 1, 0.9)
+        if values and name not in NAMES and near:
+            raise fault_at(file, number, 0, "", f"no setting '{short(name)}'; did you mean '{near[0]}'?")
+        if values and name in found:
+            raise fault_at(file, number, 0, "", f"a second row for '{name}'")
+        if values and name in NAMES:
+            found[name] = ",".join(values)
+    return from_rows(found, folder)
+
+
+def terms_of(file: str, sheet: Sheet, columns: Columns, settings: Settings) -> Terms:
+    """By the lengths of all cells: the period that divides them, where none is named, and so the calendar."""
+    head, named = columns.unit(), settings.period
+    if head is Unit.PERIODS and named in [unit.value for unit in Unit]:
+        head = Unit(named)
+    week, own = len(workdays(settings)), head
+    blank = Terms(file, columns, Scale(own, 0, None, week, own, head), None, settings.dates, sheet.head_row)
+    rows = [Row(blank, number, cells) for number, cells in sheet.numbered()]
+    units = units_of(lengths([row.cell(Column.DURATION) for row in rows], own))
+    if own is Unit.PERIODS and len(units) == 1:
+        [own] = units  # a column `duration` with one unit in all of its cells
+    found = lengths([text for row in rows for text in lengths_in(row)], own)
+    scale = scale_of(found, own, head, None if settings.shift is None else shift(settings, 1), week)
+    is_guess = settings.shift is None and (scale is None or needs_hours(units_of(found) | {own}, named))
+    if scale is None or is_guess:
+        settings = replace(settings, shift=HOURS_OF_WORK)
+        scale = scale_of(found, own, head, shift(settings, 1), week)
+    assert scale is not None
+    if named in (Unit.DAYS.value, Unit.WEEKS.value):
+        scale = replace(scale, period=Unit(named), minutes=0, is_named=True)
+    elif named is not None:
+        scale = replace(scale, period=Unit.MINUTES, minutes=minutes_of(named), is_named=True)
+    return replace(blank, scale=scale, calendar=calendar(replace(settings, period=None), scale.name()), is_guess=is_guess)
+
+
+def needs_hours(units: set[Unit], named: str | None) -> bool:
+    """Whether a period that is named is tied to these units by the hours of work of a day."""
+    by_day, by_clock = {Unit.DAYS, Unit.WEEKS}, {Unit.HOURS, Unit.MINUTES}
+    is_by_day = named in [unit.value for unit in by_day]
+    return named is not None and bool(units & (by_clock if is_by_day else by_day))
+
+
+def lengths(texts: Iterable[str], own: Unit) -> list[Length]:
+    """Those that are lengths; what is none is a fault that is told where the cell is read."""
+    found = []
+    for text in texts:
+        with suppress(ValueError):
+            found.append(read_length(text, own))
+    return found
+
+
+class Reading:
+    """A table as it is read, one row after another, and then column by column."""
+
+    def __init__(self, terms: Terms, settings: Settings, faults: Faults) -> None:
+        self.terms, self.settings, self.faults = terms, settings, faults
+        self.named: list[Row] = []  # activities and groups
+        self.more: list[tuple[Row, int]] = []  # rows that say more about the one of these above, by its place
+        self.rows: list[Row] = []  # of the activities
+        self.groups: dict[int, Row] = {}  # of these, by their places
+        self.depth: list[int] = []
+        self.names: dict[str, int] = {}  # the number of each activity
+        self.durations: list[int] = []
+        self.demands: list[tuple[int, ...]] = []
+
+    def add_row(self, row: Row) -> None:
+        with self.faults.kept():
+            if row.cell(Column.NAME):
+                self.named.append(row)
+            else:
+                check_continuation(row, bool(self.named))
+                self.more.append((row, len(self.named) - 1))
+            beyond = next((k for k in range(len(row.terms.columns.heads), len(row.cells)) if row.cells[k]), None)
+            if beyond is not None:
+                raise row.fault(beyond, "a cell beyond the last column; names in one cell have ';' between them")
+
+    def table(self) -> Table:
+        self.part()
+        for row in self.rows:
+            self.add_activity(row)
+        status, terms = self.settings.status, self.terms
+        progress = Progress(None if status is None else time_of(status, "status", self.settings, terms.calendar, terms.scale))
+        progress.read(self.rows, self.durations, self.faults)
+        lags, due = self.lags(), self.due()
+        self.faults.tell()
+        arcs, broken = without_history(lags.arcs, progress)
+        called = {number: name for name, number in self.names.items()}
+        project, names = self.project((*arcs, *progress.arcs(len(self.rows))), due, called)
+        by_calendar = tuple(replace(one, place=arcs.index(lags.arcs[one.place])) for one in lags.by_calendar
+                            if lags.arcs[one.place] in arcs)
+        days = [said_of_days(one, lags.arcs[one.place], called) for one in lags.by_calendar]
+        notes = [*self.said_of_period(), *self.terms.rounded, *days, *(said_of_history(arc, called) for arc in broken)]
+        found = tuple(groups(self.named, self.depth, [place in self.groups for place in range(len(self.named))]))
+        return Table(project, names, self.settings, self.terms.calendar, found, lags.activities.mornings, by_calendar, progress,
+                     self.terms.scale, tuple(notes))
+
+    def part(self) -> None:
+        """What is an activity, and what a group."""
+        self.depth = [0] * len(self.named)
+        with self.faults.kept():
+            self.depth = levels(self.named)
+            self.groups = {place: row for place, row in enumerate(self.named) if is_summary(self.named, self.depth, place)}
+        self.rows = [row for place, row in enumerate(self.named) if place not in self.groups]
+        if not self.rows:
+            self.faults.tell()
+            raise BadInput(f"{self.terms.file}: no activity stands below row {self.terms.head_row}")
+
+    def add_activity(self, row: Row) -> None:
+        """A name that can't be one counts all the same, so that rows which come after it have no fault for that."""
+        name, units = row.cell(Column.NAME), [0] * len(row.terms.columns.resources)
+        with self.faults.kept():
+            if name in self.names:
+                raise row.fault(Column.NAME, f"a second activity '{short(name)}'")
+            if len(self.durations) == MOST_ACTIVITIES:
+                raise row.fault(Column.NAME, f"a project has at most {MOST_ACTIVITIES:,} activities")
+        self.durations.append(0)
+        self.names.setdefault(name, len(self.durations))
+        with self.faults.kept():
+            self.durations[-1] = row.duration(Column.DURATION)
+        for place, column in enumerate(row.terms.columns.resources):
+            with self.faults.kept():
+                units[place] = row.units(column)
+        self.demands.append(tuple(units))
+        with self.faults.kept():
+            if why_no_name(name):
+                raise row.fault(Column.NAME, f"'{short(name)}' can't be the name of an activity: {why_no_name(name)}")
+
+    def lags(self) -> Lags:
+        keys = {row.cell(column).casefold() if column is Column.ID else row.cell(column): row.cell(Column.NAME)
+                for row in self.groups.values() for column in (Column.NAME, Column.ID)}
+        summaries = {key: name for key, name in keys.items() if key}
+        lags, number = Lags(Activities(self.names, self.ids(), summaries, self.durations)), 0
+        for place, row in enumerate(self.named):
+            number += place not in self.groups
+            for one in [row, *(more for more, above in self.more if above == place)]:
+                if place in self.groups:
+                    self.no_lags(one)
+                else:
+                    lags.read(one, number, self.faults)
+                    self.limit(lags, one, number)
+        return lags
+
+    def ids(self) -> dict[str, int]:
+        found: dict[str, int] = {}
+        for number, row in enumerate(self.rows, 1):
+            text = row.cell(Column.ID).casefold()
+            with self.faults.kept():
+                if text in found:
+                    raise row.fault(Column.ID, f"a second activity of the number {short(text)}")
+            found |= {text: number} if text else {}
+        return found
+
+    def limit(self, lags: Lags, row: Row, activity: int) -> None:
+        """The lags from the start that dates make."""
+        length = lags.activities.length(activity)
+        with self.faults.kept():
+            if row.cell(Column.NOT_BEFORE):
+                begin = row.begin(Column.NOT_BEFORE, row.cell(Column.NOT_BEFORE))
+                lags.arcs += [Arc(0, activity, begin)] if begin else []
+                if not length and is_dated(row.cell(Column.NOT_BEFORE)):
+                    lags.activities.mornings.setdefault(activity, []).append(begin)
+        with self.faults.kept():
+            if row.cell(Column.END_BY):
+                lags.arcs.append(Arc(activity, 0, length - row.close(Column.END_BY, row.cell(Column.END_BY))))
+
+    def due(self) -> dict[int, int]:
+        found = {}
+        for number, row in enumerate(self.rows, 1):
+            with self.faults.kept():
+                if row.cell(Column.DUE):
+                    found[number] = row.close(Column.DUE, row.cell(Column.DUE))
+        return found
+
+    def no_lags(self, row: Row) -> None:
+        """A group has what its activities have, and nothing of its own."""
+        places = [row.terms.columns.places.get(column) for column in (*LAGS, Column.NOT_BEFORE, Column.END_BY, Column.DUE)]
+        for column in [*(place for place in places if place is not None), *row.terms.columns.resources]:
+            text = cell(row.cells, column)
+            if text and text != "0":
+                with self.faults.kept():
+                    raise row.fault(column, "a group has no lags, dates or demands of its own; its activities have them")
+
+    def project(self, arcs: tuple[Arc, ...], due: dict[int, int], called: dict[int, str]) -> tuple[Project, Names]:
+        """With its absences, and with what is minimized."""
+        file, settings = self.terms.file, self.settings
+        if len(arcs) > MOST_ARCS:
+            raise BadInput(f"{file}: {len(arcs):,} lags, and a project has at most {MOST_ARCS:,}")
+        goal = Goal.MAKESPAN if settings.minimize is None else Goal(settings.minimize)
+        if goal is Goal.LATENESS and not due:
+            raise BadInput(f"{file}: to minimize the lateness some activity needs a date in a column 'due'")
+        resources = [resource(self.terms.columns.heads[place]) for place in self.terms.columns.resources]
+        none = (0,) * len(resources)
+        capacities = tuple(int(units) for _, units in resources)
+        found = Project((0, *self.durations, 0), (none, *self.demands, none), capacities, arcs, (), due, goal)
+        names = Names(called, [name for name, _ in resources], self.terms.scale.name(), source=printable(file))
+        if settings.absences is not None:
+            found = replace(found, absences=tuple(read_absences(settings.absences, found, names, self.terms)))
+        return found, names
+
+    def said_of_period(self) -> list[str]:
+        """What a period is, where it is no unit of the table's own, and which hours a day has, where nobody has said it."""
+        scale = self.terms.scale
+        if not self.terms.is_guess and (scale.period in (scale.own, Unit.PERIODS) or scale.name() == scale.counts()):
+            return []
+        day = f"; a day has {scale.day // scale.minutes} of them" if scale.period is Unit.MINUTES and scale.day else ""
+        day += f", {HOURS_OF_WORK}, until --shift says other hours" if self.terms.is_guess else ""
+        why = "as --period says" if scale.is_named else f"which divide all lengths of {self.terms.file}"
+        return [f"a period is one of {scale.name()}, {why}{day}"]
+
+
+def without_history(arcs: Sequence[Arc], progress: Progress) -> tuple[list[Arc], list[Arc]]:
+    """The lags but for those between two that have started where they weren't kept, and these. Both starts are real, so such
+    a lag says nothing of what comes."""
+    starts = progress.started | {0: 0}
+    broken = [arc for arc in arcs if arc.tail in starts and arc.head in starts
+              and starts[arc.head] < starts[arc.tail] + arc.lag]
+    return [arc for arc in arcs if arc not in broken], broken
+
+
+def said_of_days(one: CalendarLag, arc: Arc, called: dict[int, str]) -> str:
+    before, after = (arc.tail, arc.head) if one.is_least else (arc.head, arc.tail)
+    return one.text(called[after], called[before])
+
+
+def said_of_history(arc: Arc, called: dict[int, str]) -> str:
+    if arc.tail and arc.head:
+        return f"'{called[arc.tail]}' and '{called[arc.head]}' have started, and a lag between them was not kept"
+    return f"'{called[arc.tail or arc.head]}' has started, and a date of its row was not kept"
+
+
+def why_no_name(name: str) -> str:
+    lower = name.lower()
+    if lower in (START, "end"):
+        return f"it stands for the {lower} of the project"
+    if is_dated(name):
+        return "it is a date"
+    for begin, meaning in ((START_OF, "what comes after the start of an activity"), (WITH, "what starts with an activity")):
+        if lower.startswith(begin):
+            return f"'{begin.strip()}' stands before the name of another, for {meaning}"
+    return "" if name.isprintable() else "it has a sign that can't be printed"
+
+
+def check_continuation(row: Row, has_activity: bool) -> None:
+    """A row without a name has nothing but lags, and stands below an activity."""
+    columns = row.terms.columns
+    if any(cell(row.cells, place) for place in (columns.places[Column.DURATION], *columns.resources)):
+        raise row.fault(Column.NAME, "a duration or a demand, but no name of an activity")
+    if not has_activity and any(row.cell(column) for column in LAGS):
+        raise row.fault(Column.NAME, "the name of the activity is missing")
+    other = [column for column in Column if column not in (*LAGS, Column.NOTE, Column.COMPUTED) and row.cell(column)]
+    if other and has_activity:
+        raise row.fault(other[0], "a row without a name has nothing but lags of the activity above")

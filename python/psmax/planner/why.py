@@ -1,0 +1,132 @@
+"""`plan why`: why a project has no schedule, or none that ends in time. psprove proves each cause."""
+import math
+
+from ..clock import Clock, tell
+from ..errors import BadInput, TimeUp
+from ..files import must_be_empty
+from ..project import MOST_UNITS, Goal, Kind, Part, Project, too_needy, with_lag, within, without
+from ..psmax import Psmax
+from ..psprove import Limits, Psprove, Solved
+from .circles import circles, in_words
+from .core import Core
+from .opened import ProjectFile
+from .replan import Start, begin_with
+from .wording import Words, are
+
+FIRST = 1_000  # conflicts of a first search, which mostly finds a schedule where there is one
+CONFLICTS = 10_000  # of a search of the project without one of its lags, or with a longer one
+
+
+class Causes:
+    def __init__(self, opened: ProjectFile, project: Project, clock: Clock, jobs: int, deadline: int | None) -> None:
+        self.psmax, self.psprove, self.jobs = Psmax(clock, opened.path), Psprove(clock, opened.path), jobs
+        self.words = Words(opened)
+        limited = project if deadline is None else within(project, deadline)
+        if limited is None:
+            raise BadInput(f"a deadline of {deadline} has no room in {opened.path}; it is from 0 to {MOST_UNITS:,}")
+        self.project = limited
+        self.fixed = {Part(Kind.LAG, place) for place in range(opened.changeable(), len(limited.arcs))}
+        self.late = "" if deadline is None else f" that ends by {deadline}"
+        if deadline is not None and project.goal is Goal.LATENESS:
+            self.late = f" with a lateness of {deadline} or less"
+
+    def tell_all(self, out: str | None) -> int:
+        """Prints why there is no schedule; the exit status is 3 where psprove can't say whether there is one."""
+        answer = self.psprove.solve(self.project, self.limits(FIRST))
+        if not answer.none and answer.starts is None:
+            answer = self.psprove.solve(self.project, self.limits(None))
+        if answer.starts is not None:
+            print(f"There is a schedule{self.late}: psprove has found one of {answer.goal.words(answer.value)}.")
+            return 0
+        if not answer.none:
+            print(f"Not known: psprove found neither a schedule{self.late} nor that there is none.")
+            return 3
+        print(f"There is no schedule{self.late}.")
+        found = Core(self.project, self.fixed, answer.record)
+        found.shrink(self.psprove, answer.conflicts)
+        self.tell_core(found)
+        if out is not None:
+            found.write(out)
+        needy = too_needy(self.project)
+        for activity in needy:
+            print(f"Activity {self.words.needs(activity)}.")
+        for circle in circles(self.project, self.psmax):
+            print(*in_words(circle, self.words), sep="\n")
+        if not needy:
+            self.lags_that_open([part.number for part in found.parts() if part.kind is Kind.LAG])
+        return 0
+
+    def limits(self, conflicts: int | None) -> Limits:
+        return Limits(math.ceil(self.psprove.clock.left()), self.jobs if conflicts is None else 1, conflicts=conflicts)
+
+    def tell_core(self, found: Core) -> None:
+        """What contradicts each other; one alone does so with the minimum lags and what is fixed."""
+        if not found.parts():
+            print("The minimum lags alone contradict each other, by a proof of psprove.")
+            return
+        lead = "These together are impossible" if len(found.parts()) > 1 else "This is impossible"
+        which = "any one of them" if len(found.parts()) > 1 else "it"
+        print(f"{lead}, by a proof of psprove; without {which} there is a schedule:")
+        for part in found.parts():
+            print(f"  {self.part(part)}" + ("" if part in found.schedules else " (not known whether it is needed)"))
+
+    def part(self, part: Part) -> str:
+        if part.kind is Kind.LAG:
+            return self.words.greatest(self.project.arcs[part.number])
+        if part.kind is Kind.ABSENCE:
+            return self.words.absence(self.project.absences[part.number])
+        return f"{self.words.names.resource(part.number)}, of which there {are(self.project.capacities[part.number])}"
+
+    def lags_that_open(self, places: list[int]) -> None:
+        """Takes each of these lags out of the whole project, and tells with which of them gone there is a schedule. No
+        other lag opens one, since these contradict each other without it."""
+        answers = [self.without_lag(place) for place in places]
+        unknown = sum(answer.status() == "unknown" for answer in answers)
+        if unknown:
+            print(f"For {unknown} maximum lags it is not known whether that opens a schedule.")
+        elif all(answer.none for answer in answers):
+            print("No maximum lag, taken out alone, opens a schedule.")
+
+    def without_lag(self, place: int) -> Solved:
+        arc = self.project.arcs[place]
+        answer = self.ask(without(self.project, {Part(Kind.LAG, place)}))
+        if answer.starts is not None:
+            value = answer.goal.words(answer.value)
+            print(f"Without this lag there is a schedule of {value}: {self.words.greatest(arc)}.")
+            least, is_least = self.least_enough(place, answer.starts)
+            also = "less is not" if is_least else "whether less is, is not known"
+            enough = self.words.greatest(arc._replace(lag=-least))
+            print(f"  This is enough in its place, and {also}: {enough}.")
+        return answer
+
+    def ask(self, project: Project) -> Solved:
+        return self.psprove.ask(project, self.limits(CONFLICTS))
+
+    def least_enough(self, place: int, found: tuple[int, ...]) -> tuple[int, bool]:
+        """How long a maximum lag must be at least, and whether less is known to be too little: halves what lies between
+        the lag that is there and what a schedule without it needs."""
+        arc = self.project.arcs[place]
+        too_little, enough = -arc.lag, found[arc.tail] - found[arc.head]
+        while enough - too_little > 1:
+            middle = (too_little + enough) // 2
+            answer = self.ask(with_lag(self.project, place, -middle))
+            if answer.starts is not None:
+                enough = answer.starts[arc.tail] - answer.starts[arc.head]
+            elif answer.none:
+                too_little = middle
+            else:
+                return enough, False
+        return enough, True
+
+
+def why(opened: ProjectFile, start: Start, deadline: int | None, seconds: int, jobs: int, out: str | None) -> int:
+    must_be_empty(out)
+    project = begin_with(opened, start).project
+    clock = Clock(seconds)
+    clock.listen()
+    try:
+        return Causes(opened, project, clock, jobs, deadline).tell_all(out)
+    except TimeUp:
+        tell(clock, clock.why_over())
+        print("Not known: the time was over before psprove could say whether there is a schedule.")
+        return 3

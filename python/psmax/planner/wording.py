@@ -1,0 +1,144 @@
+"""Lags, absences and violations in a planner's words: from the end of an activity, where a lag counts from there, and by dates,
+where there is a calendar."""
+from collections.abc import Sequence
+
+from ..project import Absence, Arc, Goal
+from ..psmax import Violation
+from .opened import ProjectFile
+
+
+class Words:
+    """Speaks of a project by its names."""
+
+    def __init__(self, opened: ProjectFile) -> None:
+        self.opened = opened
+        self.project = opened.project
+        self.names = opened.names.with_dummies(opened.project.end)
+
+    def time(self, time: int) -> str:
+        """A time at which something begins."""
+        calendar = self.opened.calendar
+        return calendar.times(time, time + 1)[0] if calendar is not None else self.opened.after(time)
+
+    def at(self, time: int) -> str:
+        return on(self.time(time))
+
+    def by(self, time: int) -> str:
+        """A time by which something has ended: the last day of it."""
+        calendar = self.opened.calendar
+        return calendar.times(time - 1, time)[1] if calendar is not None else self.opened.after(time)
+
+    def many(self, periods: int) -> str:
+        """So many periods, by their own name."""
+        if not self.opened.is_own():
+            return self.opened.length(periods)
+        unit = self.opened.names.unit or "periods"
+        if " " in unit:
+            return f"{periods} times {unit}"
+        return f"{periods} {unit[:-1] if periods == 1 and unit.endswith('s') else unit}"
+
+    def lag(self, arc: Arc, verb: str = "starts") -> str:
+        """An arc as a sentence: a negative lag is a greatest one the other way round."""
+        if arc.lag < 0 or arc.head == 0:
+            return self.greatest(arc, verb)
+        if arc.head == self.project.end:
+            return self.of_end(arc, verb)
+        name = self.names.activity(arc.head)
+        if arc.tail == 0:
+            return f"{name} {verb} {on(self.opened.times(arc.head, arc.lag)[0])} or later"
+        return f"{name} {verb} {self.distance('at least', arc.lag, arc.tail)}"
+
+    def of_end(self, arc: Arc, verb: str) -> str:
+        """Why the end can't be sooner."""
+        ends = "must end" if verb == "must start" else "ends"
+        name, beyond = self.names.activity(arc.tail), arc.lag - self.project.durations[arc.tail]
+        if self.project.goal is Goal.LATENESS and arc.tail in self.project.due:
+            return f"{name} is due by {self.by(self.project.due[arc.tail])}"
+        if arc.tail == 0:
+            return f"the project {ends} {self.at(arc.lag)} or later"
+        far = f"at least {self.opened.length(beyond)} after" if beyond else "no sooner than"
+        return f"the project {ends} {far} {name}"
+
+    def greatest(self, arc: Arc, verb: str = "starts") -> str:
+        """A lag that is at most 0, or one to the start, as the maximum lag that it is."""
+        if arc.tail == self.project.end:
+            far = self.distance("at most", -arc.lag, arc.head)
+            return self.deadline(-arc.lag) if arc.head == 0 else f"the project ends {far}"
+        name = self.names.activity(arc.tail)
+        if arc.head == self.project.end:
+            return self.of_end(arc, verb)
+        if arc.head == 0:
+            must = "must end" if verb == "must start" else "ends"
+            return f"{name} {must} by {self.by(self.project.durations[arc.tail] - arc.lag)}"
+        return f"{name} {verb} {self.distance('at most', -arc.lag, arc.head)}"
+
+    def deadline(self, value: int) -> str:
+        if self.project.goal is Goal.LATENESS:
+            return f"nothing is more than {self.many(value)} late" if value >= 0 else f"all is {self.many(-value)} early"
+        return f"the project ends by {self.by(value)}"
+
+    def distance(self, limit: str, lag: int, before: int) -> str:
+        """So long after an activity ends, where the lag is no shorter than it; else after it starts."""
+        name, beyond = self.names.activity(before), lag - self.project.durations[before]
+        if not before:
+            return f"{limit} {self.at(lag)}"
+        at_once = "no sooner than" if limit == "at least" else "no later than"
+        if beyond >= 0 and self.project.durations[before]:
+            return f"{limit} {self.opened.length(beyond)} after {name} ends" if beyond else f"{at_once} {name} ends"
+        return f"{limit} {self.opened.length(lag)} after {name} starts" if lag else f"{at_once} {name} starts"
+
+    def absence(self, one: Absence) -> str:
+        """What is away, and when."""
+        name, all_of_it = self.names.resource(one.resource), one.units == self.project.capacities[one.resource]
+        what = f"{name} away" if all_of_it else f"{one.units} of {name} away"
+        if one.ends is None:
+            return f"{what} from {self.time(one.begins)} on"
+        return f"{what} from {self.time(one.begins)} to {self.by(one.ends)}"
+
+    def needs(self, activity: int) -> str:
+        """What this activity needs more of than there is."""
+        pairs = enumerate(zip(self.project.demands[activity], self.project.capacities))
+        told = [f"{need} of {self.names.resource(k)}, of which there {are(units)}"
+                for k, (need, units) in pairs if need > units]
+        return f"{self.names.activity(activity)} needs {', '.join(told)}"
+
+    def violation(self, violation: Violation, starts: Sequence[int]) -> str:
+        """What must be, and what is."""
+        if violation.kind == "lag":
+            return self.broken(Arc(*violation.numbers), starts)
+        if violation.kind == "overload":
+            return self.overload(violation.numbers[0], violation.numbers[1], starts)
+        return f"the project must start at 0, and starts at {violation.numbers[0]}"
+
+    def broken(self, arc: Arc, starts: Sequence[int]) -> str:
+        """A lag that isn't kept."""
+        is_greatest = arc.lag < 0 or arc.head == 0
+        first, last = (arc.head, arc.tail) if is_greatest else (arc.tail, arc.head)
+        said = self.lag(arc, "must start")
+        if last == self.project.end:
+            return f"{said}, and ends at {starts[last]}"
+        if first == 0:
+            first_day, last_day = self.opened.times(last, starts[last])
+            return f"{said}, and " + (f"ends {on(last_day)}" if is_greatest else f"starts {on(first_day)}")
+        from_end = abs(arc.lag) >= self.project.durations[first] > 0
+        apart = starts[last] - starts[first] - (self.project.durations[first] if from_end else 0)
+        return f"{said}, and starts {self.opened.length(abs(apart))} {'after' if apart >= 0 else 'before'} it does"
+
+    def overload(self, time: int, resource: int, starts: Sequence[int]) -> str:
+        project = self.project
+        running = [i for i in range(1, project.end) if project.demands[i][resource]
+                   and starts[i] <= time < starts[i] + project.durations[i]]
+        used, away = sum(project.demands[i][resource] for i in running), project.away(resource, time)
+        there = project.capacities[resource] - away
+        left = f"of which there {are(there)}" + (f" while {away} {'is' if away == 1 else 'are'} away" if away else "")
+        return (f"{self.at(time)}, {used} units of {self.names.resource(resource)} are in use, {left}: "
+                + ", ".join(map(self.names.activity, running)))
+
+
+def on(told: str) -> str:
+    """A day, or a moment or the number of a period."""
+    return f"on {told}" if len(told) == len("2026-03-02") else f"at {told}"
+
+
+def are(units: int) -> str:
+    return f"is {units}" if units == 1 else f"are {units}"

@@ -1,0 +1,78 @@
+"""`plan write`: a schedule as a table in CSV, with names and, from a first day on, with dates."""
+import os
+import sys
+from dataclasses import dataclass
+
+from ..clock import Clock
+from ..errors import BadInput
+from ..files import STANDARD_INPUT, guard, read_bytes, write_whole
+from ..psmax import Psmax
+from .answer import feasible
+from .csv_text import SEPARATORS, Text, read_sheet, write_sheet
+from .given import PERIOD, read_answer
+from .opened import ProjectFile
+
+HEADS = ["activity", "name", "start", "takes", "end"]  # and what they count, where a period is none of the table's own
+
+
+@dataclass(frozen=True)
+class Sheet:
+    """What the words of a command say of a table that is written."""
+
+    out: str | None
+    excel: bool
+    separator: str | None
+
+    def text(self, table: list[list[object]], opened: ProjectFile) -> str:
+        """The separator is the one that is named; for a spreadsheet else that of the table, since hers wrote it."""
+        return write_sheet(table, self.between(opened), self.excel)
+
+    def between(self, opened: ProjectFile) -> str:
+        named = SEPARATORS[self.separator] if self.separator is not None else None
+        return named or (opened.separator if self.excel else ",")
+
+    def must_have(self, heads: list[str]) -> None:
+        """A file that is there has a table of these columns, or nothing."""
+        there = read_bytes(self.out) if self.out is not None and os.path.isfile(self.out) else b""
+        if self.out is not None and there.strip():
+            try:
+                found = read_sheet(self.out, there.decode("utf-8", "replace")).heads
+            except BadInput:
+                found = []
+            if found != heads:
+                raise BadInput(f"{self.out} is there, and no table of these columns, and would be lost; name another file with "
+                               "--out")
+
+    def put(self, table: list[list[object]], opened: ProjectFile) -> None:
+        """Into the file that is named, where another of the same columns may be, or to standard output."""
+        self.must_have(list(map(str, table[0])))
+        put(self.text(table, opened), self.out)
+
+
+def rows(opened: ProjectFile, starts: tuple[int, ...], with_dates: bool = True) -> list[list[object]]:
+    """A row for each activity, in the order of their starts, below the names of the columns."""
+    project, calendar = opened.project, opened.calendar if with_dates else None
+    units = [] if opened.is_own() else [PERIOD, "length"]
+    table: list[list[object]] = [[*HEADS, *units, *(calendar.heads if calendar else ())]]
+    for activity in sorted(range(1, project.end), key=lambda i: (starts[i], i)):
+        begins, takes = starts[activity], project.durations[activity]
+        times = opened.times(activity, begins) if calendar else ()
+        name = Text(opened.names.activities.get(activity, ""))
+        told = [opened.names.unit, opened.length(takes)] if units else []
+        table.append([activity, name, begins, takes, begins + takes, *told, *times])
+    return table
+
+
+def put(text: str, out: str | None) -> None:
+    """Writes a text into a file, or to standard output where none is named."""
+    if out is not None:
+        write_whole(out, text.encode("utf-8", "replace"))
+    else:
+        sys.stdout.write(text)
+
+
+def write(opened: ProjectFile, given: str | None, sheet: Sheet) -> int:
+    guard([sheet.out], opened.inputs() | {"the answer": given or STANDARD_INPUT})
+    known = feasible(opened, read_answer(given), Psmax(Clock(), opened.path))
+    sheet.put(rows(opened, known.starts), opened)
+    return 0

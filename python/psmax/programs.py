@@ -1,0 +1,137 @@
+"""Calls of psmax and psprove, each under a clock. Every fact that `plan` prints comes from one of them."""
+import os
+import pathlib
+import re
+import shutil
+import subprocess
+import sys
+import tempfile
+import time
+from collections.abc import Callable, Sequence
+from typing import IO, NoReturn
+
+from .clock import Clock
+from .errors import BadInput, Failed, TimeUp
+
+SECONDS = 600.0  # the most that a program may take for an answer that no search is needed for
+INSIDE = "bin"  # the folder of the programs in the package, where it was installed from a wheel
+GLANCE = 0.05  # seconds between two looks at the clock, and at what is told, while a program runs
+
+
+def find_program(name: str) -> str:
+    """What $PSMAX or $PSPROVE names, else the program inside an installed wheel, that of the repository, the one beside an
+    installed `plan`, or that of PATH."""
+    named = os.environ.get(name.upper())
+    if named:
+        if shutil.which(named) is None:
+            raise Failed(f"{name.upper()} is {named}, which is no program")
+        return named
+    here = pathlib.Path(__file__).resolve().parent
+    for path in (here / INSIDE / name, here.parents[1] / name, here.parents[2] / "bin" / name):
+        if path.is_file() and os.access(path, os.X_OK):
+            return str(path)
+    found = shutil.which(name)
+    if found is None:
+        raise Failed(f"no {name} found: set {name.upper()}, or put it on the PATH")
+    return found
+
+
+def psmax() -> NoReturn:
+    run_inside("psmax")
+
+
+def psprove() -> NoReturn:
+    run_inside("psprove")
+
+
+def run_inside(name: str) -> NoReturn:
+    """The command of this name of an installed wheel: the program inside takes the place of Python."""
+    path = str(pathlib.Path(__file__).resolve().parent / INSIDE / name)
+    try:
+        os.execv(path, [name, *sys.argv[1:]])
+    except OSError as fault:
+        sys.exit(f"cannot start {path}: {fault.strerror}")
+
+
+class Program:
+    """Calls one of the programs until the clock is stopped, or the calls are ended. `project` is what its project is called
+    in faults."""
+
+    name: str
+    ended = False
+
+    def __init__(self, clock: Clock, project: str = "the project") -> None:
+        self.clock = clock
+        self.project = project
+        self.path = find_program(self.name)
+
+    def version(self) -> str:
+        found = re.match(rb"\w+ (\S+)", self.call(["--version"], b"")[1])
+        return found[1].decode("utf-8", "replace") if found else "unknown"
+
+    def odd(self, job: str) -> Failed:
+        return Failed(f"{self.path} {job} gave an answer that plan does not know; is it {self.name}?")
+
+    def call(self, words: Sequence[str], given: bytes, seconds: float = SECONDS,
+             hear: Callable[[str], None] = lambda line: None) -> tuple[int, bytes]:
+        """The exit status of a call that answered within these seconds, and its output, or else what it told. Each line
+        that it tells is heard."""
+        status, out, told = self._run(words, given, seconds, hear)
+        lines = told.decode("utf-8", "replace").strip().splitlines()
+        text = lines[-1].removeprefix(f"{self.name}: ") if lines else ""
+        if status == 2 and lines and lines[-1].startswith(f"{self.name}: "):
+            raise BadInput(f"{self.project}: {text}")
+        if status < 0:
+            raise Failed(f"{self.name} {words[0]} was ended by signal {-status}")
+        if status in (0, 3, 4):
+            return status, out or told
+        raise Failed(f"{self.name} {words[0]} failed, exit status {status}" + (f": {text}" if text else ""))
+
+    def judge(self, command: str, project: bytes, given: bytes) -> tuple[int, bytes]:
+        """A call of a command that takes the project as a file, and is given what it has to judge."""
+        with tempfile.TemporaryDirectory(prefix="plan-") as folder:
+            path = os.path.join(folder, "project.sch")
+            with open(path, "wb") as file:
+                file.write(project)
+            return self.call([command, "--project", path], given)
+
+    def verify(self, project: bytes, record: bytes) -> tuple[int, str]:
+        """The exit status, and what the record proves of the project, or its first wrong line."""
+        status, out = self.judge("verify", project, record)
+        return status, out.decode("utf-8", "replace").strip().removeprefix(f"{self.name}: ")
+
+    def _run(self, words: Sequence[str], given: bytes, seconds: float,
+             hear: Callable[[str], None]) -> tuple[int, bytes, bytes]:
+        if self.clock.stopped or self.ended:
+            raise TimeUp
+        with tempfile.TemporaryFile() as source, tempfile.TemporaryFile() as out, tempfile.TemporaryFile() as told:
+            source.write(given)
+            source.seek(0)
+            try:
+                child = subprocess.Popen([self.path, *words], stdin=source, stdout=out, stderr=told, start_new_session=True)
+            except OSError as fault:
+                raise Failed(f"cannot start {self.path}: {fault.strerror}") from None
+            try:
+                self._wait(child, told, time.monotonic() + seconds, hear)
+            finally:
+                if child.poll() is None:
+                    child.kill()
+                    child.wait()
+            out.seek(0)
+            told.seek(0)
+            return child.returncode, out.read(), told.read()
+
+    def _wait(self, child: subprocess.Popen[bytes], told: IO[bytes], until: float, hear: Callable[[str], None]) -> None:
+        """Hears what is told without moving the place at which the child goes on to write."""
+        heard, is_over = 0, False
+        while not is_over:
+            try:
+                child.wait(GLANCE)
+                is_over = True
+            except subprocess.TimeoutExpired:
+                if self.clock.stopped or self.ended or time.monotonic() > until:
+                    raise TimeUp from None
+            whole = os.pread(told.fileno(), 1 << 20, heard).rpartition(b"\n")[0]
+            heard += len(whole) + 1 if whole else 0
+            for line in whole.decode("utf-8", "replace").splitlines():
+                hear(line)

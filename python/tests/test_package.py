@@ -1,0 +1,128 @@
+"""The package as it is installed: by make, by pip and by dpkg, with the programs inside."""
+import os
+import pathlib
+import re
+import shutil
+import subprocess
+import sys
+import tomllib
+import unittest
+import venv
+
+from planner.tests.helpers import CALLED, EXAMPLES, PSMAX, TOP, InFolder, psmax
+from psmax import __version__
+
+# What the root of a Debian system says of the packages that psmax needs.
+INSTALLED = """Package: {name}
+Status: install ok installed
+Maintainer: nobody
+Architecture: amd64
+Version: {version}
+Description: stands in
+
+"""
+
+
+class Installed(InFolder):
+    def run_there(self, *words: object) -> subprocess.CompletedProcess[str]:
+        given = {name: value for name, value in os.environ.items() if name not in (*CALLED, "PYTHONPATH")}
+        given["PATH"] = f"{pathlib.Path(sys.executable).parent}:{given['PATH']}"
+        return subprocess.run([*map(str, words)], capture_output=True, text=True, env=given, cwd=self.folder)
+
+    def made(self, *words: str) -> None:
+        ran = subprocess.run(["make", "-s", *words], cwd=TOP, capture_output=True, text=True)
+        self.assertEqual(ran.returncode, 0, ran.stderr)
+
+    def test_make_install(self) -> None:
+        """The programs, plan, manual pages, documents and verify.py, which shows no traceback; and all of it gone again."""
+        at_hand = [f"AT_HAND={pathlib.Path(PSMAX).parent}"] if "PSMAX" in os.environ else []
+        self.made("install", f"PREFIX={self.folder}", *at_hand)
+        share, site = self.folder / "share", EXAMPLES / "building-site.sch"
+        pages = ("man/man1/plan.1", "man/man1/psmax.1", "man/man1/psprove.1")
+        for name in (*pages, "doc/psmax/README.md", "doc/psmax/docs/PLANNER.md"):
+            self.assertTrue((share / name).is_file(), name)
+        self.no_dead_links(share / "doc" / "psmax")
+        record = self.folder / "record"
+        answer = psmax("solve", "--record", record, given=site.read_bytes())
+        self.assertEqual(self.run_there("bin/plan", "check", site, self.file("best", answer)).stdout, "feasible 36\n")
+        self.assertEqual(self.run_there("bin/plan", "solve", site, "--out", "own").stdout, "optimal 36\n")
+        self.assertEqual(self.run_there("bin/plan", "report", site, "own", "--out", "page.html").returncode, 0)
+        verify = [sys.executable, share / "psmax" / "verify.py"]
+        self.assertEqual(self.run_there(*verify, site, record).stdout, "proved optimal 36\n")
+        for given in ((), ("gone", record), (site, "gone"), (record, record), (site, site)):
+            ran = self.run_there(*verify, *given)
+            self.assertIn(ran.returncode, (1, 2))
+            self.assertEqual((ran.stdout, len(ran.stderr.splitlines())), ("", 1), ran.stderr)
+        self.made("uninstall", f"PREFIX={self.folder}")
+        self.assertEqual([path for path in share.rglob("*") if path.is_file()] + [*(self.folder / "bin").iterdir()], [])
+
+    def no_dead_links(self, documents: pathlib.Path) -> None:
+        """Each relative link of an installed document leads to an installed file; those of the manual pages too."""
+        pages = sorted(documents.rglob("*.md"))
+        self.assertGreater(len(pages), 10)
+        for page in pages:
+            for text, target in re.findall(r"\[((?:[^\[\]]|\[[^\]]*\])*)\]\(([^)\s]+)\)", page.read_text()):
+                name = target.partition("#")[0]
+                if name and not re.match(r"\w+:", name):
+                    self.assertTrue((page.parent / name).exists(), f"{page}: [{text}]({target})")
+        for page in (documents.parents[1] / "man" / "man1").iterdir():
+            for name in re.findall(r"docs/[A-Z-]+\.md", page.read_text()):
+                self.assertTrue((documents / name).is_file(), f"{page}: {name}")
+
+    def test_package(self) -> None:
+        """Name, Python 3.11, no dependency at run time or while it is built, and the commands."""
+        with open(TOP / "pyproject.toml", "rb") as file:
+            told = tomllib.load(file)
+        project = told["project"]
+        self.assertEqual((project["name"], project["requires-python"], project["dependencies"], [*project["scripts"]]),
+                         ("psmax", ">=3.11", [], ["psmax", "psprove", "plan"]))
+        self.assertEqual(told["build-system"]["requires"], [])
+        ran = subprocess.run([sys.executable, "-m", "psmax.planner", "--version"], cwd=TOP / "python", text=True,
+                             capture_output=True, env={**os.environ, **CALLED})
+        self.assertIn(f"plan {__version__}", ran.stdout)
+
+    def test_pip_install(self) -> None:
+        """In a bare virtual environment, without network, from a copy that stays as it was."""
+        source, there = self.folder / "source", self.folder / "there"
+        shutil.copytree(TOP / "python", source / "python", ignore=shutil.ignore_patterns("__pycache__"))
+        shutil.copytree(TOP / "release", source / "release")
+        for name in ("pyproject.toml", "README.md"):
+            shutil.copy(TOP / name, source)
+        before = sorted(source.rglob("*"))
+        venv.create(there, with_pip=True, symlinks=True)
+        ran = self.run_there(there / "bin" / "python", "-m", "pip", "install", "--quiet", "--no-index",
+                             "--no-build-isolation", source)
+        self.assertEqual(ran.returncode, 0, ran.stderr)
+        self.assertEqual([path for path in sorted(source.rglob("*")) if "__pycache__" not in path.parts], before)
+        versions = f"plan {__version__}, psmax {__version__}, psprove {__version__}, Python 3"
+        self.assertIn(versions, self.run_there(there / "bin" / "plan", "--version").stdout)
+        site = EXAMPLES / "building-site.sch"
+        for name in ("psmax", "psprove"):
+            ran = self.run_there("sh", "-c", f"there/bin/{name} solve < {site} | head -n 1")
+            self.assertEqual(ran.stdout, "optimal 36\n", ran.stderr)
+
+    @unittest.skipUnless(shutil.which("dpkg-deb"), "dpkg isn't here")
+    def test_debian_package(self) -> None:
+        """dpkg installs it into a root of its own, and takes all of it out again."""
+        root = self.folder / "root"
+        (root / "var/lib/dpkg/info").mkdir(parents=True)
+        (root / "var/lib/dpkg/updates").mkdir()
+        needed = INSTALLED.format(name="libc6", version="2.36-9") + INSTALLED.format(name="python3", version="3.11.2-1")
+        (root / "var/lib/dpkg/status").write_text(needed)
+        self.made("deb")
+        deb = TOP / "build" / f"psmax_{__version__}_amd64.deb"
+        dpkg = ("dpkg", f"--root={root}", "--force-not-root", "--force-bad-path")
+        self.assertEqual(self.run_there(*dpkg, "-i", deb).returncode, 0)
+        ran = self.run_there(root / "usr/bin/plan", "solve", EXAMPLES / "building-site.sch")
+        self.assertEqual(ran.stdout.partition("\n")[0], "optimal 36", ran.stderr)
+        ran = self.run_there("env", f"PYTHONPATH={root}/usr/lib/python3/dist-packages", sys.executable, "-c",
+                             "import psmax; print(psmax.__version__)")
+        self.assertEqual(ran.stdout, f"{__version__}\n", ran.stderr)
+        self.assertEqual(self.run_there(*dpkg, "-r", "psmax").returncode, 0)
+        left = [path for path in (root / "usr").rglob("*") if path.is_file() and path.suffix != ".pyc"]
+        self.assertEqual(left, [])
+
+    @unittest.skipUnless(shutil.which("mypy") and shutil.which("flake8"), "mypy or flake8 isn't here")
+    def test_lint(self) -> None:
+        ran = subprocess.run(["make", "-s", "lint"], cwd=TOP, capture_output=True, text=True)
+        self.assertEqual(ran.returncode, 0, ran.stdout)
