@@ -64,7 +64,7 @@ class Faults(InFolder):
 
     def test_bad_words(self) -> None:
         for words in ((), ("draw",), ("solve",), ("solve", SITE, "--seconds", "0"), ("solve", SITE, "--seconds", "nan"),
-                      ("solve", SITE, "--seconds", "soon"), ("solve", SITE, "--seconds", "0.5"),
+                      ("solve", SITE, "--seconds", "soon"), ("solve", SITE, "--seconds", "0.5s"),
                       ("solve", SITE, "--jobs", "0"), ("solve", SITE, "--jobs", "65"), ("solve", SITE, "--jobs", "-1"),
                       ("solve", SITE, "--jobs", "two"), ("solve", SITE, "--jobs", ""), ("solve", SITE, "--start"),
                       ("solve", SITE, "--x\n\x1b[2J"), ("gantt", SITE, "--width", "7"),

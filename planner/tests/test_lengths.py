@@ -1,5 +1,5 @@
 """Dates, lengths and days of the week as people write them, and lags that start at a date."""
-from psmax.planner.dates import read_moment, read_shift, read_workdays
+from psmax.dates import read_moment, read_shift, read_workdays
 
 from .helpers import InFolder, plan
 

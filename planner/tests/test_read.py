@@ -183,11 +183,8 @@ class Psplib(InFolder):
         self.assertEqual(plan("read", self.folder / "both.sch").stdout.split(), real.decode().split())
 
     def test_other_problems(self) -> None:
-        stars = "*" * 72
-        other = f"{stars}\nfile with basedata            : J30_.BAS\n{stars}\nPRECEDENCE RELATIONS:\n"
         modes, spent = TWO_JOBS.replace("1 1 0\n", "1 3 0\n", 1), TWO_JOBS.replace("2 1 0 0", "2 1 2 0", 1)
-        for name, text, wanted in (("j301_1.sm", other, "maximum lags"), ("c154_3.mm", other, "multi-mode"),
-                                   ("modes.sch", modes, "row 1: more than one mode; a PSPLIB set with several modes"),
+        for name, text, wanted in (("modes.sch", modes, "row 1: more than one mode; a PSPLIB set with several modes"),
                                    ("spent.sch", spent, "other than renewable; a PSPLIB set with several modes"),
                                    ("more.sch", TWO_JOBS + "x", "word 33: one too many")):
             with self.subTest(name):

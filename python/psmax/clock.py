@@ -2,7 +2,10 @@
 import math
 import signal
 import sys
+import threading
 import time
+from collections.abc import Callable, Iterator
+from contextlib import contextmanager
 from typing import NoReturn
 
 from .letters import printable
@@ -10,13 +13,22 @@ from .letters import printable
 ENDS = (signal.SIGINT, signal.SIGTERM, signal.SIGHUP)  # Ctrl-C, a request to end, a terminal that closes
 
 
-class Clock:
-    """Counts from when it is made; what ends a run stops it where `listen` was called."""
+def on_standard_error(seconds: float, text: str) -> None:
+    """Written at once, since several threads tell; where nobody reads it any more, the search goes on without."""
+    try:
+        print(f"{seconds:7.2f} s  {printable(text)}\n", end="", file=sys.stderr, flush=True)
+    except OSError:
+        pass
 
-    def __init__(self, seconds: float = math.inf) -> None:
+
+class Clock:
+    """Counts from when it is made; what ends a run stops it where `listen` was called. What is told goes to `says`."""
+
+    def __init__(self, seconds: float = math.inf, says: Callable[[float, str], None] = on_standard_error) -> None:
         self.begun = time.monotonic()
         self.seconds = seconds
         self.stopped = False
+        self.says = says
 
     def elapsed(self) -> float:
         return time.monotonic() - self.begun
@@ -34,6 +46,25 @@ class Clock:
         """From now on what would end the run stops this clock, and interrupts nothing."""
         for number in heard():
             signal.signal(number, self.stop)
+
+    @contextmanager
+    def interrupted(self) -> Iterator[None]:
+        """Meanwhile the first Ctrl-C stops this clock; one more raises KeyboardInterrupt. Python hands signals to its main
+        thread alone."""
+        before = signal.getsignal(signal.SIGINT)
+        if threading.current_thread() is not threading.main_thread() or before is None:
+            yield
+            return
+
+        def stop(*_: object) -> None:
+            signal.signal(signal.SIGINT, before)
+            self.stop()
+
+        signal.signal(signal.SIGINT, stop)
+        try:
+            yield
+        finally:
+            signal.signal(signal.SIGINT, before)
 
     def why_over(self) -> str:
         return "stopped" if self.stopped else f"the {self.seconds:g} seconds are over"
@@ -61,9 +92,5 @@ def end_at_once() -> None:
 
 
 def tell(clock: Clock, text: str) -> None:
-    """A line of progress, written at once, since several threads tell; where nobody reads them any more, the search goes on
-    without."""
-    try:
-        print(f"{clock.elapsed():7.2f} s  {printable(text)}\n", end="", file=sys.stderr, flush=True)
-    except OSError:
-        pass
+    """A line of progress."""
+    clock.says(clock.elapsed(), text)

@@ -1,12 +1,21 @@
 """What can go wrong, each with the exit status that says so."""
 
 
-class BadInput(Exception):
-    """A file or a word of the command that isn't what it should be: exit status 2. Each argument is one fault."""
+class Fault(Exception):
+    """Whatever a project, a file or a program can have wrong. Each argument is one fault."""
+
+    def __str__(self) -> str:
+        return "; ".join(map(str, self.args))
 
 
-class Failed(Exception):
-    """Something that should have worked and did not: exit status 1."""
+class BadInput(Fault):
+    """A file, a word of the command or a number that isn't what it should be: exit status 2."""
+
+
+class Failed(Fault):
+    """Something that should have worked and did not: exit status 1. `answer` is what a search knew until then."""
+
+    answer: object = None
 
 
 class TimeUp(Exception):

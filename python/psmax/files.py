@@ -3,17 +3,26 @@ import os
 import pathlib
 import sys
 import tempfile
-from collections.abc import Mapping, Sequence
+from collections.abc import Mapping, MutableMapping, Sequence
+from typing import TextIO
+from weakref import WeakKeyDictionary
 
 from .errors import BadInput, Failed
 
 STANDARD_INPUT = "/dev/stdin"  # where an answer comes from that is in no file
+DASH = "-"  # what standard input is called by words of the command
 MARK = b"\xef\xbb\xbf"  # the byte order mark of UTF-8
 LARGEST = 16_777_216  # bytes; psmax reads no longer text, so one byte more is enough to know
 
 
+# What standard input held, which can be read once alone.
+HELD: MutableMapping[TextIO, bytes] = WeakKeyDictionary()
+
+
 def read_bytes(path: str, most: int = LARGEST) -> bytes:
-    """What the file holds, up to one byte more than the programs would read."""
+    """What the file holds, or standard input, up to one byte more than the programs would read."""
+    if path == DASH:
+        return read_input(None)
     try:
         with open(path, "rb") as file:
             return file.read(most + 1)
@@ -27,7 +36,9 @@ def read_input(path: str | None) -> bytes:
         return read_bytes(path)
     if sys.stdin is None:
         raise Failed("standard input is closed")
-    return sys.stdin.buffer.read(LARGEST + 1)
+    if sys.stdin not in HELD:
+        HELD[sys.stdin] = sys.stdin.buffer.read(LARGEST + 1)
+    return HELD[sys.stdin]
 
 
 def read_text(path: str) -> str:

@@ -1,12 +1,25 @@
 """What is known of a project while it is searched: what psprove has proved, and schedules that were handed in."""
 from collections.abc import Callable, Sequence
+from dataclasses import dataclass
 
 from .clock import Clock, tell
 from .errors import Failed
 from .project import Project
 from .psmax import starts_text
-from .psprove import Claim, Solved
+from .solved import Claim, Solved
 from .spelled import Spelled
+
+
+@dataclass(frozen=True)
+class News:
+    """What a search has come by: a shorter schedule, a greater bound, or both. What is not proved is a report of the search
+    alone, which its checker has not judged yet."""
+
+    seconds: float
+    value: int | None
+    bound: int | None
+    is_proved: bool
+    starts: tuple[int, ...] | None = None
 
 
 class Known(Claim):
@@ -14,6 +27,7 @@ class Known(Claim):
         self.clock = clock
         self.goal, self.project = project.goal, project
         self.better: Callable[[], None] = lambda: None  # what is done each time the schedule gets shorter
+        self.heard: Callable[[News], None] = lambda _: None  # what is done with each
         self.bound = Spelled(project).value(0)
         self.value = None
         self.starts: tuple[int, ...] | None = None
@@ -26,18 +40,21 @@ class Known(Claim):
         most = self.value if answer.value is None else answer.value
         least = answer.bound if answer.bound is None or self.bound is None else max(answer.bound, self.bound)
         if most is not None and (least is None or least > most):
-            raise Failed(f"psprove contradicts itself: a schedule of {most}, and {answer.first_line()}, by {by}")
+            name = by.partition(" ")[0]
+            raise Failed(f"{name} contradicts itself: a schedule of {most}, and {answer.first_line()}, by {by}")
         if least != self.bound or answer.settled:
             self.record = answer.record
         self.bound = least
         if answer.starts is not None:
             self.take(answer.starts)
         tell(self.clock, f"{self.first_line()}, proved: {by}")
+        self.heard(News(self.clock.elapsed(), self.value, self.bound, True, self.starts))
 
     def offer(self, starts: Sequence[int], by: str) -> None:
         """Takes starts that are a feasible schedule, by what is said of them."""
         tell(self.clock, f"schedule {self.goal.words(starts[-1])}: {by}")
         self.take(tuple(starts))
+        self.heard(News(self.clock.elapsed(), self.value, self.bound, True, self.starts))
 
     def take(self, starts: tuple[int, ...]) -> None:
         if self.value is None or starts[-1] < self.value:

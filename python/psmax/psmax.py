@@ -1,5 +1,7 @@
-"""What psmax says of a project without a search: its least starts by the lags alone, and whether starts are feasible."""
+"""What psmax says of a project: its least starts by the lags alone, whether starts are feasible, and what a search finds."""
+import os
 import re
+import tempfile
 from collections.abc import Sequence
 from dataclasses import dataclass, replace
 from typing import NamedTuple
@@ -7,6 +9,7 @@ from typing import NamedTuple
 from .errors import Failed
 from .programs import Program
 from .project import Goal, Project
+from .solved import ODD, Solved, of_answer
 from .spelled import Spelled
 
 
@@ -36,11 +39,33 @@ class Psmax(Program):
         return None if found is None else spelled.value(found)
 
     def earliest_of_text(self, text: bytes) -> int | None:
+        starts = self.earliest_starts(text)
+        return None if starts is None else starts[-1]
+
+    def earliest_starts(self, text: bytes) -> tuple[int, ...] | None:
+        """The least start of each activity of a text; none where the lags contradict each other."""
         status, out = self.call(["earliest"], text)
-        found = re.match(rb"(earliest|positive cycle) (\d+)\n", out)
-        if status != 0 or found is None:
+        if status != 0 or not re.fullmatch(rb"(earliest \d+\n(\d+ -?\d+\n)+|positive cycle \d+\n)", out):
             raise self.odd("earliest")
-        return int(found[2]) if found[1] == b"earliest" else None
+        return tuple(int(line.split()[1]) for line in out.splitlines()[1:]) or None
+
+    def solve(self, project: Project, nodes: int, workers: int | None, start: tuple[int, ...] | None = None) -> Solved:
+        """A search of so many nodes, until the clock is over, from starts that are feasible where there are some. Without
+        workers it goes depth first, and has neither a start nor a record."""
+        spelled = Spelled(project)
+        with tempfile.TemporaryDirectory(prefix="plan-") as folder:
+            record, first = os.path.join(folder, "record"), os.path.join(folder, "start")
+            words = ["solve", "--json", "--nodes", f"{nodes}"]
+            words += [] if workers is None else ["--workers", f"{workers}", "--record", record]
+            if start is not None:
+                with open(first, "wb") as file:
+                    file.write(starts_text(spelled.inward(start)))
+                words += ["--start", first]
+            _, out = self.call(words, spelled.text, self.clock.left())
+            try:
+                return of_answer(out, record, spelled)
+            except ODD:
+                raise self.odd("solve") from None
 
     def check(self, project: Project, starts: tuple[int, ...]) -> Checked:
         """What psmax says of the starts. Whatever is minimized, a schedule is feasible by its lags and resources."""

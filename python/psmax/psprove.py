@@ -1,5 +1,5 @@
 """Searches by psprove. Whatever it answers, its proved checker has found in the record of the search."""
-import json
+import math
 import os
 import re
 import tempfile
@@ -8,8 +8,9 @@ from dataclasses import dataclass
 
 from .errors import TimeUp
 from .programs import Program
-from .project import Goal, Project
+from .project import Project
 from .psmax import starts_text
+from .solved import ODD, Solved, not_asked, of_answer
 from .spelled import Spelled
 
 GRACE = 60.0  # seconds that psprove may take beyond its limit, besides as many as the limit, for the record
@@ -17,61 +18,21 @@ GRACE = 60.0  # seconds that psprove may take beyond its limit, besides as many 
 
 @dataclass(frozen=True)
 class Limits:
-    """Where a search stops, in how many ways it searches side by side, and how it breaks ties."""
+    """Where a search stops, in how many ways it searches side by side, and how it breaks ties. psprove counts whole seconds:
+    where there is less than one, it is ended from outside."""
 
-    seconds: int
+    seconds: float
     jobs: int = 1
     seed: int = 0
     conflicts: int | None = None
 
     def words(self) -> list[str]:
-        told = {"--seconds": self.seconds, "--jobs": self.jobs, "--seed": self.seed, "--conflicts": self.conflicts}
+        told = {"--seconds": math.ceil(self.seconds), "--jobs": self.jobs, "--seed": self.seed, "--conflicts": self.conflicts}
         return [word for option, value in told.items() if value is not None for word in (option, f"{value}")]
 
-
-class Claim:
-    """What is known of a project: the least value of what is minimized that was found, and a bound, none where there is no
-    schedule."""
-
-    goal: Goal
-    value: int | None
-    bound: int | None
-
-    @property
-    def none(self) -> bool:
-        return self.bound is None
-
-    @property
-    def settled(self) -> bool:
-        return self.value == self.bound or self.none
-
-    def status(self) -> str:
-        if self.none:
-            return "no schedule"
-        if self.value is None:
-            return "unknown"
-        return "optimal" if self.settled else "feasible"
-
-    def first_line(self) -> str:
-        """The same in the words of psmax."""
-        if self.none:
-            return self.status()
-        if self.value is None:
-            return f"{self.status()} {self.goal.words(f'bound {self.bound}')}"
-        return f"{self.status()} {self.goal.words(self.value)}" + ("" if self.settled else f" bound {self.bound}")
-
-
-@dataclass(frozen=True)
-class Solved(Claim):
-    """An answer of psprove, with the record that proves the bound."""
-
-    value: int | None
-    starts: tuple[int, ...] | None
-    bound: int | None
-    conflicts: int
-    record: bytes
-    goal: Goal
-    was_asked: bool = True  # and not out of time before that
+    def patience(self) -> float:
+        """Seconds after which nobody waits any longer."""
+        return 2 * self.seconds + GRACE if self.seconds >= 1 else self.seconds
 
 
 class Psprove(Program):
@@ -80,7 +41,7 @@ class Psprove(Program):
     def solve(self, project: Project, limits: Limits, start: tuple[int, ...] | None = None,
               hear: Callable[[str], None] = lambda line: None) -> Solved:
         """A search within limits, from starts that are feasible where there are some."""
-        if limits.seconds < 1:
+        if limits.seconds <= 0:
             raise TimeUp
         spelled = Spelled(project)
         with tempfile.TemporaryDirectory(prefix="plan-") as folder:
@@ -90,14 +51,10 @@ class Psprove(Program):
                 with open(first, "wb") as file:
                     file.write(starts_text(spelled.inward(start)))
                 words += ["--start", first]
-            _, out = self.call(words, spelled.text, 2 * limits.seconds + GRACE, lambda line: hear(told(line, spelled)))
+            _, out = self.call(words, spelled.text, limits.patience(), lambda line: hear(told(line, spelled)))
             try:
-                answer = json.loads(out)
-                starts = None if answer["starts"] is None else spelled.outward(tuple(answer["starts"]))
-                value, bound = (None if answer[key] is None else spelled.value(answer[key]) for key in ("makespan", "bound"))
-                with open(record, "rb") as file:
-                    return Solved(value, starts, bound, answer["conflicts"], file.read(), project.goal)
-            except (ValueError, KeyError, TypeError, OSError):
+                return of_answer(out, record, spelled)
+            except ODD:
                 raise self.odd("solve") from None
 
     def ask(self, project: Project, limits: Limits, start: tuple[int, ...] | None = None) -> Solved:
@@ -105,7 +62,7 @@ class Psprove(Program):
         try:
             return self.solve(project, limits, start)
         except TimeUp:
-            return Solved(None, None, Spelled(project).value(0), 0, b"", project.goal, was_asked=False)
+            return not_asked(Spelled(project))
 
 
 def told(line: str, spelled: Spelled) -> str:

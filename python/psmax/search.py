@@ -8,11 +8,12 @@ from concurrent.futures import ThreadPoolExecutor
 
 from .clock import tell
 from .errors import TimeUp
-from .known import Known
+from .known import Known, News
 from .project import Project
 from .psprove import Limits, Psprove
 
 FIRST = 1  # seconds of the first slice
+FEW, TIMES = 10, 10  # conflicts of the first slice where less than a second is left, and how many times as many the next has
 GROWTH = 3  # each one takes so many times the seconds of the one before, and the last what is left
 REPAIR = Limits(10, conflicts=10_000)
 TOLD = re.compile(r"\d+ s: (schedule|bound) (-?\d+)|(psprove: the search stopped: .*)")
@@ -34,7 +35,7 @@ class Search:
             self.repair(repairs, called)
         with ThreadPoolExecutor(1) as beside:
             try:
-                whole = beside.submit(self.ask, Limits(math.ceil(clock.left()), self.jobs - 1)) if self.jobs > 1 else None
+                whole = beside.submit(self.ask, Limits(self.left(), self.jobs - 1)) if self.jobs > 1 else None
                 self.slices()
                 if whole is not None:
                     whole.result()
@@ -50,7 +51,19 @@ class Search:
             if answer.starts is not None:
                 return self.known.offer(answer.starts, f"{called}, repaired")
 
+    def left(self) -> float:
+        """The seconds that a call may have: whole ones, but where all have less than one."""
+        left = self.psprove.clock.left()
+        return left if self.psprove.clock.seconds < 1 else math.ceil(left)
+
     def slices(self) -> None:
+        clock, conflicts, seed = self.psprove.clock, FEW, self.jobs - 1
+        while clock.seconds < 1 and not self.known.settled and not clock.over():
+            self.ask(Limits(clock.left(), 1, seed, conflicts))
+            conflicts *= TIMES
+        self.whole_slices()
+
+    def whole_slices(self) -> None:
         clock, length, seed = self.psprove.clock, FIRST, self.jobs - 1
         while not self.known.settled and not clock.over():
             left, begun = math.ceil(clock.left()), clock.elapsed()
@@ -79,4 +92,10 @@ class Search:
             rank = int(found[2]) if found[1] == "schedule" else -int(found[2])
             if rank < self.told.get(found[1], math.inf):
                 self.told[found[1]] = rank
-                tell(self.known.clock, f"{found[1]} {self.known.goal.words(found[2])}, unproved")
+                self.report(found[1], int(found[2]))
+
+    def report(self, what: str, value: int) -> None:
+        clock = self.known.clock
+        tell(clock, f"{what} {self.known.goal.words(value)}, unproved")
+        is_schedule = what == "schedule"
+        self.known.heard(News(clock.elapsed(), value if is_schedule else None, None if is_schedule else value, False))

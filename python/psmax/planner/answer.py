@@ -4,11 +4,11 @@ import sys
 from dataclasses import dataclass, replace
 from math import ceil
 
+from ..dates import read_moment
 from ..errors import BadInput
 from ..letters import at_most, printable, short
 from ..project import Project, least_end
 from ..psmax import Psmax
-from .dates import read_moment
 from .given import Begin, Given
 from .opened import ProjectFile
 from .wording import Words

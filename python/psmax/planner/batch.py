@@ -1,5 +1,5 @@
-"""`plan batch`: a row for each project of a folder, written when it is known, so that a batch which was cut off goes on
-where it stood. And the tables of several batches made one."""
+"""`plan batch`: a row for each project of some folders, written when it is known, so that a batch which was cut off goes on
+where it stood."""
 import json
 import os
 import pathlib
@@ -12,91 +12,116 @@ from dataclasses import dataclass
 
 from ..clock import Clock, tell
 from ..errors import BadInput, Failed
-from ..files import guard, read_text, write_whole
+from ..files import guard
 from ..letters import escaped
 from ..programs import GLANCE
-from .csv_text import cell, read_sheet, write_sheet
-from .opened import has_activities
-from .write import put
+from .bar import Bar
+from .batch_table import FAULT, HEADS, Row, Rows, keep, read_rows
+from .csv_text import write_sheet
+from .opened import has_activities, is_project
+from .published import contradictions, read_published
 
-HEADS = ["project", "activities", "status", "makespan", "bound", "seconds", "conflicts", "limit", "plan", "psprove", "fault"]
-FAULT = "fault"  # the status of a project that could not be searched
 ENDING = 5.0  # seconds that a search may take to end when it is asked to
-
-Row = dict[str, str]
-Rows = dict[str, Row]  # by project
 
 
 @dataclass(frozen=True)
 class Batch:
     """What the words of the command say."""
 
-    folder: str
-    seconds: int
+    folders: Sequence[str]
+    seconds: float
     jobs: int
     part: tuple[int, int]  # the first of these of every so many, counted from 1
     csv: str | None
     out: str | None
+    record: str | None
+    known: str | None
+
+
+@dataclass(frozen=True)
+class Task:
+    """A project: its file, what its row is called, and what its outputs are."""
+
+    path: pathlib.Path
+    row: str
+    stem: str
 
 
 def batch(wanted: Batch) -> int:
-    projects = chosen(wanted)
-    guard([wanted.csv], {f"the project {path.name}": str(path) for path in projects})
-    if wanted.out is not None and not os.path.isdir(wanted.out):
-        raise Failed(f"cannot write into {wanted.out}: it is no folder")
+    tasks = chosen(wanted)
+    guard([wanted.csv], {f"the project {task.row}": str(task.path) for task in tasks})
+    for folder in (wanted.out, wanted.record):
+        if folder is not None and not os.path.isdir(folder):
+            raise Failed(f"cannot write into {folder}: it is no folder")
+    published = {} if wanted.known is None else read_published(wanted.known)
     done = read_rows(wanted.csv) if wanted.csv is not None and os.path.exists(wanted.csv) else {}
-    left = [path for path in projects if done.get(escaped(path.name), {}).get("status", FAULT) == FAULT]
+    left = [task for task in tasks if done.get(task.row, {}).get("status", FAULT) == FAULT]
     clock = Clock(float("inf"))
     clock.listen()
     if wanted.csv is None:
         print(write_sheet([HEADS]), end="", flush=True)
-    found = run(wanted, left, clock)
-    rows = {escaped(path.name): {**done, **found}.get(escaped(path.name)) for path in projects}
-    counts = Counter(row["status"] for row in rows.values() if row is not None)
-    tell(clock, f"{sum(counts.values())} of {len(projects)} projects: "
+    rows = {**done, **run(wanted, left, clock)}
+    own = [rows[task.row] for task in tasks if task.row in rows]
+    counts = Counter(row["status"] for row in own)
+    tell(clock, f"{len(own)} of {len(tasks)} projects: "
          + ", ".join(f"{count} {status}" for status, count in sorted(counts.items())))
-    return 3 if clock.stopped else 1 if counts[FAULT] else 0
+    wrong = [text for row in own for text in contradictions(row, published)]
+    for text in wrong:
+        tell(clock, text)
+    return 3 if clock.stopped else 1 if counts[FAULT] or wrong else 0
 
 
-def chosen(wanted: Batch) -> list[pathlib.Path]:
-    """The projects of this part, by their names."""
-    folder = pathlib.Path(wanted.folder)
-    if not folder.is_dir():
-        raise Failed(f"cannot read {folder}: it is no folder")
-    projects = sorted(path for path in folder.iterdir() if path.is_file() and is_project(path))
-    if not projects:
-        raise BadInput(f"{folder}: no project in it, which is a file whose name ends in .sch, or a table of activities in CSV")
+def chosen(wanted: Batch) -> list[Task]:
+    """The projects of this part, folder after folder, by their names. Where there are several folders, rows and outputs have
+    theirs too."""
+    tasks: list[Task] = []
+    for name in wanted.folders:
+        folder = pathlib.Path(name)
+        if not folder.is_dir():
+            raise Failed(f"cannot read {folder}: it is no folder")
+        paths = sorted(path for path in folder.iterdir() if path.is_file() and is_wanted(path))
+        if not paths:
+            raise BadInput(f"{folder}: no project in it, which is a project text, or a table of activities in CSV")
+        stems = Counter(path.stem for path in paths)
+        prefix = "" if len(wanted.folders) == 1 else f"{folder.resolve().name}-"
+        tasks += [Task(path, escaped(path.name if not prefix else os.path.join(name, path.name)),
+                       prefix + (path.stem if stems[path.stem] == 1 else path.name)) for path in paths]
+    twice, count = Counter(task.stem for task in tasks).most_common(1)[0]
+    if count > 1 and (wanted.out or wanted.record):
+        raise BadInput(f"two projects would be written as {twice}; search their folders one by one")
     first, step = wanted.part
-    return projects[first - 1 :: step]
+    return tasks[first - 1 :: step]
 
 
-def is_project(path: pathlib.Path) -> bool:
+def is_wanted(path: pathlib.Path) -> bool:
     """A project text, or a table of activities of which none was made."""
-    if path.suffix.lower() == ".csv" and not path.with_suffix(".sch").exists():
-        return has_activities(str(path))
-    return path.suffix.lower() == ".sch"
+    if path.suffix.lower() == ".csv":
+        return not path.with_suffix(".sch").exists() and has_activities(str(path))
+    return path.suffix.lower() == ".sch" or is_project(str(path))
 
 
-def run(wanted: Batch, left: Sequence[pathlib.Path], clock: Clock) -> Rows:
+def run(wanted: Batch, left: Sequence[Task], clock: Clock) -> Rows:
     """Searches the projects side by side, and puts each row as soon as it is known."""
     found: Rows = {}
-    with ThreadPoolExecutor(wanted.jobs) as jobs:
-        pending: set[Future[Row | None]] = {jobs.submit(row_of, path, wanted, clock) for path in left}
+    with ThreadPoolExecutor(wanted.jobs) as jobs, Bar(len(left), clock) as bar:
+        pending: set[Future[Row | None]] = {jobs.submit(row_of, task, wanted, clock) for task in left}
         while pending:
             done, pending = wait(pending, return_when=FIRST_COMPLETED)
             for row in (one.result() for one in done):
                 if row is not None:
                     found[row["project"]] = row
                     keep(row, wanted.csv)
-                    tell(clock, f"{row['project']}: {row['status']} {row['makespan']}{row['fault']}".rstrip())
+                    bar.step(f"{row['project']}: {row['status']} {row['makespan']}{row['fault']}".rstrip())
     return found
 
 
-def row_of(path: pathlib.Path, wanted: Batch, clock: Clock) -> Row | None:
+def row_of(task: Task, wanted: Batch, clock: Clock) -> Row | None:
     """What one search knows at its end; none where the batch was ended before."""
-    out = [] if wanted.out is None else ["--out", os.path.join(wanted.out, path.stem + ".starts")]
-    words = [sys.executable, "-m", "psmax.planner", "solve", str(path), "--json", "--jobs", "1", "--seconds",
-             f"{wanted.seconds}", *out]
+    outputs = {"--out": (wanted.out, ".starts"), "--record": (wanted.record, ".rec")}
+    named = [word for option, (folder, suffix) in outputs.items() if folder is not None
+             for word in (option, os.path.join(folder, task.stem + suffix))]
+    words = [sys.executable, "-m", "psmax.planner", "solve", str(task.path), "--json", "--jobs", "1", "--seconds",
+             f"{wanted.seconds:g}", *named]
     home = {"PYTHONPATH": str(pathlib.Path(__file__).resolve().parents[2])}
     if clock.stopped:
         return None
@@ -105,7 +130,7 @@ def row_of(path: pathlib.Path, wanted: Batch, clock: Clock) -> Row | None:
     out_of_it = answer_of(child, clock)
     if out_of_it is None:
         return None
-    row = dict.fromkeys(HEADS, "") | {"project": escaped(path.name), "limit": f"{wanted.seconds}"}
+    row = dict.fromkeys(HEADS, "") | {"project": task.row, "limit": f"{wanted.seconds:g}"}
     if child.returncode not in (0, 3):
         faults = [line.removeprefix("plan: ") for line in out_of_it[1].splitlines() if line.startswith("plan: ")]
         return row | {"status": FAULT, "fault": "; ".join(faults) or f"exit status {child.returncode}"}
@@ -130,41 +155,3 @@ def answer_of(child: subprocess.Popen[bytes], clock: Clock) -> tuple[str, str] |
         finally:
             if clock.stopped and child.poll() is None:
                 child.terminate()
-
-
-def keep(row: Row, csv: str | None) -> None:
-    """Adds a row to the table in the file, which is written whole, or to standard output."""
-    if csv is None:
-        print(write_sheet([[row[head] for head in HEADS]]), end="", flush=True)
-        return
-    rows = read_rows(csv) if os.path.exists(csv) else {}
-    write_whole(csv, table(rows | {row["project"]: row}).encode())
-
-
-def table(rows: Rows) -> str:
-    return write_sheet([HEADS, *([row[head] for head in HEADS] for _, row in sorted(rows.items()))])
-
-
-def read_rows(path: str) -> Rows:
-    sheet = read_sheet(path, read_text(path))
-    if sheet.heads != HEADS:
-        raise BadInput(f"{path}: not a table of `plan batch`")
-    rows = [dict(zip(HEADS, [cell(row, column) for column in range(len(HEADS))])) for _, row in sheet.numbered()]
-    return {row["project"]: row for row in rows}
-
-
-def join(paths: Sequence[str], csv: str | None) -> int:
-    """One table of several. A project that stands in two of them must have the same row in both, or a fault in one."""
-    guard([csv], {f"the table {path}": path for path in paths})
-    joined: Rows = {}
-    for path in paths:
-        for project, row in read_rows(path).items():
-            there = joined.get(project, row)
-            if there != row and FAULT not in (there["status"], row["status"]):
-                raise BadInput(f"{path}: a second row for {project}, which says something else")
-            joined[project] = row if there["status"] == FAULT else there
-    lost = sorted(read_rows(csv).keys() - joined.keys()) if csv is not None and os.path.exists(csv) else []
-    if lost:
-        raise BadInput(f"{csv} has a row for {lost[0]}, which would be lost; name another file with --csv")
-    put(table(joined), csv)
-    return 0

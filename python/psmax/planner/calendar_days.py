@@ -2,7 +2,7 @@
 import datetime
 from dataclasses import dataclass
 
-from .calendars import Calendar
+from ..calendars import Calendar
 
 DAY = datetime.timedelta(days=1)
 

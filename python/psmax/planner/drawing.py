@@ -2,7 +2,7 @@
 from collections.abc import Callable, Collection, Mapping
 from dataclasses import dataclass
 
-from .calendars import Calendar
+from ..calendars import Calendar
 from .opened import ProjectFile
 from .window import Stretch, Window, away, stretches
 

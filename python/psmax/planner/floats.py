@@ -7,13 +7,14 @@ from ..clock import Clock
 from ..files import STANDARD_INPUT, guard, must_be_empty
 from ..psmax import Psmax
 from ..psprove import Psprove
+from ..total import TotalFloat
 from . import drawing
 from .answer import Answer, feasible
 from .gantt import Chart
 from .given import read_answer
 from .opened import ProjectFile
 from .replan import Start, begin_with
-from .total import TotalFloat, total_float
+from .total import total_float
 from .window import Window, windows
 from .write import Sheet, rows
 
@@ -25,7 +26,7 @@ TABLE = "float.csv"  # in the folder of records
 class Total:
     """What the words say of the total float."""
 
-    seconds: int
+    seconds: float
     jobs: int
     start: Start
 

@@ -4,12 +4,12 @@ import re
 from collections.abc import Mapping
 from dataclasses import dataclass, field
 
+from ..dates import is_dated
 from ..errors import BadInput
 from ..files import LARGEST, read_input
 from ..letters import short
 from .columns import is_head
 from .csv_text import Sheet, cell, letters, read_sheet
-from .dates import is_dated
 
 WITH_STARTS = ("optimal ", "feasible ", "earliest ")  # the beginnings of those that have starts below
 LINE = re.compile(r"[ \t]*([0-9]{1,4})[ \t]+(-?[0-9]{1,10})[ \t\r]*")

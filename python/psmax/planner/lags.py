@@ -4,13 +4,13 @@ import re
 from collections.abc import Collection, Sequence
 from dataclasses import dataclass, field
 
+from ..dates import is_dated
 from ..letters import short
 from ..project import MOST_UNITS, Arc
 from . import calendar_days
 from .calendar_days import CalendarLag
 from .cells import Faults
 from .columns import Column
-from .dates import is_dated
 from .quantities import NUMBER, WORDS, Length, Unit
 from .rows import Row
 

@@ -5,10 +5,10 @@ import sys
 from collections.abc import Sequence
 from typing import NoReturn
 
+from ..calendars import BEYOND
 from ..clock import end_at_once, interrupt_once
 from ..errors import BadInput, Failed, TimeUp
 from ..letters import printable
-from .calendars import BEYOND
 from .options import parsed
 
 INTERRUPTED = 130

@@ -1,19 +1,24 @@
-"""A project as it is opened: a table, which is read anew each time, or a .sch file with its page of names."""
+"""A project as it is opened: a table, which is read anew each time, a .sch file with its page of names, or a text of another
+format."""
+import datetime
 import hashlib
 import os
 import re
 from dataclasses import dataclass, field, replace
 
+from ..calendars import Calendar
 from ..clock import Clock
 from ..errors import BadInput
-from ..files import read_bytes, read_text
-from ..project import Project, parse
+from ..files import LARGEST, read_bytes, read_text
+from ..formats import FORMATS, read
+from ..project import Goal, parse
+from ..project import Project as Numbers
+from ..projects import Project
 from ..psmax import Psmax
 from ..spelled import Spelled
-from .calendars import Calendar
 from .columns import is_head
 from .csv_text import read_sheet
-from .given import WITH_STARTS, answer_sheet
+from .given import KEYS, LINE, WITH_STARTS, answer_sheet, json_object
 from .names import Names, read_page
 from .outline import Group
 from .progress import Progress
@@ -26,7 +31,7 @@ PROJECT = re.compile(rb"\s*\d+[ \t]+\d+[ \t]+0[ \t]+0\s")
 @dataclass(frozen=True)
 class ProjectFile:
     path: str
-    project: Project
+    project: Numbers
     names: Names
     settings: Settings
     calendar: Calendar | None
@@ -93,7 +98,40 @@ def open_project(path: str, words: Settings = Settings(), page: str | None = Non
         raise BadInput(f"{path}: this is an answer, and no project")
     if is_table(path, text):
         return open_table(path, words, page)
+    if is_other(text):
+        return open_other(path, data, words, page)
     return open_text(path, data, words, page)
+
+
+def is_other(text: str) -> bool:
+    """Whether a text has a format that is neither psmax's own nor a table."""
+    return next((name for name, one in FORMATS.items() if one.is_like(text)), "sch") != "sch"
+
+
+def open_other(path: str, data: bytes, words: Settings, page: str | None) -> ProjectFile:
+    """The project of another format, which may have a work time of its own; the words say what it doesn't."""
+    made = Project()
+    read(data, made, path)
+    names = Names({one.number: one.name for one in made.activities}, [one.name for one in made.resources])
+    told, days = Settings(), frozenset[datetime.date]()
+    if made.work_time is not None:
+        time = made.work_time
+        told = Settings(time.first, time.period, time.workdays, shift=time.shift, zone=time.zone)
+        names.unit, days = time.period, frozenset(time.holidays)
+    if page is not None:
+        words = words.over(from_rows(read_page(read_bytes(page)).settings, os.path.dirname(page)))
+    settings = checked(words.over(told))
+    for name in ("absences", "status"):
+        if getattr(settings, name) is not None:
+            raise BadInput(f"{path}: --{name} is for tables")
+    numbers = made.numbers(settings.minimize or Goal.MAKESPAN.value)
+    return ProjectFile(path, numbers, names, settings, calendar(settings, names.unit, days), {"the project": path})
+
+
+def is_starts(text: str) -> bool:
+    """Whether a text is one of starts, or an answer in JSON."""
+    lines = [line for line in text.splitlines() if line.strip()]
+    return all(LINE.fullmatch(line) for line in lines) or KEYS <= json_object(text).keys()
 
 
 def is_table(path: str, text: str) -> bool:
@@ -113,6 +151,14 @@ def has_activities(path: str) -> bool:
         return is_head(read_sheet(path, read_bytes(path).decode("utf-8", "replace"), is_head).heads)
     except BadInput:
         return False
+
+
+def is_project(path: str) -> bool:
+    """Whether a file is a project text of any format, and no answer."""
+    data = read_bytes(path)
+    text = data.decode("utf-8-sig", "replace")
+    return (len(data) <= LARGEST and not text.startswith(WITH_STARTS) and not is_starts(text)
+            and any(one.is_like(text) for one in FORMATS.values()))
 
 
 def open_table(path: str, words: Settings, page: str | None = None) -> ProjectFile:

@@ -7,11 +7,12 @@ from dataclasses import fields
 from functools import partial
 from typing import NoReturn
 
+from ..dates import ORDERS
 from ..errors import BadInput
+from ..formats import FORMATS
 from ..project import MOST_UNITS
-from . import batch, check, compare, floats, gantt, read, report, solve, verify, whatif, where, why, write
+from . import batch, batch_table, check, compare, floats, gantt, read, report, solve, verify, whatif, where, why, write
 from .csv_text import SEPARATORS
-from .dates import ORDERS
 from .opened import ProjectFile, open_project
 from .replan import Start
 from .settings import GOALS, Settings, checked
@@ -45,6 +46,13 @@ def number(least: int, most: int) -> Callable[[str], int]:
             raise argparse.ArgumentTypeError(f"'{text}' is not a whole number from {least} to {most}")
         return int(text)
     return read_number
+
+
+def seconds(text: str) -> float:
+    """A number of seconds, which may be less than one."""
+    if not re.fullmatch(r"[0-9]{1,7}(\.[0-9]{1,3})?", text) or not 0 < float(text) <= MOST_SECONDS:
+        raise argparse.ArgumentTypeError(f"'{text}' is not a number of seconds above 0 and up to {MOST_SECONDS}")
+    return float(text)
 
 
 def part(text: str) -> tuple[int, int]:
@@ -85,7 +93,7 @@ def add_solve(one: argparse.ArgumentParser) -> None:
 
 
 def add_project(one: argparse.ArgumentParser) -> None:
-    one.add_argument("project", metavar="PROJECT", help="a table of activities in CSV, or a .sch file")
+    one.add_argument("project", metavar="PROJECT", help="a table of activities in CSV or a project text; - for standard input")
     one.add_argument("--names", metavar="PAGE", help="the page of names (default: the .md file beside a .sch file)")
     add_settings(one)
 
@@ -115,8 +123,7 @@ def settings(options: argparse.Namespace) -> Settings:
 
 
 def add_limits(one: argparse.ArgumentParser) -> None:
-    one.add_argument("--seconds", type=number(1, MOST_SECONDS), default=60, metavar="S",
-                     help="stop after S seconds (default 60)")
+    one.add_argument("--seconds", type=seconds, default=60.0, metavar="S", help="stop after S seconds (default 60)")
     one.add_argument("--jobs", type=number(1, MOST_JOBS), default=PROCESSORS, metavar="N",
                      help="run N searches side by side (default: the number of processors)")
 
@@ -138,10 +145,11 @@ def add_verify(one: argparse.ArgumentParser) -> None:
 
 
 def add_read(one: argparse.ArgumentParser) -> None:
-    one.add_argument("table", metavar="TABLE", help="a table in CSV, or a .sch file")
+    one.add_argument("table", metavar="TABLE", help="a table in CSV or a project text; - for standard input")
     one.add_argument("--out", metavar="PROJECT", help="write the project there (default: beside the table, as .sch)")
+    one.add_argument("--to", choices=[*FORMATS], help="the format that is written (default: as the suffix of --out says)")
     add_settings(one)
-    one.set_defaults(run=lambda o: read.read(o.table, o.out, settings(o)))
+    one.set_defaults(run=lambda o: read.read(o.table, o.out, o.to, settings(o)))
 
 
 def add_schedule(one: argparse.ArgumentParser) -> None:
@@ -251,13 +259,14 @@ def add_where(one: argparse.ArgumentParser) -> None:
 
 
 def add_batch(one: argparse.ArgumentParser) -> None:
-    one.add_argument("folder", metavar="FOLDER", nargs="?", help="the folder with .sch files, or with tables")
-    one.add_argument("--seconds", type=number(1, MOST_SECONDS), default=60, metavar="S",
-                     help="stop each search after S seconds (default 60)")
+    one.add_argument("folders", metavar="FOLDER", nargs="*", help="a folder with project texts, or with tables")
+    one.add_argument("--seconds", type=seconds, default=60.0, metavar="S", help="stop each search after S seconds (default 60)")
     one.add_argument("--jobs", type=number(1, MOST_PROJECTS), default=1, metavar="N",
                      help="search N projects at a time (default 1)")
     one.add_argument("--csv", metavar="FILE", help="write the table there, and keep its rows (default: standard output)")
     one.add_argument("--out", metavar="FOLDER", help="write the schedules into this folder")
+    one.add_argument("--record", metavar="FOLDER", help="write the records into this folder")
+    one.add_argument("--known", metavar="FILE", help="a table of published bounds: project, lower, upper")
     one.add_argument("--part", type=part, default=(1, 1), metavar="I/N",
                      help="take only each N-th project from the I-th on")
     one.add_argument("--join", nargs="+", metavar="FILE", help="make one table from these, and do not search")
@@ -265,11 +274,12 @@ def add_batch(one: argparse.ArgumentParser) -> None:
 
 
 def run_batch(options: argparse.Namespace) -> int:
-    if (options.folder is None) == (options.join is None):
+    if (not options.folders) == (options.join is None):
         raise BadInput("either a FOLDER, or --join and tables; see plan batch --help")
     if options.join is not None:
-        return batch.join(options.join, options.csv)
-    return batch.batch(batch.Batch(options.folder, options.seconds, options.jobs, options.part, options.csv, options.out))
+        return batch_table.join(options.join, options.csv)
+    return batch.batch(batch.Batch(options.folders, options.seconds, options.jobs, options.part, options.csv, options.out,
+                                   options.record, options.known))
 
 
 ABOUT = "Plans projects with psmax and psprove. They check or prove every claim."
@@ -312,13 +322,14 @@ that are impossible together, and which maximum lag would open a schedule.""", "
      """Reads a project. Prints the makespan with one unit more of each resource, without
 each absence, and with each maximum lag longer by one period or dropped. The shortest
 comes first.""", "site.csv --seconds 60"),
-    ("read", add_read, "make a project text from a table in CSV, or clean a PSPLIB file",
-     "Reads a table or a .sch file. Writes a project text, and a page with its names.", "site.csv"),
+    ("read", add_read, "make a project text from a table in CSV, or from a text of another format",
+     """Reads a table, and writes a project text and a page with its names. Or reads a
+project text, and writes it in another format.""", "site.csv"),
     ("where", add_where, "locate the fault in a project text",
      """Reads a project text. Prints the line and column of its fault, and what should
 stand there.""", "site.sch"),
     ("batch", add_batch, "search all projects of a folder, and make a table",
-     """Reads the .sch files of a folder, and its tables that have none. Writes a row for each
-project once it is known. The same command continues a batch that was cut off.""",
+     """Reads the project texts of folders, and their tables that have none. Writes a row for
+each project once it is known. The same command continues a batch that was cut off.""",
      "projects --seconds 20 --csv all.csv"),
 )

@@ -1,37 +1,66 @@
-"""`plan read`: a table to a project and its page of names, or a project file of PSPLIB to one that psmax reads."""
+"""`plan read`: a table to a project and its page of names, or a text of one format to another."""
 import hashlib
 import os
 import pathlib
-import re
 import sys
 
+from .. import formats
 from ..clock import Clock
 from ..errors import BadInput
-from ..files import guard, read_bytes, read_text, write_whole
+from ..files import DASH, guard, read_bytes, read_text, write_whole
 from ..letters import printable
 from ..project import Goal, too_needy
+from ..projects import Project
 from ..psmax import Psmax
 from ..spelled import Spelled
 from .given import answer_sheet
 from .names import MADE, page, read_page
-from .opened import PROJECT, ProjectFile, of_table, page_of
+from .opened import PROJECT, ProjectFile, is_other, of_table, page_of
 from .settings import Settings, from_rows
 from .table import read_table
 from .wording import Words
 
-PSPLIB = (".sch", ".sm", ".mm")
+PSPLIB = ".sch"
 MARK = b"\xef\xbb\xbf"  # the byte order mark of UTF-8
+OTHERS = {suffix for one in formats.FORMATS.values() for suffix in one.suffixes} - {PSPLIB}  # of other formats' files
 CTRL_Z = b"\x1a"  # the end of a file to old systems
 OURS = "psmax reads the .sch files of the single-mode sets of RCPSP/max"
-OTHER_SET = ("a PSPLIB file of another problem: the sets j30, j60, j90, j120 (.sm) have no maximum lags, the "
-             f"multi-mode sets (.mm) choose how each activity is done; {OURS}")
 MODES = f"; a PSPLIB set with several modes for an activity (MRCPSP/max) is another problem; {OURS}"
 
 
-def read(path: str, out: str | None, words: Settings) -> int:
-    if pathlib.Path(path).suffix.lower() in PSPLIB:
+def read(path: str, out: str | None, wanted: str | None, words: Settings) -> int:
+    """By what the file holds; a name that ends in .sch says that it is none of a table."""
+    text = read_bytes(path).decode("utf-8-sig", "replace")
+    is_sch = pathlib.Path(path).suffix.lower() == PSPLIB or formats.FORMATS["sch"].is_like(text)
+    if wanted is None and out is not None and pathlib.Path(out).suffix.lower() in OTHERS:
+        wanted = formats.of_file(out)
+    if is_other(text) or is_sch and wanted not in (None, "sch"):
+        return convert(path, out, wanted or "sch")
+    if is_sch:
         return read_sch(path, out)
+    if wanted not in (None, "sch"):
+        raise BadInput(f"{path}: a table becomes a project text alone; read that to write it as {wanted}")
     return read_activities(path, out, words)
+
+
+def convert(path: str, out: str | None, wanted: str) -> int:
+    """The project in a text of another format; to standard output if no file is named."""
+    guard([out], {"the project": path})
+    project = Project()
+    formats.read(read_bytes(path), project, path)
+    try:
+        data = project.text(wanted).encode()
+    except BadInput as fault:
+        raise BadInput(*(f"{path}: {told}" for told in fault.args)) from None
+    if out is None:
+        sys.stdout.buffer.write(data)
+        return 0
+    there = read_bytes(out).decode("utf-8-sig", "replace") if os.path.isfile(out) else ""
+    if there.strip() and not formats.named(wanted).is_like(there):
+        raise BadInput(f"{out} is there, and no project of the format {wanted}, and would be lost; name another file with "
+                       "--out")
+    write_whole(out, data)
+    return 0
 
 
 def read_activities(path: str, out: str | None, words: Settings) -> int:
@@ -39,6 +68,8 @@ def read_activities(path: str, out: str | None, words: Settings) -> int:
     text = read_text(path)
     if answer_sheet(text) is not None:
         raise BadInput(f"{path}: this is an answer, and no table of activities")
+    if path == DASH and out is None:
+        raise BadInput("a table on standard input has no name; name a .sch file with --out")
     target = out if out is not None else os.path.splitext(path)[0] + ".sch"
     if os.path.basename(target) in ("", ".", "..") or target.endswith(".md"):
         raise BadInput(f"the project can't be written to '{target}'; name a .sch file with --out")
@@ -112,8 +143,6 @@ def read_sch(path: str, out: str | None) -> int:
     if out is not None:
         must_be_project(out)
     data = read_bytes(path)
-    if b"PRECEDENCE RELATIONS" in data or re.match(rb"\s*\*{10}", data.removeprefix(MARK)):
-        raise BadInput(f"{path}: {OTHER_SET}")
     clean = data.removeprefix(MARK).rstrip(b" \t\r\n" + CTRL_Z) + b"\n"
     try:
         Psmax(Clock(), path).earliest_of_text(clean)

@@ -15,13 +15,14 @@ from ..files import STANDARD_INPUT, guard, must_be_like, write_whole
 from ..project import Arc, Goal
 from ..psmax import Psmax
 from ..psprove import Psprove
+from ..total import TotalFloat
 from . import drawing
 from .answer import Answer, feasible
 from .drawing import Bar, Drawing, Load
 from .given import read_answer
 from .opened import ProjectFile
 from .replan import Start, begin_with
-from .total import TotalFloat, total_float
+from .total import total_float
 from .verify import Verdict, verdict
 from .window import windows
 from .wording import Words
@@ -38,7 +39,7 @@ class Options:
     record: str | None
     out: str
     paper: str
-    seconds: int
+    seconds: float
     jobs: int
 
 
@@ -174,7 +175,7 @@ def proof(answer: Answer, found: Verdict | None) -> str:
     told = (f"`psmax check` finds this schedule of {which.words(answer.value)} feasible: it keeps each lag and each resource. ")
     if found is None:
         return told + "No record was handed in, so nothing is said of shorter ones."
-    size, digest = len(found.data), hashlib.sha256(found.data).hexdigest()
+    size, digest = len(found.record.data), hashlib.sha256(found.record.data).hexdigest()
     return f"{told}{found.sentence()} {found.judges()} The record has {size:,} bytes and the SHA-256 {digest}."
 
 

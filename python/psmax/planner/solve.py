@@ -26,7 +26,7 @@ from .verify import RECORD
 class Options:
     """What the words of the command say, besides what it begins with."""
 
-    seconds: int
+    seconds: float
     jobs: int
     out: str | None
     svg: str | None

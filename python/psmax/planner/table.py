@@ -4,23 +4,24 @@ from collections.abc import Iterable, Sequence
 from contextlib import suppress
 from dataclasses import dataclass, replace
 
+from ..calendars import Calendar
+from ..dates import is_dated
 from ..errors import BadInput
 from ..letters import printable, short
 from ..project import MOST_ACTIVITIES, MOST_ARCS, Arc, Goal, Project
+from ..work_time import minutes_of, shift, workdays
 from .absences import read_absences
 from .calendar_days import CalendarLag
-from .calendars import Calendar
 from .cells import Faults, fault_at
 from .columns import LAGS, Column, Columns, is_head, read_heads, resource
 from .csv_text import Sheet, cell, read_sheet
-from .dates import is_dated
 from .lags import START, START_OF, WITH, Activities, Lags, lengths_in
 from .names import Names
 from .outline import Group, groups, is_summary, levels
 from .progress import Progress
 from .quantities import Length, Scale, Unit, read_length, scale_of, units_of
 from .rows import Row, Terms
-from .settings import HOURS_OF_WORK, NAMES, Settings, calendar, checked, from_rows, minutes_of, shift, time_of, workdays
+from .settings import HOURS_OF_WORK, NAMES, Settings, calendar, checked, from_rows, time_of
 
 
 @dataclass(frozen=True)
@@ -74,18 +75,18 @@ def terms_of(file: str, sheet: Sheet, columns: Columns, settings: Settings) -> T
     head, named = columns.unit(), settings.period
     if head is Unit.PERIODS and named in [unit.value for unit in Unit]:
         head = Unit(named)
-    week, own = len(workdays(settings)), head
+    week, own = len(workdays(settings.workdays)), head
     blank = Terms(file, columns, Scale(own, 0, None, week, own, head), None, settings.dates, sheet.head_row)
     rows = [Row(blank, number, cells) for number, cells in sheet.numbered()]
     units = units_of(lengths([row.cell(Column.DURATION) for row in rows], own))
     if own is Unit.PERIODS and len(units) == 1:
         [own] = units  # a column `duration` with one unit in all of its cells
     found = lengths([text for row in rows for text in lengths_in(row)], own)
-    scale = scale_of(found, own, head, None if settings.shift is None else shift(settings, 1), week)
+    scale = scale_of(found, own, head, None if settings.shift is None else shift(settings.shift, 1), week)
     is_guess = settings.shift is None and (scale is None or needs_hours(units_of(found) | {own}, named))
     if scale is None or is_guess:
         settings = replace(settings, shift=HOURS_OF_WORK)
-        scale = scale_of(found, own, head, shift(settings, 1), week)
+        scale = scale_of(found, own, head, shift(settings.shift, 1), week)
     assert scale is not None
     if named in (Unit.DAYS.value, Unit.WEEKS.value):
         scale = replace(scale, period=Unit(named), minutes=0, is_named=True)

@@ -6,7 +6,8 @@ from ..errors import BadInput, TimeUp
 from ..files import must_be_empty
 from ..project import MOST_UNITS, Goal, Kind, Part, Project, too_needy, with_lag, within, without
 from ..psmax import Psmax
-from ..psprove import Limits, Psprove, Solved
+from ..psprove import Limits, Psprove
+from ..solved import Solved
 from .circles import circles, in_words
 from .core import Core
 from .opened import ProjectFile
@@ -119,7 +120,7 @@ class Causes:
         return enough, True
 
 
-def why(opened: ProjectFile, start: Start, deadline: int | None, seconds: int, jobs: int, out: str | None) -> int:
+def why(opened: ProjectFile, start: Start, deadline: int | None, seconds: float, jobs: int, out: str | None) -> int:
     must_be_empty(out)
     project = begin_with(opened, start).project
     clock = Clock(seconds)

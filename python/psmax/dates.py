@@ -3,7 +3,7 @@ import datetime
 import re
 from dataclasses import dataclass
 
-from ..letters import short
+from .letters import short
 
 DAYS = (  # of the week, in English and in German
     ("mon", "monday", "mo", "montag"),

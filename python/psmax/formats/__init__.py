@@ -1,0 +1,70 @@
+"""The texts of projects that are read and written, a module each. docs/FORMATS.md says what they are."""
+import pathlib
+import re
+from collections.abc import Callable
+from dataclasses import dataclass
+
+from ..errors import BadInput
+from ..files import LARGEST
+from ..letters import short
+from ..model import Parts
+from . import job_shop, json_text, rcp, sch, sm, taillard
+
+
+@dataclass(frozen=True)
+class Format:
+    """A kind of text: what it is called, how its files are, how it is known, and what reads and writes it."""
+
+    name: str
+    suffixes: tuple[str, ...]
+    is_like: Callable[[str], bool]
+    read: Callable[[str, Parts], None]
+    write: Callable[[Parts], str]
+
+
+# In the order in which a text is looked at.
+FORMATS = {one.name: one for one in (
+    Format("json", (json_text.SUFFIX,), json_text.is_like, json_text.read, json_text.write),
+    Format("sm", (sm.SUFFIX,), sm.is_like, sm.read, sm.write),
+    Format("open-shop", (), taillard.is_like_open_shop, taillard.read_open_shop, taillard.write_open_shop),
+    Format("taillard", (), taillard.is_like_job_shop, taillard.read_job_shop, taillard.write_job_shop),
+    Format("sch", (sch.SUFFIX,), sch.is_like, sch.read, sch.write),
+    Format("job-shop", (job_shop.SUFFIX,), job_shop.is_like, job_shop.read, job_shop.write),
+    Format("rcp", (rcp.SUFFIX,), rcp.is_like, rcp.read, rcp.write),
+)}
+
+
+def named(name: str) -> Format:
+    if name not in FORMATS:
+        raise BadInput(f"format '{short(name)}': none of {', '.join(FORMATS)}")
+    return FORMATS[name]
+
+
+def found(text: str) -> Format:
+    """The format of a text, by what it holds."""
+    one = next((one for one in FORMATS.values() if one.is_like(text)), None)
+    if one is None:
+        raise BadInput(f"no text of a project that psmax knows, which is one of {', '.join(FORMATS)}")
+    return one
+
+
+def read(data: bytes, project: Parts, called: str, name: str | None = None) -> Format:
+    """Reads a project into an empty one. Faults begin with what the text is called."""
+    if len(data) > LARGEST:
+        raise BadInput(f"{called}: too long")
+    text = data.decode("utf-8-sig", "replace")
+    try:
+        one = found(text) if name is None else named(name)
+        one.read(text, project)
+    except BadInput as fault:
+        raise BadInput(*(f"{called}: {re.sub('^the text: ', '', str(told))}" for told in fault.args)) from None
+    return one
+
+
+def of_file(path: str) -> str:
+    """The name of the format that files of this suffix have."""
+    suffix = pathlib.PurePath(path).suffix.lower()
+    one = next((one.name for one in FORMATS.values() if suffix in one.suffixes), None)
+    if one is None:
+        raise BadInput(f"{path}: its suffix names no format; name one of {', '.join(FORMATS)}")
+    return one

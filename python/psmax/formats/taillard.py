@@ -1,0 +1,73 @@
+"""Taillard's texts of job shops and open shops: a line of sizes, then the times and the machines of all operations."""
+import re
+from dataclasses import dataclass
+
+from ..errors import BadInput
+from ..model import Parts
+from .numbers import Numbers, lines_of
+from .shops import Operation, Shop, fill, job_shop_of, open_shop_of, read_sizes
+
+HEAD = re.compile(r"\s*(Nb|number) of jobs\s*,", re.I)
+
+
+@dataclass(frozen=True)
+class Layout:
+    """The words of one of his texts."""
+
+    head: str
+    times: str
+    machines: str
+    is_open: bool
+
+
+JOB_SHOP = Layout("Nb of jobs, Nb of Machines, Time seed, Machine seed, Upper bound, Lower bound", "Times", "Machines", False)
+OPEN_SHOP = Layout("number of jobs, number of machines, time seed, machine seed, upper bound, lower bound :",
+                   "processing times :", "machines :", True)
+
+
+def is_like_job_shop(text: str) -> bool:
+    return HEAD.match(text) is not None and not is_like_open_shop(text)
+
+
+def is_like_open_shop(text: str) -> bool:
+    return HEAD.match(text) is not None and "processing times" in text.lower()
+
+
+def read_job_shop(text: str, project: Parts) -> None:
+    fill(project, read(text))
+
+
+def read_open_shop(text: str, project: Parts) -> None:
+    fill(project, read(text), is_open=True)
+
+
+def read(text: str) -> Shop:
+    numbers = Numbers((line, words) for line, words in lines_of(text) if not re.match(r"\s*[A-Za-z]", words))
+    jobs, machines = read_sizes(numbers)
+    for name in ("the seed of the times", "the seed of the machines", "the upper bound", "the lower bound"):
+        numbers.skip(name)
+    if not re.search(r"^\s*machines", text, re.I | re.M):
+        raise BadInput("there is no section of machines; a flow shop is another problem")
+    times = [numbers.row(f"of job {job} time", machines) for job in range(1, jobs + 1)]
+    orders = [numbers.row(f"of job {job} machine", machines, 1, machines) for job in range(1, jobs + 1)]
+    numbers.must_end()
+    twice = next((job for job, order in enumerate(orders, 1) if len({*order}) < machines), None)
+    if twice is not None:
+        raise BadInput(f"job {twice} has two operations on one machine, and each machine has one of each job")
+    return [[Operation(machine - 1, time) for machine, time in zip(order, row)] for order, row in zip(orders, times)]
+
+
+def write_job_shop(project: Parts) -> str:
+    return text_of(job_shop_of(project), JOB_SHOP)
+
+
+def write_open_shop(project: Parts) -> str:
+    return text_of(open_shop_of(project), OPEN_SHOP)
+
+
+def text_of(shop: Shop, layout: Layout) -> str:
+    """The text of a shop that no seed is known of."""
+    lines = [layout.head, f" {len(shop)} {len(shop[0])} 0 0 0 0", layout.times]
+    lines += [" ".join(f"{step.time:2}" for step in row) for row in shop]
+    lines += [layout.machines, *(" ".join(f"{step.machine + 1:2}" for step in row) for row in shop)]
+    return "\n".join(lines) + "\n"

@@ -1,0 +1,85 @@
+"""What changes of a project give: one unit more of a resource, one absence less, a maximum lag loosened or dropped. psprove
+proves each."""
+import math
+from collections.abc import Sequence
+from concurrent.futures import ThreadPoolExecutor
+from dataclasses import dataclass, replace
+from enum import Enum
+
+from .known import Known
+from .project import MOST_UNITS, Kind, Part, Project, parts, with_lag, without
+from .psprove import Limits, Psprove
+from .search import Search
+from .solved import Solved
+
+SHARE = 4  # the project as it is gets one of so many parts of the time
+
+
+class ChangeKind(Enum):
+    """One unit more of a resource, an absence that is dropped, a maximum lag that is longer by one period or dropped."""
+
+    RESOURCE = "resource"
+    ABSENCE = "absence"
+    LOOSENED = "loosened"
+    DROPPED = "dropped"
+
+
+@dataclass(frozen=True)
+class Change:
+    kind: ChangeKind
+    part: Part  # of the project that is changed
+    project: Project  # with the change
+
+
+@dataclass(frozen=True)
+class Outcome:
+    change: Change
+    known: Solved
+    seconds: float
+
+    def rank(self) -> tuple[float, float]:
+        """The shortest schedule first, and of those the least bound; what has no schedule last."""
+        value, bound = (math.inf if one is None else one for one in (self.known.value, self.known.bound))
+        return value, bound
+
+
+def changes(project: Project, changeable: int | None = None) -> list[Change]:
+    """All changes; of the lags only so many can be changed, where that is said."""
+    found = []
+    for part in parts(project):
+        place = part.number
+        if part.kind is Kind.ABSENCE:
+            found.append(Change(ChangeKind.ABSENCE, part, without(project, {part})))
+        elif part.kind is Kind.RESOURCE and project.capacities[place] < MOST_UNITS:
+            more = tuple(units + (k == place) for k, units in enumerate(project.capacities))
+            found.append(Change(ChangeKind.RESOURCE, part, replace(project, capacities=more)))
+        elif part.kind is Kind.LAG and (changeable is None or place < changeable):
+            lag = project.arcs[place].lag
+            if -lag < MOST_UNITS:
+                found.append(Change(ChangeKind.LOOSENED, part, with_lag(project, place, lag - 1)))
+            found.append(Change(ChangeKind.DROPPED, part, without(project, {part})))
+    return found
+
+
+def outcomes(found: Sequence[Change], base: Known, psprove: Psprove, jobs: int) -> list[Outcome]:
+    """What becomes known of each change by one job beside others, each in its share of the time that is left. The shortest
+    schedule comes first."""
+    clock = psprove.clock
+
+    def outcome(place: int) -> Outcome:
+        begun, left = clock.elapsed(), clock.left()
+        limits = Limits(math.ceil(min(left, left * jobs / (len(found) - place))))
+        return Outcome(found[place], psprove.ask(found[place].project, limits, base.starts), clock.elapsed() - begun)
+
+    with ThreadPoolExecutor(jobs) as pool:
+        return sorted(pool.map(outcome, range(len(found))), key=Outcome.rank)
+
+
+def whatif(project: Project, psprove: Psprove, jobs: int, changeable: int | None = None) -> tuple[Known, list[Outcome]]:
+    """What is known of the project as it is, which gets a share of the time, and of its changes."""
+    clock = psprove.clock
+    seconds, clock.seconds = clock.seconds, clock.seconds / SHARE
+    base = Known(clock, project)
+    Search(project, Psprove(clock, psprove.project), base, jobs).run()
+    clock.seconds = seconds
+    return base, outcomes(changes(project, changeable), base, psprove, jobs)

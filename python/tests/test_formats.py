@@ -1,0 +1,159 @@
+"""The formats: round trips of generated projects, known optima, damaged texts, and what each refuses."""
+import json
+import pathlib
+import random
+from collections.abc import Callable
+from typing import Any
+
+import psmax
+from planner.tests.helpers import InFolder, plan
+from psmax.formats import FORMATS, json_text
+
+from . import made
+
+DATA = pathlib.Path(__file__).parent / "data"
+SIGNS = "0129-+.,:;[]{}()<>&\"'*#x \t\n\r\0\u00e4\u2028"
+MAKERS: dict[str, Callable[[int], psmax.Project]] = {
+    "sch": made.plain, "json": made.any_project, "sm": made.precedences, "rcp": made.precedences,
+    "job-shop": lambda seed: made.shop(seed, False), "taillard": lambda seed: made.shop(seed, False),
+    "open-shop": lambda seed: made.shop(seed, True)}
+# Each file of data with its format, and the makespan of a shortest schedule.
+KNOWN = {
+    "ft06.jsp": ("job-shop", 55),  # Fisher and Thompson 1963
+    "ta01.txt": ("taillard", 1231),  # Taillard 1993
+    "tai4_4_1.txt": ("open-shop", 193),  # the same
+    "six.sm": ("sm", 9),  # by trying all starts, as is tested below
+    "six.rcp": ("rcp", 9),
+    "bridge.json": ("json", 13),  # by hand: the crane is away until day 10
+}
+
+
+def damaged(text: str, chance: random.Random) -> str:
+    """The text with a sign or a word that is another one, twice there or gone, or without its end."""
+    place, more = chance.randrange(len(text)), chance.randrange(len(text))
+    sign = chance.choice(SIGNS)
+    return chance.choice([
+        text[:place] + sign + text[place + 1 :], text[:place] + text[place + 1 :], text[:place],
+        text[:place] + sign * chance.choice([1, 400]) + text[place:],
+        text[:place] + text[more:], text.replace(chance.choice(text.split()), chance.choice(["-1", "x", "9" * 12, ""]), 1)])
+
+
+class Formats(InFolder):
+    def test_round_trips(self) -> None:
+        """Read, written and read again it is the same project, found by what the text holds."""
+        for name, make in MAKERS.items():
+            for seed in range(40):
+                project = make(seed)
+                text = project.text(name)
+                again = psmax.Project.read(text)
+                with self.subTest(name, seed=seed):
+                    self.assertEqual(sorted(again.numbers().arcs), sorted(project.numbers().arcs))
+                    self.assertEqual(vars(again.numbers()) | {"arcs": 0}, vars(project.numbers()) | {"arcs": 0})
+                    self.assertEqual([one.name for one in again.activities], [one.name for one in project.activities])
+                    self.assertEqual((again.work_time, again.text(name)), (project.work_time, text))
+
+    def test_known_optima(self) -> None:
+        for name, (kind, makespan) in KNOWN.items():
+            project = psmax.Project.read(DATA / name)
+            with self.subTest(name):
+                self.assertTrue(FORMATS[kind].is_like((DATA / name).read_text()))
+                answer = project.solve(seconds=30, jobs=1)
+                self.assertEqual((answer.status, answer.makespan), (psmax.Status.OPTIMAL, makespan))
+                self.assertEqual(psmax.Project.read(project.text(kind)).text(kind), project.text(kind))
+
+    def test_by_trying_all_starts(self) -> None:
+        for name in ("six.sm", "six.rcp"):
+            project = psmax.Project.read(DATA / name)
+            self.assertEqual(made.shortest(project), 9)
+            self.assertEqual(project.solve(seconds=10, jobs=1, proved_by="tree").makespan, 9)
+        for seed in range(5):
+            project = made.precedences(seed)
+            self.assertEqual(project.solve(seconds=10, jobs=1).makespan, made.shortest(project))
+
+    def test_damaged_texts(self) -> None:
+        """Each is read, or has a fault in words; what is read can be written again."""
+        for name, make in MAKERS.items():
+            for seed in range(200):
+                text = damaged(make(seed).text(name), random.Random(f"{name} {seed}"))
+                with self.subTest(name, seed=seed):
+                    self.must_be_clear(text, name)
+
+    def must_be_clear(self, text: str, name: str) -> None:
+        for kind in (None, name):
+            try:
+                psmax.Project.read(f"{text}\n", kind).text("json")
+            except psmax.BadInput as fault:
+                self.assertRegex(str(fault), r"^(the text: [^\n]+|a lag from start to start of .*)$")
+
+    def test_what_is_refused(self) -> None:
+        sm = (DATA / "six.sm").read_text()
+        for text, wanted in (
+            (sm.replace("   2    1    1    6", "   2    3    1    6"), "a multi-mode project (MRCPSP)"),
+            (sm.replace("0   N", "2   N"), "a multi-mode project (MRCPSP)"),
+            (sm.replace("   8    1    0    0", "   8    1    3    0"), "job 8: the end takes time or resources"),
+            (sm.replace("REQUESTS/DURATIONS", "REQUESTS"), "there is no section REQUESTS/DURATIONS"),
+            ((DATA / "ft06.jsp").read_text().replace("2 1 0 3", "2 1 2 3"), "job 1 has two operations on one machine"),
+            ((DATA / "ft06.jsp").read_text().replace("2 1 0 3", "2 1 0 x"), "line 3: the time of job 1, operation 2: 'x'"),
+            ((DATA / "ta01.txt").read_text().split("Machines\n")[0], "there is no section of machines"),
+            ("[" * 100_000 + "\n", "no text of a project"), ('{"a":' * 100_000 + "\n", "nested too deeply"),
+            ('{"format": 1, "format": 2}\n', "the key 'format' stands twice"), ("hello\nworld", "no text of a project"),
+        ):
+            with self.subTest(wanted), self.assertRaisesRegex(psmax.BadInput, wanted.replace("(", r"\(").replace(")", r"\)")):
+                psmax.Project.read(text)
+
+    def test_schema(self) -> None:
+        """What is written keeps the schema, and so does the example; the keys of both are those that are read."""
+        schema = json.loads((pathlib.Path(json_text.__file__).parent / "project.schema.json").read_text())
+        texts = [made.any_project(seed).text("json") for seed in range(20)] + [(DATA / "bridge.json").read_text()]
+        for text in texts:
+            self.assertEqual(faults(json.loads(text), schema, schema), [])
+        self.assertNotEqual(faults({"format": json_text.KIND, "activities": [{"name": 1}]}, schema, schema), [])
+        parts = {"the project": schema, **{f"a{'n' * (name[0] in 'a')} {name}": one for name, one in schema["$defs"].items()}}
+        for what, (must, may) in json_text.KEYS.items():
+            one = parts[what] if what in parts else schema["properties"][what.removeprefix("the ")]
+            self.assertEqual(({*one["required"]}, {*one["properties"]}), (must, must | may), what)
+
+    def test_plan(self) -> None:
+        """plan solves, draws and converts them; a project on standard input is called -."""
+        path = DATA / "ft06.jsp"
+        ran = plan("solve", path, "--jobs", "1", "--out", self.folder / "best")
+        self.assertEqual(ran.stdout, "optimal 55\n", ran.stderr)
+        self.assertEqual(plan("check", path, self.folder / "best").stdout, "feasible 55\n")
+        self.assertEqual(plan("check", "-", self.folder / "best", given=path.read_bytes()).stdout, "feasible 55\n")
+        for kind in ("sch", "json", "sm", "rcp", "job-shop", "taillard"):
+            ran = plan("read", "-", "--to", kind, given=path.read_bytes())
+            self.assertEqual(len(psmax.Project.read(ran.stdout).activities), 36, ran.stderr)
+        self.assertEqual(plan("read", path, "--out", self.folder / "site.json").returncode, 0)
+        self.refused(plan("read", path, "--out", self.file("own.json", "mine")), 2, "own.json is there, and no project")
+        self.refused(plan("read", path, "--to", "open-shop"), 2, "an open shop has an operation on each machine")
+        self.refused(plan("read", "-", given=b"activity,days\na,1\n"), 2, "name a .sch file with --out")
+        self.refused(plan("solve", self.file("x.sm", "****************\n")), 2, "x.sm: there is no section PRECEDENCE")
+        ran = plan("solve", DATA / "bridge.json", "--jobs", "1", "--out", self.folder / "best.csv")
+        self.assertEqual(ran.stdout, "optimal 13\n", ran.stderr)
+        ran = plan("write", DATA / "bridge.json", self.folder / "best.csv")
+        self.assertIn("hand over,13,0,13,2026-03-19,2026-03-19", ran.stdout)
+
+
+def faults(value: object, schema: dict[str, Any], top: dict[str, Any]) -> list[str]:
+    """What of a value breaks a schema, of the words that project.schema.json uses."""
+    if "$ref" in schema:
+        return faults(value, top["$defs"][schema["$ref"].removeprefix("#/$defs/")], top)
+    kinds: dict[str, type | tuple[type, ...]] = {"object": dict, "array": list, "string": str, "integer": int,
+                                                 "null": type(None)}
+    allowed = schema.get("type", [*kinds])
+    if not any(isinstance(value, kinds[kind]) for kind in ([allowed] if isinstance(allowed, str) else allowed)):
+        return [f"{value} is no {allowed}"]
+    found = [f"{value}" for key in ("const",) if key in schema and value != schema[key]]
+    found += [f"{value}" for key in ("enum",) if key in schema and value not in schema[key]]
+    if isinstance(value, int):
+        found += [f"{value}"] if not schema.get("minimum", value) <= value <= schema.get("maximum", value) else []
+    if isinstance(value, list):
+        items = schema.get("prefixItems", [schema.get("items", {})] * len(value))
+        found += [fault for one, kind in zip(value, items) for fault in faults(one, kind, top)]
+    if isinstance(value, dict):
+        known = schema.get("properties", {})
+        found += [f"no {key}" for key in schema.get("required", []) if key not in value]
+        for key, one in value.items():
+            other = schema.get("additionalProperties", {})
+            found += faults(one, known[key], top) if key in known else [key] if other is False else faults(one, other, top)
+    return found
