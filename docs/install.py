@@ -9,7 +9,7 @@ import sys
 
 TOP = pathlib.Path(__file__).resolve().parent.parent
 INSTALLED = ("README.md", "docs/*.md", "docs/*.svg", "examples/*.md", "examples/*.sch", "examples/*.starts", "examples/hall*",
-             "planner/projects/*")
+             "examples/formats/*", "planner/projects/*")
 LINK = re.compile(r"\[((?:[^\[\]]|\[[^\]]*\])*)\]\(([^)\s]+)\)")
 
 

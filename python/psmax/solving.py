@@ -81,18 +81,19 @@ def solve(project: Parts, seconds: float, jobs: int | None, on_progress: Hear, s
         with clock.interrupted():
             by_tree.run() if proved_by == "tree" else by_lemmas.run()
     except Failed as fault:
-        fault.answer = answer_of(project, known)
+        fault.answer = answer_of(project, known, record)
         raise
+    answer = answer_of(project, known, record)
     listener.raise_fault()
-    answer = answer_of(project, known)
-    if record is not None and answer.record is not None:
-        answer.record.write(record)
     return answer
 
 
-def answer_of(project: Parts, known: Known) -> Answer:
+def answer_of(project: Parts, known: Known, path: str | None) -> Answer:
+    """What is known; its record goes into the file, however the search ended."""
     schedule = None if known.starts is None else Schedule(project, known.starts)
     record = Record(known.record, Spelled(known.project)) if known.record else None
+    if path is not None and record is not None:
+        record.write(path)
     return Answer(project, Status(known.status()), schedule, known.bound, record, known.goal, known.clock.elapsed(),
                   known.conflicts)
 

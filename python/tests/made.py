@@ -1,4 +1,5 @@
 """Generated projects of each kind that a format can say, and small ones that are solved by trying all starts."""
+import datetime
 import itertools
 import random
 from collections.abc import Iterator
@@ -62,6 +63,28 @@ def shop(seed: int, is_open: bool) -> psmax.Project:
     rows: Shop = [[Operation(machine, chance.randint(0, 99)) for machine in chance.sample(range(machines), machines)]
                   for _ in range(jobs)]
     fill(made, rows, is_open)
+    return made
+
+
+def tasks(seed: int) -> psmax.Project:
+    """What Microsoft Project can say: links of all four kinds, and a constraint or a due date of some tasks."""
+    chance, made = random.Random(seed), psmax.Project()
+    made.work_time = psmax.WorkTime("2026-03-02 08:00", "hours", "mon-wed,fri", (datetime.date(2026, 3, 6),),
+                                    "08:00-12:00,13:00-17:00")
+    resources = [made.resource(f"r <{k}>", chance.randint(1, 5)) for k in range(chance.randint(0, 3))]
+    for number in range(chance.randint(1, 6)):
+        needs = {one: chance.randint(1, one.capacity) for one in resources if chance.random() < 0.7}
+        due = chance.choice([None, chance.randint(1, 9)])
+        made.activity(f"a & {number}", chance.randint(0, 9) if number else 1, needs, due)
+    for one in made.activities:
+        kind = chance.randrange(5)
+        if kind < 3:
+            least, most = [(3, 3), (4, None), (None, 40)][kind]
+            made.lag(made.start, one.end if kind == 2 else one.start, at_least=least, at_most=most)
+    for first, last in itertools.combinations(made.activities, 2):
+        if chance.random() < 0.4:
+            made.lag(chance.choice([first.start, first.end]), chance.choice([last.start, last.end]),
+                     at_least=chance.randint(-3, 9))
     return made
 
 

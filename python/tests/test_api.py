@@ -138,8 +138,8 @@ class Solving(InFolder):
             (lambda: made.solve(minimize="cost"), "minimize cost: neither makespan nor lateness"),
             (lambda: made.solve(minimize="lateness"), "nothing is due, so there is no lateness to minimize"),
             (lambda: made.absence(crew, 3, 3), "until when crew is away: 3 is not a whole number from 4"),
-            (lambda: made.write(self.folder / "x.txt"), "x.txt: its suffix names no format; name one of json, sm"),
-            (lambda: psmax.Project.read("a\nb", "csv"), "the text: format 'csv': none of json, sm"),
+            (lambda: made.write(self.folder / "x.txt"), "x.txt: its suffix names no format; name one of json, mspdi"),
+            (lambda: psmax.Project.read("a\nb", "csv"), "the text: format 'csv': none of json, mspdi"),
         ]
         for call, wanted in cases:
             with self.subTest(wanted), self.assertRaises(psmax.BadInput) as caught:
@@ -206,7 +206,7 @@ class Interrupted(InFolder):
 class Documents(InFolder):
     def test_examples(self) -> None:
         """Those of README.md and docs/PYTHON.md run as they stand, in a folder with the files of the tests."""
-        shutil.copytree(pathlib.Path(__file__).parent / "data", self.folder, dirs_exist_ok=True)
+        shutil.copytree(EXAMPLES / "formats", self.folder, dirs_exist_ok=True)
         for path in (TOP / "README.md", TOP / "docs" / "PYTHON.md"):
             blocks = re.findall(r"^```python\n(.*?)^```$", path.read_text(), re.M | re.S)
             test = doctest.DocTestParser().get_doctest("\n".join(blocks), {}, path.name, str(path), 0)

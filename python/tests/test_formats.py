@@ -6,17 +6,17 @@ from collections.abc import Callable
 from typing import Any
 
 import psmax
-from planner.tests.helpers import InFolder, plan
+from planner.tests.helpers import EXAMPLES, InFolder, plan
 from psmax.formats import FORMATS, json_text
 
 from . import made
 
-DATA = pathlib.Path(__file__).parent / "data"
+DATA = EXAMPLES / "formats"
 SIGNS = "0129-+.,:;[]{}()<>&\"'*#x \t\n\r\0\u00e4\u2028"
 MAKERS: dict[str, Callable[[int], psmax.Project]] = {
     "sch": made.plain, "json": made.any_project, "sm": made.precedences, "rcp": made.precedences,
     "job-shop": lambda seed: made.shop(seed, False), "taillard": lambda seed: made.shop(seed, False),
-    "open-shop": lambda seed: made.shop(seed, True)}
+    "open-shop": lambda seed: made.shop(seed, True), "mspdi": made.tasks}
 # Each file of data with its format, and the makespan of a shortest schedule.
 KNOWN = {
     "ft06.jsp": ("job-shop", 55),  # Fisher and Thompson 1963
@@ -24,6 +24,7 @@ KNOWN = {
     "tai4_4_1.txt": ("open-shop", 193),  # the same
     "six.sm": ("sm", 9),  # by trying all starts, as is tested below
     "six.rcp": ("rcp", 9),
+    "hall.xml": ("mspdi", 12),  # by hand, in test_mspdi.py
     "bridge.json": ("json", 13),  # by hand: the crane is away until day 10
 }
 
@@ -59,7 +60,8 @@ class Formats(InFolder):
                 self.assertTrue(FORMATS[kind].is_like((DATA / name).read_text()))
                 answer = project.solve(seconds=30, jobs=1)
                 self.assertEqual((answer.status, answer.makespan), (psmax.Status.OPTIMAL, makespan))
-                self.assertEqual(psmax.Project.read(project.text(kind)).text(kind), project.text(kind))
+                if kind != "mspdi":  # which has more of a file than one can write anew
+                    self.assertEqual(psmax.Project.read(project.text(kind)).text(kind), project.text(kind))
 
     def test_by_trying_all_starts(self) -> None:
         for name in ("six.sm", "six.rcp"):
@@ -125,6 +127,7 @@ class Formats(InFolder):
             self.assertEqual(len(psmax.Project.read(ran.stdout).activities), 36, ran.stderr)
         self.assertEqual(plan("read", path, "--out", self.folder / "site.json").returncode, 0)
         self.refused(plan("read", path, "--out", self.file("own.json", "mine")), 2, "own.json is there, and no project")
+        self.refused(plan("where", path), 2, "ft06.jsp: a text without faults of another format")
         self.refused(plan("read", path, "--to", "open-shop"), 2, "an open shop has an operation on each machine")
         self.refused(plan("read", "-", given=b"activity,days\na,1\n"), 2, "name a .sch file with --out")
         self.refused(plan("solve", self.file("x.sm", "****************\n")), 2, "x.sm: there is no section PRECEDENCE")

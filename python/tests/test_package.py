@@ -12,6 +12,16 @@ import venv
 from planner.tests.helpers import CALLED, EXAMPLES, PSMAX, TOP, InFolder, psmax
 from psmax import __version__
 
+SITE = """import psmax
+site = psmax.Project()
+crew, crane = site.resource("crew", 4), site.resource("crane", 1)
+dig = site.activity("dig", 3, {crew: 3})
+lift = site.activity("lift", 2, {crew: 2, crane: 1})
+site.lag(dig.end, lift.start, at_least=1, at_most=4)
+answer = site.solve(seconds=10, jobs=4, on_progress=print)
+print(answer.status, answer.makespan, answer.bound, answer[lift].start, answer.record.verify())
+"""
+
 # What the root of a Debian system says of the packages that psmax needs.
 INSTALLED = """Package: {name}
 Status: install ok installed
@@ -94,12 +104,20 @@ class Installed(InFolder):
                              "--no-build-isolation", source)
         self.assertEqual(ran.returncode, 0, ran.stderr)
         self.assertEqual([path for path in sorted(source.rglob("*")) if "__pycache__" not in path.parts], before)
+        answer = self.run_there(there / "bin" / "python", self.file("site.py", SITE)).stdout.splitlines()
+        self.assertEqual(answer[-1], "optimal 6 6 4 proved optimal 6")
         versions = f"plan {__version__}, psmax {__version__}, psprove {__version__}, Python 3"
         self.assertIn(versions, self.run_there(there / "bin" / "plan", "--version").stdout)
         site = EXAMPLES / "building-site.sch"
         for name in ("psmax", "psprove"):
             ran = self.run_there("sh", "-c", f"there/bin/{name} solve < {site} | head -n 1")
             self.assertEqual(ran.stdout, "optimal 36\n", ran.stderr)
+        made = "import sys; sys.path.insert(0, 'source/python'); import packing; print(packing.build_sdist('.'))"
+        archive = self.run_there(sys.executable, "-B", "-c", made).stdout.strip()
+        ran = self.run_there(there / "bin" / "python", "-m", "pip", "install", "--quiet", "--no-index", "--force-reinstall",
+                             "--no-build-isolation", archive)
+        self.assertEqual(ran.returncode, 0, ran.stderr)
+        self.assertIn(versions, self.run_there(there / "bin" / "plan", "--version").stdout)
 
     @unittest.skipUnless(shutil.which("dpkg-deb"), "dpkg isn't here")
     def test_debian_package(self) -> None:

@@ -8,7 +8,7 @@ from ..errors import BadInput
 from ..files import LARGEST
 from ..letters import short
 from ..model import Parts
-from . import job_shop, json_text, rcp, sch, sm, taillard
+from . import job_shop, json_text, mspdi, mspdi_text, rcp, sch, sm, taillard
 
 
 @dataclass(frozen=True)
@@ -25,6 +25,7 @@ class Format:
 # In the order in which a text is looked at.
 FORMATS = {one.name: one for one in (
     Format("json", (json_text.SUFFIX,), json_text.is_like, json_text.read, json_text.write),
+    Format("mspdi", (mspdi.SUFFIX,), mspdi.is_like, mspdi.read, mspdi_text.write),
     Format("sm", (sm.SUFFIX,), sm.is_like, sm.read, sm.write),
     Format("open-shop", (), taillard.is_like_open_shop, taillard.read_open_shop, taillard.write_open_shop),
     Format("taillard", (), taillard.is_like_job_shop, taillard.read_job_shop, taillard.write_job_shop),

@@ -173,7 +173,8 @@ def table(options: argparse.Namespace) -> write.Sheet:
 def add_write(one: argparse.ArgumentParser) -> None:
     add_schedule(one)
     add_table(one)
-    one.set_defaults(run=lambda o: write.write(opened(o), o.answer, table(o)))
+    one.add_argument("--resource", metavar="NAME", help="write only what needs this resource into a calendar")
+    one.set_defaults(run=lambda o: write.write(opened(o), o.answer, table(o), o.resource))
 
 
 def add_float(one: argparse.ArgumentParser) -> None:
@@ -301,7 +302,9 @@ limit. Prints the answer on standard output, and its progress on standard error.
     ("verify", add_verify, "say what a record proves of a project",
      "Reads a project and a record. Prints what it proves, or its first wrong line.", "site.csv plan.rec"),
     ("write", add_write, "write a schedule as a table in CSV",
-     "Reads a project and an answer. Writes a row for each activity, with its dates.", "site.csv plan.csv"),
+     """Reads a project and an answer. Writes a row for each activity, with its dates.
+Where --out ends in .ics it writes a calendar, and in .xml the project of Microsoft
+Project with the starts.""", "site.csv plan.csv"),
     ("gantt", add_gantt, "draw a schedule as a chart",
      "Reads a project and an answer. Draws a chart, with every violation.", "site.csv plan.csv --svg site.svg"),
     ("float", add_float, "show when each activity may start, and which are critical",

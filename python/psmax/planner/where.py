@@ -10,7 +10,7 @@ from ..letters import short
 from ..psmax import Psmax
 from .given import WITH_STARTS
 from .names import Names, read_page
-from .opened import is_table, open_project, page_of
+from .opened import is_other, is_table, open_project, page_of
 
 NUMBER = re.compile(rb"-?[0-9]{1,9}")
 ROW_FAULTS = {  # the end of psmax's text, and the kinds of place that it is about
@@ -42,6 +42,9 @@ def must_be_text(path: str, data: bytes) -> None:
     if is_table(path, text) or text.startswith(WITH_STARTS) or data.startswith(b"PK"):
         open_project(path)
         raise BadInput(f"{path}: this is a table without faults, and no project text")
+    if is_other(text):
+        open_project(path)
+        raise BadInput(f"{path}: a text without faults of another format; psmax itself reads .sch alone")
 
 
 def details(data: bytes, fault: str, called: Names) -> list[str]:

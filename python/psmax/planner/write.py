@@ -1,12 +1,19 @@
-"""`plan write`: a schedule as a table in CSV, with names and, from a first day on, with dates."""
+"""`plan write`: a schedule as a table in CSV, with names and, from a first day on, with dates; or as a calendar, or in the file
+of another tool."""
+import datetime
 import os
+import pathlib
 import sys
 from dataclasses import dataclass
 
+from ..answer import Schedule
 from ..clock import Clock
 from ..errors import BadInput
-from ..files import STANDARD_INPUT, guard, read_bytes, write_whole
+from ..files import STANDARD_INPUT, guard, must_be_like, read_bytes, write_whole
+from ..formats import mspdi, mspdi_text
+from ..projects import Project
 from ..psmax import Psmax
+from . import icalendar
 from .answer import feasible
 from .csv_text import SEPARATORS, Text, read_sheet, write_sheet
 from .given import PERIOD, read_answer
@@ -71,8 +78,28 @@ def put(text: str, out: str | None) -> None:
         sys.stdout.write(text)
 
 
-def write(opened: ProjectFile, given: str | None, sheet: Sheet) -> int:
+def write(opened: ProjectFile, given: str | None, sheet: Sheet, resource: str | None = None) -> int:
+    """As a table, or as what the suffix of the file says."""
     guard([sheet.out], opened.inputs() | {"the answer": given or STANDARD_INPUT})
+    suffix = pathlib.PurePath(sheet.out or "").suffix.lower()
+    if resource is not None and suffix != icalendar.SUFFIX:
+        raise BadInput(f"--resource is for a calendar, which --out names with {icalendar.SUFFIX}")
     known = feasible(opened, read_answer(given), Psmax(Clock(), opened.path))
-    sheet.put(rows(opened, known.starts), opened)
+    if suffix == icalendar.SUFFIX:
+        must_be_like(sheet.out, icalendar.BEGIN, "calendar")
+        put(icalendar.calendar_text(opened, known.starts, resource, datetime.datetime.now(datetime.UTC)), sheet.out)
+    elif suffix == mspdi.SUFFIX:
+        must_be_like(sheet.out, b"<", "XML")
+        put(replanned(opened, known.starts), sheet.out)
+    else:
+        sheet.put(rows(opened, known.starts), opened)
     return 0
+
+
+def replanned(opened: ProjectFile, starts: tuple[int, ...]) -> str:
+    """The file of the project with these starts, where it is one of Microsoft Project."""
+    text = read_bytes(opened.path).decode("utf-8-sig", "replace")
+    if not mspdi.is_like(text):
+        raise BadInput(f"{opened.path} is no project of Microsoft Project (MSPDI), into which starts could be written")
+    project = Project.read(text.encode())
+    return mspdi_text.replanned(text, Schedule(project, starts))

@@ -1,0 +1,113 @@
+"""The base calendar of an MSPDI file: its days, hours and holidays."""
+import datetime
+import re
+from collections.abc import Collection
+from xml.etree.ElementTree import Element, SubElement
+
+from ..dates import read_shift, read_workdays
+from ..errors import BadInput
+from ..letters import short
+from .xml_tree import text_of
+
+NAMES = ("mon", "tue", "wed", "thu", "fri", "sat", "sun")
+SUNDAY = 1  # the kind of day; Saturday is 7, and 0 an exception
+MOST_HOLIDAYS = 10_000
+USUAL = "08:00-12:00,13:00-17:00"  # where nothing says the hours
+HOURS = re.compile(r"(\d\d):(\d\d):00")
+
+Span = tuple[str, str]  # hours of work, as HH:MM
+
+
+def base_calendar(project: Element) -> Element | None:
+    """The calendar that the project names, or else the first base calendar."""
+    calendars = project.findall("Calendars/Calendar")
+    named = text_of(project, "CalendarUID")
+    own = [one for one in calendars if text_of(one, "UID") == named]
+    bases = [one for one in calendars if text_of(one, "IsBaseCalendar") in ("1", "true")]
+    return next(iter([*own, *bases]), None)
+
+
+def hours(calendar: Element | None) -> tuple[str, str]:
+    """The workdays and the hours of a day with work, such as `mon-fri` and `08:00-12:00,13:00-17:00`."""
+    if calendar is None:
+        return "mon-fri", USUAL
+    spans: dict[int, list[str]] = {}
+    for day in calendar.findall("WeekDays/WeekDay"):
+        kind = text_of(day, "DayType") or ""
+        if re.fullmatch("[1-7]", kind) and text_of(day, "DayWorking") in ("1", "true"):
+            spans[(int(kind) - SUNDAY - 1) % 7] = [span_of(one) for one in day.findall("WorkingTimes/WorkingTime")] \
+                or USUAL.split(",")
+    if not spans:
+        return "mon-fri", USUAL
+    if len({tuple(own) for own in spans.values()}) > 1:
+        raise BadInput("the days of the base calendar have different hours, and all periods here are alike")
+    shift = ",".join(next(iter(spans.values())))
+    try:
+        read_shift(shift)
+    except ValueError as fault:
+        raise BadInput(f"the hours of the base calendar: {fault}") from None
+    return in_ranges(spans), shift
+
+
+def span_of(one: Element) -> str:
+    begins, ends = (HOURS.fullmatch(text_of(one, name) or "") for name in ("FromTime", "ToTime"))
+    if begins is None or ends is None:
+        raise BadInput("the hours of the base calendar are not such as 08:00:00")
+    last = "24:00" if ends[0] == "00:00:00" else f"{ends[1]}:{ends[2]}"
+    return f"{begins[1]}:{begins[2]}-{last}"
+
+
+def in_ranges(days: Collection[int]) -> str:
+    """Days of the week, such as mon-wed,fri."""
+    found: list[list[int]] = []
+    for day in sorted(days):
+        if found and found[-1][-1] == day - 1:
+            found[-1].append(day)
+        else:
+            found.append([day])
+    return ",".join(NAMES[one[0]] if len(one) == 1 else f"{NAMES[one[0]]}-{NAMES[one[-1]]}" for one in found)
+
+
+def holidays(calendar: Element | None) -> tuple[datetime.date, ...]:
+    """The exceptions without work. One with work has hours that other days don't have."""
+    found: set[datetime.date] = set()
+    exceptions = [] if calendar is None else [
+        *calendar.findall("Exceptions/Exception"),
+        *(day for day in calendar.findall("WeekDays/WeekDay") if text_of(day, "DayType") == "0")]
+    for one in exceptions:
+        if text_of(one, "DayWorking") in ("1", "true"):
+            raise BadInput("the base calendar has an exception with work, and all days with work are alike here")
+        first, last = (day_of(text_of(one, f"TimePeriod/{name}")) for name in ("FromDate", "ToDate"))
+        if not 0 <= (last - first).days <= MOST_HOLIDAYS - len(found):
+            raise BadInput(f"an exception of the base calendar from {first} to {last}, or more than {MOST_HOLIDAYS:,} days")
+        found |= {first + datetime.timedelta(days) for days in range((last - first).days + 1)}
+    return tuple(sorted(found))
+
+
+def day_of(text: str | None) -> datetime.date:
+    try:
+        return datetime.datetime.fromisoformat(text or "").date()
+    except ValueError:
+        raise BadInput(f"a date of the base calendar is not such as 2026-04-03T00:00:00: '{short(text or '')}'") from None
+
+
+def add_calendar(project: Element, workdays: str, shift: str, free: Collection[datetime.date]) -> None:
+    calendar = SubElement(SubElement(project, "Calendars"), "Calendar")
+    for name, text in (("UID", "1"), ("Name", "Standard"), ("IsBaseCalendar", "1"), ("BaseCalendarUID", "-1")):
+        SubElement(calendar, name).text = text
+    week, work = SubElement(calendar, "WeekDays"), read_workdays(workdays)
+    for kind in range(1, 8):
+        day = SubElement(week, "WeekDay")
+        has_work = (kind - SUNDAY - 1) % 7 in work
+        SubElement(day, "DayType").text, SubElement(day, "DayWorking").text = f"{kind}", f"{int(has_work)}"
+        times = SubElement(day, "WorkingTimes") if has_work else None
+        for span in shift.split(",") if times is not None else []:
+            time = SubElement(times, "WorkingTime") if times is not None else day
+            for name, text in zip(("FromTime", "ToTime"), span.split("-")):
+                SubElement(time, name).text = f"{text.replace('24:00', '00:00')}:00"
+    exceptions = SubElement(calendar, "Exceptions")
+    for one in sorted(free):
+        exception = SubElement(exceptions, "Exception")
+        period = SubElement(exception, "TimePeriod")
+        SubElement(period, "FromDate").text, SubElement(period, "ToDate").text = f"{one}T00:00:00", f"{one}T23:59:00"
+        SubElement(exception, "DayWorking").text = "0"
