@@ -7,6 +7,9 @@ from . import formats, solving
 from .answer import Answer, Changed, Checked, Float, Progress, Schedule, Starts
 from .files import read_bytes, write_whole
 from .model import Activity, Parts
+from .record import Proof, Record
+from .solved import LARGEST
+from .spelled import Spelled
 
 SECONDS = 60.0
 
@@ -16,10 +19,10 @@ class Project(Parts):
 
     @classmethod
     def read(cls, source: str | bytes | os.PathLike[str], format: str | None = None) -> Self:
-        """A project from a file, or from a text, which has more lines than one. The text says which format it has, or else
-        `format` does."""
+        """A project from a file, or from a text: bytes, or more lines than one, or what begins as JSON or XML. The text says
+        which format it has, or else `format` does."""
         made = cls()
-        if isinstance(source, bytes) or isinstance(source, str) and "\n" in source:
+        if isinstance(source, bytes) or isinstance(source, str) and ("\n" in source or source.startswith(("{", "<"))):
             formats.read(source if isinstance(source, bytes) else source.encode(), made, "the text", format)
         else:
             formats.read(read_bytes(os.fspath(source)), made, os.fspath(source), format)
@@ -50,6 +53,11 @@ class Project(Parts):
         file for the record. psprove proves by lemmas, psmax by a tree."""
         path = None if record is None else os.fspath(record)
         return solving.solve(self, seconds, jobs, on_progress, start, path, proved_by, minimize)
+
+    def verify(self, record: bytes | str | os.PathLike[str], minimize: str = "makespan") -> Proof:
+        """What a record of this project proves, in a file or as its bytes; its first wrong line is a fault."""
+        data = record if isinstance(record, bytes) else read_bytes(os.fspath(record), LARGEST)
+        return Record(data, Spelled(self.numbers(minimize))).verify()
 
     def whatif(self, seconds: float = SECONDS, jobs: int | None = None, minimize: str = "makespan") -> list[Changed]:
         """What one unit more of each resource, each absence less, and each maximum lag longer or dropped gives, proved by

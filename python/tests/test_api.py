@@ -51,6 +51,7 @@ class Solving(InFolder):
             self.assertEqual((answer[dig], answer["lift"].start), ((0, 3), 4))
             assert answer.record is not None and heard[-1].schedule is not None
             self.assertEqual((f"{answer.record.verify()}", record.read_bytes()), ("proved optimal 6", answer.record.data))
+            self.assertEqual((made.verify(record), made.verify(record.read_bytes()).bound), (answer.record.verify(), 6))
             self.assertEqual((heard[-1].is_proved, heard[-1].value, heard[-1].schedule["lift"]), (True, 6, (4, 6)))
             self.assertEqual(answer.to_dict()["starts"], {"dig": 0, "lift": 4})
             self.assertEqual(made.solve(10, 1, start=answer, proved_by=proved_by).makespan, 6)
@@ -153,7 +154,7 @@ class Solving(InFolder):
         answer, harder = made.solve(10, 1), psmax.Project.read(EXAMPLES / "building-site.sch").solve(10, 1)
         assert answer.record is not None and harder.record is not None
         with self.assertRaisesRegex(psmax.BadInput, "^the record: .*line"):
-            psmax.Record(harder.record.data, answer.record.spelled).verify()
+            made.verify(harder.record.data)
 
     def test_a_program_that_fails(self) -> None:
         """What was known until then is kept by the fault."""
@@ -178,7 +179,7 @@ class Interrupted(InFolder):
                 **os.environ, **CALLED, "PYTHONPATH": str(TOP / "python")})
             assert child.stdout is not None and child.stderr is not None
             told = [int(child.stdout.readline().split()[1])]
-            time.sleep(0.7 * place)
+            time.sleep(0.3 * place)
             child.send_signal(signal.SIGINT)
             *more, last = child.stdout.read().splitlines()
             told += [int(line.split()[1]) for line in more]

@@ -24,6 +24,12 @@ class Batches(InFolder):
         self.file("own/README.md", "# six\n\nProjects.\n")
         shutil.copy(INPUTS / "two-jobs.sch", self.more / "six.sch")
 
+    def leave(self, *names: str) -> None:
+        """Takes all other projects out of the folder."""
+        for path in self.own.iterdir():
+            if path.name not in names:
+                path.unlink()
+
     def rows(self) -> dict[str, dict[str, str]]:
         with open(self.folder / "all.csv", newline="") as file:
             return {row["project"]: row for row in csv.DictReader(file)}
@@ -45,6 +51,7 @@ class Batches(InFolder):
         (self.folder / "again").mkdir()
         shutil.copytree(self.more, self.folder / "again" / "more")
         words = ("--seconds", "0.5", "--csv", self.folder / "all.csv", "--out", self.folder / "out")
+        self.leave("six.sm")
         self.assertEqual(plan("batch", self.own, self.more, *words).returncode, 0)
         row = self.rows()[str(self.more / "six.sch")]
         self.assertEqual((row["makespan"], row["limit"]), ("7", "0.5"))
@@ -64,6 +71,7 @@ class Batches(InFolder):
         """An answer below a lower bound or above an upper one is told, with exit status 1."""
         def known(text: str) -> tuple[int, str]:
             path = self.file("known.csv", "upper,project,lower\n" + text)
+            self.leave("six.sm", "ft06.jsp")
             ran = plan("batch", self.own, "--seconds", "20", "--known", path, "--csv", self.folder / "all.csv")
             return ran.returncode, ran.stderr
         self.assertEqual(known("55,ft06,55\n9,six.sm,\n,six.rcp,9\n")[0], 0)
