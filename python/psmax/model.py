@@ -1,6 +1,6 @@
 """A project as one writes it in Python, by names: resources, activities and the lags between their starts and ends."""
 import operator
-from collections.abc import Collection, Mapping, Sized
+from collections.abc import Collection, Mapping, Sequence, Sized
 from dataclasses import dataclass, field
 
 from .errors import BadInput
@@ -128,10 +128,11 @@ class Parts:
     def absence(self, resource: Resource, begins: int, ends: int | None = None, units: int | None = None) -> Absence:
         """Units of a resource that are away; without `units` all of them."""
         self._own(resource)
-        away = resource.capacity if units is None else whole(units, f"what is away of {resource.name}", 1, resource.capacity)
+        away = whole(resource.capacity if units is None else units, f"what is away of {resource.name}", 1, resource.capacity)
         begins = whole(begins, f"when {resource.name} is away")
         made = Absence(resource, begins, None if ends is None else
                        whole(ends, f"until when {resource.name} is away", begins + 1), away)
+        must_be_there([*(one for one in self.absences if one.resource is resource), made])
         self.absences.append(made)
         return made
 
@@ -154,6 +155,13 @@ class Parts:
             raise BadInput(f"'{short(resource.name)}' is no resource of this project")
         return resource
 
+    def _must_have_lateness(self) -> None:
+        """With the lateness the programs' end stands for that, and not for the end of the project."""
+        if all(one.due is None for one in self.activities):
+            raise BadInput("nothing is due, so there is no lateness to minimize")
+        if any(self.end in (lag.before, lag.after) for lag in self.lags):
+            raise BadInput("with the lateness the project's end has no lags; give them to its activities")
+
     def arcs(self) -> list[tuple[Arc, Lag]]:
         """Each lag as the arcs of lags from start to start that it is."""
         found = []
@@ -174,8 +182,8 @@ class Parts:
         rows = (tuple(one.demands.get(resource, 0) for resource in self.resources) for one in all_of_it)
         due = {one.number: one.due for one in self.activities if one.due is not None}
         goal = goal_of(minimize)
-        if goal is Goal.LATENESS and not due:
-            raise BadInput("nothing is due, so there is no lateness to minimize")
+        if goal is Goal.LATENESS:
+            self._must_have_lateness()
         return Numbers(
             (0, *(one.duration for one in self.activities), 0), tuple(rows), tuple(one.capacity for one in self.resources),
             tuple(arcs), tuple(AbsenceOfNumbers(one.resource.number, one.begins, one.ends, one.units) for one in self.absences),
@@ -200,6 +208,15 @@ def must_be_new(name: str, there: Collection[str], what: str) -> None:
 def must_be_room(there: Sized, most: int, what: str) -> None:
     if len(there) >= most:
         raise BadInput(f"a project has at most {most:,} {what}")
+
+
+def must_be_there(absences: Sequence[Absence]) -> None:
+    """No more units of a resource are away at once than there are."""
+    for time in sorted({one.begins for one in absences}):
+        away = sum(one.units for one in absences if one.begins <= time and (one.ends is None or time < one.ends))
+        if away > absences[0].resource.capacity:
+            raise BadInput(f"{away} of {absences[0].resource.name} are away at {time}, and there are "
+                           f"{absences[0].resource.capacity}")
 
 
 def must_be_possible(arcs: list[Arc]) -> None:

@@ -1,5 +1,6 @@
 """What the programs say of a project that is written by names."""
 import os
+import threading
 from collections.abc import Callable, Mapping
 
 from . import psmax, whatif
@@ -50,15 +51,17 @@ class Listener:
     def __init__(self, project: Parts, clock: Clock, hear: Hear) -> None:
         self.project, self.clock, self.hear = project, clock, hear
         self.fault: BaseException | None = None
+        self.lock = threading.Lock()  # of who listens
 
     def news(self, news: News) -> None:
         schedule = None if news.starts is None else Schedule(self.project, news.starts)
-        if self.fault is None:
-            try:
-                self.hear(Progress(news.seconds, news.value, news.bound, news.is_proved, schedule))
-            except BaseException as fault:
-                self.fault = fault
-                self.clock.stop()
+        with self.lock:
+            if self.fault is None:
+                try:
+                    self.hear(Progress(news.seconds, news.value, news.bound, news.is_proved, schedule))
+                except BaseException as fault:
+                    self.fault = fault
+                    self.clock.stop()
 
     def raise_fault(self) -> None:
         if self.fault is not None:

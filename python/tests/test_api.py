@@ -40,6 +40,14 @@ def site() -> tuple[psmax.Project, psmax.Activity, psmax.Activity]:
     return made, dig, lift
 
 
+def late() -> psmax.Project:
+    """Something that is due, in a project that ends by a deadline."""
+    made = psmax.Project()
+    made.activity("dig", 3, due=2)
+    made.lag(made.start, made.end, at_most=9)
+    return made
+
+
 class Solving(InFolder):
     def test_both_programs(self) -> None:
         made, dig, lift = site()
@@ -138,6 +146,8 @@ class Solving(InFolder):
             (lambda: made.solve(proved_by="luck"), "proved_by luck: neither lemmas nor tree"),
             (lambda: made.solve(minimize="cost"), "minimize cost: neither makespan nor lateness"),
             (lambda: made.solve(minimize="lateness"), "nothing is due, so there is no lateness to minimize"),
+            (lambda: (made.absence(crew, 3, 9, 2), made.absence(crew, 5, 6, 3)), "5 of crew are away at 5, and there are 4"),
+            (lambda: late().solve(minimize="lateness"), "with the lateness the project's end has no lags"),
             (lambda: made.absence(crew, 3, 3), "until when crew is away: 3 is not a whole number from 4"),
             (lambda: made.write(self.folder / "x.txt"), "x.txt: its suffix names no format; name one of json, mspdi"),
             (lambda: psmax.Project.read("a\nb", "csv"), "the text: format 'csv': none of json, mspdi"),
