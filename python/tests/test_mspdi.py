@@ -93,6 +93,7 @@ class Mspdi(InFolder):
             (HALL.replace("<PredecessorUID>3", "<PredecessorUID>1"), "'cure': a link to 1, which is no task with work"),
             (HALL.replace("<Name>paint</Name>", "<Name>paint</Name><CalendarUID>7</CalendarUID>"), "'paint': a calendar of"),
             (HALL.replace("<Name>inspection</Name><DayWorking>0", "<DayWorking>1"), "has an exception with work"),
+            (HALL.replace("<Name>inspection</Name>", "<Type>2</Type>"), "has an exception that comes again and again"),
             (HALL.replace("<ToTime>17", "<ToTime>16", 1), "the days of the base calendar have different hours"),
             (HALL.replace("<BaseCalendarUID>1<", "<WeekDays><WeekDay/></WeekDays><BaseCalendarUID>1<"), "'crew' has days or"),
             (HALL.replace("2026-03-20T17", "2926-03-20T17"), "'hand over': ConstraintDate is beyond the years 1900 to 2200"),

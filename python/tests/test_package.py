@@ -80,6 +80,12 @@ class Installed(InFolder):
             for name in re.findall(r"docs/[A-Z-]+\.md", page.read_text()):
                 self.assertTrue((documents / name).is_file(), f"{page}: {name}")
 
+    def test_tag(self) -> None:
+        """The wheel asks for the glibc that its programs need."""
+        needed = {int(found) for name in ("psmax", "psprove")
+                  for found in re.findall(rb"GLIBC_2\.(\d+)", (TOP / "release" / name).read_bytes())}
+        self.assertIn(f"manylinux_2_{max(needed)}_x86_64", (TOP / "python" / "packing.py").read_text())
+
     def test_package(self) -> None:
         """Name, Python 3.11, no dependency at run time or while it is built, and the commands."""
         with open(TOP / "pyproject.toml", "rb") as file:

@@ -77,6 +77,8 @@ def holidays(calendar: Element | None) -> tuple[datetime.date, ...]:
     for one in exceptions:
         if text_of(one, "DayWorking") in ("1", "true"):
             raise BadInput("the base calendar has an exception with work, and all days with work are alike here")
+        if text_of(one, "Type") not in (None, "1") or text_of(one, "Period") not in (None, "0", "1"):
+            raise BadInput("the base calendar has an exception that comes again and again; write each of its days as one")
         first, last = (day_of(text_of(one, f"TimePeriod/{name}")) for name in ("FromDate", "ToDate"))
         if not 0 <= (last - first).days <= MOST_HOLIDAYS - len(found):
             raise BadInput(f"an exception of the base calendar from {first} to {last}, or more than {MOST_HOLIDAYS:,} days")
