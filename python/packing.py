@@ -16,7 +16,7 @@ from typing import Any
 
 TOP = pathlib.Path(__file__).resolve().parent.parent
 TAG = "py3-none-manylinux_2_34_x86_64"  # the programs need glibc 2.34
-PROGRAMS = ("psmax", "psprove")  # of release/, which stand in the package's folder bin
+PROGRAMS = ("psmax", "psprove")  # of release/
 KINDS = (".py", ".html", ".json", ".typed")  # of files that are part of the package
 SOURCES = ("pyproject.toml", "README.md", "python/packing.py", "release/psmax", "release/psprove")
 WHEEL = f"Wheel-Version: 1.0\nGenerator: psmax\nRoot-Is-Purelib: false\nTag: {TAG}\n"
@@ -53,8 +53,9 @@ def package() -> Iterator[tuple[str, bytes, int]]:
     for path in sorted((TOP / "python/psmax").rglob("*")):
         if path.suffix in KINDS and "__pycache__" not in path.parts:
             yield str(path.relative_to(TOP / "python")), path.read_bytes(), 0o644
-    for name in PROGRAMS:
-        yield f"psmax/bin/{name}", (TOP / "release" / name).read_bytes(), 0o755
+    for folder in ("psmax/bin", f"psmax-{version()}.data/scripts"):  # for the package, and as commands
+        for name in PROGRAMS:
+            yield f"{folder}/{name}", (TOP / "release" / name).read_bytes(), 0o755
 
 
 def told() -> Iterator[tuple[str, bytes, int]]:

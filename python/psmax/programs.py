@@ -4,11 +4,10 @@ import pathlib
 import re
 import shutil
 import subprocess
-import sys
 import tempfile
 import time
 from collections.abc import Callable, Sequence
-from typing import IO, NoReturn
+from typing import IO
 
 from .clock import Clock
 from .errors import BadInput, Failed, TimeUp
@@ -34,23 +33,6 @@ def find_program(name: str) -> str:
     if found is None:
         raise Failed(f"no {name} found: set {name.upper()}, or put it on the PATH")
     return found
-
-
-def psmax() -> NoReturn:
-    run_inside("psmax")
-
-
-def psprove() -> NoReturn:
-    run_inside("psprove")
-
-
-def run_inside(name: str) -> NoReturn:
-    """The command of this name of an installed wheel: the program inside takes the place of Python."""
-    path = str(pathlib.Path(__file__).resolve().parent / INSIDE / name)
-    try:
-        os.execv(path, [name, *sys.argv[1:]])
-    except OSError as fault:
-        sys.exit(f"cannot start {path}: {fault.strerror}")
 
 
 class Program:

@@ -16,7 +16,6 @@ from unittest import mock
 
 import psmax
 from planner.tests.helpers import CALLED, EXAMPLES, PROJECTS, TOP, InFolder
-from psmax.programs import run_inside
 
 # What Ctrl-C ends: it tells of each proved schedule, and at the end of what the answer has.
 ENDLESS = """
@@ -174,8 +173,6 @@ class Solving(InFolder):
             made.solve(10, 1, start={dig: 0, lift: 5})
         assert isinstance(caught.exception.answer, psmax.Answer)
         self.assertEqual(caught.exception.answer.makespan, 7)
-        with self.assertRaisesRegex(SystemExit, "cannot start .*/psmax/bin/psmax: No such file"):
-            run_inside("psmax")
 
 
 class Interrupted(InFolder):

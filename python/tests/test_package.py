@@ -92,7 +92,7 @@ class Installed(InFolder):
             told = tomllib.load(file)
         project = told["project"]
         self.assertEqual((project["name"], project["requires-python"], project["dependencies"], [*project["scripts"]]),
-                         ("psmax", ">=3.11", [], ["psmax", "psprove", "plan"]))
+                         ("psmax", ">=3.11", [], ["plan"]))
         self.assertEqual(told["build-system"]["requires"], [])
         ran = subprocess.run([sys.executable, "-m", "psmax.planner", "--version"], cwd=TOP / "python", text=True,
                              capture_output=True, env={**os.environ, **CALLED})
@@ -120,6 +120,7 @@ class Installed(InFolder):
         for name in ("psmax", "psprove"):
             ran = self.run_there("sh", "-c", f"there/bin/{name} solve < {site} | head -n 1")
             self.assertEqual(ran.stdout, "optimal 36\n", ran.stderr)
+            self.assertEqual((there / "bin" / name).read_bytes(), (TOP / "release" / name).read_bytes())
         made = "import sys; sys.path.insert(0, 'source/python'); import packing; print(packing.build_sdist('.'))"
         archive = self.run_there(sys.executable, "-B", "-c", made).stdout.strip()
         self.run_there("tar", "-xf", archive)

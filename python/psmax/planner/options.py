@@ -287,7 +287,8 @@ ABOUT = "Plans projects with psmax and psprove. They check or prove every claim.
 
 STATUSES = """exit status:
   0    answered
-  1    a file or a program failed, or a project of a batch has a fault
+  1    a file or a program failed; in a batch a project has a fault, or an answer
+       contradicts --known
   2    the words of the command or a text have a fault
   3    the time ran out, or you ended the search, before all was known
   4    check found a violation, or verify a wrong line
