@@ -13,7 +13,8 @@ from .project import Project
 from .psprove import Limits, Psprove
 
 FIRST = 1  # seconds of the first slice
-FEW, TIMES = 10, 10  # conflicts of the first slice where less than a second is left, and how many times as many the next has
+# Conflicts of the first slice where less than a second is left, how many times as many the next has, and of the last one.
+FEW, TIMES, MANY = 10, 10, 10_000_000
 GROWTH = 3  # each one takes so many times the seconds of the one before, and the last what is left
 REPAIR = Limits(10, conflicts=10_000)
 TOLD = re.compile(r"\d+ s: (schedule|bound) (-?\d+)|(psprove: the search stopped: .*)")
@@ -58,10 +59,11 @@ class Search:
 
     def slices(self) -> None:
         clock, conflicts, seed = self.psprove.clock, FEW, self.jobs - 1
-        while clock.seconds < 1 and not self.known.settled and not clock.over():
+        while clock.seconds < 1 and conflicts <= MANY and not self.known.settled and not clock.over():
             self.ask(Limits(clock.left(), 1, seed, conflicts))
             conflicts *= TIMES
-        self.whole_slices()
+        if clock.seconds >= 1:
+            self.whole_slices()
 
     def whole_slices(self) -> None:
         clock, length, seed = self.psprove.clock, FIRST, self.jobs - 1

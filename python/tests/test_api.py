@@ -112,6 +112,16 @@ class Solving(InFolder):
         assert answer.record is not None
         self.assertEqual(answer.record.verify().bound, answer.bound)
 
+    def test_beyond_psprove(self) -> None:
+        """It shows no makespan above 1,000,000, and says so at once; psmax proves such projects."""
+        made = psmax.Project()
+        crane = made.resource("crane", 1)
+        for number in range(2):
+            made.activity(f"lift {number}", 900_000, {crane: 1})
+        for seconds in (0.5, 2):
+            self.assertNotEqual(made.solve(seconds, 1).status, psmax.Status.OPTIMAL)
+        self.assertEqual(made.solve(10, 1, proved_by="tree").makespan, 1_800_000)
+
     def test_side_by_side(self) -> None:
         """Threads may search at once, each with a project of its own or with the same one."""
         made, *_ = site()
