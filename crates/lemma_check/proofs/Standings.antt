@@ -17,7 +17,8 @@ use Rattle.block.proofs.Existing.{cycle_part}
 use Rattle.lemma_text.specs.declared.record.Claim.{Claim}
 use Rattle.lemma_text.specs.declared.line.Line.{Line}
 use Rattle.lemma_check.specs.Places.{lemma_at, lemmas_of, place, open_lemma, Opened, arcs_in, with_arc, ended, bound_of, deadline, first_place, Place, after, Placed, placed}
-use Rattle.lemma_check.specs.Right.{JoinsActivities, IsRightAt, IsRightLine, why_wrong, IsFirstWrong}
+use Rattle.reasons.specs.Reasons.{JoinsActivities}
+use Rattle.lemma_check.specs.Right.{IsRightAt, IsRightLine, why_wrong, IsFirstWrong}
 use Rattle.lemma_check.specs.Standing.{AreKept, IsKnownInside, IsKnownOwn, IsLiveAt, IsRecordLag, IsSeenAt, Kept, Stands, IsDeadAt}
 use Rattle.lemma_check.proofs.FullBlocks.{deadline_first, deadline_more, fills_more, full_by_deadline}
 use Rattle.record_text.specs.declared.fault.RecordFault.{RecordFault}

@@ -12,9 +12,10 @@ use Rattle.network.specs.Walk.{weight, HasPositiveCycle}
 use Rattle.network.proofs.Schedules.{walk_holds}
 use Rattle.lemma_text.specs.declared.reason.Reason.{Reason}
 use Rattle.lemma_text.specs.declared.reason.Reason.TheVariants as reasons
-use Rattle.lemma_check.specs.Reasons.{Implies, IsUse, Ends}
-use Rattle.lemma_check.proofs.Weighing.{MeetsAll, implied_met}
-use Rattle.lemma_check.proofs.Windows.{set_refuted, load_refuted, clique_refuted}
+use Rattle.reasons.specs.Reasons.{Implies}
+use Rattle.lemma_check.specs.Reasons.{IsUse, Ends}
+use Rattle.reasons.proofs.Weighing.{MeetsAll, implied_met}
+use Rattle.reasons.proofs.Windows.{set_refuted, load_refuted, clique_refuted}
 use Rattle.network.specs.declared.parts.Pair.{Pair}
 use Rattle.longest_path.specs.Insert.{arc_of}
 use Rattle.rivals.proofs.Apart.{apart}
@@ -24,7 +25,8 @@ use Rattle.lemma_text.specs.declared.line.Line.{Line}
 use Rattle.lemma_text.specs.declared.line.Line.TheVariants as kind
 use Rattle.lemma_text.specs.Blocks.{Block, item_lines, lines_of}
 use Rattle.lemma_check.specs.Places.{Opened, Place, arcs_in, arcs_at, with_arc, ended, after, deadline, bound_of, first_place, placed}
-use Rattle.lemma_check.specs.Right.{IsForced, IsShown, IsRightAt, IsRightLine, AreRightStarts, reverse_of, RightIsTrue, why_wrong_at, IsFirstWrong, lemma_judge}
+use Rattle.reasons.specs.Reasons.{reverse_of}
+use Rattle.lemma_check.specs.Right.{IsForced, IsShown, IsRightAt, IsRightLine, AreRightStarts, RightIsTrue, why_wrong_at, IsFirstWrong, lemma_judge}
 use Rattle.lemma_check.proofs.Passed.{passed, items_closed}
 use Rattle.record_text.specs.declared.fault.RecordFault.{RecordFault}
 use Rattle.record_text.proofs.FirstWrong.{wrong_place, one_wrong, fault_is_wrong, other_is_none}

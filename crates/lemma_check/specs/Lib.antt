@@ -2,4 +2,3 @@ pub mod Reasons
 pub mod Places
 pub mod Right
 pub mod Standing
-pub mod Sources

@@ -13,7 +13,8 @@ use Rattle.lemma_text.specs.declared.line.Line.{Line}
 use Rattle.lemma_text.specs.declared.line.Line.TheVariants as kind
 use Rattle.lemma_text.specs.declared.reason.Reason.{Reason}
 use Rattle.lemma_text.specs.Blocks.{LemmaRecordOf}
-use Rattle.lemma_check.specs.Reasons.{Implies, EndsAfterStart, Ends}
+use Rattle.reasons.specs.Reasons.{Implies, EndsAfterStart, JoinsActivities, reverse_of}
+use Rattle.lemma_check.specs.Reasons.{Ends}
 use Rattle.lemma_check.specs.Places.{Place, arcs_at, first_place, Placed, placed}
 use Rattle.record_text.specs.declared.fault.RecordFault.{RecordFault}
 use Rattle.record_text.specs.declared.fault.Why.{Why}
@@ -21,10 +22,6 @@ use Rattle.record_text.specs.declared.fault.Why.TheVariants as why
 use Rattle.lemma_text.specs.Text.{lemma_kind, says}
 use Rattle.record_text.specs.FirstWrong.{HasMakespan, IsFactOf, IsFirstWrongOf, Judge, IsRightBy, IsFirstFaultBy}
 use Rattle.record_text.specs.Kinds.{first_line, IsRecord}
-
--- both ends are activities
-abbrev pub JoinsActivities : Problem → Lag → Type 0
-JoinsActivities p e = (e.from < activity_count p) × (e.to < activity_count p)
 
 -- no lemma is open, the record's own arcs close no walk of positive weight, and those of the line join activities
 pub record MayOpen (p : Problem) (at : Place) (arcs : List Lag) : Type 0 where
@@ -38,10 +35,6 @@ pub record IsForced (p : Problem) (arcs : List Lag) (pair : Pair) : Type 0 where
   pub is_live : HasNoPositiveCycle arcs
   pub incompatible : AreIncompatible p pair
   pub too_late : EndsAfterStart p arcs pair.after pair.before
-
--- the arc that is met where this one isn't: times are whole numbers
-abbrev pub reverse_of : Lag → Lag
-reverse_of e = arc_of e.to e.from (pos 1 -ℤ e.weight)
 
 -- the arc is implied already, or the reason ends the block with the reverse added
 pub record IsShown (p : Problem) (lemmas : List (List Lag)) (arcs : List Lag) (e : Lag) (reason : Reason) : Type 0 where

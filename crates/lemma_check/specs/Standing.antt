@@ -9,7 +9,8 @@ use Rattle.longest_path.specs.Saved.{Marked}
 use Rattle.lemma_text.specs.declared.limits.TheConstants.{MAX_WEIGHT}
 use Rattle.lemma_text.specs.declared.line.Line.{Line}
 use Rattle.lemma_check.specs.Places.{lemma_at, lemmas_of, Opened, Place, arcs_at, after}
-use Rattle.lemma_check.specs.Right.{JoinsActivities, IsRightAt}
+use Rattle.reasons.specs.Reasons.{JoinsActivities}
+use Rattle.lemma_check.specs.Right.{IsRightAt}
 use Rattle.lemma_check.specs.declared.state.State.{State}
 
 -- what is kept of the walks over the arcs of an open lemma that close none of positive weight: the matrix of all

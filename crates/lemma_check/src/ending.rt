@@ -5,16 +5,14 @@ ghost use Rattle.std.specs.List.{All};
 ghost use Rattle.network.specs.declared.parts.Lag.{Lag};
 ghost use Rattle.network.specs.Problem.{activity_count};
 ghost use Rattle.lemma_text.specs.Text.{IsWritableReason};
-ghost use Rattle.lemma_check.specs.Reasons.{Ends, TellsWhether};
-ghost use Rattle.lemma_check.specs.Right.{JoinsActivities};
+ghost use Rattle.reasons.specs.Reasons.{TellsWhether};
+ghost use Rattle.lemma_check.specs.Reasons.{Ends};
+ghost use Rattle.reasons.specs.Reasons.{JoinsActivities};
 
-use crate::clique::is_clique;
 use crate::lemmas::{Lemmas, is_use};
-use crate::load::is_load;
-use crate::set::is_set;
-use crate::weights::Weights;
 use lemma_text::Reason;
 use network::Project;
+use reasons::{Weights, is_clique, is_load, is_set};
 
 /// Whether the reason ends the block of these weights, whose arcs close no walk of positive weight.
 pub(crate) fn ends(project: &Project, weights: &Weights, lemmas: &Lemmas, reason: &Reason) -> bool

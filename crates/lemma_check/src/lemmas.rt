@@ -4,13 +4,14 @@ ghost use Rattle.std.specs.Prelude.{◌≡◌, ◌↔◌, ◌<◌, ◌≤◌, Li
 ghost use Rattle.std.specs.List.{All};
 ghost use Rattle.network.specs.declared.parts.Lag.{Lag};
 ghost use Rattle.network.specs.Problem.{Problem, activity_count};
-ghost use Rattle.lemma_check.specs.Reasons.{Implies, IsUse, TellsWhether};
+ghost use Rattle.reasons.specs.Reasons.{Implies, TellsWhether};
+ghost use Rattle.lemma_check.specs.Reasons.{IsUse};
 ghost use Rattle.lemma_check.specs.Places.{lemma_at, lemmas_of};
-ghost use Rattle.lemma_check.specs.Right.{JoinsActivities};
+ghost use Rattle.reasons.specs.Reasons.{JoinsActivities};
 
-use crate::weights::Weights;
 use lemma_text::Line;
 use network::Lag;
+use reasons::Weights;
 use std::marker::Model;
 
 /// The arcs of the lemma that begins with the line of this index; none where there is no such line.

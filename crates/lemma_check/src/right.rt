@@ -9,24 +9,17 @@ ghost use Rattle.lemma_text.specs.Text.{IsWritableLine, IsWritableReason};
 ghost use Rattle.lemma_check.specs.Standing.{IsLiveAt};
 ghost use Rattle.lemma_check.specs.Places.{Place};
 ghost use Rattle.network.specs.Walk.{IsMatrixOf};
-ghost use Rattle.lemma_check.specs.Right.{IsForced, IsRightAt, IsShown, JoinsActivities, reverse_of};
-ghost use Rattle.lemma_check.specs.Reasons.{TellsWhether};
+ghost use Rattle.reasons.specs.Reasons.{JoinsActivities, reverse_of};
+ghost use Rattle.lemma_check.specs.Right.{IsForced, IsRightAt, IsShown};
+ghost use Rattle.reasons.specs.Reasons.{TellsWhether};
 
 use crate::ending::ends;
 use crate::lemmas::Lemmas;
-use crate::weights::Weights;
 use lemma_text::{Line, Reason};
 use longest_path::Matrix;
 use network::{Lag, Pair, Project};
+use reasons::{Weights, joins_activities, reverse_of};
 use rivals::are_incompatible;
-
-/// Whether both ends of an arc are activities.
-pub(crate) fn joins_activities(project: &Project, arc: Lag) -> bool
-    ensures { IsTrue result ↔ JoinsActivities project.now arc }
-{
-    let count = project.activity_count();
-    arc.from < count && arc.to < count
-}
 
 /// Whether both ends of each arc are activities.
 fn all_join_activities(project: &Project, arcs: &[Lag]) -> bool
@@ -53,18 +46,6 @@ pub(crate) fn is_forced(project: &Project, weights: &Weights, pair: Pair) -> boo
         to: pair.after,
         weight: 1 - project.duration(pair.after),
     })
-}
-
-/// The arc that is met where this one isn't.
-pub(crate) fn reverse_of(arc: Lag) -> Lag
-    requires { IsWithin MAX_WEIGHT arc.weight }
-    ensures { result ≡ reverse_of arc }
-{
-    Lag {
-        from: arc.to,
-        to: arc.from,
-        weight: 1 - arc.weight,
-    }
 }
 
 /// Whether the matrix of its block implies the arc, or the reason ends the block with the arc's reverse, which is not

@@ -8,16 +8,17 @@ ghost use Rattle.network.specs.Walk.{IsMatrixOf, HasNoPositiveCycle};
 ghost use Rattle.lemma_text.specs.declared.limits.TheConstants.{MAX_WEIGHT};
 ghost use Rattle.lemma_text.specs.Text.{IsWritableLine, IsWritableReason};
 ghost use Rattle.lemma_check.specs.Places.{Place};
-ghost use Rattle.lemma_check.specs.Right.{IsRightAt, IsShown, JoinsActivities};
+ghost use Rattle.reasons.specs.Reasons.{JoinsActivities};
+ghost use Rattle.lemma_check.specs.Right.{IsRightAt, IsShown};
 ghost use Rattle.lemma_check.specs.Standing.{IsSeenAt};
 
 use crate::ending::ends;
 use crate::lemmas::Lemmas;
-use crate::right::{is_forced, joins_activities, reverse_of};
-use crate::weights::Weights;
+use crate::right::is_forced;
 use block::Block;
 use lemma_text::{Line, Reason};
 use network::{Lag, Project};
+use reasons::{Weights, joins_activities, reverse_of};
 
 /// Whether walks that are easily seen show that the block implies the arc, or that the reason ends the block with the
 /// arc's reverse.

@@ -2,7 +2,8 @@ use Rattle.std.proofs.Common.{rules, Bool, List, w64, SFits}
 use Rattle.std.proofs.lemmas.Int.{to_z-of_z}
 use Rattle.network.specs.declared.parts.Lag.{Lag}
 use Rattle.network.specs.Walk.{HasNoPositiveCycle}
-use Rattle.lemma_check.specs.Reasons.{Tells, IsSet, IsLoad, IsClique, IsUse}
+use Rattle.reasons.specs.Reasons.{Tells, IsSet, IsLoad, IsClique}
+use Rattle.lemma_check.specs.Reasons.{IsUse}
 use Rattle.lemma_check.proofs.ending.ends.Goals as goal
 
 with_live : {e : Bool} (arcs : List Lag) (b : Bool) (P : Type 0) → HasNoPositiveCycle arcs → Tells e b P → Tells e b (HasNoPositiveCycle arcs × P)

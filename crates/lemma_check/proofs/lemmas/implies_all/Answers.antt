@@ -1,8 +1,8 @@
 use Rattle.std.proofs.Common.{pos}
 use Rattle.std.proofs.lemmas.List.Elements.{All-more}
 use Rattle.network.specs.declared.parts.Lag.{Lag}
-use Rattle.lemma_check.specs.Reasons.{Implies}
-use Rattle.lemma_check.proofs.Loops.{tells_false, some_fails, none_fails}
+use Rattle.reasons.specs.Reasons.{Implies}
+use Rattle.reasons.proofs.Loops.{tells_false, some_fails, none_fails}
 use Rattle.lemma_check.proofs.lemmas.implies_all.Goals as goal
 
 pub loop-arc-preserved : goal.loop-arc-preserved

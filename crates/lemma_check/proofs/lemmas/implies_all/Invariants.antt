@@ -1,7 +1,7 @@
 use Rattle.std.proofs.Common.{Bool, List, length, take}
 use Rattle.std.specs.List.{All}
 use Rattle.network.specs.declared.parts.Lag.{Lag}
-use Rattle.lemma_check.specs.Reasons.{IsKnown, Implies}
+use Rattle.reasons.specs.Reasons.{IsKnown, Implies}
 use Rattle.lemma_check.proofs.lemmas.implies_all.Given as goal
 
 abbrev pub invariant-loop-arc : goal.invariant-loop-arc

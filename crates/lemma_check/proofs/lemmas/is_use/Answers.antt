@@ -1,6 +1,6 @@
 use Rattle.std.proofs.Common.{[], get_or}
 use Rattle.std.specs.List.{All}
-use Rattle.lemma_check.specs.Reasons.{Tells, Implies}
+use Rattle.reasons.specs.Reasons.{Tells, Implies}
 use Rattle.lemma_check.proofs.lemmas.is_use.Goals as goal
 
 pub returns-in-Some : goal.returns-in-Some

@@ -1,8 +1,8 @@
 use Rattle.std.proofs.Common.{pos}
 use Rattle.std.proofs.lemmas.List.Elements.{All-more}
 use Rattle.network.specs.declared.parts.Lag.{Lag}
-use Rattle.lemma_check.specs.Right.{JoinsActivities}
-use Rattle.lemma_check.proofs.Loops.{none_fails, tells_both}
+use Rattle.reasons.specs.Reasons.{JoinsActivities}
+use Rattle.reasons.proofs.Loops.{none_fails, tells_both}
 use Rattle.lemma_check.proofs.right.all_join_activities.Goals as goal
 
 pub loop-arc-preserved : goal.loop-arc-preserved

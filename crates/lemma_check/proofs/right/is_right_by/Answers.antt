@@ -1,10 +1,11 @@
 use Rattle.std.proofs.Common.{true, ◌↔◌, IsTrue}
 use Rattle.network.specs.Problem.{activity_count}
-use Rattle.lemma_check.specs.Reasons.{Tells, Ends}
+use Rattle.reasons.specs.Reasons.{Tells}
+use Rattle.lemma_check.specs.Reasons.{Ends}
 use Rattle.lemma_check.specs.Places.{arcs_at}
 use Rattle.lemma_check.specs.Right.{IsForced, IsShown}
-use Rattle.lemma_check.proofs.Loops.{tells_both}
-use Rattle.lemma_check.proofs.KnownWalks.{known_matrix}
+use Rattle.reasons.proofs.Loops.{tells_both}
+use Rattle.reasons.proofs.KnownWalks.{known_matrix}
 use Rattle.lemma_check.proofs.right.is_right_by.Goals as goal
 
 pub returns-in-Force : goal.returns-in-Force

@@ -3,11 +3,13 @@ use Rattle.network.specs.Problem.{activity_count}
 use Rattle.network.specs.Walk.{IsMatrixOf}
 use Rattle.longest_path.specs.Insert.{rows_over}
 use Rattle.longest_path.proofs.Inserted.{length-rows_over}
-use Rattle.lemma_check.specs.Reasons.{Tells, Implies, Ends, entries_of_matrix}
-use Rattle.lemma_check.specs.Right.{JoinsActivities, IsShown, reverse_of}
-use Rattle.lemma_check.proofs.Loops.{tells_false}
-use Rattle.lemma_check.proofs.KnownWalks.{known_matrix}
-use Rattle.lemma_check.proofs.Weighing.{reversed}
+use Rattle.reasons.specs.Reasons.{Tells, Implies, entries_of_matrix}
+use Rattle.lemma_check.specs.Reasons.{Ends}
+use Rattle.reasons.specs.Reasons.{JoinsActivities, reverse_of}
+use Rattle.lemma_check.specs.Right.{IsShown}
+use Rattle.reasons.proofs.Loops.{tells_false}
+use Rattle.reasons.proofs.KnownWalks.{known_matrix}
+use Rattle.reasons.proofs.Weighing.{reversed}
 use Rattle.lemma_check.proofs.right.is_shown.Goals as goal
 
 pub ends-requires-clause-size : goal.ends-requires-clause-size

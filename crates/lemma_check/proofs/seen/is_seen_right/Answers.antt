@@ -1,9 +1,10 @@
 use Rattle.std.proofs.Common.{None, ◌∙◌, ap, ◌++◌, length}
 use Rattle.network.specs.Problem.{activity_count}
-use Rattle.lemma_check.specs.Reasons.{Entries, Ends}
+use Rattle.reasons.specs.Reasons.{Entries}
+use Rattle.lemma_check.specs.Reasons.{Ends}
 use Rattle.lemma_check.specs.Right.{IsForced, IsShown}
-use Rattle.lemma_check.proofs.KnownWalks.{length-entries}
-use Rattle.lemma_check.proofs.SeenRight.{told_by}
+use Rattle.reasons.proofs.KnownWalks.{length-entries}
+use Rattle.reasons.proofs.KnownBlocks.{told_by}
 use Rattle.lemma_check.proofs.seen.is_seen_right.Goals as goal
 
 pub is_forced-requires : goal.is_forced-requires

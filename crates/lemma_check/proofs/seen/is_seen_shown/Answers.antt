@@ -1,10 +1,12 @@
 use Rattle.std.proofs.Common.{◌≡◌, sym, ◌∙◌, ap, ◌++◌, ◌∷◌, [], length, true, false, None, Some, inl}
 use Rattle.network.specs.Problem.{activity_count}
 use Rattle.block.specs.Block.{AreEnds}
-use Rattle.lemma_check.specs.Reasons.{Entries, TellsWhether, Implies, Ends, entries_of_block}
-use Rattle.lemma_check.specs.Right.{JoinsActivities, reverse_of}
-use Rattle.lemma_check.proofs.KnownWalks.{length-entries}
-use Rattle.lemma_check.proofs.SeenRight.{shown_by_trial, told_by}
+use Rattle.reasons.specs.Reasons.{Entries, TellsWhether, Implies, entries_of_block}
+use Rattle.lemma_check.specs.Reasons.{Ends}
+use Rattle.reasons.specs.Reasons.{JoinsActivities, reverse_of}
+use Rattle.reasons.proofs.KnownWalks.{length-entries}
+use Rattle.reasons.proofs.KnownBlocks.{told_by}
+use Rattle.lemma_check.proofs.SeenRight.{shown_by_trial}
 use Rattle.lemma_check.proofs.seen.is_seen_shown.Goals as goal
 
 pub implies-requires-clause-from_activity : goal.implies-requires-clause-from_activity

@@ -1,0 +1,12 @@
+//! The proof of a lemma: lines of which each shows one arc more, until the arcs close a walk of positive weight.
+#![tactic(auto)]
+
+mod law;
+mod left;
+mod line;
+mod overload;
+mod shows;
+
+pub use law::refuted_law;
+pub use line::{Line, Overload};
+pub use shows::Lags;

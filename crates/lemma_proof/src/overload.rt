@@ -1,0 +1,57 @@
+//! When the arcs of a block have an overload.
+
+ghost use Rattle.std.specs.Prelude.{◌≡◌, ◌↔◌, List, length, IsTrue};
+ghost use Rattle.network.specs.declared.parts.Lag.{Lag};
+ghost use Rattle.network.specs.Problem.{activity_count};
+ghost use Rattle.reasons.specs.Reasons.{TellsWhether};
+ghost use Rattle.lemma_proof.specs.Lines.{IsArc, IsForced, IsOverload, IsWindow};
+
+use crate::line::Overload;
+use network::{Lag, MAX_START, Pair, Project};
+use reasons::{MAX_ARC_WEIGHT, Weights, is_clique, is_load, joins_activities};
+use rivals::are_incompatible;
+
+/// Whether both ends of a window are times.
+fn is_window(from: i64, to: i64) -> bool
+    ensures { IsTrue result ↔ IsWindow from to }
+{
+    -MAX_START <= from && from <= MAX_START && -MAX_START <= to && to <= MAX_START
+}
+
+/// Whether an arc is one between activities, with a weight within the limits.
+pub(crate) fn is_arc(project: &Project, arc: Lag) -> bool
+    ensures { IsTrue result ↔ IsArc project.now arc }
+{
+    -MAX_ARC_WEIGHT <= arc.weight && arc.weight <= MAX_ARC_WEIGHT && joins_activities(project, arc)
+}
+
+/// Whether the pair is forced.
+pub(crate) fn is_forced(project: &Project, weights: &Weights, pair: Pair) -> bool
+    requires { length weights.now.rows ≡ activity_count project.now }
+    ensures { TellsWhether (activity_count project.now) weights.now result (λ arcs. IsForced project.now arcs pair) }
+{
+    if !are_incompatible(project, pair) {
+        return false;
+    }
+    weights.implies(Lag {
+        from: pair.before,
+        to: pair.after,
+        weight: 1 - project.duration(pair.after),
+    })
+}
+
+/// Whether the arcs have the overload.
+pub(crate) fn is_overload(project: &Project, weights: &Weights, over: &Overload) -> bool
+    requires { length weights.now.rows ≡ activity_count project.now }
+    ensures { TellsWhether (activity_count project.now) weights.now result
+        (λ arcs. IsOverload project.now arcs over.now) }
+{
+    match over {
+        Overload::Load { resource, from, to } => {
+            is_window(*from, *to) && is_load(project, weights, *resource, *from, *to)
+        }
+        Overload::Clique { from, to, members } => {
+            is_window(*from, *to) && is_clique(project, weights, *from, *to, members.as_slice())
+        }
+    }
+}

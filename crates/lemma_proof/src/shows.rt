@@ -1,0 +1,186 @@
+//! The arc that a line shows: by the matrix of all arcs of a block, or by walks that are easily seen.
+
+ghost use Rattle.std.specs.Prelude.{◌≡◌, ◌↔◌, ◌++◌, ◌⊎◌, ◌∷◌, [], List, length, IsTrue, IfSome, MatchOption};
+ghost use Rattle.std.specs.List.{All};
+ghost use Rattle.network.specs.declared.parts.Lag.{Lag};
+ghost use Rattle.network.specs.Problem.{activity_count};
+ghost use Rattle.network.specs.Walk.{IsMatrixOf, HasNoPositiveCycle};
+ghost use Rattle.reasons.specs.Reasons.{Implies, reverse_of};
+ghost use Rattle.lemma_proof.specs.Lines.{AreLemmas, IsArc, IsOverload, IsPushed, Shows, impossible};
+ghost use Rattle.lemma_proof.specs.Leaves.{TellsUse};
+
+use crate::left::arc_left;
+use crate::line::{Line, Overload};
+use crate::overload::{is_arc, is_forced, is_overload};
+use block::Block;
+use longest_path::Matrix;
+use network::{Lag, Project};
+use reasons::{Weights, reverse_of};
+use record_text::Listed;
+
+/// A lemma's arcs.
+pub type Lags = Listed<Lag>;
+
+/// An arc that no starts meet.
+const IMPOSSIBLE: Lag = Lag {
+    from: 0,
+    to: 0,
+    weight: 1,
+};
+
+/// The reverse of the arc that the lemma of a slot leaves, if it leaves but one.
+fn used_arc(
+    project: &Project,
+    weights: &Weights,
+    lemmas: &[Option<Lags>],
+    slot: usize,
+) -> Option<Lag>
+    requires size { length weights.now.rows ≡ activity_count project.now }
+    requires lemmas { AreLemmas project.now lemmas.now }
+    ensures { TellsUse (activity_count project.now) weights.now lemmas.now slot result }
+{
+    let Some(Some(lemma)) = lemmas.get(slot) else {
+        return None;
+    };
+    let left = arc_left(weights, lemma.as_slice())?;
+    Some(reverse_of(left))
+}
+
+/// Whether the matrix of its block implies the arc, or the block has the overload with the arc's reverse, which is not
+/// inserted.
+fn is_pushed(project: &Project, matrix: &Matrix, arc: Lag, over: &Overload) -> bool
+    requires size { length matrix.now ≡ activity_count project.now }
+    requires arc { IsArc project.now arc }
+    ensures { (arcs : List Lag) → IsMatrixOf (activity_count project.now) arcs matrix.now →
+        IsTrue result ↔ (Implies arcs arc ⊎ IsOverload project.now (arcs ++ reverse_of arc ∷ []) over.now) }
+{
+    if Weights::of(matrix).implies(arc) {
+        return true;
+    }
+    is_overload(project, &Weights::with(matrix, reverse_of(arc)), over)
+}
+
+/// The arc that an overload shows, by the matrix.
+fn pushed_arc(project: &Project, matrix: &Matrix, arc: Option<Lag>, over: &Overload) -> Option<Lag>
+    requires size { length matrix.now ≡ activity_count project.now }
+    ensures { (arcs : List Lag) → IsMatrixOf (activity_count project.now) arcs matrix.now →
+        MatchOption result ((e : Lag) → ¬ IsPushed project.now arcs arc over.now e)
+        (λ e. IsPushed project.now arcs arc over.now e) }
+{
+    let Some(arc) = arc else {
+        let is_over = is_overload(project, &Weights::of(matrix), over);
+        return if is_over { Some(IMPOSSIBLE) } else { None };
+    };
+    if !is_arc(project, arc) {
+        return None;
+    }
+    if is_pushed(project, matrix, arc, over) {
+        Some(arc)
+    } else {
+        None
+    }
+}
+
+/// The arc that a line shows of the arcs of a matrix, if it shows one.
+pub(crate) fn shown_arc(
+    project: &Project,
+    matrix: &Matrix,
+    lemmas: &[Option<Lags>],
+    line: &Line,
+) -> Option<Lag>
+    requires size { length matrix.now ≡ activity_count project.now }
+    requires lemmas { AreLemmas project.now lemmas.now }
+    ensures { (arcs : List Lag) → IsMatrixOf (activity_count project.now) arcs matrix.now →
+        MatchOption result ((e : Lag) → ¬ Shows project.now lemmas.now arcs line.now e)
+        (λ e. Shows project.now lemmas.now arcs line.now e) }
+{
+    match line {
+        Line::Force(pair) => {
+            let is_forced = is_forced(project, &Weights::of(matrix), *pair);
+            if is_forced {
+                Some(project.pair_arc(*pair))
+            } else {
+                None
+            }
+        }
+        Line::Use(slot) => used_arc(project, &Weights::of(matrix), lemmas, *slot),
+        Line::Push { arc, over } => pushed_arc(project, matrix, *arc, over),
+    }
+}
+
+/// Whether walks that are easily seen show that the block implies the arc, or has the overload with the arc's reverse.
+fn is_seen_pushed(project: &Project, block: &mut Block, arc: Lag, over: &Overload) -> bool
+    requires size { length block.old.rows ≡ activity_count project.now }
+    requires arc { IsArc project.now arc }
+    ensures rows { block.new.rows ≡ block.old.rows }
+    ensures more { block.new.more ≡ block.old.more }
+    ensures pushed { IsTrue result → (own : List Lag) → IsMatrixOf (activity_count project.now) own block.old.rows →
+        HasNoPositiveCycle (own ++ block.old.more) →
+        Implies (own ++ block.old.more) arc
+        ⊎ IsOverload project.now ((own ++ block.old.more) ++ reverse_of arc ∷ []) over.now }
+{
+    prove!(block.activity_count() > 0);
+    if Weights::seen(block, None).implies(arc) {
+        return true;
+    }
+    let reverse = reverse_of(arc);
+    block.try_arc(reverse);
+    is_overload(project, &Weights::seen(block, Some(reverse)), over)
+}
+
+/// The arc that an overload shows, by walks that are easily seen.
+fn seen_pushed_arc(
+    project: &Project,
+    block: &mut Block,
+    arc: Option<Lag>,
+    over: &Overload,
+) -> Option<Lag>
+    requires size { length block.old.rows ≡ activity_count project.now }
+    ensures rows { block.new.rows ≡ block.old.rows }
+    ensures more { block.new.more ≡ block.old.more }
+    ensures pushed { IfSome result (λ e. (own : List Lag) → IsMatrixOf (activity_count project.now) own block.old.rows →
+        HasNoPositiveCycle (own ++ block.old.more) →
+        IsPushed project.now (own ++ block.old.more) arc over.now e) }
+{
+    let Some(arc) = arc else {
+        let is_over = is_overload(project, &Weights::seen(block, None), over);
+        return if is_over { Some(IMPOSSIBLE) } else { None };
+    };
+    if !is_arc(project, arc) {
+        return None;
+    }
+    if is_seen_pushed(project, block, arc, over) {
+        Some(arc)
+    } else {
+        None
+    }
+}
+
+/// The arc that a line shows of the arcs of a block, if walks that are easily seen show that it does.
+pub(crate) fn seen_arc(
+    project: &Project,
+    block: &mut Block,
+    lemmas: &[Option<Lags>],
+    line: &Line,
+) -> Option<Lag>
+    requires size { length block.old.rows ≡ activity_count project.now }
+    requires lemmas { AreLemmas project.now lemmas.now }
+    ensures rows { block.new.rows ≡ block.old.rows }
+    ensures more { block.new.more ≡ block.old.more }
+    ensures shown { IfSome result (λ e. (own : List Lag) → IsMatrixOf (activity_count project.now) own block.old.rows →
+        HasNoPositiveCycle (own ++ block.old.more) →
+        Shows project.now lemmas.now (own ++ block.old.more) line.now e) }
+{
+    match line {
+        Line::Force(pair) => {
+            let is_forced = is_forced(project, &Weights::seen(block, None), *pair);
+            if is_forced {
+                Some(project.pair_arc(*pair))
+            } else {
+                None
+            }
+        }
+        Line::Use(slot) => used_arc(project, &Weights::seen(block, None), lemmas, *slot),
+        Line::Push { arc, over } => seen_pushed_arc(project, block, *arc, over),
+    }
+}
