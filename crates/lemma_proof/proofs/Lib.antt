@@ -1,3 +1,5 @@
 pub mod Truth
 pub mod Staying
 pub mod OneLeft
+pub mod Used
+pub mod Told

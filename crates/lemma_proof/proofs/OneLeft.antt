@@ -1,5 +1,6 @@
 -- The arc that a lemma leaves, as the loop over its arcs finds it.
-use Rattle.std.proofs.Common.{◌≡◌, ◌≢◌, refl, sym, ◌∙◌, ℕ, ◌<◌, ◌≤◌, ◌+◌, arith, ⊎_elim, Bool, true, false, is_some, List, length, get_or, Option, None, Some, slice_get, MatchOption, [], ◌∷◌}
+use Rattle.std.proofs.Common.{◌≡◌, ◌≢◌, refl, sym, ◌∙◌, ℕ, ◌<◌, ◌≤◌, ◌+◌, arith, ⊎_elim, Bool, true, false, is_some, List, length, get_or, Option, None, Some, slice_get, IfSome, MatchOption, [], ◌∷◌}
+use Rattle.std.specs.List.{Contains}
 use Rattle.std.proofs.lemmas.Bool.{cases_eq, cases_lt, false≢true}
 use Rattle.std.specs.Option.{option_or}
 use Rattle.std.proofs.lemmas.Option.{slice_get-get_or, slice_get_within}
@@ -80,6 +81,12 @@ none_left arcs [] empty e left = let bad : None ≡ Some e = left.is in cc
 none_left arcs (x ∷ lemma) empty e left = let bad : Some x ≡ None = empty in cc
 
 -- ---- what the loop answers
+
+pub there_at_end : (lemma : List Lag) (found first : Option Lag) → first ≡ slice_get lemma 0 → IfSome found (Contains lemma) → IfSome (option_or found first) (Contains lemma)
+there_at_end lemma (Some e) first is there = there
+there_at_end lemma None None is there = record {}
+there_at_end [] None (Some e) is there = absurd (cc)
+there_at_end (x ∷ lemma) None (Some e) is there = let both : Some e ≡ Some x = is in let same : e ≡ x = cc in rw same (0, omega arith, refl)
 
 pub second_left : (exact : Bool) (arcs lemma : List Lag) (i : ℕ) (e : Lag) (found : Option Lag) → is_some found ≡ true → slice_get lemma i ≡ Some e → (exact ≡ true → ¬ Implies arcs e) → LeftBefore exact arcs lemma i found → exact ≡ true → (f : Lag) → ¬ IsLeft arcs lemma f
 second_left exact arcs lemma i e None some at never before sure f = absurd (false≢true some)

@@ -1,15 +1,14 @@
 //! When the arcs of a block have an overload.
 
-ghost use Rattle.std.specs.Prelude.{◌≡◌, ◌↔◌, List, length, IsTrue};
+ghost use Rattle.std.specs.Prelude.{◌≡◌, ◌↔◌, List, ◌∷◌, [], length, IsTrue};
 ghost use Rattle.network.specs.declared.parts.Lag.{Lag};
-ghost use Rattle.network.specs.Problem.{activity_count};
-ghost use Rattle.reasons.specs.Reasons.{TellsWhether};
-ghost use Rattle.lemma_proof.specs.Lines.{IsArc, IsForced, IsOverload, IsWindow};
+ghost use Rattle.network.specs.Problem.{activity_count, NameActivities};
+ghost use Rattle.reasons.specs.Reasons.{EndsAfterStart, TellsWhether};
+ghost use Rattle.lemma_proof.specs.Lines.{IsArc, IsOverload, IsWindow};
 
 use crate::line::Overload;
 use network::{Lag, MAX_START, Pair, Project};
 use reasons::{MAX_ARC_WEIGHT, Weights, is_clique, is_load, joins_activities};
-use rivals::are_incompatible;
 
 /// Whether both ends of a window are times.
 fn is_window(from: i64, to: i64) -> bool
@@ -25,14 +24,13 @@ pub(crate) fn is_arc(project: &Project, arc: Lag) -> bool
     -MAX_ARC_WEIGHT <= arc.weight && arc.weight <= MAX_ARC_WEIGHT && joins_activities(project, arc)
 }
 
-/// Whether the pair is forced.
-pub(crate) fn is_forced(project: &Project, weights: &Weights, pair: Pair) -> bool
-    requires { length weights.now.rows ≡ activity_count project.now }
-    ensures { TellsWhether (activity_count project.now) weights.now result (λ arcs. IsForced project.now arcs pair) }
+/// Whether the second of a pair can't come first.
+pub(crate) fn is_late(project: &Project, weights: &Weights, pair: Pair) -> bool
+    requires size { length weights.now.rows ≡ activity_count project.now }
+    requires pair { NameActivities project.now (pair ∷ []) }
+    ensures { TellsWhether (activity_count project.now) weights.now result
+        (λ arcs. EndsAfterStart project.now arcs pair.after pair.before) }
 {
-    if !are_incompatible(project, pair) {
-        return false;
-    }
     weights.implies(Lag {
         from: pair.before,
         to: pair.after,

@@ -3,20 +3,22 @@
 ghost use Rattle.std.specs.Prelude.{◌≡◌, ◌↔◌, ◌++◌, ◌⊎◌, ◌∷◌, [], List, length, IsTrue, IfSome, MatchOption};
 ghost use Rattle.std.specs.List.{All};
 ghost use Rattle.network.specs.declared.parts.Lag.{Lag};
-ghost use Rattle.network.specs.Problem.{activity_count};
+ghost use Rattle.network.specs.Problem.{activity_count, pair_arc};
 ghost use Rattle.network.specs.Walk.{IsMatrixOf, HasNoPositiveCycle};
+ghost use Rattle.block.specs.Heads.{IsLight};
 ghost use Rattle.reasons.specs.Reasons.{Implies, reverse_of};
-ghost use Rattle.lemma_proof.specs.Lines.{AreLemmas, IsArc, IsOverload, IsPushed, Shows, impossible};
-ghost use Rattle.lemma_proof.specs.Leaves.{TellsUse};
+ghost use Rattle.lemma_proof.specs.Lines.{AreLemmas, IsArc, IsForced, IsIn, IsOverload, IsPushed, IsUse, Shows, impossible};
+ghost use Rattle.lemma_proof.specs.Telling.{TellsArc};
 
 use crate::left::arc_left;
 use crate::line::{Line, Overload};
-use crate::overload::{is_arc, is_forced, is_overload};
+use crate::overload::{is_arc, is_late, is_overload};
 use block::Block;
 use longest_path::Matrix;
-use network::{Lag, Project};
+use network::{Lag, Pair, Project};
 use reasons::{Weights, reverse_of};
 use record_text::Listed;
+use rivals::are_incompatible;
 
 /// A lemma's arcs.
 pub type Lags = Listed<Lag>;
@@ -28,6 +30,16 @@ const IMPOSSIBLE: Lag = Lag {
     weight: 1,
 };
 
+/// The arcs of the lemma of a slot.
+fn lemma_at(lemmas: &[Option<Lags>], slot: usize) -> Option<&[Lag]>
+    ensures { MatchOption result ((lemma : List Lag) → ¬ IsIn lemmas.now slot lemma) (λ lemma. IsIn lemmas.now slot lemma.now) }
+{
+    match lemmas.get(slot) {
+        Some(Some(lemma)) => Some(lemma.as_slice()),
+        _ => None,
+    }
+}
+
 /// The reverse of the arc that the lemma of a slot leaves, if it leaves but one.
 fn used_arc(
     project: &Project,
@@ -37,13 +49,45 @@ fn used_arc(
 ) -> Option<Lag>
     requires size { length weights.now.rows ≡ activity_count project.now }
     requires lemmas { AreLemmas project.now lemmas.now }
-    ensures { TellsUse (activity_count project.now) weights.now lemmas.now slot result }
+    ensures light { IfSome result (IsLight (activity_count project.now)) }
+    ensures told { TellsArc (activity_count project.now) weights.now result
+        (λ arcs e. IsUse lemmas.now arcs slot e) }
 {
-    let Some(Some(lemma)) = lemmas.get(slot) else {
-        return None;
-    };
-    let left = arc_left(weights, lemma.as_slice())?;
+    let lemma = lemma_at(lemmas, slot)?;
+    let left = arc_left(weights, lemma)?;
     Some(reverse_of(left))
+}
+
+/// The arc of the pair, if it is forced.
+fn forced_arc(project: &Project, weights: &Weights, pair: Pair) -> Option<Lag>
+    requires { length weights.now.rows ≡ activity_count project.now }
+    ensures light { IfSome result (IsLight (activity_count project.now)) }
+    ensures told { TellsArc (activity_count project.now) weights.now result
+        (λ arcs e. IsForced project.now arcs pair × (e ≡ pair_arc project.now pair)) }
+{
+    if !are_incompatible(project, pair) {
+        return None;
+    }
+    if is_late(project, weights, pair) {
+        Some(project.pair_arc(pair))
+    } else {
+        None
+    }
+}
+
+/// The arc that no starts meet, if the arcs have the overload.
+fn ended_arc(project: &Project, weights: &Weights, over: &Overload) -> Option<Lag>
+    requires { length weights.now.rows ≡ activity_count project.now }
+    ensures light { IfSome result (IsLight (activity_count project.now)) }
+    ensures told { TellsArc (activity_count project.now) weights.now result
+        (λ arcs e. IsOverload project.now arcs over.now × (e ≡ impossible)) }
+{
+    prove!(project.activity_count() >= 2);
+    if is_overload(project, weights, over) {
+        Some(IMPOSSIBLE)
+    } else {
+        None
+    }
 }
 
 /// Whether the matrix of its block implies the arc, or the block has the overload with the arc's reverse, which is not
@@ -63,13 +107,13 @@ fn is_pushed(project: &Project, matrix: &Matrix, arc: Lag, over: &Overload) -> b
 /// The arc that an overload shows, by the matrix.
 fn pushed_arc(project: &Project, matrix: &Matrix, arc: Option<Lag>, over: &Overload) -> Option<Lag>
     requires size { length matrix.now ≡ activity_count project.now }
-    ensures { (arcs : List Lag) → IsMatrixOf (activity_count project.now) arcs matrix.now →
+    ensures light { IfSome result (IsLight (activity_count project.now)) }
+    ensures shown { (arcs : List Lag) → IsMatrixOf (activity_count project.now) arcs matrix.now →
         MatchOption result ((e : Lag) → ¬ IsPushed project.now arcs arc over.now e)
-        (λ e. IsPushed project.now arcs arc over.now e) }
+        (IsPushed project.now arcs arc over.now) }
 {
     let Some(arc) = arc else {
-        let is_over = is_overload(project, &Weights::of(matrix), over);
-        return if is_over { Some(IMPOSSIBLE) } else { None };
+        return ended_arc(project, &Weights::of(matrix), over);
     };
     if !is_arc(project, arc) {
         return None;
@@ -90,19 +134,13 @@ pub(crate) fn shown_arc(
 ) -> Option<Lag>
     requires size { length matrix.now ≡ activity_count project.now }
     requires lemmas { AreLemmas project.now lemmas.now }
-    ensures { (arcs : List Lag) → IsMatrixOf (activity_count project.now) arcs matrix.now →
+    ensures light { IfSome result (IsLight (activity_count project.now)) }
+    ensures shown { (arcs : List Lag) → IsMatrixOf (activity_count project.now) arcs matrix.now →
         MatchOption result ((e : Lag) → ¬ Shows project.now lemmas.now arcs line.now e)
-        (λ e. Shows project.now lemmas.now arcs line.now e) }
+        (Shows project.now lemmas.now arcs line.now) }
 {
     match line {
-        Line::Force(pair) => {
-            let is_forced = is_forced(project, &Weights::of(matrix), *pair);
-            if is_forced {
-                Some(project.pair_arc(*pair))
-            } else {
-                None
-            }
-        }
+        Line::Force(pair) => forced_arc(project, &Weights::of(matrix), *pair),
         Line::Use(slot) => used_arc(project, &Weights::of(matrix), lemmas, *slot),
         Line::Push { arc, over } => pushed_arc(project, matrix, *arc, over),
     }
@@ -138,13 +176,14 @@ fn seen_pushed_arc(
     requires size { length block.old.rows ≡ activity_count project.now }
     ensures rows { block.new.rows ≡ block.old.rows }
     ensures more { block.new.more ≡ block.old.more }
-    ensures pushed { IfSome result (λ e. (own : List Lag) → IsMatrixOf (activity_count project.now) own block.old.rows →
+    ensures light { IfSome result (IsLight (activity_count project.now)) }
+    ensures pushed { (own : List Lag) → IsMatrixOf (activity_count project.now) own block.old.rows →
         HasNoPositiveCycle (own ++ block.old.more) →
-        IsPushed project.now (own ++ block.old.more) arc over.now e) }
+        IfSome result (IsPushed project.now (own ++ block.old.more) arc over.now) }
 {
+    prove!(block.activity_count() > 0);
     let Some(arc) = arc else {
-        let is_over = is_overload(project, &Weights::seen(block, None), over);
-        return if is_over { Some(IMPOSSIBLE) } else { None };
+        return ended_arc(project, &Weights::seen(block, None), over);
     };
     if !is_arc(project, arc) {
         return None;
@@ -167,19 +206,14 @@ pub(crate) fn seen_arc(
     requires lemmas { AreLemmas project.now lemmas.now }
     ensures rows { block.new.rows ≡ block.old.rows }
     ensures more { block.new.more ≡ block.old.more }
-    ensures shown { IfSome result (λ e. (own : List Lag) → IsMatrixOf (activity_count project.now) own block.old.rows →
+    ensures light { IfSome result (IsLight (activity_count project.now)) }
+    ensures shown { (own : List Lag) → IsMatrixOf (activity_count project.now) own block.old.rows →
         HasNoPositiveCycle (own ++ block.old.more) →
-        Shows project.now lemmas.now (own ++ block.old.more) line.now e) }
+        IfSome result (Shows project.now lemmas.now (own ++ block.old.more) line.now) }
 {
+    prove!(block.activity_count() > 0);
     match line {
-        Line::Force(pair) => {
-            let is_forced = is_forced(project, &Weights::seen(block, None), *pair);
-            if is_forced {
-                Some(project.pair_arc(*pair))
-            } else {
-                None
-            }
-        }
+        Line::Force(pair) => forced_arc(project, &Weights::seen(block, None), *pair),
         Line::Use(slot) => used_arc(project, &Weights::seen(block, None), lemmas, *slot),
         Line::Push { arc, over } => seen_pushed_arc(project, block, *arc, over),
     }
