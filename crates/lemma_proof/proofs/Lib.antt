@@ -3,3 +3,5 @@ pub mod Staying
 pub mod OneLeft
 pub mod Used
 pub mod Told
+pub mod Wide
+pub mod Held

@@ -1,0 +1,183 @@
+//! The arcs of a block while the lines of a lemma's proof are checked.
+
+ghost use Rattle.std.specs.Prelude.{◌≡◌, ◌<◌, ◌++◌, ◌∷◌, [], ℕ, List, None, length, false, IsTrue, is_some, not, IfOk, IfSome, OnOk, MatchOption};
+ghost use Rattle.std.specs.List.{All};
+ghost use Rattle.network.specs.declared.parts.Lag.{Lag};
+ghost use Rattle.network.specs.Problem.{activity_count};
+ghost use Rattle.network.specs.Walk.{IsMatrixOf};
+ghost use Rattle.longest_path.specs.Matrix.{IsFull};
+ghost use Rattle.block.specs.Heads.{IsLight};
+ghost use Rattle.block.specs.Implied.{Implies};
+ghost use Rattle.lemma_proof.specs.Lines.{AreLemmas, Shows};
+ghost use Rattle.lemma_proof.specs.Bench.{Holds, IsKnownOf, IsMatrixOfAll};
+
+use crate::dense::{matrix_of_all, take_arc};
+use crate::line::Line;
+use crate::shows::{Lags, seen_arc, shown_arc};
+use block::Block;
+use longest_path::MarkedMatrix;
+use network::{Lag, Project};
+use reasons::Weights;
+use std::alloc::{AllocError, Global};
+use std::marker::Model;
+
+/// The matrix of the root's arcs, and beside it the arcs of the one lemma that is checked.
+#[derive(Drop)]
+pub struct Bench {
+    alloc: Global,
+    /// The matrix of the root's arcs.
+    matrix: MarkedMatrix,
+    /// This matrix, and the arcs beside it.
+    block: Block,
+    /// The matrix of all arcs, where heads and tails didn't show enough.
+    dense: Option<MarkedMatrix>,
+    /// Whether all arcs close a walk of positive weight.
+    is_dead: bool,
+}
+
+impl Model for Bench {
+    ghost use Rattle.lemma_proof.specs.Bench.{BenchOf, IsBench, bench_of};
+
+    ghost Value = { BenchOf };
+
+    ghost view = { λ s. bench_of s.matrix.rows s.block s.dense s.is_dead };
+
+    ghost invariant = { λ s. IsBench s.matrix.rows s.block s.dense };
+}
+
+impl Bench {
+    /// That of a matrix, with no arc beside it.
+    pub fn new(alloc: Global, matrix: MarkedMatrix) -> Result<Bench, AllocError>
+        requires full { IsFull matrix.rows }
+        requires some { 0 < length matrix.rows }
+        ensures rows { IfOk result (λ x. x.rows ≡ matrix.rows) }
+    {
+        let block = Block::new(alloc, matrix.matrix())?;
+        Ok(Bench {
+            alloc,
+            matrix,
+            block,
+            dense: None,
+            is_dead: false,
+        })
+    }
+
+    /// Begins anew, with no arc beside the matrix.
+    pub(crate) fn begin(&mut self)
+        ensures rows { self.new.rows ≡ self.old.rows }
+        ensures more { self.new.more ≡ [] }
+        ensures dense { self.new.dense ≡ None }
+        ensures live { self.new.is_dead ≡ false }
+    {
+        self.block.begin();
+        self.dense = None;
+        self.is_dead = false;
+    }
+
+    /// Makes the matrix of all arcs.
+    fn make_dense(&mut self) -> Result<(), AllocError>
+        ensures rows { self.new.rows ≡ self.old.rows }
+        ensures made { OnOk result ((own : List Lag) → IsMatrixOf (length self.old.rows) own self.old.rows →
+            IsKnownOf (length self.old.rows) own self.old.more self.new.is_dead self.new.more self.new.dense) }
+        ensures there { OnOk result (is_some self.new.dense ≡ not self.new.is_dead) }
+    {
+        prove!(self.block.activity_count() > 0);
+        let dense = matrix_of_all(self.alloc, self.matrix.matrix(), &self.block)?;
+        self.is_dead = dense.is_none();
+        self.dense = dense;
+        Ok(())
+    }
+
+    /// Adds an arc.
+    pub(crate) fn add(&mut self, arc: Lag) -> Result<(), AllocError>
+        requires live { self.old.is_dead ≡ false }
+        requires light { IsLight (length self.old.rows) arc }
+        ensures rows { self.new.rows ≡ self.old.rows }
+        ensures added { OnOk result ((own arcs : List Lag) → Holds own arcs self.old →
+            Holds own (arcs ++ arc ∷ []) self.new) }
+    {
+        if let Some(mut dense) = self.dense.take() {
+            self.is_dead = take_arc(&mut dense, arc)?;
+            self.dense = Some(dense);
+            return Ok(());
+        }
+        match self.block.add(arc)? {
+            Some(is_dead) => self.is_dead = is_dead,
+            None => self.make_dense()?,
+        }
+        Ok(())
+    }
+
+    /// Whether all arcs close a walk of positive weight.
+    pub(crate) fn is_dead(&self) -> bool
+        ensures { result ≡ self.now.is_dead }
+    {
+        self.is_dead
+    }
+
+    /// Whether an arc is implied, as far as it is seen.
+    pub(crate) fn implies(&self, arc: Lag) -> bool
+        requires live { self.now.is_dead ≡ false }
+        requires light { IsLight (length self.now.rows) arc }
+        ensures { IsTrue result → (own arcs : List Lag) → Holds own arcs self.now → Implies (own ++ arcs) arc }
+    {
+        prove!(self.block.activity_count() > 0);
+        match &self.dense {
+            Some(dense) => Weights::of(dense.matrix()).implies(arc),
+            None => Weights::seen(&self.block, None).implies(arc),
+        }
+    }
+
+    /// Makes the matrix of all arcs, where there is none.
+    fn settle(&mut self) -> Result<(), AllocError>
+        requires live { self.old.is_dead ≡ false }
+        requires none { self.old.dense ≡ None }
+        ensures rows { self.new.rows ≡ self.old.rows }
+        ensures all { OnOk result ((own arcs : List Lag) → Holds own arcs self.old →
+            IsMatrixOfAll (length self.old.rows) own arcs self.new.dense) }
+        ensures kept { OnOk result ((own arcs : List Lag) → Holds own arcs self.old → Holds own arcs self.new) }
+    {
+        self.make_dense()
+    }
+
+    /// The arc that a line shows, by the matrix of all arcs.
+    fn shown_by_all(&self, project: &Project, lemmas: &[Option<Lags>], line: &Line) -> Option<Lag>
+        requires size { length self.now.rows ≡ activity_count project.now }
+        requires lemmas { AreLemmas project.now lemmas.now }
+        ensures light { IfSome result (IsLight (length self.now.rows)) }
+        ensures shown { (own arcs : List Lag) → IsMatrixOfAll (length self.now.rows) own arcs self.now.dense →
+            MatchOption result ((e : Lag) → ¬ Shows project.now lemmas.now (own ++ arcs) line.now e)
+            (Shows project.now lemmas.now (own ++ arcs) line.now) }
+    {
+        let dense = self.dense.as_ref()?;
+        shown_arc(project, dense.matrix(), lemmas, line)
+    }
+
+    /// The arc that a line shows, if it shows one: by walks that are easily seen, or else by the matrix of all arcs.
+    pub(crate) fn shown_arc(
+        &mut self,
+        project: &Project,
+        lemmas: &[Option<Lags>],
+        line: &Line,
+    ) -> Result<Option<Lag>, AllocError>
+        requires live { self.old.is_dead ≡ false }
+        requires size { length self.old.rows ≡ activity_count project.now }
+        requires lemmas { AreLemmas project.now lemmas.now }
+        ensures rows { self.new.rows ≡ self.old.rows }
+        ensures light { IfOk result (λ found. IfSome found (IsLight (length self.old.rows))) }
+        ensures kept { OnOk result ((own arcs : List Lag) → Holds own arcs self.old → Holds own arcs self.new) }
+        ensures shown { IfOk result (λ found. (own arcs : List Lag) → Holds own arcs self.old →
+            MatchOption found ((e : Lag) → ¬ Shows project.now lemmas.now (own ++ arcs) line.now e)
+            (Shows project.now lemmas.now (own ++ arcs) line.now)) }
+    {
+        if self.dense.is_some() {
+            return Ok(self.shown_by_all(project, lemmas, line));
+        }
+        let seen = seen_arc(project, &mut self.block, lemmas, line);
+        if seen.is_some() {
+            return Ok(seen);
+        }
+        self.settle()?;
+        Ok(self.shown_by_all(project, lemmas, line))
+    }
+}
