@@ -7,6 +7,8 @@ use Rattle.network.specs.declared.parts.Lag.{Lag}
 use Rattle.network.specs.Walk.{Rows, IsMatrixOf, HasPositiveCycle, HasNoPositiveCycle}
 use Rattle.longest_path.specs.Saved.{Marked}
 use Rattle.block.specs.Block.{IsMatrixWith, IsTaken, IsToldOf}
+use Rattle.block.proofs.Implying.{IsPartOf}
+use Rattle.block.proofs.Existing.{cycle_part, nil_right}
 use Rattle.lemma_proof.specs.Bench.{AreKept, BenchOf, Holds, IsKnownOf, IsMatrixOfAll}
 
 pub made : (n : ℕ) (own more : List Lag) (found : Option Marked) (dead : Bool) → MatchOption found (HasPositiveCycle (own ++ more)) (λ d. IsMatrixOf n (own ++ more) d.rows) → is_some found ≡ not dead → IsKnownOf n own more dead more found
@@ -78,3 +80,27 @@ all_there own arcs x d live is h = rw is at (kept_live own arcs x live h)
 
 pub live_there : (own arcs : List Lag) (x : BenchOf) → x.is_dead ≡ false → x.dense ≡ None → Holds own arcs x → (x.more ≡ arcs) × HasNoPositiveCycle (own ++ arcs)
 live_there own arcs x live is h = rw is at (kept_live own arcs x live h)
+
+-- ---- a lemma's arcs
+
+pub held_begun : (own : List Lag) (x : BenchOf) → IsMatrixOf (length x.rows) own x.rows → x.is_dead ≡ false → x.dense ≡ None → x.more ≡ [] → Holds own [] x
+held_begun own x m live is more =
+    let none : HasNoPositiveCycle (own ++ []) = rw (nil_right own) m.no_cycle in
+    let known : AreKept (length x.rows) own [] x.more None = (more, none) in
+    record { root = m; known = rw (live, is) known }
+
+-- once a closed walk is positive, further arcs change nothing
+pub held_dead : (own some arcs : List Lag) (x : BenchOf) → x.is_dead ≡ true → IsPartOf (own ++ some) (own ++ arcs) → Holds own some x → Holds own arcs x
+held_dead own some arcs x dead part h =
+    let cycle : HasPositiveCycle (own ++ some) = rw dead at h.known in
+    record { root = h.root; known = rw dead (cycle_part (own ++ some) (own ++ arcs) part cycle) }
+
+pub cycle_there : (own arcs : List Lag) (x : BenchOf) → x.is_dead ≡ true → Holds own arcs x → HasPositiveCycle (own ++ arcs)
+cycle_there own arcs x dead h = rw dead at h.known
+
+pub none_there : (own arcs : List Lag) (x : BenchOf) → x.is_dead ≡ false → Holds own arcs x → HasNoPositiveCycle (own ++ arcs)
+none_there own arcs x live h = by_dense x.dense (kept_live own arcs x live h)
+  where
+    by_dense : (dense : Option Marked) → AreKept (length x.rows) own arcs x.more dense → HasNoPositiveCycle (own ++ arcs)
+    by_dense None kept = kept.1
+    by_dense (Some d) m = m.no_cycle

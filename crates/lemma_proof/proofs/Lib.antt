@@ -5,3 +5,4 @@ pub mod Used
 pub mod Told
 pub mod Wide
 pub mod Held
+pub mod Refuting

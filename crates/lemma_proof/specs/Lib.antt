@@ -1,3 +1,4 @@
 pub mod Lines
 pub mod Telling
 pub mod Bench
+pub mod Stepping

@@ -1,6 +1,7 @@
 -- The proof of a lemma: lines of which each shows one arc more, until the arcs close a walk of positive weight.
 use Rattle.std.specs.Prelude.{◌≡◌, ◌≢◌, ◌⊎◌, ◌++◌, ◌∷◌, [], ℕ, ℤ, pos, List, Option, None, Some, slice_get}
 use Rattle.std.specs.List.{All}
+use Rattle.std.specs.Option.{option_to_list}
 use Rattle.network.specs.declared.parts.Lag.{Lag}
 use Rattle.network.specs.declared.parts.Pair.{Pair}
 use Rattle.network.specs.Problem.{IsTime, IsWithin, Problem, pair_arc}
@@ -109,3 +110,15 @@ StayRefuted =
 -- each arc of each lemma is one between activities
 abbrev pub AreLemmas : Problem → Slots → Type 0
 AreLemmas p lemmas = (slot : ℕ) (lemma : List Lag) → IsIn lemmas slot lemma → All (IsArc p) lemma
+
+-- ---- What refutes the arcs of a lemma beside those of the root.
+
+-- the lemma's arcs are such, and lines refute them with the root's
+pub record IsRefuted (p : Problem) (lemmas : Slots) (own arcs : List Lag) (lines : List Line) : Type 0 where
+  pub are_arcs : All (IsArc p) arcs
+  pub refuted : AreRefuted p lemmas (own ++ arcs) lines
+
+-- the lines of these places
+abbrev pub picked : List Line → List ℕ → List Line
+picked lines [] = []
+picked lines (place ∷ places) = option_to_list (slice_get lines place) ++ picked lines places

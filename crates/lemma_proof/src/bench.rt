@@ -1,6 +1,6 @@
 //! The arcs of a block while the lines of a lemma's proof are checked.
 
-ghost use Rattle.std.specs.Prelude.{◌≡◌, ◌<◌, ◌++◌, ◌∷◌, [], ℕ, List, None, length, false, IsTrue, is_some, not, IfOk, IfSome, OnOk, MatchOption};
+ghost use Rattle.std.specs.Prelude.{◌≡◌, ◌<◌, ◌++◌, ◌∷◌, [], ℕ, List, None, length, false, IsTrue, is_some, not, IfOk, IfSome, IsSome, OnOk, MatchOption};
 ghost use Rattle.std.specs.List.{All};
 ghost use Rattle.network.specs.declared.parts.Lag.{Lag};
 ghost use Rattle.network.specs.Problem.{activity_count};
@@ -10,6 +10,7 @@ ghost use Rattle.block.specs.Heads.{IsLight};
 ghost use Rattle.block.specs.Implied.{Implies};
 ghost use Rattle.lemma_proof.specs.Lines.{AreLemmas, Shows};
 ghost use Rattle.lemma_proof.specs.Bench.{Holds, IsKnownOf, IsMatrixOfAll};
+ghost use Rattle.lemma_proof.specs.Stepping.{Steps};
 
 use crate::dense::{matrix_of_all, take_arc};
 use crate::line::Line;
@@ -136,6 +137,7 @@ impl Bench {
         ensures all { OnOk result ((own arcs : List Lag) → Holds own arcs self.old →
             IsMatrixOfAll (length self.old.rows) own arcs self.new.dense) }
         ensures kept { OnOk result ((own arcs : List Lag) → Holds own arcs self.old → Holds own arcs self.new) }
+        ensures there { OnOk result (is_some self.new.dense ≡ not self.new.is_dead) }
     {
         self.make_dense()
     }
@@ -144,6 +146,7 @@ impl Bench {
     fn shown_by_all(&self, project: &Project, lemmas: &[Option<Lags>], line: &Line) -> Option<Lag>
         requires size { length self.now.rows ≡ activity_count project.now }
         requires lemmas { AreLemmas project.now lemmas.now }
+        ensures there { IsSome result → IsSome self.now.dense }
         ensures light { IfSome result (IsLight (length self.now.rows)) }
         ensures shown { (own arcs : List Lag) → IsMatrixOfAll (length self.now.rows) own arcs self.now.dense →
             MatchOption result ((e : Lag) → ¬ Shows project.now lemmas.now (own ++ arcs) line.now e)
@@ -165,6 +168,7 @@ impl Bench {
         requires lemmas { AreLemmas project.now lemmas.now }
         ensures rows { self.new.rows ≡ self.old.rows }
         ensures light { IfOk result (λ found. IfSome found (IsLight (length self.old.rows))) }
+        ensures live { IfOk result (λ found. IsSome found → self.new.is_dead ≡ false) }
         ensures kept { OnOk result ((own arcs : List Lag) → Holds own arcs self.old → Holds own arcs self.new) }
         ensures shown { IfOk result (λ found. (own arcs : List Lag) → Holds own arcs self.old →
             MatchOption found ((e : Lag) → ¬ Shows project.now lemmas.now (own ++ arcs) line.now e)
@@ -179,5 +183,46 @@ impl Bench {
         }
         self.settle()?;
         Ok(self.shown_by_all(project, lemmas, line))
+    }
+
+    /// Adds the arc that a line shows, unless it is implied. Whether it was added; none if the line shows none.
+    pub(crate) fn step(
+        &mut self,
+        project: &Project,
+        lemmas: &[Option<Lags>],
+        line: &Line,
+    ) -> Result<Option<bool>, AllocError>
+        requires live { self.old.is_dead ≡ false }
+        requires size { length self.old.rows ≡ activity_count project.now }
+        requires lemmas { AreLemmas project.now lemmas.now }
+        ensures rows { self.new.rows ≡ self.old.rows }
+        ensures steps { IfOk result (λ found. (own arcs : List Lag) → Holds own arcs self.old →
+            Steps project.now lemmas.now line.now own arcs self.new found) }
+    {
+        let Some(arc) = self.shown_arc(project, lemmas, line)? else {
+            return Ok(None);
+        };
+        if self.implies(arc) {
+            return Ok(Some(false));
+        }
+        self.add(arc)?;
+        Ok(Some(true))
+    }
+
+    /// Begins anew with these arcs beside the matrix.
+    pub(crate) fn suppose(&mut self, arcs: &[Lag]) -> Result<(), AllocError>
+        requires light { All (IsLight (length self.old.rows)) arcs.now }
+        ensures rows { self.new.rows ≡ self.old.rows }
+        ensures supposed { OnOk result ((own : List Lag) → IsMatrixOf (length self.old.rows) own self.old.rows →
+            Holds own arcs.now self.new) }
+    {
+        self.begin();
+        for arc in arcs {
+            if self.is_dead {
+                return Ok(());
+            }
+            self.add(*arc)?;
+        }
+        Ok(())
     }
 }

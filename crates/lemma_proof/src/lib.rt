@@ -7,6 +7,7 @@ mod law;
 mod left;
 mod line;
 mod overload;
+mod refute;
 mod shows;
 
 pub use bench::Bench;
