@@ -1,10 +1,11 @@
 //! The arcs of a block while the lines of a lemma's proof are checked.
 
-ghost use Rattle.std.specs.Prelude.{◌≡◌, ◌<◌, ◌++◌, ◌∷◌, [], ℕ, List, None, length, false, IsTrue, is_some, not, IfOk, IfSome, IsSome, OnOk, MatchOption};
+ghost use Rattle.std.specs.Prelude.{◌≡◌, ◌<◌, ◌++◌, ◌∷◌, [], ℕ, List, None, length, true, false, IsTrue, is_some, not, IfOk, IfSome, IsSome, OnOk, MatchOption};
+ghost use Rattle.std.specs.Bool.{MatchBool};
 ghost use Rattle.std.specs.List.{All};
 ghost use Rattle.network.specs.declared.parts.Lag.{Lag};
 ghost use Rattle.network.specs.Problem.{activity_count};
-ghost use Rattle.network.specs.Walk.{IsMatrixOf};
+ghost use Rattle.network.specs.Walk.{HasPositiveCycle, IsMatrixOf, entry};
 ghost use Rattle.longest_path.specs.Matrix.{IsFull};
 ghost use Rattle.block.specs.Heads.{IsLight};
 ghost use Rattle.block.specs.Implied.{Implies};
@@ -12,7 +13,7 @@ ghost use Rattle.lemma_proof.specs.Lines.{AreLemmas, Shows};
 ghost use Rattle.lemma_proof.specs.Bench.{Holds, IsKnownOf, IsMatrixOfAll};
 ghost use Rattle.lemma_proof.specs.Stepping.{Steps};
 
-use crate::dense::{matrix_of_all, take_arc};
+use crate::dense::{matrix_of_all, matrix_with_arc, take_arc};
 use crate::line::Line;
 use crate::shows::{Lags, seen_arc, shown_arc};
 use block::Block;
@@ -61,6 +62,36 @@ impl Bench {
             dense: None,
             is_dead: false,
         })
+    }
+
+    /// Adds an arc to the root's. Whether it closes a walk of positive weight with them, and is not added.
+    pub fn add_root(&mut self, arc: Lag) -> Result<bool, AllocError>
+        requires { IsLight (length self.old.rows) arc }
+        ensures size { length self.new.rows ≡ length self.old.rows }
+        ensures added { IfOk result (λ closes. (own : List Lag) → IsMatrixOf (length self.old.rows) own self.old.rows →
+            MatchBool closes (HasPositiveCycle (own ++ arc ∷ []))
+            (IsMatrixOf (length self.old.rows) (own ++ arc ∷ []) self.new.rows)) }
+        ensures unchanged { IfOk result (λ closes. closes ≡ true → self.new ≡ self.old) }
+    {
+        prove!(self.block.activity_count() > 0);
+        let Some(matrix) = matrix_with_arc(self.alloc, self.matrix.matrix(), arc)? else {
+            return Ok(true);
+        };
+        let block = Block::new(self.alloc, matrix.matrix())?;
+        self.matrix = matrix;
+        self.block = block;
+        self.dense = None;
+        self.is_dead = false;
+        Ok(false)
+    }
+
+    /// The greatest weight of a walk over the root's arcs.
+    pub fn weight(&self, a: usize, b: usize) -> Option<i64>
+        requires from_activity { a < length self.now.rows }
+        requires to_activity { b < length self.now.rows }
+        ensures { result ≡ entry self.now.rows a b }
+    {
+        self.matrix.matrix().get(a, b)
     }
 
     /// Begins anew, with no arc beside the matrix.
