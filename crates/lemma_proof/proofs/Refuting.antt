@@ -65,7 +65,7 @@ one_shown p lemmas arcs (Push arc over) e f x y = inl (one_pushed p arcs arc ove
 
 -- ---- Beside the first lines.
 
-cycle_refutes : (p : Problem) (lemmas : Slots) (arcs : List Lag) (lines : List Line) → HasPositiveCycle arcs → AreRefuted p lemmas arcs lines
+pub cycle_refutes : (p : Problem) (lemmas : Slots) (arcs : List Lag) (lines : List Line) → HasPositiveCycle arcs → AreRefuted p lemmas arcs lines
 cycle_refutes p lemmas arcs [] cycle = cycle
 cycle_refutes p lemmas arcs (line ∷ lines) cycle = inl cycle
 

@@ -1,6 +1,6 @@
 //! The arcs of a block while the lines of a lemma's proof are checked.
 
-ghost use Rattle.std.specs.Prelude.{◌≡◌, ◌<◌, ◌++◌, ◌∷◌, [], ℕ, List, None, length, true, false, IsTrue, is_some, not, IfOk, IfSome, IsSome, OnOk, MatchOption};
+ghost use Rattle.std.specs.Prelude.{◌≡◌, ◌<◌, ◌++◌, ◌∷◌, [], ℕ, List, None, length, true, false, IsTrue, is_some, not, IfOk, IfSome, IsSome, OnOk, OnErr, MatchOption};
 ghost use Rattle.std.specs.Bool.{MatchBool};
 ghost use Rattle.std.specs.List.{All};
 ghost use Rattle.network.specs.declared.parts.Lag.{Lag};
@@ -72,6 +72,7 @@ impl Bench {
             MatchBool closes (HasPositiveCycle (own ++ arc ∷ []))
             (IsMatrixOf (length self.old.rows) (own ++ arc ∷ []) self.new.rows)) }
         ensures unchanged { IfOk result (λ closes. closes ≡ true → self.new ≡ self.old) }
+        ensures failed { OnErr result (self.new ≡ self.old) }
     {
         prove!(self.block.activity_count() > 0);
         let Some(matrix) = matrix_with_arc(self.alloc, self.matrix.matrix(), arc)? else {

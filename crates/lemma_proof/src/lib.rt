@@ -13,4 +13,5 @@ mod shows;
 pub use bench::Bench;
 pub use law::refuted_law;
 pub use line::{Line, Overload};
+pub use refute::are_arcs;
 pub use shows::Lags;

@@ -16,7 +16,7 @@ use network::{Lag, Project};
 use std::alloc::{AllocError, Global};
 
 /// Whether each of these is an arc between activities, with a weight within the limits.
-fn are_arcs(project: &Project, arcs: &[Lag]) -> bool
+pub fn are_arcs(project: &Project, arcs: &[Lag]) -> bool
     ensures { IsTrue result ↔ All (IsArc project.now) arcs.now }
 {
     for arc in arcs {

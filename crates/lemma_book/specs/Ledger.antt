@@ -1,0 +1,113 @@
+-- What is proved of a project: the best schedule, arcs of the root, and lemmas.
+use Rattle.std.specs.Prelude.{◌≡◌, ◌+◌, ◌<◌, ◌≤◌, ◌-◌, ◌<ℤ◌, ◌-ℤ◌, ◌++◌, ◌∷◌, [], ℕ, ℤ, pos, List, length, replicate, slice_set, Option, None, Some, IfSome}
+use Rattle.std.specs.List.{All}
+use Rattle.network.specs.declared.parts.Lag.{Lag}
+use Rattle.network.specs.Problem.{AreStarts, IsBetween, Problem, activity_count, end_of, rules}
+use Rattle.network.specs.Walk.{HasPositiveCycle, IsMatrixOf}
+use Rattle.network.specs.Schedule.{IsFeasible, Meets, makespan}
+use Rattle.horizon.specs.Horizon.{horizon}
+use Rattle.longest_path.specs.Insert.{arc_of}
+use Rattle.reasons.specs.Reasons.{reverse_of}
+use Rattle.lemma_proof.specs.declared.line.Line.{Line}
+use Rattle.lemma_proof.specs.Bench.{BenchOf}
+use Rattle.lemma_proof.specs.Lines.{AreLemmas, IsIn, IsRefuted, MeetsNone, Slots, impossible}
+use Rattle.lemma_book.specs.declared.deadline.TheConstants.{MAX_CEILING}
+use Rattle.lemma_book.specs.declared.ledger.TheConstants.{MAX_SLOTS}
+
+pub record LedgerOf : Type 0 where
+  pub project : Problem
+  -- the starts of the best schedule
+  pub best : Option (List ℤ)
+  -- the root's arcs beside the project's rules, in the order in which they came
+  pub roots : List Lag
+  -- the lemmas of two arcs and more
+  pub lemmas : Slots
+
+-- the makespan is less than this
+abbrev pub deadline : Problem → ℤ → Lag
+deadline p bound = arc_of (end_of p) 0 (pos 1 -ℤ bound)
+
+-- which schedules are in question: those that are shorter than the best; where there is none, those that end by the
+-- horizon
+abbrev pub ceiling : Problem → Option (List ℤ) → ℤ
+ceiling p None = pos (horizon p + 1)
+ceiling p (Some starts) = makespan starts
+
+abbrev pub ceiling_of : LedgerOf → ℤ
+ceiling_of l = ceiling l.project l.best
+
+-- the root's arcs: the project's rules, and those that were proved
+abbrev pub own_of : LedgerOf → List Lag
+own_of l = rules l.project ++ l.roots
+
+-- The best schedule, if there is one, is feasible. Every feasible schedule in question meets all arcs of the root, and
+-- of each lemma not all arcs.
+pub record IsSound (l : LedgerOf) : Type 0 where
+  pub best : IfSome l.best (IsFeasible l.project)
+  pub roots : (s : List ℤ) → IsFeasible l.project s → makespan s <ℤ ceiling_of l → All (Meets s) (own_of l)
+  pub lemmas : (s : List ℤ) → IsFeasible l.project s → makespan s <ℤ ceiling_of l → MeetsNone s l.lemmas
+
+-- ---- What changes a ledger.
+
+-- nothing is proved but that a schedule in question meets the rules and the deadline
+abbrev pub first_ledger : Problem → LedgerOf
+first_ledger p = record { project = p; best = None; roots = deadline p (pos (horizon p + 1)) ∷ []; lemmas = [] }
+
+-- empty slots more, so that there is this one
+abbrev pub with_slot : Slots → ℕ → Slots
+with_slot lemmas slot = lemmas ++ replicate (slot + 1 - length lemmas) None
+
+-- a lemma is kept: one of no arc ends the search, one of one arc makes its reverse an arc of the root, and one of more
+-- fills a slot
+abbrev pub with_lemma : LedgerOf → ℕ → List Lag → LedgerOf
+with_lemma l slot [] = record l { roots = l.roots ++ impossible ∷ [] }
+with_lemma l slot (e ∷ []) = record l { roots = l.roots ++ reverse_of e ∷ [] }
+with_lemma l slot (e ∷ f ∷ arcs) = record l { lemmas = slice_set (with_slot l.lemmas slot) slot (Some (e ∷ f ∷ arcs)) }
+
+-- a shorter schedule is the best, and a schedule in question is shorter
+abbrev pub with_schedule : LedgerOf → List ℤ → LedgerOf
+with_schedule l starts = record l { best = Some starts; roots = l.roots ++ deadline l.project (makespan starts) ∷ [] }
+
+-- the lemma of a slot goes
+abbrev pub without_lemma : LedgerOf → ℕ → LedgerOf
+without_lemma l slot = record l { lemmas = slice_set l.lemmas slot None }
+
+-- ---- What is kept.
+
+-- the matrix of the root's arcs; none where they close a walk of positive weight
+abbrev pub IsRootOf : Problem → List Lag → Option BenchOf → Type 0
+IsRootOf p own None = HasPositiveCycle own
+IsRootOf p own (Some bench) = IsMatrixOf (activity_count p) own bench.rows
+
+pub record IsLedger (l : LedgerOf) (bench : Option BenchOf) : Type 0 where
+  pub sound : IsSound l
+  pub lemmas : AreLemmas l.project l.lemmas
+  pub root : IsRootOf l.project (own_of l) bench
+  pub within : IsBetween (pos 0) MAX_CEILING (ceiling_of l)
+
+-- ---- Who may change a ledger.
+
+-- the slot is one of the limit, and empty
+pub record IsFree (lemmas : Slots) (slot : ℕ) : Type 0 where
+  pub within : slot < MAX_SLOTS
+  pub empty : (lemma : List Lag) → ¬ IsIn lemmas slot lemma
+
+-- a lemma of two arcs and more has an empty slot
+abbrev pub HasRoom : Slots → ℕ → List Lag → Type 0
+HasRoom lemmas slot [] = Unit {0}
+HasRoom lemmas slot (e ∷ []) = Unit {0}
+HasRoom lemmas slot (e ∷ f ∷ arcs) = IsFree lemmas slot
+
+-- the lines refute the lemma's arcs beside what the ledger has
+pub record MayTake (l : LedgerOf) (slot : ℕ) (arcs : List Lag) (lines : List Line) : Type 0 where
+  pub room : HasRoom l.lemmas slot arcs
+  pub refuted : IsRefuted l.project l.lemmas (own_of l) arcs lines
+
+-- the starts are a feasible schedule that is in question
+pub record MayLead (l : LedgerOf) (starts : List ℤ) : Type 0 where
+  pub are_starts : AreStarts l.project starts
+  pub feasible : IsFeasible l.project starts
+  pub shorter : makespan starts <ℤ ceiling_of l
+
+abbrev pub ledger_of : Problem → Option (List ℤ) → List Lag → Slots → LedgerOf
+ledger_of p best roots lemmas = record { project = p; best = best; roots = roots; lemmas = lemmas }

@@ -1,0 +1,114 @@
+//! What is proved of a project, and what changes it.
+
+ghost use Rattle.std.specs.Prelude.{◌≡◌, ◌↔◌, ◌++◌, ◌∷◌, ◌<ℤ◌, [], ℤ, List, length, IsTrue, IfOk, OnOk, OnErr, MatchOption};
+ghost use Rattle.network.specs.declared.parts.Lag.{Lag};
+ghost use Rattle.network.specs.Problem.{activity_count};
+ghost use Rattle.network.specs.Schedule.{IsFeasible, Meets, makespan};
+ghost use Rattle.block.specs.Heads.{IsLight};
+ghost use Rattle.lemma_proof.specs.Lines.{IsRefuted, picked};
+ghost use Rattle.lemma_book.specs.Ledger.{LedgerOf, ceiling_of, first_ledger, own_of};
+
+use crate::deadline::{deadline, first_bench};
+use horizon::horizon_of;
+use lemma_proof::{Bench, Lags, Line, are_arcs};
+use network::{Lag, Project};
+use record_text::Starts;
+use std::alloc::{AllocError, Global};
+use std::marker::Model;
+
+/// How many slots there are at most.
+pub const MAX_SLOTS: usize = 1_048_576;
+
+/// What is proved of a project: the best schedule, arcs of the root, and lemmas.
+///
+/// At every moment the best schedule, if there is one, is feasible, and every feasible schedule in question, shorter
+/// than it or no longer than the horizon, meets all arcs of the root and of each lemma not all.
+#[derive(Drop)]
+pub struct Ledger<'a> {
+    alloc: Global,
+    project: &'a Project,
+    /// The starts of the best schedule.
+    best: Option<Starts>,
+    /// The root's arcs beside the project's rules, in the order in which they came.
+    roots: Vec<Lag>,
+    /// The matrix of the root's arcs. None where they close a walk of positive weight.
+    bench: Option<Bench>,
+    lemmas: Vec<Option<Lags>>,
+}
+
+impl<'a> Model for Ledger<'a> {
+    ghost use Rattle.lemma_book.specs.Ledger.{IsLedger, LedgerOf, ledger_of};
+
+    ghost Value = { LedgerOf };
+
+    ghost view = { λ s. ledger_of s.project.now s.best s.roots.items s.lemmas.items };
+
+    ghost invariant = { λ s. IsLedger (ledger_of s.project.now s.best s.roots.items s.lemmas.items) s.bench };
+}
+
+impl<'a> Ledger<'a> {
+    /// Nothing is proved but that a schedule in question ends by the horizon.
+    pub fn new(alloc: Global, project: &'a Project) -> Result<Ledger<'a>, AllocError>
+        ensures { IfOk result (λ x. x ≡ first_ledger project.now) }
+    {
+        let bound = horizon_of(project) + 1;
+        let mut roots = Vec::new(alloc);
+        roots.push(deadline(project, bound))?;
+        let bench = first_bench(alloc, project, bound)?;
+        Ok(Ledger {
+            alloc,
+            project,
+            best: None,
+            roots,
+            bench,
+            lemmas: Vec::new(alloc),
+        })
+    }
+
+    /// The places of the lines that show something new, if the lines refute these arcs beside what the ledger has.
+    pub fn refute(&mut self, arcs: &[Lag], lines: &[Line]) -> Result<Option<Vec<usize>>, AllocError>
+        ensures same { self.new ≡ self.old }
+        ensures refuted { IfOk result (λ found. MatchOption found
+            (¬ IsRefuted self.old.project self.old.lemmas (own_of self.old) arcs.now lines.now)
+            (λ used. IsRefuted self.old.project self.old.lemmas (own_of self.old) arcs.now lines.now
+            × IsRefuted self.old.project self.old.lemmas (own_of self.old) arcs.now (picked lines.now used.items))) }
+    {
+        let Some(bench) = &mut self.bench else {
+            if are_arcs(self.project, arcs) {
+                return Ok(Some(Vec::new(self.alloc)));
+            }
+            return Ok(None);
+        };
+        bench.refute(
+            self.alloc,
+            self.project,
+            self.lemmas.as_slice(),
+            arcs,
+            lines,
+        )
+    }
+
+    /// Adds an arc to the root's, which each schedule in question meets.
+    fn add_root(&mut self, arc: Lag) -> Result<(), AllocError>
+        requires light { IsLight (activity_count self.old.project) arc }
+        requires met { (s : List ℤ) → IsFeasible self.old.project s → makespan s <ℤ ceiling_of self.old → Meets s arc }
+        ensures added { OnOk result (self.new ≡ record self.old { roots = self.old.roots ++ arc ∷ [] }) }
+        ensures unchanged { OnErr result (self.new ≡ self.old) }
+    {
+        self.roots.push(arc)?;
+        let Some(bench) = &mut self.bench else {
+            return Ok(());
+        };
+        match bench.add_root(arc) {
+            Ok(false) => Ok(()),
+            Ok(true) => {
+                self.bench = None;
+                Ok(())
+            }
+            Err(e) => {
+                self.roots.pop();
+                Err(e)
+            }
+        }
+    }
+}

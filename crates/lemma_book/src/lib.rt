@@ -1,0 +1,7 @@
+//! The book of lemmas: what is proved of a project, and the only way to more.
+#![tactic(auto)]
+
+mod deadline;
+mod ledger;
+
+pub use ledger::{Ledger, MAX_SLOTS};
