@@ -3,5 +3,6 @@
 
 mod deadline;
 mod ledger;
+mod slots;
 
 pub use ledger::{Ledger, MAX_SLOTS};

@@ -1,0 +1,54 @@
+-- Which lemmas are in slots that were made, filled and emptied.
+use Rattle.std.proofs.Common.{◌≡◌, ◌≢◌, refl, sym, ap, ◌∙◌, subst, ℕ, zero, suc, ◌<◌, ◌≤◌, ◌+◌, ◌-◌, arith, ⊎_elim, ◌⊎◌, inl, inr, List, [], ◌∷◌, ◌++◌, length, replicate, get_or, set, Option, None, Some, slice_get, slice_set, append_assoc}
+use Rattle.std.proofs.lemmas.Bool.{cases_eq}
+use Rattle.std.proofs.lemmas.List.{get_or-replicate, get_or-set_other, get_or-set_same, length-replicate, length-set, replicate-append-replicate}
+use Rattle.std.proofs.lemmas.Option.{get_or_from_slice_get, slice_get-get_or, slice_get_within}
+use Rattle.network.specs.declared.parts.Lag.{Lag}
+use Rattle.lemma_proof.specs.Lines.{IsIn, Slots}
+use Rattle.lemma_book.specs.Ledger.{with_slot}
+
+none_there : (n k : ℕ) (lemma : List Lag) → ¬ IsIn (replicate n None) k lemma
+none_there n k lemma found =
+    let empty : List (Option (List Lag)) = replicate n None in
+    let lt : k < length empty = slice_get_within empty k (Some lemma) found in
+    let is : get_or empty k None ≡ Some lemma = get_or_from_slice_get empty k (Some lemma) None found in
+    let long : length empty ≡ n = length-replicate n None in
+    let low : k < n = omega (arith, lt, long) in
+    let none : get_or empty k None ≡ None = get_or-replicate n k None None low in
+    let bad : None ≡ Some lemma = sym none ∙ is in
+    cc
+
+pub in_more : (lemmas : Slots) (n k : ℕ) (lemma : List Lag) → IsIn (lemmas ++ replicate n None) k lemma → IsIn lemmas k lemma
+in_more [] n k lemma found = absurd (none_there n k lemma found)
+in_more (x ∷ lemmas) n zero lemma found = found
+in_more (x ∷ lemmas) n (suc k) lemma found = in_more lemmas n k lemma found
+
+pub in_with_slot : (lemmas : Slots) (slot k : ℕ) (lemma : List Lag) → IsIn (with_slot lemmas slot) k lemma → IsIn lemmas k lemma
+in_with_slot lemmas slot k lemma found = in_more lemmas (slot + 1 - length lemmas) k lemma found
+
+-- a lemma that is in a list of which one slot was set is in that slot, or was there
+pub in_set : (lemmas : Slots) (slot k : ℕ) (x : Option (List Lag)) (lemma : List Lag) → IsIn (slice_set lemmas slot x) k lemma → (x ≡ Some lemma) ⊎ IsIn lemmas k lemma
+in_set lemmas slot k x lemma found =
+    let lt : k < length (set lemmas slot x) = slice_get_within (set lemmas slot x) k (Some lemma) found in
+    let is : get_or (set lemmas slot x) k None ≡ Some lemma = get_or_from_slice_get (set lemmas slot x) k (Some lemma) None found in
+    ⊎_elim
+    (λ (same : k ≡ slot).
+    let long : length (set lemmas slot x) ≡ length lemmas = length-set lemmas slot x in
+    let low : slot < length lemmas = omega (arith, lt, long, same) in
+    let here : get_or (set lemmas slot x) slot None ≡ Some lemma = subst (λ (i : ℕ). get_or (set lemmas slot x) i None ≡ Some lemma) same is in
+    inl (sym (get_or-set_same lemmas slot x None low) ∙ here))
+    (λ (other : k ≡ slot → ⊥).
+    let old : get_or lemmas k None ≡ Some lemma = sym (get_or-set_other lemmas slot k x None other) ∙ is in
+    let long : length (set lemmas slot x) ≡ length lemmas = length-set lemmas slot x in
+    inr (slice_get-get_or lemmas k None (omega (arith, lt, long)) ∙ ap Some old))
+    (cases_eq k slot)
+
+-- ---- empty slots more
+
+push_none : (n : ℕ) → replicate {A = Option (List Lag)} n None ++ None ∷ [] ≡ replicate {A = Option (List Lag)} (n + 1) None
+push_none n = replicate-append-replicate n 1 None
+
+pub made_more : (old : Slots) (count i : ℕ) → count ≤ i → (old ++ replicate (i - count) None) ++ None ∷ [] ≡ old ++ replicate (i + 1 - count) None
+made_more old count i le =
+    let one : i + 1 - count ≡ (i - count) + 1 = omega (arith, le) in
+    append_assoc old (replicate (i - count) None) (None ∷ []) ∙ ap (λ (rest : Slots). old ++ rest) (push_none (i - count) ∙ ap (λ (n : ℕ). replicate {A = Option (List Lag)} n None) (sym one))
