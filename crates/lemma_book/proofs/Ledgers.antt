@@ -1,9 +1,9 @@
 -- A ledger stays sound.
-use Rattle.std.proofs.Common.{◌≡◌, refl, sym, ap, ◌∙◌, subst, ℕ, ◌+◌, ◌-◌, ◌<◌, arith, ℤ, pos, ◌+ℤ◌, ◌-ℤ◌, ◌≤ℤ◌, ◌<ℤ◌, ⊎_elim, ◌⊎◌, Bool, true, false, List, [], ◌∷◌, ◌++◌, length, append_assoc, Option, None, Some, IfSome, MatchOption}
+use Rattle.std.proofs.Common.{◌≡◌, refl, sym, ap, ◌∙◌, subst, ℕ, ◌+◌, ◌-◌, ◌<◌, arith, ℤ, pos, ◌+ℤ◌, ◌-ℤ◌, ◌≤ℤ◌, ◌<ℤ◌, ⊎_elim, ◌⊎◌, inl, inr, slice_set, Bool, true, false, List, [], ◌∷◌, ◌++◌, length, append_assoc, Option, None, Some, IfSome, MatchOption}
 use Rattle.std.specs.Bool.{MatchBool}
 use Rattle.std.specs.List.{All, Contains}
-use Rattle.std.proofs.lemmas.Int.{ints}
-use Rattle.std.proofs.lemmas.List.Elements.{All-append, All-contains, All-nil, All-push, Contains-append_left}
+use Rattle.std.proofs.lemmas.Int.{ints, by_lt_z}
+use Rattle.std.proofs.lemmas.List.Elements.{All-append, All-contains, All-head, All-nil, All-push, Contains-append_left}
 use Rattle.network.specs.declared.parts.Lag.{Lag}
 use Rattle.network.specs.Problem.{IsBetween, Problem, activity_count, end_of, rules}
 use Rattle.network.specs.Schedule.{start, IsFeasible, Meets, makespan}
@@ -12,10 +12,15 @@ use Rattle.horizon.specs.Horizon.{horizon}
 use Rattle.block.proofs.Existing.{cycle_part}
 use Rattle.lemma_proof.specs.Bench.{BenchOf}
 use Rattle.lemma_proof.specs.declared.line.Line.{Line}
-use Rattle.lemma_proof.specs.Lines.{AreLemmas, IsArc, IsIn, IsRefuted, MeetsNone, Slots}
+use Rattle.lemma_proof.specs.Lines.{AreLemmas, IsArc, IsIn, IsRefuted, MeetsNone, Slots, impossible}
 use Rattle.lemma_proof.proofs.Refuting.{cycle_refutes}
 use Rattle.lemma_book.specs.declared.deadline.TheConstants.{MAX_CEILING}
-use Rattle.lemma_book.specs.Ledger.{IsLedger, IsRootOf, IsSound, LedgerOf, ceiling_of, deadline, own_of}
+use Rattle.lemma_book.specs.Ledger.{IsLedger, IsRootOf, IsSound, LedgerOf, ceiling_of, deadline, own_of, root_of, with_slot, without_lemma}
+use Rattle.lemma_book.proofs.Slotted.{in_set, in_with_slot}
+use Rattle.lemma_proof.proofs.Truth.{none_meets_refuted}
+use Rattle.lemma_proof.proofs.Used.{light_reverse}
+use Rattle.reasons.specs.Reasons.{reverse_of}
+use Rattle.block.specs.Heads.{IsLight}
 
 pub deadline_met : (p : Problem) (s : List ℤ) (bound : ℤ) → IsFeasible p s → makespan s <ℤ bound → Meets s (deadline p bound)
 deadline_met p s bound feasible less =
@@ -86,4 +91,102 @@ pub ended_refutes : (l : LedgerOf) (arcs : List Lag) (lines : List Line) → All
 ended_refutes l arcs lines are cycle = record {
   are_arcs = are;
   refuted = cycle_refutes l.project l.lemmas (own_of l ++ arcs) lines (cycle_part (own_of l) (own_of l ++ arcs) (λ e c. Contains-append_left (own_of l) arcs e c) cycle);
+}
+
+-- no feasible schedule in question meets all arcs that are refuted
+pub refuted_out : (l : LedgerOf) (bench : Option BenchOf) (arcs : List Lag) (lines : List Line) → IsLedger l bench → IsRefuted l.project l.lemmas (own_of l) arcs lines → (s : List ℤ) → IsFeasible l.project s → makespan s <ℤ ceiling_of l → ¬ All (Meets s) arcs
+refuted_out l bench arcs lines is refuted s feasible less met =
+    none_meets_refuted l.project l.lemmas (own_of l ++ arcs) lines refuted.refuted s feasible (is.sound.lemmas s feasible less) (All-append (Meets s) (own_of l) arcs (is.sound.roots s feasible less) met)
+
+-- so it meets the root's arc that the lemma makes
+pub root_met : (l : LedgerOf) (bench : Option BenchOf) (arcs : List Lag) (lines : List Line) (arc : Lag) → IsLedger l bench → IsRefuted l.project l.lemmas (own_of l) arcs lines → root_of arcs ≡ Some arc → (s : List ℤ) → IsFeasible l.project s → makespan s <ℤ ceiling_of l → Meets s arc
+root_met l bench [] lines arc is refuted root s feasible less = absurd (refuted_out l bench [] lines is refuted s feasible less (All-nil (Meets s)))
+root_met l bench (e ∷ []) lines arc is refuted root s feasible less =
+    let same : reverse_of e ≡ arc = same_arc (reverse_of e) arc root in
+    by_lt_z (start s e.to) (start s e.from +ℤ e.weight)
+    (λ early. rw (sym same) (omega (arith, ints)))
+    (λ kept. absurd (refuted_out l bench (e ∷ []) lines is refuted s feasible less (All-push (Meets s) [] e (All-nil (Meets s)) kept)))
+  where
+    same_arc : (x y : Lag) → Some x ≡ Some y → x ≡ y
+    same_arc x y e = cc
+root_met l bench (e ∷ f ∷ arcs) lines arc is refuted root s feasible less = absurd (let bad : None ≡ Some arc = root in cc)
+
+pub light_root : (p : Problem) (arcs : List Lag) (arc : Lag) → 0 < activity_count p → All (IsArc p) arcs → root_of arcs ≡ Some arc → IsLight (activity_count p) arc
+light_root p [] arc some are root = let same : impossible ≡ arc = same_arc impossible arc root in rw (sym same) (record { from_activity = some; to_activity = some; light = record { at_least = omega (arith, ints); at_most = omega (arith, ints) } })
+  where
+    same_arc : (x y : Lag) → Some x ≡ Some y → x ≡ y
+    same_arc x y e = cc
+light_root p (e ∷ []) arc some are root = let same : reverse_of e ≡ arc = same_arc (reverse_of e) arc root in rw (sym same) (light_reverse p e (All-head (IsArc p) e [] are))
+  where
+    same_arc : (x y : Lag) → Some x ≡ Some y → x ≡ y
+    same_arc x y e = cc
+light_root p (e ∷ f ∷ arcs) arc some are root = absurd (let bad : None ≡ Some arc = root in cc)
+
+-- ---- a lemma more in a slot
+
+abbrev pub shelved : LedgerOf → ℕ → List Lag → LedgerOf
+shelved l slot arcs = record l { lemmas = slice_set (with_slot l.lemmas slot) slot (Some arcs) }
+
+in_shelved : (l : LedgerOf) (slot k : ℕ) (arcs lemma : List Lag) → IsIn (slice_set (with_slot l.lemmas slot) slot (Some arcs)) k lemma → (arcs ≡ lemma) ⊎ IsIn l.lemmas k lemma
+in_shelved l slot k arcs lemma found =
+    ⊎_elim
+    (λ (new : Some arcs ≡ Some lemma). inl (same arcs lemma new))
+    (λ (old : IsIn (with_slot l.lemmas slot) k lemma). inr (in_with_slot l.lemmas slot k lemma old))
+    (in_set (with_slot l.lemmas slot) slot k (Some arcs) lemma found)
+  where
+    same : (x y : List Lag) → Some x ≡ Some y → x ≡ y
+    same x y e = cc
+
+pub shelved_is : (l : LedgerOf) (bench : Option BenchOf) (slot : ℕ) (arcs : List Lag) (lines : List Line) → IsLedger l bench → IsRefuted l.project l.lemmas (own_of l) arcs lines → IsLedger (shelved l slot arcs) bench
+shelved_is l bench slot arcs lines is refuted = record {
+  sound = record {
+    best = is.sound.best;
+    roots = is.sound.roots;
+    lemmas = λ s feasible less k lemma found.
+        ⊎_elim
+        (λ (new : arcs ≡ lemma). rw (sym new) (refuted_out l bench arcs lines is refuted s feasible less))
+        (λ (old : IsIn l.lemmas k lemma). is.sound.lemmas s feasible less k lemma old)
+        (in_shelved l slot k arcs lemma found);
+  };
+  lemmas = λ k lemma found.
+      ⊎_elim
+      (λ (new : arcs ≡ lemma). rw (sym new) refuted.are_arcs)
+      (λ (old : IsIn l.lemmas k lemma). is.lemmas k lemma old)
+      (in_shelved l slot k arcs lemma found);
+  root = is.root;
+  within = is.within;
+}
+
+-- a lemma goes
+pub emptied_is : (l : LedgerOf) (bench : Option BenchOf) (slot : ℕ) → IsLedger l bench → IsLedger (without_lemma l slot) bench
+emptied_is l bench slot is = record {
+  sound = record {
+    best = is.sound.best;
+    roots = is.sound.roots;
+    lemmas = λ s feasible less k lemma found. is.sound.lemmas s feasible less k lemma (in_emptied k lemma found);
+  };
+  lemmas = λ k lemma found. is.lemmas k lemma (in_emptied k lemma found);
+  root = is.root;
+  within = is.within;
+}
+  where
+    in_emptied : (k : ℕ) (lemma : List Lag) → IsIn (slice_set l.lemmas slot None) k lemma → IsIn l.lemmas k lemma
+    in_emptied k lemma found = ⊎_elim (λ (none : None ≡ Some lemma). absurd (cc)) (λ (old : IsIn l.lemmas k lemma). old) (in_set l.lemmas slot k None lemma found)
+
+-- ---- a shorter schedule
+
+abbrev pub led : LedgerOf → List ℤ → LedgerOf
+led l starts = record l { best = Some starts }
+
+-- schedules in question are fewer
+pub led_is : (l : LedgerOf) (bench : Option BenchOf) (starts : List ℤ) → IsLedger l bench → IsFeasible l.project starts → makespan starts <ℤ ceiling_of l → pos 0 ≤ℤ makespan starts → IsLedger (led l starts) bench
+led_is l bench starts is feasible shorter least = record {
+  sound = record {
+    best = feasible;
+    roots = λ s f less. let below : makespan s <ℤ makespan starts = less in is.sound.roots s f (omega (arith, ints, below, shorter));
+    lemmas = λ s f less. let below : makespan s <ℤ makespan starts = less in is.sound.lemmas s f (omega (arith, ints, below, shorter));
+  };
+  lemmas = is.lemmas;
+  root = is.root;
+  within = let high = is.within.at_most in record { at_least = least; at_most = omega (arith, ints, high, shorter) };
 }

@@ -1,5 +1,5 @@
 -- What is proved of a project: the best schedule, arcs of the root, and lemmas.
-use Rattle.std.specs.Prelude.{◌≡◌, ◌+◌, ◌<◌, ◌≤◌, ◌-◌, ◌<ℤ◌, ◌-ℤ◌, ◌++◌, ◌∷◌, [], ℕ, ℤ, pos, List, length, replicate, slice_set, Option, None, Some, IfSome}
+use Rattle.std.specs.Prelude.{Bool, true, false, Vec, ◌≡◌, ◌+◌, ◌<◌, ◌≤◌, ◌-◌, ◌<ℤ◌, ◌-ℤ◌, ◌++◌, ◌∷◌, [], ℕ, ℤ, pos, List, length, replicate, slice_set, Option, None, Some, IfSome}
 use Rattle.std.specs.List.{All}
 use Rattle.network.specs.declared.parts.Lag.{Lag}
 use Rattle.network.specs.Problem.{AreStarts, IsBetween, Problem, activity_count, end_of, rules}
@@ -10,7 +10,8 @@ use Rattle.longest_path.specs.Insert.{arc_of}
 use Rattle.reasons.specs.Reasons.{reverse_of}
 use Rattle.lemma_proof.specs.declared.line.Line.{Line}
 use Rattle.lemma_proof.specs.Bench.{BenchOf}
-use Rattle.lemma_proof.specs.Lines.{AreLemmas, IsIn, IsRefuted, MeetsNone, Slots, impossible}
+use Rattle.lemma_proof.specs.Lines.{AreLemmas, IsIn, IsRefuted, MeetsNone, Slots, impossible, picked}
+use Rattle.std.specs.declared.alloc.Global.{Global}
 use Rattle.lemma_book.specs.declared.deadline.TheConstants.{MAX_CEILING}
 use Rattle.lemma_book.specs.declared.ledger.TheConstants.{MAX_SLOTS}
 
@@ -87,10 +88,14 @@ pub record IsLedger (l : LedgerOf) (bench : Option BenchOf) : Type 0 where
 
 -- ---- Who may change a ledger.
 
+-- there is a lemma in the slot
+abbrev pub IsFilled : Slots → ℕ → Type 0
+IsFilled lemmas slot = (lemma : List Lag) × IsIn lemmas slot lemma
+
 -- the slot is one of the limit, and empty
 pub record IsFree (lemmas : Slots) (slot : ℕ) : Type 0 where
   pub within : slot < MAX_SLOTS
-  pub empty : (lemma : List Lag) → ¬ IsIn lemmas slot lemma
+  pub empty : ¬ IsFilled lemmas slot
 
 -- a lemma of two arcs and more has an empty slot
 abbrev pub HasRoom : Slots → ℕ → List Lag → Type 0
@@ -111,3 +116,25 @@ pub record MayLead (l : LedgerOf) (starts : List ℤ) : Type 0 where
 
 abbrev pub ledger_of : Problem → Option (List ℤ) → List Lag → Slots → LedgerOf
 ledger_of p best roots lemmas = record { project = p; best = best; roots = roots; lemmas = lemmas }
+
+-- the arc that a lemma of fewer than two arcs makes one of the root's
+abbrev pub root_of : List Lag → Option Lag
+root_of [] = Some impossible
+root_of (e ∷ []) = Some (reverse_of e)
+root_of (e ∷ f ∷ arcs) = None
+
+-- a lemma is taken if it may be, by the lines that show something new; or nothing changes
+abbrev pub Takes : LedgerOf → ℕ → List Lag → List Line → Option (Vec ℕ Global) → LedgerOf → Type 0
+Takes old slot arcs lines None new = (¬ MayTake old slot arcs lines) × (new ≡ old)
+Takes old slot arcs lines (Some used) new =
+    MayTake old slot arcs lines × MayTake old slot arcs (picked lines used.items) × (new ≡ with_lemma old slot arcs)
+
+-- a schedule is taken if it may lead; or nothing changes
+abbrev pub Leads : LedgerOf → List ℤ → Bool → LedgerOf → Type 0
+Leads old starts true new = MayLead old starts × (new ≡ with_schedule old starts)
+Leads old starts false new = (¬ MayLead old starts) × (new ≡ old)
+
+-- a lemma goes if there is one in the slot
+abbrev pub LetsGo : LedgerOf → ℕ → Bool → LedgerOf → Type 0
+LetsGo old slot true new = IsFilled old.lemmas slot × (new ≡ without_lemma old slot)
+LetsGo old slot false new = (¬ IsFilled old.lemmas slot) × (new ≡ old)

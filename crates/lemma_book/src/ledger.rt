@@ -1,17 +1,21 @@
 //! What is proved of a project, and what changes it.
 
-ghost use Rattle.std.specs.Prelude.{◌≡◌, ◌↔◌, ◌++◌, ◌∷◌, ◌<ℤ◌, [], ℤ, List, length, IsTrue, IfOk, OnOk, OnErr, MatchOption};
+ghost use Rattle.std.specs.Prelude.{◌≡◌, ◌↔◌, ◌++◌, ◌∷◌, ◌<ℤ◌, ◌<◌, [], ℤ, Some, slice_set, List, length, IsTrue, IfOk, OnOk, OnErr, MatchOption};
+ghost use Rattle.std.specs.List.{All};
 ghost use Rattle.network.specs.declared.parts.Lag.{Lag};
-ghost use Rattle.network.specs.Problem.{activity_count};
+ghost use Rattle.network.specs.Problem.{Problem, activity_count};
 ghost use Rattle.network.specs.Schedule.{IsFeasible, Meets, makespan};
 ghost use Rattle.block.specs.Heads.{IsLight};
-ghost use Rattle.lemma_proof.specs.Lines.{IsRefuted, picked};
-ghost use Rattle.lemma_book.specs.Ledger.{LedgerOf, ceiling_of, first_ledger, own_of};
+ghost use Rattle.lemma_proof.specs.declared.line.Line.{Line};
+ghost use Rattle.lemma_proof.specs.Lines.{IsArc, IsRefuted, picked};
+ghost use Rattle.lemma_book.specs.Ledger.{LetsGo, MayTake, Takes, ceiling_of, first_ledger, own_of, root_of, with_lemma, with_slot};
 
 use crate::deadline::{deadline, first_bench};
+use crate::slots::{has_room, is_filled, make_slot};
 use horizon::horizon_of;
-use lemma_proof::{Bench, Lags, Line, are_arcs};
+use lemma_proof::{Bench, IMPOSSIBLE, Lags, Line, are_arcs};
 use network::{Lag, Project};
+use reasons::reverse_of;
 use record_text::Starts;
 use std::alloc::{AllocError, Global};
 use std::marker::Model;
@@ -34,6 +38,18 @@ pub struct Ledger<'a> {
     /// The matrix of the root's arcs. None where they close a walk of positive weight.
     bench: Option<Bench>,
     lemmas: Vec<Option<Lags>>,
+}
+
+/// The arc that a lemma of fewer than two arcs makes one of the root's.
+fn root_arc(arcs: &[Lag]) -> Option<Lag>
+    requires { (p : Problem) × All (IsArc p) arcs.now }
+    ensures { result ≡ root_of arcs.now }
+{
+    match arcs {
+        [] => Some(IMPOSSIBLE),
+        [arc] => Some(reverse_of(*arc)),
+        _ => None,
+    }
 }
 
 impl<'a> Model for Ledger<'a> {
@@ -110,5 +126,65 @@ impl<'a> Ledger<'a> {
                 Err(e)
             }
         }
+    }
+
+    /// Fills an empty slot.
+    fn shelve(&mut self, slot: usize, arcs: Lags) -> Result<(), AllocError>
+        requires within { slot < MAX_SLOTS }
+        requires refuted { (lines : List Line) × IsRefuted self.old.project self.old.lemmas (own_of self.old) arcs lines }
+        ensures filled { OnOk result (self.new ≡ record self.old {
+          lemmas = slice_set (with_slot self.old.lemmas slot) slot (Some arcs);
+        }) }
+        ensures unchanged { OnErr result (self.new ≡ self.old) }
+    {
+        make_slot(&mut self.lemmas, slot)?;
+        self.lemmas[slot] = Some(arcs);
+        Ok(())
+    }
+
+    /// Keeps a lemma.
+    fn keep(&mut self, slot: usize, arcs: Lags) -> Result<(), AllocError>
+        requires { (lines : List Line) × MayTake self.old slot arcs lines }
+        ensures kept { OnOk result (self.new ≡ with_lemma self.old slot arcs) }
+        ensures unchanged { OnErr result (self.new ≡ self.old) }
+    {
+        prove!(self.project.activity_count() >= 2);
+        match root_arc(arcs.as_slice()) {
+            Some(arc) => self.add_root(arc),
+            None => self.shelve(slot, arcs),
+        }
+    }
+
+    /// Takes a lemma, if lines refute its arcs beside what the ledger has: the places of the lines that show something
+    /// new. One of no arc ends the search, one of one arc makes its reverse an arc of the root, and one of more fills
+    /// the slot, which is empty.
+    pub fn lemma(
+        &mut self,
+        slot: usize,
+        arcs: Lags,
+        lines: &[Line],
+    ) -> Result<Option<Vec<usize>>, AllocError>
+        ensures taken { IfOk result (λ found. Takes self.old slot arcs lines.now found self.new) }
+        ensures unchanged { OnErr result (self.new ≡ self.old) }
+    {
+        if !has_room(self.lemmas.as_slice(), slot, arcs.as_slice()) {
+            return Ok(None);
+        }
+        let Some(used) = self.refute(arcs.as_slice(), lines)? else {
+            return Ok(None);
+        };
+        self.keep(slot, arcs)?;
+        Ok(Some(used))
+    }
+
+    /// Lets a lemma go. Whether there is one in the slot.
+    pub fn let_go(&mut self, slot: usize) -> bool
+        ensures { LetsGo self.old slot result self.new }
+    {
+        if !is_filled(self.lemmas.as_slice(), slot) {
+            return false;
+        }
+        self.lemmas[slot] = None;
+        true
     }
 }

@@ -2,21 +2,26 @@
 
 ghost use Rattle.std.specs.Prelude.{◌≡◌, ◌↔◌, ◌<◌, ◌++◌, length, replicate, None, IsTrue, OnOk, OnErr};
 ghost use Rattle.lemma_book.specs.declared.ledger.TheConstants.{MAX_SLOTS};
-ghost use Rattle.lemma_book.specs.Ledger.{HasRoom, IsFree, with_slot};
+ghost use Rattle.lemma_book.specs.Ledger.{HasRoom, IsFilled, IsFree, with_slot};
 
 use crate::ledger::MAX_SLOTS;
 use lemma_proof::Lags;
 use network::Lag;
 use std::alloc::AllocError;
 
+/// Whether there is a lemma in the slot.
+pub(crate) fn is_filled(lemmas: &[Option<Lags>], slot: usize) -> bool
+    ensures filled { IsTrue result ↔ IsFilled lemmas.now slot }
+    ensures inside { IsTrue result → slot < length lemmas.now }
+{
+    matches!(lemmas.get(slot), Some(Some(_)))
+}
+
 /// Whether a slot is one of the limit, and empty.
 fn is_free(lemmas: &[Option<Lags>], slot: usize) -> bool
     ensures { IsTrue result ↔ IsFree lemmas.now slot }
 {
-    if slot >= MAX_SLOTS {
-        return false;
-    }
-    !matches!(lemmas.get(slot), Some(Some(_)))
+    slot < MAX_SLOTS && !is_filled(lemmas, slot)
 }
 
 /// Whether a lemma of these arcs has the slot that it needs.

@@ -14,4 +14,4 @@ pub use bench::Bench;
 pub use law::refuted_law;
 pub use line::{Line, Overload};
 pub use refute::are_arcs;
-pub use shows::Lags;
+pub use shows::{IMPOSSIBLE, Lags};

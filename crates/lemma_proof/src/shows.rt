@@ -24,7 +24,7 @@ use rivals::are_incompatible;
 pub type Lags = Listed<Lag>;
 
 /// An arc that no starts meet.
-const IMPOSSIBLE: Lag = Lag {
+pub const IMPOSSIBLE: Lag = Lag {
     from: 0,
     to: 0,
     weight: 1,

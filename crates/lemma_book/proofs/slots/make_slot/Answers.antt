@@ -19,8 +19,8 @@ pub returns-clause-made : goal.returns-clause-made
 returns-clause-made c =
     let past = c.loop-test.false in
     let many : c.loop.counter - c.len-count.result ≡ c.args.slot + 1 - length c.args.lemmas.now.items =
-        ⊎_elim
-        (λ (few : c.len-count.result < c.args.slot + 1). let most = c.loop.auto.counter-end (omega (arith, few)) in let count = c.loop.invariant.count in omega arith)
-        (λ (late : c.args.slot + 1 ≤ c.len-count.result). let same = c.loop.invariant.none late in let count = c.loop.invariant.count in omega arith)
-        (cases_lt c.len-count.result (c.args.slot + 1)) in
+    ⊎_elim
+    (λ (few : c.len-count.result < c.args.slot + 1). let most = c.loop.auto.counter-end (omega (arith, few)) in let count = c.loop.invariant.count in omega arith)
+    (λ (late : c.args.slot + 1 ≤ c.len-count.result). let same = c.loop.invariant.none late in let count = c.loop.invariant.count in omega arith)
+    (cases_lt c.len-count.result (c.args.slot + 1)) in
     c.loop.invariant.made ∙ ap (λ (n : ℕ). c.args.lemmas.now.items ++ replicate {A = Option (List Lag)} n None) many
