@@ -1,3 +1,4 @@
 pub mod Deadlines
 pub mod Ledgers
 pub mod Slotted
+pub mod Claims

@@ -1,16 +1,18 @@
 //! What is proved of a project, and what changes it.
 
-ghost use Rattle.std.specs.Prelude.{◌≡◌, ◌↔◌, ◌++◌, ◌∷◌, ◌<ℤ◌, ◌<◌, [], ℤ, Some, slice_set, List, length, IsTrue, IfOk, OnOk, OnErr, MatchOption};
+ghost use Rattle.std.specs.Prelude.{◌≡◌, ◌↔◌, ◌++◌, ◌∷◌, ◌<ℤ◌, ◌<◌, [], ℤ, pos, Some, slice_set, List, length, IsTrue, IfOk, OnOk, OnErr, MatchOption};
 ghost use Rattle.std.specs.List.{All};
 ghost use Rattle.network.specs.declared.parts.Lag.{Lag};
-ghost use Rattle.network.specs.Problem.{Problem, activity_count};
+ghost use Rattle.network.specs.Problem.{IsBetween, Problem, activity_count};
+ghost use Rattle.lemma_book.specs.declared.deadline.TheConstants.{MAX_CEILING};
 ghost use Rattle.network.specs.Schedule.{IsFeasible, Meets, makespan};
 ghost use Rattle.block.specs.Heads.{IsLight};
 ghost use Rattle.lemma_proof.specs.declared.line.Line.{Line};
 ghost use Rattle.lemma_proof.specs.Lines.{IsArc, IsRefuted, picked};
-ghost use Rattle.lemma_book.specs.Ledger.{LetsGo, MayTake, Takes, ceiling_of, first_ledger, own_of, root_of, with_lemma, with_slot};
+ghost use Rattle.lemma_book.specs.Ledger.{Leads, LetsGo, MayLead, MayTake, Takes, ceiling_of, first_ledger, own_of, root_of, with_lemma, with_slot};
 
 use crate::deadline::{deadline, first_bench};
+use crate::leading::{are_starts, is_feasible};
 use crate::slots::{has_room, is_filled, make_slot};
 use horizon::horizon_of;
 use lemma_proof::{Bench, IMPOSSIBLE, Lags, Line, are_arcs};
@@ -38,6 +40,13 @@ pub struct Ledger<'a> {
     /// The matrix of the root's arcs. None where they close a walk of positive weight.
     bench: Option<Bench>,
     lemmas: Vec<Option<Lags>>,
+}
+
+/// The last of these starts, that of the end; 0 if there are none.
+fn last_of(starts: &[i64]) -> i64
+    ensures { result ≡ makespan starts.now }
+{
+    starts.last().copied().unwrap_or(0)
 }
 
 /// The arc that a lemma of fewer than two arcs makes one of the root's.
@@ -186,5 +195,48 @@ impl<'a> Ledger<'a> {
         }
         self.lemmas[slot] = None;
         true
+    }
+
+    /// What schedules in question are shorter than: the makespan of the best one, or the horizon and one.
+    pub fn ceiling(&self) -> i64
+        ensures value { result ≡ ceiling_of self.now }
+        ensures within { IsBetween (pos 0) MAX_CEILING result }
+    {
+        match &self.best {
+            Some(starts) => last_of(starts.as_slice()),
+            None => horizon_of(self.project) + 1,
+        }
+    }
+
+    /// Whether starts are a feasible schedule that is in question.
+    fn may_lead(&self, starts: &[i64]) -> Result<bool, AllocError>
+        ensures { IfOk result (λ may. IsTrue may ↔ MayLead self.now starts.now) }
+    {
+        if !are_starts(self.project, starts) {
+            return Ok(false);
+        }
+        if last_of(starts) >= self.ceiling() {
+            return Ok(false);
+        }
+        is_feasible(self.alloc, self.project, starts)
+    }
+
+    /// Takes a schedule, if it is feasible and in question: from now on those are that are shorter. Starts are by
+    /// activity.
+    pub fn schedule(&mut self, starts: Starts) -> Result<bool, AllocError>
+        ensures led { IfOk result (λ taken. Leads self.old starts taken self.new) }
+        ensures unchanged { OnErr result (self.new ≡ self.old) }
+    {
+        if !self.may_lead(starts.as_slice())? {
+            return Ok(false);
+        }
+        prove!(self.project.activity_count() >= 2);
+        let arc = deadline(self.project, last_of(starts.as_slice()));
+        let before = self.best.replace(starts);
+        if let Err(e) = self.add_root(arc) {
+            self.best = before;
+            return Err(e);
+        }
+        Ok(true)
     }
 }

@@ -2,6 +2,7 @@
 #![tactic(auto)]
 
 mod deadline;
+mod leading;
 mod ledger;
 mod slots;
 

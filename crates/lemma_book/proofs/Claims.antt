@@ -1,0 +1,65 @@
+-- What can be read off a ledger is true.
+use Rattle.std.proofs.Common.{◌≡◌, refl, sym, ap, ◌∙◌, subst, ℕ, suc, ◌≤◌, ◌+◌, ◌-◌, arith, ℤ, pos, ◌+ℤ◌, ◌≤ℤ◌, ◌<ℤ◌, ⊎_elim, List, length, Option, None, Some}
+use Rattle.std.specs.Int.{int_min}
+use Rattle.std.specs.List.{All, Contains}
+use Rattle.std.proofs.lemmas.Int.{ints, by_lt_z, clamps}
+use Rattle.std.proofs.lemmas.List.Elements.{All-contains}
+use Rattle.network.specs.declared.parts.Lag.{Lag}
+use Rattle.network.specs.Problem.{IsProject, Problem, activity_count, end_of, rules, start_arc}
+use Rattle.network.specs.Schedule.{start, HasNoSchedule, IsFeasible, IsLowerBound, IsShortest, Meets, makespan}
+use Rattle.network.specs.Walk.{weight, HasPositiveCycle}
+use Rattle.network.proofs.Schedules.{start_rule, walk_holds}
+use Rattle.horizon.specs.Horizon.{horizon}
+use Rattle.horizon.proofs.Sooner.{horizon_suffices}
+use Rattle.longest_path.specs.Insert.{arc_of}
+use Rattle.lemma_proof.specs.Bench.{BenchOf}
+use Rattle.reasons.specs.Reasons.{Implies}
+use Rattle.reasons.proofs.Weighing.{MeetsAll, implied_met}
+use Rattle.lemma_book.specs.Ledger.{IsLedger, IsSound, LedgerOf, ceiling_of, own_of}
+
+own_met : (l : LedgerOf) (s : List ℤ) → IsSound l → IsFeasible l.project s → makespan s <ℤ ceiling_of l → MeetsAll s (own_of l)
+own_met l s sound feasible less e c = All-contains (Meets s) (own_of l) e (sound.roots s feasible less) c
+
+-- where the root's arcs close a walk of positive weight, no schedule is in question
+pub none_shorter : (l : LedgerOf) (s : List ℤ) → IsSound l → HasPositiveCycle (own_of l) → IsFeasible l.project s → ceiling_of l ≤ℤ makespan s
+none_shorter l s sound cycle feasible =
+    by_lt_z (makespan s) (ceiling_of l)
+    (λ less.
+    let h : (start s cycle.0 +ℤ weight cycle.1) ≤ℤ start s cycle.0 = walk_holds (own_of l) s (own_met l s sound feasible less) cycle.0 cycle.0 cycle.1 cycle.2.closed in
+    let above : pos 0 <ℤ weight cycle.1 = cycle.2.positive in
+    absurd (omega (arith, ints)))
+    (λ reached. reached)
+
+pub shortest : (l : LedgerOf) (starts : List ℤ) → l.best ≡ Some starts → IsSound l → HasPositiveCycle (own_of l) → IsShortest l.project (makespan starts)
+shortest l starts best sound cycle =
+    let feasible : IsFeasible l.project starts = rw best at sound.best in
+    let is : ceiling_of l ≡ makespan starts = rw best refl in
+    record { witness = (starts, feasible, refl); bound = λ s f. let reached = none_shorter l s sound cycle f in omega (arith, ints, is, reached) }
+
+pub no_schedule : (l : LedgerOf) → IsProject l.project → l.best ≡ None → IsSound l → HasPositiveCycle (own_of l) → HasNoSchedule l.project
+no_schedule l is best sound cycle = λ s feasible.
+    let sooner = horizon_suffices l.project s is feasible in
+    let top : ceiling_of l ≡ pos (horizon l.project + 1) = rw best refl in
+    let reached = none_shorter l sooner.0 sound cycle sooner.1.feasible in
+    omega (arith, ints, top, reached, sooner.1.in_time)
+
+-- no schedule is shorter than the least end by the root, or than the ceiling
+pub bounded : (l : LedgerOf) (least : ℤ) → IsSound l → Implies (own_of l) (arc_of 0 (end_of l.project) least) → IsLowerBound l.project (int_min least (ceiling_of l))
+bounded l least sound implied s feasible =
+    by_lt_z (makespan s) (ceiling_of l)
+    (λ less.
+    let met : (start s 0 +ℤ least) ≤ℤ start s (end_of l.project) = implied_met (own_of l) s (own_met l s sound feasible less) (arc_of 0 (end_of l.project) least) implied in
+    let last : start s (end_of l.project) ≡ makespan s = ap (λ n. start s (n - 1)) (sym feasible.schedule.whole) in
+    let first : start s 0 ≡ pos 0 = feasible.schedule.from_zero in
+    omega (arith, ints, clamps))
+    (λ reached. omega (arith, ints, clamps))
+
+pub makespan_low : (p : Problem) (s : List ℤ) → 2 ≤ activity_count p → IsFeasible p s → pos 0 ≤ℤ makespan s
+makespan_low p s two feasible =
+    let b : ℕ = activity_count p - 2 in
+    let there : Contains (rules p) (start_arc (suc b)) = start_rule p b (omega (arith, two)) in
+    let met : Meets s (start_arc (suc b)) = All-contains (Meets s) (rules p) (start_arc (suc b)) feasible.schedule.rules_met there in
+    let first : start s 0 ≡ pos 0 = feasible.schedule.from_zero in
+    let last : length s - 1 ≡ suc b = let long = feasible.schedule.whole in omega (arith, two, long) in
+    let is : makespan s ≡ start s (suc b) = ap (start s) last in
+    omega (arith, ints)
