@@ -1,21 +1,24 @@
 -- What can be read off a ledger is true.
-use Rattle.std.proofs.Common.{◌≡◌, refl, sym, ap, ◌∙◌, subst, ℕ, suc, ◌≤◌, ◌+◌, ◌-◌, arith, ℤ, pos, ◌+ℤ◌, ◌≤ℤ◌, ◌<ℤ◌, ⊎_elim, List, length, Option, None, Some}
+use Rattle.std.proofs.Common.{◌≡◌, refl, sym, ap, ◌∙◌, subst, ℕ, suc, ◌≤◌, ◌+◌, ◌-◌, arith, ℤ, pos, ◌+ℤ◌, ◌≤ℤ◌, ◌<ℤ◌, ⊎_elim, List, length, Option, None, Some, Bool, true, false, is_some}
 use Rattle.std.specs.Int.{int_min}
 use Rattle.std.specs.List.{All, Contains}
+use Rattle.lemma_proof.specs.Bench.{BenchOf}
+use Rattle.std.proofs.lemmas.Bool.{false≢true}
 use Rattle.std.proofs.lemmas.Int.{ints, by_lt_z, clamps}
 use Rattle.std.proofs.lemmas.List.Elements.{All-contains}
 use Rattle.network.specs.declared.parts.Lag.{Lag}
 use Rattle.network.specs.Problem.{IsProject, Problem, activity_count, end_of, rules, start_arc}
 use Rattle.network.specs.Schedule.{start, HasNoSchedule, IsFeasible, IsLowerBound, IsShortest, Meets, makespan}
-use Rattle.network.specs.Walk.{weight, HasPositiveCycle}
+use Rattle.network.specs.Walk.{Rows, entry, weight, HasNoPositiveCycle, HasPositiveCycle, IsMatrixOf}
 use Rattle.network.proofs.Schedules.{start_rule, walk_holds}
 use Rattle.horizon.specs.Horizon.{horizon}
 use Rattle.horizon.proofs.Sooner.{horizon_suffices}
 use Rattle.longest_path.specs.Insert.{arc_of}
-use Rattle.lemma_proof.specs.Bench.{BenchOf}
+use Rattle.block.proofs.Implying.{implied_entry}
+use Rattle.lemma_proof.proofs.Held.{not_both}
 use Rattle.reasons.specs.Reasons.{Implies}
 use Rattle.reasons.proofs.Weighing.{MeetsAll, implied_met}
-use Rattle.lemma_book.specs.Ledger.{IsLedger, IsSound, LedgerOf, ceiling_of, own_of}
+use Rattle.lemma_book.specs.Ledger.{IsBoundOf, IsRootOf, IsSound, LedgerOf, ceiling_of, own_of}
 
 own_met : (l : LedgerOf) (s : List ℤ) → IsSound l → IsFeasible l.project s → makespan s <ℤ ceiling_of l → MeetsAll s (own_of l)
 own_met l s sound feasible less e c = All-contains (Meets s) (own_of l) e (sound.roots s feasible less) c
@@ -63,3 +66,41 @@ makespan_low p s two feasible =
     let last : length s - 1 ≡ suc b = let long = feasible.schedule.whole in omega (arith, two, long) in
     let is : makespan s ≡ start s (suc b) = ap (start s) last in
     omega (arith, ints)
+
+-- ---- the bound
+
+both : (arcs : List Lag) → HasNoPositiveCycle arcs → HasPositiveCycle arcs → ⊥
+both arcs none cycle = not_both arcs none cycle
+
+pub ended_bound : (l : LedgerOf) (bound : ℤ) → bound ≡ ceiling_of l → HasPositiveCycle (own_of l) → IsBoundOf l bound
+ended_bound l bound is cycle = record { ended = λ _. is; going = λ none. absurd (both (own_of l) none cycle) }
+
+pub ended_law : (l : LedgerOf) (bound : ℤ) → bound ≡ ceiling_of l → IsSound l → HasPositiveCycle (own_of l) → IsLowerBound l.project bound
+ended_law l bound is sound cycle s feasible = let reached = none_shorter l s sound cycle feasible in omega (arith, ints, is, reached)
+
+pub going_bound : (l : LedgerOf) (rows : Rows) (least bound : ℤ) → 2 ≤ activity_count l.project → IsMatrixOf (activity_count l.project) (own_of l) rows → entry rows 0 (end_of l.project) ≡ Some least → bound ≡ int_min least (ceiling_of l) → IsBoundOf l bound
+going_bound l rows least bound two m at is = record {
+  ended = λ cycle. absurd (both (own_of l) m.no_cycle cycle);
+  going = λ none. (least, rw at at (m.greatest 0 (end_of l.project) (omega (arith, two)) (omega (arith, two))), is);
+}
+
+pub going_law : (l : LedgerOf) (rows : Rows) (least bound : ℤ) → 2 ≤ activity_count l.project → IsSound l → IsMatrixOf (activity_count l.project) (own_of l) rows → entry rows 0 (end_of l.project) ≡ Some least → bound ≡ int_min least (ceiling_of l) → IsLowerBound l.project bound
+going_law l rows least bound two sound m at is = rw is (bounded l least sound (implied_entry (activity_count l.project) (own_of l) rows 0 (end_of l.project) least m (omega (arith, two)) (omega (arith, two)) at))
+
+-- ---- what is kept says whether the root's arcs close a walk of positive weight
+
+pub root_ended : (p : Problem) (own : List Lag) (bench : Option BenchOf) → is_some bench ≡ false → IsRootOf p own bench → HasPositiveCycle own
+root_ended p own None none root = root
+root_ended p own (Some b) none root = absurd (false≢true (sym none))
+
+pub root_going : (p : Problem) (own : List Lag) (bench : Option BenchOf) → is_some bench ≡ true → IsRootOf p own bench → HasNoPositiveCycle own
+root_going p own None some root = absurd (false≢true some)
+root_going p own (Some b) some root = root.no_cycle
+
+pub some_there : {X : Type 0} (o : Option X) → is_some o ≡ true → (x : X) × (o ≡ Some x)
+some_there None some = absurd (false≢true some)
+some_there (Some x) some = (x, refl)
+
+pub none_here : {X : Type 0} (o : Option X) → is_some o ≡ false → o ≡ None
+none_here None none = refl
+none_here (Some x) none = absurd (false≢true (sym none))

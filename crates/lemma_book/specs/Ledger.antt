@@ -1,10 +1,13 @@
 -- What is proved of a project: the best schedule, arcs of the root, and lemmas.
-use Rattle.std.specs.Prelude.{Bool, true, false, Vec, ◌≡◌, ◌+◌, ◌<◌, ◌≤◌, ◌-◌, ◌<ℤ◌, ◌-ℤ◌, ◌++◌, ◌∷◌, [], ℕ, ℤ, pos, List, length, replicate, slice_set, Option, None, Some, IfSome}
+use Rattle.std.specs.Prelude.{Bool, true, false, Vec, ◌≡◌, ◌≢◌, ◌+◌, ◌<◌, ◌≤◌, ◌-◌, ◌<ℤ◌, ◌-ℤ◌, ◌++◌, ◌∷◌, [], ℕ, ℤ, pos, List, length, replicate, slice_set, Option, None, Some, IfSome}
+use Rattle.std.specs.Int.{int_min}
 use Rattle.std.specs.List.{All}
 use Rattle.network.specs.declared.parts.Lag.{Lag}
 use Rattle.network.specs.Problem.{AreStarts, IsBetween, Problem, activity_count, end_of, rules}
-use Rattle.network.specs.Walk.{HasPositiveCycle, IsMatrixOf}
+use Rattle.network.specs.Walk.{HasNoPositiveCycle, HasPositiveCycle, IsGreatestWeight, IsMatrixOf}
 use Rattle.network.specs.Schedule.{IsFeasible, Meets, makespan}
+use Rattle.record_text.specs.declared.proved.Proved.{Proved}
+use Rattle.record_text.specs.declared.proved.Proved.TheVariants as proved
 use Rattle.horizon.specs.Horizon.{horizon}
 use Rattle.longest_path.specs.Insert.{arc_of}
 use Rattle.reasons.specs.Reasons.{reverse_of}
@@ -138,3 +141,19 @@ Leads old starts false new = (¬ MayLead old starts) × (new ≡ old)
 abbrev pub LetsGo : LedgerOf → ℕ → Bool → LedgerOf → Type 0
 LetsGo old slot true new = IsFilled old.lemmas slot × (new ≡ without_lemma old slot)
 LetsGo old slot false new = (¬ IsFilled old.lemmas slot) × (new ≡ old)
+
+-- ---- What can be read off a ledger.
+
+-- once the root's arcs close a walk of positive weight, the ceiling; before that the least end by these arcs, or the
+-- ceiling where that is less
+pub record IsBoundOf (l : LedgerOf) (bound : ℤ) : Type 0 where
+  pub ended : HasPositiveCycle (own_of l) → bound ≡ ceiling_of l
+  pub going :
+      HasNoPositiveCycle (own_of l) →
+      (least : ℤ) × IsGreatestWeight (own_of l) 0 (end_of l.project) (Some least) × (bound ≡ int_min least (ceiling_of l))
+
+-- the best schedule is optimal, or there is none, once the root's arcs close a walk of positive weight
+abbrev pub Claims : LedgerOf → Proved → Type 0
+Claims l (proved.Optimal makespan) = HasPositiveCycle (own_of l) × (l.best ≢ None) × (makespan ≡ ceiling_of l)
+Claims l (proved.Bound bound) = HasNoPositiveCycle (own_of l) × IsBoundOf l bound
+Claims l proved.NoSchedule = HasPositiveCycle (own_of l) × (l.best ≡ None)

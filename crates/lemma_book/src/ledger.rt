@@ -5,11 +5,12 @@ ghost use Rattle.std.specs.List.{All};
 ghost use Rattle.network.specs.declared.parts.Lag.{Lag};
 ghost use Rattle.network.specs.Problem.{IsBetween, Problem, activity_count};
 ghost use Rattle.lemma_book.specs.declared.deadline.TheConstants.{MAX_CEILING};
-ghost use Rattle.network.specs.Schedule.{IsFeasible, Meets, makespan};
+ghost use Rattle.network.specs.Schedule.{IsFeasible, IsLowerBound, Meets, makespan};
+ghost use Rattle.record_text.specs.FirstWrong.{IsFactOf};
 ghost use Rattle.block.specs.Heads.{IsLight};
 ghost use Rattle.lemma_proof.specs.declared.line.Line.{Line};
 ghost use Rattle.lemma_proof.specs.Lines.{IsArc, IsRefuted, picked};
-ghost use Rattle.lemma_book.specs.Ledger.{Leads, LetsGo, MayLead, MayTake, Takes, ceiling_of, first_ledger, own_of, root_of, with_lemma, with_slot};
+ghost use Rattle.lemma_book.specs.Ledger.{Claims, IsBoundOf, Leads, LetsGo, MayLead, MayTake, Takes, ceiling_of, first_ledger, own_of, root_of, with_lemma, with_slot};
 
 use crate::deadline::{deadline, first_bench};
 use crate::leading::{are_starts, is_feasible};
@@ -18,7 +19,7 @@ use horizon::horizon_of;
 use lemma_proof::{Bench, IMPOSSIBLE, Lags, Line, are_arcs};
 use network::{Lag, Project};
 use reasons::reverse_of;
-use record_text::Starts;
+use record_text::{Proved, Starts};
 use std::alloc::{AllocError, Global};
 use std::marker::Model;
 
@@ -238,5 +239,40 @@ impl<'a> Ledger<'a> {
             return Err(e);
         }
         Ok(true)
+    }
+
+    /// What no feasible schedule is shorter than: the least end by the root's arcs, or the ceiling where that is less or
+    /// no schedule is in question.
+    pub fn bound(&self) -> i64
+        ensures value { IsBoundOf self.now result }
+        ensures law { IsLowerBound self.now.project result }
+    {
+        let ceiling = self.ceiling();
+        let Some(bench) = &self.bench else {
+            return ceiling;
+        };
+        prove!(self.project.activity_count() >= 2);
+        bench
+            .weight(0, self.project.activity_count() - 1)
+            .min(ceiling)
+    }
+
+    /// What is proved now. It is true of the project.
+    pub fn claim(&self) -> Proved
+        ensures claims { Claims self.now result }
+        ensures law { IsFactOf self.now.project result }
+    {
+        prove!(self.project.activity_count() >= 2);
+        if self.bench.is_some() {
+            return Proved::Bound {
+                bound: self.bound(),
+            };
+        }
+        if self.best.is_some() {
+            return Proved::Optimal {
+                makespan: self.ceiling(),
+            };
+        }
+        Proved::NoSchedule
     }
 }

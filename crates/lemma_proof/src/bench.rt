@@ -1,6 +1,6 @@
 //! The arcs of a block while the lines of a lemma's proof are checked.
 
-ghost use Rattle.std.specs.Prelude.{◌≡◌, ◌<◌, ◌++◌, ◌∷◌, [], ℕ, List, None, length, true, false, IsTrue, is_some, not, IfOk, IfSome, IsSome, OnOk, OnErr, MatchOption};
+ghost use Rattle.std.specs.Prelude.{◌≡◌, ◌<◌, ◌++◌, ◌∷◌, [], ℕ, List, None, Some, length, true, false, IsTrue, is_some, not, IfOk, IfSome, IsSome, OnOk, OnErr, MatchOption};
 ghost use Rattle.std.specs.Bool.{MatchBool};
 ghost use Rattle.std.specs.List.{All};
 ghost use Rattle.network.specs.declared.parts.Lag.{Lag};
@@ -87,12 +87,12 @@ impl Bench {
     }
 
     /// The greatest weight of a walk over the root's arcs.
-    pub fn weight(&self, a: usize, b: usize) -> Option<i64>
+    pub fn weight(&self, a: usize, b: usize) -> i64
         requires from_activity { a < length self.now.rows }
         requires to_activity { b < length self.now.rows }
-        ensures { result ≡ entry self.now.rows a b }
+        ensures { entry self.now.rows a b ≡ Some result }
     {
-        self.matrix.matrix().get(a, b)
+        self.matrix.matrix().get(a, b).unwrap_or(0)
     }
 
     /// Begins anew, with no arc beside the matrix.
