@@ -14,7 +14,6 @@ use Rattle.network.proofs.Walks.{IsWalk-append, weight-append}
 use Rattle.block.proofs.Existing.{cycle_part}
 use Rattle.longest_path.specs.Insert.{arc_of, weight_over, rows_over, AddsArc, ClosesCycle, FillsRows}
 use Rattle.longest_path.specs.Matrix.{joined, Reaches, IsFull}
-use Rattle.longest_path.proofs.Full.{full_over}
 use Rattle.longest_path.proofs.Inserted.{length-rows_over, entry-rows_over}
 use Rattle.longest_path.proofs.Reach.{Reaches-weaker, greater-more, joined-some}
 use Rattle.reasons.specs.declared.weights.TheConstants.{MAX_ARC_WEIGHT}

@@ -1,9 +1,8 @@
 -- A ledger stays sound.
-use Rattle.std.proofs.Common.{◌≡◌, refl, sym, ap, ◌∙◌, subst, ℕ, ◌+◌, ◌-◌, ◌<◌, arith, ℤ, pos, ◌+ℤ◌, ◌-ℤ◌, ◌≤ℤ◌, ◌<ℤ◌, ⊎_elim, ◌⊎◌, inl, inr, slice_set, Bool, true, false, List, [], ◌∷◌, ◌++◌, length, append_assoc, Option, None, Some, IfSome, MatchOption}
-use Rattle.std.specs.Bool.{MatchBool}
-use Rattle.std.specs.List.{All, Contains}
+use Rattle.std.proofs.Common.{◌≡◌, sym, ap, subst, ℕ, ◌+◌, ◌-◌, ◌<◌, arith, ℤ, pos, ◌+ℤ◌, ◌≤ℤ◌, ◌<ℤ◌, ⊎_elim, ◌⊎◌, inl, inr, slice_set, List, [], ◌∷◌, ◌++◌, append_assoc, Option, None, Some, MatchOption}
+use Rattle.std.specs.List.{All}
 use Rattle.std.proofs.lemmas.Int.{ints, by_lt_z}
-use Rattle.std.proofs.lemmas.List.Elements.{All-append, All-contains, All-head, All-nil, All-push, Contains-append_left}
+use Rattle.std.proofs.lemmas.List.Elements.{All-append, All-head, All-nil, All-push, Contains-append_left}
 use Rattle.network.specs.declared.parts.Lag.{Lag}
 use Rattle.network.specs.Problem.{IsBetween, Problem, activity_count, end_of, rules}
 use Rattle.network.specs.Schedule.{start, IsFeasible, Meets, makespan}
@@ -12,10 +11,10 @@ use Rattle.horizon.specs.Horizon.{horizon}
 use Rattle.block.proofs.Existing.{cycle_part}
 use Rattle.lemma_proof.specs.Bench.{BenchOf}
 use Rattle.lemma_proof.specs.declared.line.Line.{Line}
-use Rattle.lemma_proof.specs.Lines.{AreLemmas, IsArc, IsIn, IsRefuted, MeetsNone, Slots, impossible}
+use Rattle.lemma_proof.specs.Lines.{IsArc, IsIn, IsRefuted, MeetsNone, Slots, impossible}
 use Rattle.lemma_proof.proofs.Refuting.{cycle_refutes}
 use Rattle.lemma_book.specs.declared.deadline.TheConstants.{MAX_CEILING}
-use Rattle.lemma_book.specs.Ledger.{IsLedger, IsRootOf, IsSound, LedgerOf, ceiling_of, deadline, own_of, root_of, with_slot, without_lemma}
+use Rattle.lemma_book.specs.Ledger.{IsLedger, IsRootOf, LedgerOf, ceiling_of, deadline, own_of, root_of, with_slot, without_lemma}
 use Rattle.lemma_book.proofs.Slotted.{in_set, in_with_slot}
 use Rattle.lemma_proof.proofs.Truth.{none_meets_refuted}
 use Rattle.lemma_proof.proofs.Used.{light_reverse}

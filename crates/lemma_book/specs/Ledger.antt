@@ -1,5 +1,5 @@
 -- What is proved of a project: the best schedule, arcs of the root, and lemmas.
-use Rattle.std.specs.Prelude.{Bool, true, false, Vec, ◌≡◌, ◌≢◌, ◌+◌, ◌<◌, ◌≤◌, ◌-◌, ◌<ℤ◌, ◌-ℤ◌, ◌++◌, ◌∷◌, [], ℕ, ℤ, pos, List, length, replicate, slice_set, Option, None, Some, IfSome}
+use Rattle.std.specs.Prelude.{Bool, true, false, Vec, ◌≡◌, ◌≢◌, ◌+◌, ◌<◌, ◌-◌, ◌<ℤ◌, ◌-ℤ◌, ◌++◌, ◌∷◌, [], ℕ, ℤ, pos, List, length, replicate, slice_set, Option, None, Some, IfSome}
 use Rattle.std.specs.Int.{int_min}
 use Rattle.std.specs.List.{All}
 use Rattle.network.specs.declared.parts.Lag.{Lag}

@@ -1,12 +1,12 @@
 -- The arcs of a block, as they are added.
-use Rattle.std.proofs.Common.{◌≡◌, refl, sym, ap, ◌∙◌, subst, ℕ, Bool, true, false, not, is_some, arith, List, ◌++◌, ◌∷◌, [], length, append_assoc, Option, None, Some, IfSome, MatchOption}
+use Rattle.std.proofs.Common.{◌≡◌, sym, ap, ◌∙◌, subst, ℕ, Bool, true, false, not, is_some, arith, List, ◌++◌, ◌∷◌, [], length, append_assoc, Option, None, Some, MatchOption}
 use Rattle.std.specs.Bool.{MatchBool}
 use Rattle.std.proofs.lemmas.Bool.{false≢true}
 use Rattle.std.proofs.lemmas.Int.{ints}
 use Rattle.network.specs.declared.parts.Lag.{Lag}
-use Rattle.network.specs.Walk.{Rows, IsMatrixOf, HasPositiveCycle, HasNoPositiveCycle}
+use Rattle.network.specs.Walk.{IsMatrixOf, HasPositiveCycle, HasNoPositiveCycle}
 use Rattle.longest_path.specs.Saved.{Marked}
-use Rattle.block.specs.Block.{IsMatrixWith, IsTaken, IsToldOf}
+use Rattle.block.specs.Block.{IsTaken, IsToldOf}
 use Rattle.block.proofs.Implying.{IsPartOf}
 use Rattle.block.proofs.Existing.{cycle_part, nil_right}
 use Rattle.lemma_proof.specs.Bench.{AreKept, BenchOf, Holds, IsKnownOf, IsMatrixOfAll}

@@ -1,9 +1,9 @@
 -- The arc that a lemma leaves, as the loop over its arcs finds it.
-use Rattle.std.proofs.Common.{◌≡◌, ◌≢◌, refl, sym, ◌∙◌, ℕ, ◌<◌, ◌≤◌, ◌+◌, arith, ⊎_elim, Bool, true, false, is_some, List, length, get_or, Option, None, Some, slice_get, IfSome, MatchOption, [], ◌∷◌}
+use Rattle.std.proofs.Common.{◌≡◌, ◌≢◌, refl, sym, ◌∙◌, ℕ, ◌<◌, ◌≤◌, ◌+◌, arith, ⊎_elim, Bool, true, false, is_some, List, length, Option, None, Some, slice_get, IfSome, MatchOption, [], ◌∷◌}
 use Rattle.std.specs.List.{Contains}
 use Rattle.std.proofs.lemmas.Bool.{cases_eq, cases_lt, false≢true}
 use Rattle.std.specs.Option.{option_or}
-use Rattle.std.proofs.lemmas.Option.{slice_get-get_or, slice_get_within}
+use Rattle.std.proofs.lemmas.Option.{slice_get_within}
 use Rattle.network.specs.declared.parts.Lag.{Lag}
 use Rattle.reasons.specs.Reasons.{Implies}
 use Rattle.lemma_proof.specs.Lines.{IsLeft}

@@ -1,5 +1,5 @@
 -- Lines that refute arcs, as they are gone over.
-use Rattle.std.proofs.Common.{◌≡◌, ◌≢◌, refl, sym, ap, ◌∙◌, subst, ℕ, zero, suc, ◌<◌, ◌≤◌, ◌+◌, arith, ℤ, pos, ◌+ℤ◌, ◌-ℤ◌, ◌≤ℤ◌, ◌<ℤ◌, ⊎_elim, ◌⊎◌, inl, inr, List, [], ◌∷◌, ◌++◌, length, drop, get_or, Bool, true, false, append_assoc, Option, None, Some, slice_get}
+use Rattle.std.proofs.Common.{◌≡◌, refl, sym, ap, ◌∙◌, subst, ℕ, zero, suc, ◌<◌, ◌≤◌, ◌+◌, arith, ◌≤ℤ◌, ⊎_elim, ◌⊎◌, inl, inr, List, [], ◌∷◌, ◌++◌, length, drop, get_or, Bool, true, false, append_assoc, Option, None, Some, slice_get}
 use Rattle.std.specs.List.{All, Contains}
 use Rattle.std.specs.Option.{option_to_list}
 use Rattle.std.proofs.lemmas.List.{drop_all, drop_more}
@@ -11,7 +11,6 @@ use Rattle.network.specs.declared.parts.Lag.{Lag}
 use Rattle.network.specs.Problem.{Problem}
 use Rattle.network.specs.Walk.{IsWalk, weight, HasPositiveCycle, HasNoPositiveCycle}
 use Rattle.network.proofs.Walks.{IsWalk-append, weight-append}
-use Rattle.block.proofs.Existing.{nil_right}
 use Rattle.block.proofs.Implying.{IsWalk-part, implied_arc}
 use Rattle.reasons.specs.Reasons.{Implies, reverse_of}
 use Rattle.lemma_proof.specs.declared.line.Line.{Line}

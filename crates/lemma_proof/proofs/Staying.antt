@@ -1,20 +1,19 @@
 -- What lines refute, they refute beside more arcs and lemmas.
-use Rattle.std.proofs.Common.{ℕ, get_or, List, [], arith, ℤ, pos, ◌+ℤ◌, ◌≤ℤ◌, ◌<ℤ◌, ◌<◌, ◌≡◌, refl, sym, ◌∙◌, subst, ⊎_elim, ◌⊎◌, inl, inr, ◌∷◌, ◌++◌, length, Option, None, Some}
-use Rattle.std.specs.List.{All, AllPairs, Contains}
+use Rattle.std.proofs.Common.{ℕ, get_or, List, [], arith, ℤ, pos, ◌≤ℤ◌, ◌<ℤ◌, ◌≡◌, subst, ⊎_elim, ◌⊎◌, inl, inr, ◌∷◌, ◌++◌, Option, None, Some}
+use Rattle.std.specs.List.{Contains}
 use Rattle.std.proofs.lemmas.Int.{ints}
-use Rattle.std.proofs.lemmas.List.Elements.{All-contains, All-push, All-weaker, Contains-append_cases, Contains-append_left, Contains-append_right}
+use Rattle.std.proofs.lemmas.List.Elements.{All-contains, All-weaker, Contains-append_cases, Contains-append_left, Contains-append_right}
 use Rattle.network.specs.declared.parts.Lag.{Lag}
 use Rattle.network.specs.Problem.{Problem}
 use Rattle.network.specs.Walk.{IsWalk, weight, HasPositiveCycle}
 use Rattle.network.proofs.Walks.{IsWalk-append, weight-append}
-use Rattle.longest_path.specs.Insert.{arc_of}
 use Rattle.block.proofs.Implying.{implied_arc, implied_part}
 use Rattle.reasons.specs.Reasons.{Implies, IsClique, IsLoad, MustRun, RunApart, RunsWithin, StartsAfterEnd, reverse_of}
 use Rattle.lemma_proof.specs.declared.line.Line.{Line}
 use Rattle.lemma_proof.specs.declared.line.Line.TheVariants.{Force, Use, Push}
 use Rattle.lemma_proof.specs.declared.line.Overload.{Overload}
 use Rattle.lemma_proof.specs.declared.line.Overload.TheVariants.{Load, Clique}
-use Rattle.lemma_proof.specs.Lines.{AreRefuted, HaveAll, ImplyAll, IsArc, IsForced, IsLeft, IsOverload, IsPushed, IsUse, Shows, Slots, StayRefuted}
+use Rattle.lemma_proof.specs.Lines.{AreRefuted, HaveAll, IsOverload, IsPushed, IsUse, Shows, Slots, StayRefuted}
 
 -- what some arcs imply, more arcs do, too
 abbrev pub Gives : List Lag → List Lag → Type 0

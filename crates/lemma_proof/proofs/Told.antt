@@ -3,7 +3,7 @@ use Rattle.std.proofs.Common.{◌≡◌, refl, ℕ, Bool, true, false, List, ◌
 use Rattle.network.specs.declared.parts.Lag.{Lag}
 use Rattle.network.specs.Walk.{Rows, IsMatrixOf, HasNoPositiveCycle}
 use Rattle.block.specs.Block.{BlockOf, IsBlock}
-use Rattle.reasons.specs.Reasons.{Entries, IsKnown, entries_of_block, entries_of_matrix}
+use Rattle.reasons.specs.Reasons.{Entries, entries_of_block, entries_of_matrix}
 use Rattle.reasons.proofs.KnownBlocks.{known_block}
 use Rattle.reasons.proofs.KnownWalks.{known_matrix}
 use Rattle.lemma_proof.specs.Telling.{TellsArc}

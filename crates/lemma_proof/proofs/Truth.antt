@@ -1,5 +1,5 @@
 -- What a line shows is met, so refuted arcs are not all met.
-use Rattle.std.proofs.Common.{ℕ, List, [], get_or, arith, ℤ, pos, ◌+ℤ◌, ◌-ℤ◌, ◌≤ℤ◌, ◌<ℤ◌, ◌<◌, ◌≡◌, refl, sym, ◌∙◌, subst, ⊎_elim, ◌⊎◌, inl, inr, ◌∷◌, ◌++◌, length, Option, None, Some, slice_get}
+use Rattle.std.proofs.Common.{ℕ, List, [], get_or, arith, ℤ, pos, ◌+ℤ◌, ◌-ℤ◌, ◌≤ℤ◌, ◌≡◌, sym, ◌∙◌, subst, ⊎_elim, ◌⊎◌, inl, inr, ◌∷◌, ◌++◌, Option, None, Some, slice_get}
 use Rattle.std.specs.List.{All, Contains}
 use Rattle.std.proofs.lemmas.Bool.{cases_eq}
 use Rattle.std.proofs.lemmas.Int.{ints, by_lt_z}
@@ -20,7 +20,7 @@ use Rattle.lemma_proof.specs.declared.line.Line.{Line}
 use Rattle.lemma_proof.specs.declared.line.Line.TheVariants.{Force, Use, Push}
 use Rattle.lemma_proof.specs.declared.line.Overload.{Overload}
 use Rattle.lemma_proof.specs.declared.line.Overload.TheVariants.{Load, Clique}
-use Rattle.lemma_proof.specs.Lines.{AreRefuted, IsForced, IsLeft, IsOverload, IsPushed, IsUse, MeetsNone, NoneMeetsRefuted, Shows, Slots, impossible}
+use Rattle.lemma_proof.specs.Lines.{AreRefuted, IsForced, IsLeft, IsOverload, IsPushed, IsUse, MeetsNone, NoneMeetsRefuted, Shows, Slots}
 
 cycle_refuted : (arcs : List Lag) (s : List ℤ) → HasPositiveCycle arcs → MeetsAll s arcs → ⊥
 cycle_refuted arcs s cycle met =

@@ -1,5 +1,5 @@
 -- The reverse of the arc that the lemma of a slot leaves.
-use Rattle.std.proofs.Common.{◌≡◌, refl, sym, ◌∙◌, ℕ, Bool, true, List, Option, None, Some, slice_get, MatchOption, arith}
+use Rattle.std.proofs.Common.{◌≡◌, sym, ◌∙◌, ℕ, List, Some, arith}
 use Rattle.network.specs.declared.parts.Lag.{Lag}
 use Rattle.reasons.specs.Reasons.{reverse_of}
 use Rattle.std.proofs.lemmas.Int.{ints}

@@ -1,5 +1,5 @@
 -- In the matrix of all arcs every activity reaches every other.
-use Rattle.std.proofs.Common.{◌≡◌, refl, ap, ◌∙◌, subst, Bool, true, false, List, ◌++◌, ◌∷◌, [], length, Option, None, Some, IfSome, Result, Ok, Err, IfOk, OnOk}
+use Rattle.std.proofs.Common.{refl, ap, Bool, true, false, List, ◌++◌, ◌∷◌, [], length, Option, None, Some, IfSome, Result, Ok, Err, IfOk, OnOk}
 use Rattle.network.specs.declared.parts.Lag.{Lag}
 use Rattle.network.specs.Walk.{Rows, IsMatrixOf}
 use Rattle.longest_path.specs.Insert.{FillsRows}

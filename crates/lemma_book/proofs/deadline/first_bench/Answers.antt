@@ -1,6 +1,5 @@
-use Rattle.std.proofs.Common.{◌≡◌, arith, refl, ap, ◌∙◌, rules, w64, length, SFits}
+use Rattle.std.proofs.Common.{◌≡◌, ap, rules, w64, SFits}
 use Rattle.std.proofs.lemmas.Int.{to_z-of_z}
-use Rattle.network.specs.Problem.{activity_count}
 use Rattle.longest_path.specs.Insert.{AddsArc, ClosesCycle}
 use Rattle.longest_path.specs.Saved.{Marked}
 use Rattle.lemma_proof.specs.Lines.{IsArc}

@@ -1,4 +1,4 @@
-use Rattle.std.proofs.Common.{◌≡◌, ⊎_elim, not, ◌<◌, refl, sym, ap, ◌∙◌, arith, ◌+◌, ◌-◌, ◌≤◌, ◌++◌, ◌∷◌, [], List, length, replicate, Option, None, ℕ}
+use Rattle.std.proofs.Common.{◌≡◌, ⊎_elim, not, ◌<◌, ap, ◌∙◌, arith, ◌+◌, ◌-◌, ◌≤◌, ◌++◌, ◌∷◌, [], List, length, replicate, Option, None, ℕ}
 use Rattle.std.proofs.lemmas.Bool.{cases_lt}
 use Rattle.network.specs.declared.parts.Lag.{Lag}
 use Rattle.lemma_proof.specs.Lines.{Slots}

@@ -1,10 +1,7 @@
-use Rattle.std.proofs.Common.{◌≡◌, refl, sym, Result, Ok, Err, IfOk, IfSome, List, Option, length}
+use Rattle.std.proofs.Common.{sym, IfSome, Option, length}
 use Rattle.std.specs.List.{All, Contains}
 use Rattle.std.proofs.lemmas.Result.{IfOk-weaker}
 use Rattle.std.proofs.lemmas.List.Elements.{All-weaker, All-contains_itself}
-use Rattle.network.specs.declared.parts.Lag.{Lag}
-use Rattle.network.specs.Walk.{Rows}
-use Rattle.longest_path.specs.Matrix.{IsFull, IsMatrix}
 use Rattle.longest_path.specs.Saved.{Marked}
 use Rattle.block.specs.Heads.{IsLight}
 use Rattle.block.specs.Block.{IsMatrixWith}

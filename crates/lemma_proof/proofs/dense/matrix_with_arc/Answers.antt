@@ -1,4 +1,4 @@
-use Rattle.std.proofs.Common.{◌≡◌, IfSome, Option, ◌∷◌, [], length}
+use Rattle.std.proofs.Common.{IfSome, Option, ◌∷◌, [], length}
 use Rattle.std.proofs.lemmas.Result.{IfOk-weaker}
 use Rattle.longest_path.specs.Saved.{Marked}
 use Rattle.block.specs.Block.{IsMatrixWith}

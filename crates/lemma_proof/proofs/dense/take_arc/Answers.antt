@@ -1,4 +1,4 @@
-use Rattle.std.proofs.Common.{◌≡◌, Bool, length}
+use Rattle.std.proofs.Common.{Bool, length}
 use Rattle.block.specs.Block.{IsTaken}
 use Rattle.lemma_proof.specs.Bench.{IsWide}
 use Rattle.lemma_proof.proofs.Wide.{fills_wide, on_ok, wide_taken}

@@ -1,8 +1,7 @@
-use Rattle.std.proofs.Common.{◌≡◌, ◌<◌, refl, sym, ◌∙◌, false, is_some, List, length, get_or, Option, None, Some, slice_get, pos}
+use Rattle.std.proofs.Common.{◌≡◌, refl, sym, ◌∙◌, false, is_some, get_or, Option, None, Some, pos}
 use Rattle.std.proofs.lemmas.List.Elements.{Contains-get_or}
 use Rattle.std.proofs.lemmas.Option.{slice_get-get_or}
 use Rattle.network.specs.declared.parts.Lag.{Lag}
-use Rattle.reasons.specs.Reasons.{Implies, IsKnown}
 use Rattle.reasons.proofs.Loops.{tells_false}
 use Rattle.std.proofs.lemmas.Bool.{false≢true}
 use Rattle.lemma_proof.proofs.OneLeft.{AllBefore, before_implied, before_left, second_left, left_at_end, there_at_end}

@@ -1,4 +1,4 @@
-use Rattle.std.proofs.Common.{◌≡◌, refl, sym, true, false, Bool, IsTrue, List, Option, Some, None, ◌++◌, ◌∷◌, [], ◌⊎◌, ◌∙◌}
+use Rattle.std.proofs.Common.{◌≡◌, sym, IsTrue, List, Some, ◌∙◌}
 use Rattle.std.proofs.lemmas.Bool.{false≢true}
 use Rattle.network.specs.declared.parts.Lag.{Lag}
 use Rattle.network.specs.Problem.{activity_count}

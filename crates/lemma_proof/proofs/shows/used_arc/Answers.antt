@@ -1,8 +1,6 @@
-use Rattle.std.proofs.Common.{◌≡◌, List, Some, None, MatchOption, IfSome, true}
-use Rattle.std.specs.List.{All, Contains}
+use Rattle.std.specs.List.{Contains}
 use Rattle.std.proofs.lemmas.List.Elements.{All-contains}
-use Rattle.network.specs.declared.parts.Lag.{Lag}
-use Rattle.lemma_proof.specs.Lines.{IsArc, IsIn, IsLeft, IsUse}
+use Rattle.lemma_proof.specs.Lines.{IsArc, IsIn, IsLeft}
 use Rattle.lemma_proof.proofs.Used.{light_reverse, used, not_used}
 use Rattle.lemma_proof.proofs.shows.used_arc.Goals as goal
 

@@ -1,9 +1,7 @@
-use Rattle.std.proofs.Common.{◌≡◌, refl, sym, ap, subst, ◌∙◌, None, Some, Option, List, ◌++◌, ◌∷◌, []}
+use Rattle.std.proofs.Common.{◌≡◌, sym, None, Some}
 use Rattle.network.specs.Problem.{activity_count}
-use Rattle.network.specs.Walk.{IsMatrixOf, HasPositiveCycle}
-use Rattle.network.specs.Schedule.{IsFeasible, Meets, makespan}
-use Rattle.lemma_proof.specs.Bench.{BenchOf}
-use Rattle.lemma_book.specs.Ledger.{IsLedger, IsRootOf, LedgerOf, ceiling_of, ledger_of, own_of}
+use Rattle.network.specs.Walk.{IsMatrixOf}
+use Rattle.lemma_book.specs.Ledger.{IsRootOf, LedgerOf, ledger_of, own_of}
 use Rattle.lemma_book.proofs.Ledgers.{with_root_is, root_none}
 use Rattle.lemma_book.proofs.ledger.Ledger.add_root.Goals as goal
 

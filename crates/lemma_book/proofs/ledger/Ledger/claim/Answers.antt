@@ -1,9 +1,8 @@
-use Rattle.std.proofs.Common.{◌≡◌, refl, rules, sym, ap, ◌∙◌, Some, None, Option, List, ℤ, w64, SFits, is_some, true, false, ⊎_elim}
+use Rattle.std.proofs.Common.{◌≡◌, rules, sym, ap, ◌∙◌, None, w64, SFits}
 use Rattle.std.proofs.lemmas.Int.{to_z-of_z}
 use Rattle.network.specs.Schedule.{HasNoSchedule, IsShortest, makespan}
 use Rattle.network.specs.Walk.{HasNoPositiveCycle, HasPositiveCycle}
-use Rattle.lemma_proof.specs.Bench.{BenchOf}
-use Rattle.lemma_book.specs.Ledger.{IsBoundOf, IsRootOf, LedgerOf, ceiling, ceiling_of, ledger_of, own_of}
+use Rattle.lemma_book.specs.Ledger.{IsBoundOf, LedgerOf, ceiling, ceiling_of, ledger_of, own_of}
 use Rattle.lemma_book.proofs.Claims.{root_ended, root_going, shortest, no_schedule, some_there, none_here}
 use Rattle.lemma_book.proofs.ledger.Ledger.claim.Goals as goal
 

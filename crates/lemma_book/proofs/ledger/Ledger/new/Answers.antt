@@ -1,4 +1,4 @@
-use Rattle.std.proofs.Common.{◌≡◌, arith, refl, ap, sym, ◌∙◌, rules, w64, length, SFits, pos, ◌+◌, ◌+ℤ◌, ◌++◌, ◌∷◌, [], List}
+use Rattle.std.proofs.Common.{◌≡◌, arith, ap, ◌∙◌, rules, w64, SFits, pos, ◌+ℤ◌, ◌++◌, ◌∷◌, [], List}
 use Rattle.std.proofs.lemmas.Int.{ints, to_z-of_z}
 use Rattle.network.specs.Problem.{IsBetween}
 use Rattle.network.specs.declared.parts.Lag.{Lag}

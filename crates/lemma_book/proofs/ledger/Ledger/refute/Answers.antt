@@ -1,11 +1,11 @@
-use Rattle.std.proofs.Common.{◌≡◌, refl, sym, ap, subst, ◌∙◌, None, Some, Option, List, Vec, ℕ, ◌++◌, [], length, MatchOption, IfOk}
+use Rattle.std.proofs.Common.{◌≡◌, sym, List, Vec, ℕ, [], length, MatchOption}
 use Rattle.std.specs.declared.alloc.Global.{Global}
 use Rattle.std.proofs.lemmas.Result.{IfOk-weaker}
 use Rattle.network.specs.declared.parts.Lag.{Lag}
 use Rattle.network.specs.Problem.{activity_count}
 use Rattle.network.specs.Walk.{IsMatrixOf, HasPositiveCycle}
 use Rattle.lemma_proof.specs.Lines.{IsRefuted, picked}
-use Rattle.lemma_book.specs.Ledger.{LedgerOf, IsRootOf, ledger_of, own_of}
+use Rattle.lemma_book.specs.Ledger.{LedgerOf, ledger_of, own_of}
 use Rattle.lemma_book.proofs.Ledgers.{ended_refutes}
 use Rattle.lemma_book.proofs.ledger.Ledger.refute.Goals as goal
 

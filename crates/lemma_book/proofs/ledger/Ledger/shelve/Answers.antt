@@ -1,4 +1,4 @@
-use Rattle.std.proofs.Common.{◌≡◌, sym, ap, ◌∙◌}
+use Rattle.std.proofs.Common.{sym}
 use Rattle.lemma_book.specs.Ledger.{LedgerOf, ledger_of}
 use Rattle.lemma_book.proofs.Ledgers.{shelved_is}
 use Rattle.lemma_book.proofs.ledger.Ledger.shelve.Goals as goal

@@ -1,4 +1,4 @@
-use Rattle.std.proofs.Common.{◌≡◌, refl, sym, ap, subst, ◌∙◌, None, Some, length}
+use Rattle.std.proofs.Common.{◌≡◌, refl, sym, ap, subst, ◌∙◌, Some, length}
 use Rattle.block.specs.Block.{IsToldOf}
 use Rattle.lemma_proof.specs.Bench.{BenchOf, Holds, IsWide, bench_of}
 use Rattle.lemma_proof.proofs.Held.{held_taken, held_told}

@@ -1,6 +1,5 @@
-use Rattle.std.proofs.Common.{◌≡◌, sym, ap, ◌∙◌, List, ◌++◌, ◌∷◌, [], length, None, Some}
-use Rattle.network.specs.declared.parts.Lag.{Lag}
-use Rattle.network.specs.Walk.{Rows, IsMatrixOf, HasPositiveCycle}
+use Rattle.std.proofs.Common.{sym, ap, ◌++◌, ◌∷◌, [], length, None, Some}
+use Rattle.network.specs.Walk.{IsMatrixOf}
 use Rattle.block.specs.Block.{IsMatrixWith}
 use Rattle.lemma_proof.specs.Bench.{BenchOf, IsWide}
 use Rattle.lemma_proof.proofs.bench.Bench.add_root.Goals as goal

@@ -1,10 +1,9 @@
-use Rattle.std.proofs.Common.{◌≡◌, refl, sym, ap, ◌∙◌, subst, true, None, Some, length, ◌++◌, List}
-use Rattle.network.specs.declared.parts.Lag.{Lag}
-use Rattle.network.specs.Walk.{Rows, IsMatrixOf, HasNoPositiveCycle}
-use Rattle.reasons.specs.Reasons.{Entries, Implies, Tells, TellsWhether, entries_of_matrix}
+use Rattle.std.proofs.Common.{◌≡◌, sym, ap, ◌∙◌, true, None, Some, length, ◌++◌}
+use Rattle.network.specs.Walk.{IsMatrixOf, HasNoPositiveCycle}
+use Rattle.reasons.specs.Reasons.{Entries, Implies, TellsWhether}
 use Rattle.reasons.proofs.KnownBlocks.{told_by}
 use Rattle.reasons.proofs.KnownWalks.{known_matrix, length-entries}
-use Rattle.lemma_proof.specs.Bench.{BenchOf, Holds}
+use Rattle.lemma_proof.specs.Bench.{BenchOf}
 use Rattle.lemma_proof.proofs.Held.{all_there, live_there}
 use Rattle.lemma_proof.proofs.bench.Bench.implies.Goals as goal
 

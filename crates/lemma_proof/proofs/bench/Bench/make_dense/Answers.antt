@@ -1,4 +1,4 @@
-use Rattle.std.proofs.Common.{◌≡◌, sym, ap, length}
+use Rattle.std.proofs.Common.{sym, ap, length}
 use Rattle.network.specs.Walk.{IsMatrixOf}
 use Rattle.lemma_proof.specs.Bench.{BenchOf, IsKnownOf}
 use Rattle.lemma_proof.proofs.Held.{made}

@@ -1,4 +1,3 @@
-use Rattle.std.proofs.Common.{◌≡◌}
 use Rattle.lemma_proof.proofs.bench.Bench.new.Goals as goal
 
 pub new-requires-clause-full : goal.new-requires-clause-full

@@ -1,8 +1,4 @@
-use Rattle.std.proofs.Common.{◌≡◌, refl, sym, ap, ◌∙◌, List, ◌++◌, ◌∷◌, [], length, ◌+◌, Option, None, Some, true, false, MatchOption, ℕ}
-use Rattle.network.specs.declared.parts.Lag.{Lag}
-use Rattle.network.specs.Walk.{IsMatrixOf}
-use Rattle.lemma_proof.specs.Bench.{Holds}
-use Rattle.lemma_proof.specs.Stepping.{Steps}
+use Rattle.std.proofs.Common.{sym, ◌∙◌}
 use Rattle.lemma_proof.proofs.Refuting.{over_first, over_next, over_nowhere, over_dead, over_live}
 use Rattle.lemma_proof.proofs.bench.Bench.refute.Goals as goal
 

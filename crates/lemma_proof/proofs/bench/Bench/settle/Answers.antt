@@ -1,4 +1,4 @@
-use Rattle.std.proofs.Common.{◌≡◌, List, length, is_some, not, OnOk}
+use Rattle.std.proofs.Common.{◌≡◌, List, length, is_some, not}
 use Rattle.network.specs.declared.parts.Lag.{Lag}
 use Rattle.network.specs.Walk.{IsMatrixOf}
 use Rattle.lemma_proof.specs.Bench.{Holds, IsKnownOf, IsMatrixOfAll}

@@ -1,11 +1,8 @@
-use Rattle.std.proofs.Common.{◌≡◌, refl, sym, ap, ◌∙◌, subst, List, [], ◌++◌, ◌∷◌, length, take, get_or, pos}
-use Rattle.std.specs.List.{All}
+use Rattle.std.proofs.Common.{sym, ap, ◌∙◌, take, pos}
 use Rattle.std.proofs.lemmas.List.{take_all, take_more}
-use Rattle.std.proofs.lemmas.List.Elements.{All-get_or}
 use Rattle.network.specs.declared.parts.Lag.{Lag}
-use Rattle.block.specs.Heads.{IsLight}
 use Rattle.block.proofs.Existing.{taken_part}
-use Rattle.lemma_proof.specs.Bench.{BenchOf, Holds}
+use Rattle.lemma_proof.specs.Bench.{BenchOf}
 use Rattle.lemma_proof.proofs.Held.{held_begun, held_dead}
 use Rattle.lemma_proof.proofs.bench.Bench.suppose.Goals as goal
 

@@ -1,7 +1,7 @@
-use Rattle.std.proofs.Common.{◌≡◌, rules, sym, ap, ◌∙◌, ℤ, pos, Some, Option, w64, SFits, ◌<◌, length}
+use Rattle.std.proofs.Common.{◌≡◌, rules, sym, ap, ◌∙◌, ℤ, pos, Some, Option, w64, SFits}
 use Rattle.std.specs.Option.{unwrap_or}
 use Rattle.std.proofs.lemmas.Int.{to_z-of_z}
-use Rattle.network.specs.Walk.{Rows, entry}
+use Rattle.network.specs.Walk.{entry}
 use Rattle.lemma_proof.specs.Bench.{BenchOf}
 use Rattle.lemma_proof.proofs.bench.Bench.weight.Goals as goal
 
