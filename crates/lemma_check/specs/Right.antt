@@ -1,11 +1,10 @@
 -- When a record is right for a project.
-use Rattle.std.specs.Prelude.{◌≡◌, ◌⊎◌, ◌<◌, pos, ◌-ℤ◌, None, List, [], ◌∷◌, ◌++◌, ℕ}
+use Rattle.std.specs.Prelude.{◌≡◌, ◌⊎◌, None, List, [], ◌∷◌, ◌++◌, ℕ}
 use Rattle.std.specs.List.{All}
 use Rattle.network.specs.declared.parts.Lag.{Lag}
 use Rattle.network.specs.declared.parts.Pair.{Pair}
-use Rattle.network.specs.Problem.{Problem, IsProject, activity_count}
+use Rattle.network.specs.Problem.{Problem, IsProject}
 use Rattle.network.specs.Walk.{HasNoPositiveCycle}
-use Rattle.longest_path.specs.Insert.{arc_of}
 use Rattle.rivals.specs.Incompatible.{AreIncompatible}
 use Rattle.lemma_text.specs.declared.record.Claim.{Claim}
 use Rattle.lemma_text.specs.declared.record.Claim.TheVariants as claims

@@ -1,11 +1,11 @@
 -- Why no feasible schedule meets all arcs of a block: what walks over them show of each schedule that does.
-use Rattle.std.specs.Prelude.{◌≡◌, ℕ, ◌*◌, ◌<◌, ◌≤◌, ◌⊎◌, ℤ, pos, ◌+ℤ◌, ◌-ℤ◌, ◌≤ℤ◌, ◌<ℤ◌, unsigned_abs, List, [], ◌∷◌, ◌++◌, length, slice_index_or, Option, None, Some, map, Bool, true, false, IsTrue}
+use Rattle.std.specs.Prelude.{◌≡◌, ℕ, ◌*◌, ◌<◌, ◌≤◌, ◌⊎◌, ℤ, pos, ◌+ℤ◌, ◌-ℤ◌, ◌≤ℤ◌, ◌<ℤ◌, unsigned_abs, List, [], ◌∷◌, ◌++◌, length, Option, None, Some, map, Bool, true, IsTrue}
 use Rattle.std.specs.List.{All, AllPairs, sum_by, range_with_len}
 use Rattle.network.specs.declared.parts.Lag.{Lag}
 use Rattle.network.specs.declared.parts.Pair.{Pair}
 use Rattle.network.specs.Schedule.{IsForbidden}
 use Rattle.network.specs.Problem.{Problem, activities, activity_count, resource_count, duration, demand, capacity, IsWithin}
-use Rattle.network.specs.Walk.{HasPositiveCycle, HasNoPositiveCycle, Rows, entry, IsMatrixOf}
+use Rattle.network.specs.Walk.{HasNoPositiveCycle, Rows, entry, IsMatrixOf}
 use Rattle.longest_path.specs.Insert.{arc_of, rows_over}
 pub use Rattle.block.specs.Implied.{Implies}
 use Rattle.block.specs.Implied.{ImpliesWith}

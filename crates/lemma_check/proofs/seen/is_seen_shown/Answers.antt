@@ -1,4 +1,4 @@
-use Rattle.std.proofs.Common.{◌≡◌, sym, ◌∙◌, ap, ◌++◌, ◌∷◌, [], length, true, false, None, Some, inl}
+use Rattle.std.proofs.Common.{◌≡◌, sym, ◌∙◌, ap, ◌++◌, ◌∷◌, [], length, false, None, Some, inl}
 use Rattle.network.specs.Problem.{activity_count}
 use Rattle.block.specs.Block.{AreEnds}
 use Rattle.reasons.specs.Reasons.{Entries, TellsWhether, Implies, entries_of_block}

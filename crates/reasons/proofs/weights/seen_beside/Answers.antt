@@ -1,4 +1,3 @@
-use Rattle.std.proofs.Common.{◌≡◌}
 use Rattle.reasons.proofs.KnownWalks.{beside_more, beside_over}
 use Rattle.reasons.proofs.weights.seen_beside.Goals as goal
 
