@@ -1,0 +1,6 @@
+use Rattle.std.proofs.Common.{rules, append_assoc}
+use Rattle.std.proofs.lemmas.Result.{IfOk-equal}
+use Rattle.lemma_log.proofs.overload.put_overload.Goals as goal
+
+pub returns-in_ok-put_window-in-Clique : goal.returns-in_ok-put_window-in-Clique
+returns-in_ok-put_window-in-Clique c = search (rules, IfOk-equal, append_assoc)

@@ -1,0 +1,27 @@
+-- What is read, and that what is written is read back.
+use Rattle.std.specs.Prelude.{◌≡◌, ◌≢◌, ℕ, ◌+◌, Result, Ok, MatchResult, List, [], ◌++◌, length}
+use Rattle.lemma_log.specs.declared.event.Event.{Event}
+use Rattle.lemma_log.specs.declared.fault.LogFault.{LogFault}
+use Rattle.lemma_log.specs.declared.fault.LogFault.TheVariants.{Short, Memory}
+use Rattle.lemma_log.specs.declared.read.Read.{Read}
+use Rattle.lemma_log.specs.Text.{event_text, IsWritable}
+use Rattle.lemma_log.specs.Reading.{read_in}
+
+-- the event is what the bytes begin with, and it has so many of them
+pub record IsFirst (bytes : List ℕ) (read : Read) : Type 0 where
+  pub left : List ℕ
+  pub first : read_in bytes ≡ Ok (record { value = read.event; left = left })
+  pub count : read.count + length left ≡ length bytes
+
+-- the event was read with all its bytes, unless memory ran out
+abbrev pub IsReadAs : Result Read LogFault → Event → Type 0
+IsReadAs result e = MatchResult result (λ read. (read.event ≡ e) × (read.count ≡ length (event_text e))) (λ fault. fault ≡ Memory)
+
+-- more bytes are asked for, unless memory ran out
+abbrev pub IsShort : Result Read LogFault → Type 0
+IsShort result = MatchResult result (λ read. ⊥) (λ fault. fault ≢ Memory → fault ≡ Short)
+
+-- bytes that begin with an event are read as it, whatever follows; where its bytes are cut off, more are asked for
+pub record ReadsBack (bytes : List ℕ) (result : Result Read LogFault) : Type 0 where
+  pub reads : (e : Event) (rest : List ℕ) → IsWritable e → bytes ≡ event_text e ++ rest → IsReadAs result e
+  pub short : (e : Event) (more : List ℕ) → IsWritable e → bytes ++ more ≡ event_text e → more ≢ [] → IsShort result

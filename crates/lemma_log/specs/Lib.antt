@@ -1,0 +1,4 @@
+pub mod Numbers
+pub mod Text
+pub mod Reading
+pub mod Law

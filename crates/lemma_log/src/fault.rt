@@ -1,0 +1,33 @@
+//! Why bytes are no event.
+
+ghost use Rattle.std.specs.Prelude.{◌≡◌};
+ghost use Rattle.lemma_log.specs.declared.fault.LogFault.TheVariants.{Memory};
+
+use std::alloc::{AllocError, AllocFailed};
+
+/// Why the bytes of a log don't begin with an event.
+#[derive(Clone, Copy, PartialEq, Eq, Debug)]
+pub enum LogFault {
+    /// They end within what an event begins with, or there are none: with more bytes they may begin with one.
+    Short,
+    /// They begin with no event, whatever follows them.
+    Form,
+    /// Memory ran out.
+    Memory,
+}
+
+impl From<AllocError> for LogFault {
+    ghost from_gives = { λ _ fault. fault ≡ Memory };
+
+    fn from(_e: AllocError) -> LogFault {
+        LogFault::Memory
+    }
+}
+
+impl<T: Drop> From<AllocFailed<T>> for LogFault {
+    ghost from_gives = { λ _ fault. fault ≡ Memory };
+
+    fn from(_e: AllocFailed<T>) -> LogFault {
+        LogFault::Memory
+    }
+}

@@ -1,0 +1,152 @@
+//! Overloads as bytes.
+
+ghost use Rattle.std.specs.Prelude.{◌≡◌, ◌≢◌, ◌<◌, ◌++◌, ◌+ℤ◌, ◌-ℤ◌, length, Some, None, IfOk, OnOk, OnErr, IfErr};
+ghost use Rattle.lemma_log.specs.declared.fault.LogFault.TheVariants.{Memory};
+ghost use Rattle.lemma_log.specs.Text.{window_text, load_text, clique_kind, overload_text};
+ghost use Rattle.lemma_log.specs.Reading.{IsAddend, load_in, short_load_in, clique_in, overload_of};
+
+use crate::fault::LogFault;
+use crate::members::{members, put_members};
+use crate::number::put_number;
+use crate::signed::{put_signed, signed};
+use lemma_proof::Overload;
+use std::alloc::{AllocError, Global};
+
+/// Writes where a window is that is so long.
+fn put_window(bytes: &mut Vec<u8>, from: i64, size: i128) -> Result<(), AllocError>
+    ensures { OnOk result (bytes.new.items ≡ bytes.old.items ++ window_text from size) }
+{
+    put_signed(bytes, from as i128)?;
+    put_signed(bytes, size)
+}
+
+/// Writes a load, one that shows an arc or not, in a window that is so long.
+fn put_load(
+    bytes: &mut Vec<u8>,
+    shows: bool,
+    resource: usize,
+    from: i64,
+    size: i128,
+) -> Result<(), AllocError>
+    ensures { OnOk result (bytes.new.items ≡ bytes.old.items ++ load_text shows resource from size) }
+{
+    if !shows {
+        put_number(bytes, 8 * resource as u128 + 2)?;
+        return put_window(bytes, from, size);
+    }
+    if size == 1 {
+        put_number(bytes, 8 * resource as u128 + 3)?;
+        return put_signed(bytes, from as i128);
+    }
+    put_number(bytes, 8 * resource as u128 + 4)?;
+    put_window(bytes, from, size)
+}
+
+/// The kind of the line of a clique.
+fn clique_kind(shows: bool) -> u128
+    ensures kind { result ≡ clique_kind shows }
+    ensures small { result < 8 }
+{
+    if shows { 6 } else { 5 }
+}
+
+/// Writes an overload, one that shows an arc or not.
+pub(crate) fn put_overload(
+    bytes: &mut Vec<u8>,
+    shows: bool,
+    over: &Overload,
+) -> Result<(), AllocError>
+    ensures { OnOk result (bytes.new.items ≡ bytes.old.items ++ overload_text shows over.now) }
+{
+    match over {
+        Overload::Load { resource, from, to } => {
+            let size = *to as i128 - *from as i128;
+            put_load(bytes, shows, *resource, *from, size)
+        }
+        Overload::Clique { from, to, members } => {
+            let members = members.as_slice();
+            let size = *to as i128 - *from as i128;
+            put_number(bytes, 8 * members.len() as u128 + clique_kind(shows))?;
+            put_window(bytes, *from, size)?;
+            put_members(bytes, members)
+        }
+    }
+}
+
+/// The end of a window that is so long.
+fn end_of(from: i64, size: i64) -> i64
+    requires from { IsAddend from }
+    requires size { IsAddend size }
+    ensures { result ≡ from +ℤ size }
+{
+    from + size
+}
+
+/// The load whose window bytes begin with, and what follows it.
+fn load(resource: usize, bytes: &[u8]) -> Result<(Overload, &[u8]), LogFault>
+    ensures found { IfOk result (λ r. load_in resource bytes.now ≡ Some (record { value = r.0; left = r.1.now })) }
+    ensures shorter { IfOk result (λ r. length r.1.now < length bytes.now) }
+    ensures fault { OnErr result (load_in resource bytes.now ≡ None) }
+{
+    let (from, rest) = signed(bytes)?;
+    let (size, rest) = signed(rest)?;
+    let over = Overload::Load {
+        resource,
+        from,
+        to: end_of(from, size),
+    };
+    Ok((over, rest))
+}
+
+/// The load in a period that bytes begin with, and what follows it.
+fn short_load(resource: usize, bytes: &[u8]) -> Result<(Overload, &[u8]), LogFault>
+    ensures found { IfOk result (λ r. short_load_in resource bytes.now ≡ Some (record { value = r.0; left = r.1.now })) }
+    ensures shorter { IfOk result (λ r. length r.1.now < length bytes.now) }
+    ensures fault { OnErr result (short_load_in resource bytes.now ≡ None) }
+{
+    let (from, rest) = signed(bytes)?;
+    let over = Overload::Load {
+        resource,
+        from,
+        to: end_of(from, 1),
+    };
+    Ok((over, rest))
+}
+
+/// The clique of so many members whose window and members bytes begin with, and what follows it.
+fn clique(alloc: Global, count: usize, bytes: &[u8]) -> Result<(Overload, &[u8]), LogFault>
+    ensures found { IfOk result (λ r. clique_in count bytes.now ≡ Some (record { value = r.0; left = r.1.now })) }
+    ensures shorter { IfOk result (λ r. length r.1.now < length bytes.now) }
+    ensures fault { IfErr result (λ fault. fault ≢ Memory → clique_in count bytes.now ≡ None) }
+{
+    let (from, rest) = signed(bytes)?;
+    let (size, rest) = signed(rest)?;
+    let (members, rest) = members(alloc, count, rest)?;
+    let over = Overload::Clique {
+        from,
+        to: end_of(from, size),
+        members,
+    };
+    Ok((over, rest))
+}
+
+/// The overload of a kind of line, and of the number that has it, and what follows it.
+pub(crate) fn overload_of(
+    alloc: Global,
+    kind: usize,
+    at: usize,
+    bytes: &[u8],
+) -> Result<(Overload, &[u8]), LogFault>
+    ensures found { IfOk result (λ r. overload_of kind at bytes.now ≡ Some (record { value = r.0; left = r.1.now })) }
+    ensures shorter { IfOk result (λ r. length r.1.now < length bytes.now) }
+    ensures fault { IfErr result (λ fault. fault ≢ Memory → overload_of kind at bytes.now ≡ None) }
+{
+    match kind {
+        2 => load(at, bytes),
+        3 => short_load(at, bytes),
+        4 => load(at, bytes),
+        5 => clique(alloc, at, bytes),
+        6 => clique(alloc, at, bytes),
+        _ => Err(LogFault::Form),
+    }
+}

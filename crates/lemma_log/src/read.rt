@@ -1,0 +1,68 @@
+//! Reads events.
+
+ghost use Rattle.std.specs.Prelude.{◌≡◌, ◌≢◌, ◌<◌, ◌≤◌, length, Some, None, Ok, Err, IfOk, IfErr};
+ghost use Rattle.lemma_log.specs.declared.fault.LogFault.TheVariants.{Memory};
+ghost use Rattle.lemma_log.specs.Reading.{event_in, frame_in, read_in};
+ghost use Rattle.lemma_log.specs.Law.{IsFirst, ReadsBack};
+
+use crate::body::event_in;
+use crate::event::Event;
+use crate::fault::LogFault;
+use crate::number::{MAX_DIGITS, digits_in};
+use std::alloc::Global;
+
+/// An event that was read, and how many bytes it has.
+#[derive(Drop, Debug)]
+pub struct Read {
+    pub event: Event,
+    pub count: usize,
+}
+
+/// The bytes of the event that bytes begin with, without the number of them, and what follows.
+#[tactic(auto, unfolding(crate::specs::Reading::frame_in))]
+fn frame(bytes: &[u8]) -> Result<(&[u8], &[u8]), LogFault>
+    ensures found { IfOk result (λ r. frame_in bytes.now ≡ Ok (record { value = r.0.now; left = r.1.now })) }
+    ensures shorter { IfOk result (λ r. length r.1.now < length bytes.now) }
+    ensures fault { IfErr result (λ fault. frame_in bytes.now ≡ Err fault) }
+{
+    let (size, rest) = digits_in(bytes, MAX_DIGITS)?;
+    if rest.len() < size {
+        return Err(LogFault::Short);
+    }
+    Ok(rest.split_at(size))
+}
+
+/// The event whose bytes these all are, without the number of them.
+fn whole(alloc: Global, body: &[u8]) -> Result<Event, LogFault>
+    ensures found { IfOk result (λ e. event_in body.now ≡ Some e) }
+    ensures fault { IfErr result (λ fault. fault ≢ Memory → (event_in body.now ≡ None) × (fault ≡ LogFault.Form)) }
+{
+    match event_in(alloc, body) {
+        Err(LogFault::Short) => Err(LogFault::Form),
+        read => read,
+    }
+}
+
+/// The event that bytes begin with, and what follows it.
+fn event(alloc: Global, bytes: &[u8]) -> Result<(Event, &[u8]), LogFault>
+    ensures found { IfOk result (λ r. read_in bytes.now ≡ Ok (record { value = r.0; left = r.1.now })) }
+    ensures shorter { IfOk result (λ r. length r.1.now < length bytes.now) }
+    ensures fault { IfErr result (λ fault. fault ≢ Memory → read_in bytes.now ≡ Err fault) }
+{
+    let (body, rest) = frame(bytes)?;
+    let event = whole(alloc, body)?;
+    Ok((event, rest))
+}
+
+/// The event that bytes begin with, and how many bytes it has.
+pub fn read_event(alloc: Global, bytes: &[u8]) -> Result<Read, LogFault>
+    ensures back { ReadsBack bytes.now result }
+    ensures first { IfOk result (IsFirst bytes.now) }
+    ensures some { IfOk result (λ read. 0 < read.count) }
+    ensures within { IfOk result (λ read. read.count ≤ length bytes.now) }
+    ensures fault { IfErr result (λ fault. fault ≢ Memory → read_in bytes.now ≡ Err fault) }
+{
+    let (event, rest) = event(alloc, bytes)?;
+    let count = bytes.len() - rest.len();
+    Ok(Read { event, count })
+}
