@@ -64,7 +64,7 @@ root_from p own (Some b) found = found
 abbrev pub with_root : LedgerOf → Lag → LedgerOf
 with_root l arc = record l { roots = l.roots ++ arc ∷ [] }
 
-own_more : (l : LedgerOf) (arc : Lag) → own_of l ++ arc ∷ [] ≡ own_of (with_root l arc)
+pub own_more : (l : LedgerOf) (arc : Lag) → own_of l ++ arc ∷ [] ≡ own_of (with_root l arc)
 own_more l arc = append_assoc (rules l.project) l.roots (arc ∷ [])
 
 pub with_root_is : (l : LedgerOf) (bench new : Option BenchOf) (arc : Lag) → IsLedger l bench → ((s : List ℤ) → IsFeasible l.project s → makespan s <ℤ ceiling_of l → Meets s arc) → IsRootOf l.project (own_of l ++ arc ∷ []) new → IsLedger (with_root l arc) new

@@ -2,3 +2,4 @@ pub mod Deadlines
 pub mod Ledgers
 pub mod Slotted
 pub mod Claims
+pub mod Further

@@ -2,8 +2,10 @@
 #![tactic(auto)]
 
 mod deadline;
+mod law;
 mod leading;
 mod ledger;
 mod slots;
 
+pub use law::ahead_law;
 pub use ledger::{Ledger, MAX_SLOTS};
