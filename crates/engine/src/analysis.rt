@@ -6,7 +6,8 @@ use crate::state::Engine;
 use literals::{Conflict, Literal, Reason};
 use proof_log::{Ground, Link};
 use std::cmp::Reverse;
-use tables::{Result, Table};
+use std::mem;
+use tables::Result;
 
 /// What an analysis found, beside the lemma.
 #[derive(Clone, Copy)]
@@ -20,11 +21,11 @@ pub(crate) struct Learnt {
 }
 
 /// How many explanations deep a literal is looked at.
-const DEPTH: u32 = 60;
+const DEPTH: usize = 60;
 
 /// A value of an event that is looked at: whether all that it follows from is in the nogood.
 #[derive(Clone, Copy)]
-struct Frame {
+pub(crate) struct Frame {
     event: u32,
     link: Link,
     /// Where its literals stand, of which those from `next` on are still to be looked at.
@@ -33,17 +34,10 @@ struct Frame {
     to: u32,
 }
 
-/// The bit of a level, one of 64.
-fn level_bit(level: u32) -> u64 {
-    1u64.wrapping_shl(level & 63)
-}
-
 impl Engine<'_> {
     /// The literal that is needed of an event.
     fn needed(&self, event: u32) -> Literal {
-        let slot = self.trail.event(event).slot;
-        let value = self.marks.need[event];
-        Literal { slot, value }
+        Literal::new(self.trail.event(event).slot, self.marks.need[event])
     }
 
     /// Learns from a conflict. The lemma is `marks.nogood`, its literals negated: the one to be set first, one of the level
@@ -122,18 +116,6 @@ impl Engine<'_> {
         Ok(0)
     }
 
-    /// Bumps the needed literals of lower levels. Gives the bits of their levels.
-    fn bump_lower(&mut self) -> Result<u64> {
-        let mut levels = 0u64;
-        for at in 0..self.marks.lower.count() {
-            let event = self.marks.lower[at];
-            levels |= level_bit(self.trail.event(event).level);
-            let literal = self.needed(event);
-            self.choices.bump(literal)?;
-        }
-        Ok(levels)
-    }
-
     /// Events of the last level that were replaced are no longer needed.
     fn forget_replaced(&mut self, top: u32) {
         for event in self.marks.needed.all() {
@@ -146,13 +128,13 @@ impl Engine<'_> {
     /// The nogood: the literal of the unique point, and of lower levels what does not follow from the rest.
     fn minimise(&mut self, point: u32, top: u32) -> Result<()> {
         let first = self.needed(point);
-        let levels = self.bump_lower()?;
         self.forget_replaced(top);
         self.marks.nogood.push(first)?;
         for at in 0..self.marks.lower.count() {
             let event = self.marks.lower[at];
             let literal = self.needed(event);
-            if !self.is_redundant(event, literal.value, levels)? {
+            self.choices.bump(literal)?;
+            if !self.is_redundant(event, literal.value)? {
                 self.marks.nogood.push(literal)?;
             }
         }
@@ -162,8 +144,7 @@ impl Engine<'_> {
     /// A frame for a value of an event, which is no decision: what it follows from is found.
     fn frame(&mut self, event: u32, value: i32) -> Result<Frame> {
         let found = self.trail.event(event);
-        let slot = found.slot;
-        let literal = Literal { slot, value };
+        let literal = Literal::new(found.slot, value);
         let from = self.marks.found.count();
         let ground = self.explain(literal, found.reason, event)?;
         Ok(Frame {
@@ -175,24 +156,30 @@ impl Engine<'_> {
         })
     }
 
-    /// Whether a value of an event has to be in the nogood as far as is known: it is a decision, or of a level without
-    /// others, or was looked at.
-    fn is_blocked(&self, event: u32, value: i32, levels: u64) -> bool {
-        let found = self.trail.event(event);
-        found.reason == Reason::Decision
-            || levels & level_bit(found.level) == 0
-            || self.marks.is_hard(event, value)
+    /// Whether a value of an event has to be in the nogood as far as is known: it is a decision, or was looked at.
+    fn is_blocked(&self, event: u32, value: i32) -> bool {
+        self.trail.event(event).reason == Reason::Decision || self.marks.is_hard(event, value)
     }
 
     /// Whether what a needed value of an event follows from is in the nogood already.
-    fn is_redundant(&mut self, event: u32, value: i32, levels: u64) -> Result<bool> {
+    fn is_redundant(&mut self, event: u32, value: i32) -> Result<bool> {
         if self.trail.event(event).reason == Reason::Decision {
             return Ok(false);
         }
+        let mut frames = mem::replace(&mut self.marks.frames, Vec::new(self.alloc));
+        frames.clear();
         let first = self.frame(event, value)?;
-        let mut frames = Table::filled(self.alloc, 1, first, first)?;
+        frames.push(first)?;
+        let is_redundant = self.all_follow(&mut frames)?;
+        self.marks.found.clear();
+        self.marks.frames = frames;
+        Ok(is_redundant)
+    }
+
+    /// Whether all that frames have still to look at follows from the nogood.
+    fn all_follow(&mut self, frames: &mut Vec<Frame>) -> Result<bool> {
         for _ in 0..u64::MAX {
-            let Some(mut frame) = frames.pop() else {
+            let Some(frame) = frames.last().copied() else {
                 break;
             };
             if frame.next >= frame.to {
@@ -200,21 +187,23 @@ impl Engine<'_> {
                 self.marks
                     .note(frame.event, frame.link.literal.value, true)?;
                 self.marks.replace(frame.event, frame.link)?;
+                frames.pop();
                 continue;
             }
             let literal = self.marks.found[frame.next];
-            frame.next = frame.next.wrapping_add(1);
-            frames.push(frame)?;
+            if let Some(last) = frames.last_mut() {
+                last.next = frame.next.wrapping_add(1);
+            }
             let cause = self.trail.event_of(literal);
             if self.trail.event(cause).level == 0 || self.marks.has(cause, literal.value) {
                 continue;
             }
-            if frames.count() >= DEPTH || self.is_blocked(cause, literal.value, levels) {
-                self.note_hard(frames.all())?;
-                self.marks.found.truncate(first.from);
+            if frames.len() >= DEPTH || self.is_blocked(cause, literal.value) {
+                self.note_hard(frames)?;
                 return Ok(false);
             }
-            frames.push(self.frame(cause, literal.value)?)?;
+            let next = self.frame(cause, literal.value)?;
+            frames.push(next)?;
         }
         Ok(true)
     }
@@ -275,8 +264,7 @@ impl Engine<'_> {
     pub(crate) fn log_root(&mut self) -> Result<()> {
         for event in self.logged..self.trail.root_end() {
             let found = self.trail.event(event);
-            let (slot, value) = (found.slot, found.new);
-            let literal = Literal { slot, value };
+            let literal = Literal::new(found.slot, found.new);
             if self.log.is_kept() {
                 let ground = self.explain(literal, found.reason, event)?;
                 self.marks.found.clear();

@@ -5,7 +5,7 @@ use crate::state::Engine;
 use instance::Instance;
 use literals::{Conflict, Literal, Reason};
 use proof_log::Ground;
-use propagation::part;
+use propagation::{Arc, Order, part};
 use tables::Result;
 
 /// The literals that make an activity run for `part` periods from one time to another at least.
@@ -83,16 +83,18 @@ impl Engine<'_> {
             Reason::Decision | Reason::Given => {}
             Reason::Lemma { place } => return self.explain_lemma(place, 1),
             Reason::Arc { arc } => {
-                let (slot, weight) = self.edges.source_of_arc(arc);
+                let Arc { from, weight, .. } = self.edges.arc(arc);
                 let value = literal.value.wrapping_sub(weight);
-                self.marks.found.push(Literal { slot, value })?;
+                self.marks.found.push(Literal::new(from, value))?;
             }
             Reason::Order { order } => {
-                let order = self.edges.order(order);
-                let value = literal.value.wrapping_sub(order.arc.weight);
-                let slot = order.arc.from;
-                self.marks.found.push(order.literal)?;
-                self.marks.found.push(Literal { slot, value })?;
+                let Order {
+                    arc,
+                    literal: order,
+                } = self.edges.order(order);
+                let value = literal.value.wrapping_sub(arc.weight);
+                self.marks.found.push(order)?;
+                self.marks.found.push(Literal::new(arc.from, value))?;
             }
             Reason::Lost { order } => return self.explain_lost(order, event),
             Reason::Pushed { clique, time } => {
@@ -110,10 +112,9 @@ impl Engine<'_> {
         let arc = self.edges.order(order).arc;
         let slot = arc.to ^ 1;
         let value = self.trail.value_at(slot, event);
-        self.marks.found.push(Literal { slot, value })?;
+        self.marks.found.push(Literal::new(slot, value))?;
         let value = 1i32.wrapping_sub(arc.weight).wrapping_sub(value);
-        let slot = arc.from;
-        self.marks.found.push(Literal { slot, value })?;
+        self.marks.found.push(Literal::new(arc.from, value))?;
         Ok(Ground::Force)
     }
 
@@ -134,8 +135,7 @@ impl Engine<'_> {
         self.explain_full(resource, time, Some(activity), room, event)
     }
 
-    /// Lists the users of a resource that ran at a time for sure as of an event, but one. Gives what they need. First come
-    /// those of the root, then those that are needed already, then the earliest.
+    /// Lists the users of a resource that ran at a time for sure as of an event, but one. Gives what they need.
     fn list_users(
         &mut self,
         resource: u32,
@@ -145,28 +145,23 @@ impl Engine<'_> {
     ) -> Result<i32> {
         self.table.list_running(time, &mut self.marks.activities)?;
         self.marks.causes.clear();
-        let (root, mut sum) = (self.trail.root_end(), 0i32);
+        let mut sum = 0i32;
         for at in 0..self.marks.activities.count() {
             let activity = self.marks.activities[at];
             let demand = self.instance.demand(activity, resource);
-            let [least, greatest] = inside(self.instance, activity, 1, time, time.wrapping_add(1));
-            let (first, second) = (self.trail.event_of(least), self.trail.event_of(greatest));
-            let last = first.max(second);
-            if demand == 0 || last >= event || but == Some(activity) {
+            if demand == 0 || but == Some(activity) {
                 continue;
             }
-            let rank = if last < root {
-                0
-            } else if self.marks.is_known(first, least, root)
-                && self.marks.is_known(second, greatest, root)
-            {
-                1
-            } else {
-                last.wrapping_add(2)
-            };
-            self.marks
-                .causes
-                .push((rank, demand.wrapping_neg(), activity))?;
+            let [least, greatest] = inside(self.instance, activity, 1, time, time.wrapping_add(1));
+            let last = self
+                .trail
+                .event_of(least)
+                .max(self.trail.event_of(greatest));
+            if last >= event {
+                continue;
+            }
+            let cause = (self.unless_root(last), demand.wrapping_neg(), activity);
+            self.marks.causes.push(cause)?;
             sum = sum.wrapping_add(demand);
         }
         Ok(sum)
@@ -185,11 +180,11 @@ impl Engine<'_> {
         let mut sum = self.list_users(resource, time, but, event)?;
         let (from, to) = (time, time.wrapping_add(1));
         self.marks.causes.all_mut().sort_unstable();
-        for (rank, amount, activity) in self.marks.causes.all().iter().rev().copied() {
+        for (event, amount, activity) in self.marks.causes.all().iter().rev().copied() {
             let rest = sum.wrapping_add(amount);
             if rest > room {
                 sum = rest;
-            } else if rank > 0 {
+            } else if event > 0 {
                 let literals = inside(self.instance, activity, 1, from, to);
                 self.marks.found.push_all(&literals)?;
             }

@@ -1,5 +1,6 @@
 //! What an analysis notes of events.
 
+use crate::analysis::Frame;
 use literals::{Literal, NEVER};
 use proof_log::{Ground, Link};
 use std::alloc::Global;
@@ -28,6 +29,8 @@ pub(crate) struct Marks {
     pub(crate) causes: Table<(u32, i32, u32)>,
     /// A list that explanations work on.
     pub(crate) activities: Table<u32>,
+    /// What is_redundant works on.
+    pub(crate) frames: Vec<Frame>,
     /// Literals that were replaced by what they follow from, each with its event.
     replaced: Vec<(u32, Link)>,
     /// The literals that can't all hold; at the end their negations, which are the lemma.
@@ -47,6 +50,7 @@ impl Marks {
             found: Table::new(alloc, NEVER),
             causes: Table::new(alloc, (0, 0, 0)),
             activities: Table::new(alloc, 0),
+            frames: Vec::new(alloc),
             replaced: Vec::new(alloc),
             nogood: Vec::new(alloc),
         }
@@ -87,11 +91,6 @@ impl Marks {
             self.needed.push(event)?;
         }
         Ok(known == NO_VALUE)
-    }
-
-    /// Whether a literal, which an event made hold, holds at the root, before `root`, or is needed already.
-    pub(crate) fn is_known(&self, event: u32, literal: Literal, root: u32) -> bool {
-        event < root || self.need[event] >= literal.value
     }
 
     /// Whether the nogood has a value of an event anyway.

@@ -2,7 +2,7 @@
 
 use crate::pace::Pace;
 use crate::state::{Engine, Options};
-use instance::{Instance, Settled};
+use instance::{Instance, Walks, settle};
 use literals::{Conflict, Literal, Reason, Stop};
 use proof_log::{Ground, Link};
 use propagation::find_overloads;
@@ -59,21 +59,21 @@ fn conflict_of(flow: Result<(), Stop>) -> Result<Option<Conflict>> {
 const LATER: u64 = 200;
 
 impl<'a> Engine<'a> {
-    /// A search for schedules of a makespan at most `most`, in periods, under settled orders. It looks at all that follows
+    /// A search for schedules of a makespan at most `most`, in periods, over the longest walks. It looks at all that follows
     /// at the root.
     pub fn open(
         alloc: Global,
         instance: &'a Instance,
-        settled: &Settled,
+        walks: &Walks,
         most: i32,
         options: Options,
     ) -> Result<Engine<'a>> {
-        let mut engine = Engine::new(alloc, instance, settled, most, options)?;
+        let settled = settle(alloc, instance, walks.try_copy(alloc)?, most)?;
+        let mut engine = Engine::new(alloc, instance, &settled, most, options)?;
+        engine.forced = settled.forced;
         if settled.is_dead || !engine.has_room() {
             engine.refute(Ground::Arcs)?;
-            return Ok(engine);
-        }
-        if let Some(conflict) = conflict_of(engine.begin())? {
+        } else if let Some(conflict) = conflict_of(engine.begin())? {
             engine.log_root()?;
             engine.analyse(conflict)?;
         }
@@ -208,7 +208,7 @@ impl<'a> Engine<'a> {
     fn find_overloads(&mut self, first: &[Literal]) -> Result<(), Stop> {
         if first.len() < 2 && self.trail.level() as usize <= first.len() {
             find_overloads(self.alloc, self.instance, &self.trail)?;
-            self.cliques.find_overloads(self.instance, &self.trail)?;
+            self.cliques.find_overloads(&self.trail)?;
         }
         Ok(())
     }

@@ -2,7 +2,7 @@
 
 use crate::choices::Choices;
 use crate::marks::Marks;
-use instance::{Instance, Rivals, Settled, greedy_cliques, start_sequence};
+use instance::{Edge, Instance, Rivals, Settled, greedy_cliques, start_sequence};
 use literals::{Lemmas, Literal, Stop, Trail};
 use proof_log::Log;
 use propagation::{Cliques, Edges, TimeTable};
@@ -61,11 +61,14 @@ pub struct Engine<'a> {
     pub(crate) trail: Trail,
     pub(crate) edges: Edges,
     pub(crate) table: TimeTable<'a>,
-    pub(crate) cliques: Cliques,
+    pub(crate) cliques: Cliques<'a>,
     pub(crate) lemmas: Lemmas,
     pub(crate) choices: Choices,
     pub(crate) marks: Marks,
-    pub(crate) log: Log,
+    /// The log of the proof.
+    pub log: Log,
+    /// Orders that hold always, which the search began with.
+    pub forced: Vec<Edge>,
     /// Events of the root before this one are in the log.
     pub(crate) logged: u32,
     /// Events before this one were followed by arcs, orders and lemmas.
@@ -73,13 +76,14 @@ pub struct Engine<'a> {
     /// How many changes the time table had when each level began.
     table_marks: Table<u32>,
     /// Whether no schedule is left.
-    pub(crate) is_refuted: bool,
+    pub is_refuted: bool,
     /// 1 where several first decisions stand on the first level, else 0.
     pub(crate) floor: u32,
     /// The count of conflicts at which lemmas are forgotten next, and how far it is from one such count to the next.
     pub(crate) reduction: u64,
     pub(crate) reduction_step: u64,
-    pub(crate) counts: Counts,
+    /// How much was done.
+    pub counts: Counts,
 }
 
 /// The first values of all slots, for schedules of a makespan at most `most`.
@@ -103,16 +107,11 @@ fn first_values(
     Ok(values)
 }
 
-/// Whether some of a list may run at once: no window, arc or order parts them.
-fn may_overlap(instance: &Instance, settled: &Settled, trail: &Trail, users: &[u32]) -> bool {
-    let is_before = |a: u32, b: u32| {
-        let duration = instance.duration(a);
-        let end = trail.greatest(a).wrapping_add(duration);
-        settled.walks.reaches(a, b, duration) || end <= trail.least(b)
-    };
+/// Whether some of a list may run at once: lags and open orders don't part them.
+fn may_overlap(instance: &Instance, settled: &Settled, users: &[u32]) -> bool {
     for a in users {
         for b in users {
-            if *a < *b && !settled.is_open(*a, *b) && !is_before(*a, *b) && !is_before(*b, *a) {
+            if *a < *b && !settled.is_parted(instance, *a, *b) {
                 return true;
             }
         }
@@ -120,22 +119,12 @@ fn may_overlap(instance: &Instance, settled: &Settled, trail: &Trail, users: &[u
     false
 }
 
-/// The resources of which some users may run at once, and not all fit.
-fn shared_resources(
-    alloc: Global,
-    instance: &Instance,
-    settled: &Settled,
-    trail: &Trail,
-) -> Result<Vec<u32>> {
+/// The resources of which some users may run at once.
+fn shared_resources(alloc: Global, instance: &Instance, settled: &Settled) -> Result<Vec<u32>> {
     let mut shared = Vec::new(alloc);
     for resource in 0..instance.resource_count() {
         let users = instance.users(alloc, resource)?;
-        let demands = users
-            .iter()
-            .map(|user| i64::from(instance.demand(*user, resource)));
-        let all = demands.fold(0i64, |sum: i64, demand: i64| sum.wrapping_add(demand));
-        let fit = all <= i64::from(instance.capacity(resource));
-        if !fit && may_overlap(instance, settled, trail, &users) {
+        if may_overlap(instance, settled, &users) {
             shared.push(resource)?;
         }
     }
@@ -154,7 +143,7 @@ impl<'a> Engine<'a> {
     ) -> Result<Engine<'a>> {
         let walks = &settled.walks;
         let trail = Trail::new(alloc, first_values(alloc, instance, settled, most)?)?;
-        let resources = shared_resources(alloc, instance, settled, &trail)?;
+        let resources = shared_resources(alloc, instance, settled)?;
         let edges = Edges::new(alloc, instance, walks, &settled.forced, &settled.open)?;
         let found = if options.has_cliques {
             greedy_cliques(alloc, instance, walks)?
@@ -174,6 +163,7 @@ impl<'a> Engine<'a> {
             trail,
             marks: Marks::new(alloc),
             log: Log::new(alloc, options.has_log),
+            forced: Vec::new(alloc),
             logged: 1,
             queue: 1,
             table_marks: Table::new(alloc, 0),
@@ -226,7 +216,7 @@ impl<'a> Engine<'a> {
             if self.table.step(&mut self.trail)? {
                 continue;
             }
-            self.cliques.run(self.instance, &mut self.trail)?;
+            self.cliques.run(&mut self.trail)?;
             if self.queue >= self.trail.count() {
                 break;
             }
@@ -263,24 +253,9 @@ impl<'a> Engine<'a> {
         Ok(())
     }
 
-    /// How much was done.
-    pub fn counts(&self) -> Counts {
-        self.counts
-    }
-
-    /// Whether no schedule is left.
-    pub fn is_refuted(&self) -> bool {
-        self.is_refuted
-    }
-
     /// The pairs whose orders are variables.
     pub fn pairs(&self) -> &[Rivals] {
         self.edges.pairs()
-    }
-
-    /// The log of the proof.
-    pub fn log(&self) -> &Log {
-        &self.log
     }
 
     /// How many bytes the search takes, but for what a project of its size takes anyway.

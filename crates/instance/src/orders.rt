@@ -28,9 +28,11 @@ pub struct Settled {
 }
 
 impl Settled {
-    /// Whether the order of two activities, the lesser one first, is open.
-    pub fn is_open(&self, first: u32, second: u32) -> bool {
-        self.open.binary_search(&Rivals { first, second }).is_ok()
+    /// Whether two activities, the lesser one first, don't run at once: by lags, or as their order is open.
+    pub fn is_parted(&self, instance: &Instance, first: u32, second: u32) -> bool {
+        self.walks.reaches(first, second, instance.duration(first))
+            || self.walks.reaches(second, first, instance.duration(second))
+            || self.open.binary_search(&Rivals { first, second }).is_ok()
     }
 }
 

@@ -9,7 +9,7 @@ use std::mem;
 use tables::{Result, Table, narrow};
 
 /// What is known of a lemma whose literals stand at a place.
-#[derive(Clone, Copy)]
+#[derive(Clone, Copy, Default)]
 struct Head {
     place: u32,
     /// How many levels its literals were of when it was learnt (the LBD of Audemard and Simon 2009).
@@ -18,13 +18,6 @@ struct Head {
     number: u32,
     activity: u64,
 }
-
-const NO_HEAD: Head = Head {
-    place: 0,
-    lbd: 0,
-    number: 0,
-    activity: 0,
-};
 
 /// A lemma is watched; where the other literal holds, it does.
 #[derive(Clone, Copy)]
@@ -69,8 +62,6 @@ pub struct Lemmas {
     /// By slot: the values that are watched, rising.
     watched: Vec<Vec<Watched>>,
     lists: Vec<Vec<Watch>>,
-    /// Lists that are not in use.
-    spare: Vec<u32>,
     bump: u64,
 }
 
@@ -84,10 +75,9 @@ impl Lemmas {
         Ok(Lemmas {
             alloc,
             literals: Table::new(alloc, NEVER),
-            heads: Table::new(alloc, NO_HEAD),
+            heads: Table::new(alloc, Head::default()),
             watched,
             lists: Vec::new(alloc),
-            spare: Vec::new(alloc),
             bump: FIRST_BUMP,
         })
     }
@@ -120,16 +110,6 @@ impl Lemmas {
         self.heads[self.head(place)].number
     }
 
-    /// A list of watches that is empty.
-    fn new_list(&mut self) -> Result<u32> {
-        if let Some(list) = self.spare.pop() {
-            return Ok(list);
-        }
-        let list = narrow(self.lists.len());
-        self.lists.push(Vec::new(self.alloc))?;
-        Ok(list)
-    }
-
     /// The list of the watches of a literal.
     fn list_of(&mut self, literal: Literal) -> Result<u32> {
         let Literal { slot, value } = literal;
@@ -140,7 +120,8 @@ impl Lemmas {
         if let Some(known) = values.get(at).copied().filter(|known| known.value == value) {
             return Ok(known.list);
         }
-        let list = self.new_list()?;
+        let list = narrow(self.lists.len());
+        self.lists.push(Vec::new(self.alloc))?;
         if let Some(values) = self.watched.get_mut(slot as usize) {
             if at <= values.len() && values.insert(at, Watched { value, list }).is_err() {
                 return Err(AllocError);
@@ -149,11 +130,11 @@ impl Lemmas {
         Ok(list)
     }
 
-    /// The lemma of a watch is to be looked at once this literal gets false.
-    fn watch(&mut self, literal: Literal, watch: Watch) -> Result<()> {
+    /// The lemma at a place is to be looked at once a literal gets false, unless the other one holds.
+    fn watch(&mut self, literal: Literal, place: u32, other: Literal) -> Result<()> {
         let list = self.list_of(!literal)?;
         if let Some(watches) = self.lists.get_mut(list as usize) {
-            watches.push(watch)?;
+            watches.push(Watch { place, other })?;
         }
         Ok(())
     }
@@ -162,15 +143,13 @@ impl Lemmas {
     /// the second is of the level that was gone back to. Gives the lemma's place.
     pub fn learn(&mut self, literals: &[Literal], lbd: u32, number: u32) -> Result<u32> {
         let (place, activity) = (self.literals.count(), self.bump);
-        self.add(
-            literals,
-            Head {
-                place,
-                lbd,
-                number,
-                activity,
-            },
-        )?;
+        let head = Head {
+            place,
+            lbd,
+            number,
+            activity,
+        };
+        self.add(literals, head)?;
         Ok(place)
     }
 
@@ -183,14 +162,8 @@ impl Lemmas {
         self.heads.push(Head { place, ..head })?;
         let first = self.literals[place.wrapping_add(1)];
         let other = self.literals[place.wrapping_add(2)];
-        self.watch(first, Watch { place, other })?;
-        self.watch(
-            other,
-            Watch {
-                place,
-                other: first,
-            },
-        )
+        self.watch(first, place, other)?;
+        self.watch(other, place, first)
     }
 
     /// Finds another literal to watch for one that got false.
@@ -210,7 +183,7 @@ impl Lemmas {
             let literal = self.literals[at];
             if !trail.fails(literal) {
                 self.literals.swap(second, at);
-                self.watch(literal, *watch)?;
+                self.watch(literal, watch.place, first)?;
                 return Ok(Found::Moves);
             }
         }
@@ -226,9 +199,9 @@ impl Lemmas {
         trail.force(left, Reason::Lemma { place })
     }
 
-    /// Looks at the watches of a literal that got false. Whether any is left.
+    /// Looks at the watches of a literal that got false.
     #[inline(never)]
-    fn visit(&mut self, trail: &mut Trail, bad: Literal, list: u32) -> Result<bool, Stop> {
+    fn visit(&mut self, trail: &mut Trail, bad: Literal, list: u32) -> Result<(), Stop> {
         let mut watches = Vec::new(self.alloc);
         if let Some(found) = self.lists.get_mut(list as usize) {
             watches = mem::replace(found, watches);
@@ -252,7 +225,7 @@ impl Lemmas {
         if let Some(found) = self.lists.get_mut(list as usize) {
             *found = watches;
         }
-        flow.map(|_| kept > 0)
+        flow
     }
 
     /// A slot rose from a value to another: what follows by the lemmas that watch the values between.
@@ -261,33 +234,15 @@ impl Lemmas {
         let Some(values) = self.watched.get(slot as usize) else {
             return Ok(());
         };
-        let mut at = values.partition_point(|known: &Watched| known.value <= old);
-        for _ in 0..u64::MAX {
+        let first = values.partition_point(|known: &Watched| known.value <= old);
+        for at in first..usize::MAX {
             let values = self.watched.get(slot as usize);
-            let Some(Watched { value, list }) = values.and_then(|values| values.get(at).copied())
-            else {
+            let found = values.and_then(|values| values.get(at).copied());
+            let Some(Watched { value, list }) = found.filter(|found| found.value <= new) else {
                 break;
             };
-            if value > new {
-                break;
-            }
-            if self.visit(trail, !Literal { slot, value }, list)? {
-                at = at.wrapping_add(1);
-            } else {
-                self.drop_list(slot, at, list)?;
-            }
+            self.visit(trail, !Literal { slot, value }, list)?;
         }
-        Ok(())
-    }
-
-    /// Nothing watches a value of a slot any more, whose list is empty.
-    fn drop_list(&mut self, slot: u32, at: usize, list: u32) -> Result<()> {
-        if let Some(values) = self.watched.get_mut(slot as usize) {
-            if at < values.len() {
-                values.remove(at);
-            }
-        }
-        self.spare.push(list)?;
         Ok(())
     }
 

@@ -7,7 +7,7 @@ use std::ops::Not;
 /// A variable x has two slots: the value of slot 2x is its least value, that of 2x + 1 its greatest one, negated. So a
 /// slot's value only grows on the way down. Variables are first the starts of the activities, then the orders of pairs
 /// of rivals: 1 if the first of the two ends before the other starts, 0 if the other way round.
-#[derive(Clone, Copy, PartialEq, Eq, PartialOrd, Ord, Hash, Debug)]
+#[derive(Clone, Copy, PartialEq, Eq, PartialOrd, Ord, Hash, Debug, Default)]
 pub struct Literal {
     pub slot: u32,
     pub value: i32,
@@ -24,18 +24,19 @@ impl Not for Literal {
 
     /// What holds just where the literal does not: values are whole numbers.
     fn not(self) -> Literal {
-        Literal {
-            slot: self.slot ^ 1,
-            value: 1i32.wrapping_sub(self.value),
-        }
+        Literal::new(self.slot ^ 1, 1i32.wrapping_sub(self.value))
     }
 }
 
 impl Literal {
+    /// A slot has at least this value.
+    pub fn new(slot: u32, value: i32) -> Literal {
+        Literal { slot, value }
+    }
+
     /// The variable is at least so much.
     pub fn at_least(variable: u32, value: i32) -> Literal {
-        let slot = variable.wrapping_mul(2);
-        Literal { slot, value }
+        Literal::new(variable.wrapping_mul(2), value)
     }
 
     /// The variable is at most so much.

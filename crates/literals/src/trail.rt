@@ -61,6 +61,11 @@ impl Trail {
         self.values[slot]
     }
 
+    /// The values of all slots.
+    pub fn values(&self) -> &[i32] {
+        self.values.all()
+    }
+
     /// The least value of a variable.
     pub fn least(&self, variable: u32) -> i32 {
         self.values[variable.wrapping_mul(2)]

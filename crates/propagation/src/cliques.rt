@@ -3,7 +3,7 @@
 //! pushes its least (greatest) start.
 
 use crate::edges::Edges;
-use crate::windows::{Window, find_overload, reached, sort, turn_round};
+use crate::windows::{Window, find_overload, reached, renew_all};
 use instance::Instance;
 use literals::{Conflict, Event, Literal, NEVER, Reason, Stop, Trail};
 use std::alloc::Global;
@@ -20,7 +20,7 @@ const MOST: usize = 64;
 const WORK: u64 = 20_000;
 
 /// What changed in a clique.
-#[derive(Clone, Copy)]
+#[derive(Clone, Copy, Default)]
 struct News {
     /// Those whose bounds moved.
     moved: Set,
@@ -30,47 +30,32 @@ struct News {
     is_noted: bool,
 }
 
-const NO_NEWS: News = News {
-    moved: 0,
-    least: 0,
-    greatest: 0,
-    is_noted: false,
-};
-
 /// A clique, and a place in it.
-#[derive(Clone, Copy)]
+#[derive(Clone, Copy, Default)]
 struct Seat {
     clique: u32,
     place: u32,
 }
 
 /// A clique, and the places of the two activities of a pair.
-#[derive(Clone, Copy)]
+#[derive(Clone, Copy, Default)]
 struct Seats {
     clique: u32,
     one: u32,
     other: u32,
 }
 
-const NO_SEAT: Seat = Seat {
-    clique: 0,
-    place: 0,
-};
-
-const NO_SEATS: Seats = Seats {
-    clique: 0,
-    one: 0,
-    other: 0,
-};
-
 /// The cliques of a search.
 #[derive(Drop)]
-pub struct Cliques {
+pub struct Cliques<'a> {
     alloc: Global,
-    activities: u32,
+    instance: &'a Instance,
+    /// The windows of each clique's members, as they went when it was looked at last; and the same with time turned round.
+    windows: Rows<Window>,
+    turned: Rows<Window>,
+    /// So many cliques are looked at everywhere. Those after them are so at the root and below a supposed end alone.
+    short: u32,
     members: Rows<u32>,
-    /// Those that are looked at at the root and below a supposed end alone.
-    long: Rows<u32>,
     /// By all members, clique after clique: the places of those that are known to run before it, and after it.
     before: Table<Set>,
     after: Table<Set>,
@@ -81,7 +66,6 @@ pub struct Cliques {
     todo: Table<u32>,
     /// Events before this one are noticed.
     queue: u32,
-    windows: Vec<Window>,
 }
 
 /// The bit of a place.
@@ -89,74 +73,101 @@ fn bit(place: u32) -> Set {
     1u64.wrapping_shl(place)
 }
 
-/// The cliques that are looked at everywhere, and the long ones.
-fn parted(alloc: Global, found: &Rows<u32>) -> Result<(Rows<u32>, Rows<u32>)> {
+/// The cliques that are looked at everywhere, and then the long ones. Gives how many the first are.
+fn parted(alloc: Global, found: &Rows<u32>) -> Result<(Rows<u32>, u32)> {
     let mut work = 0u64;
     for clique in 0..found.count() {
         let size = found.row(clique).len().min(MOST) as u64;
         work = work.wrapping_add(size.wrapping_mul(size));
     }
-    let (mut short, mut long) = (Rows::new(alloc, 0), Rows::new(alloc, 0));
-    for clique in 0..found.count() {
-        let members = found.row(clique);
-        let is_short = work <= WORK && members.len() <= MOST;
-        let rows = if is_short { &mut short } else { &mut long };
-        rows.push_row(members)?;
+    let most = if work <= WORK { MOST } else { 0 };
+    let is_short = |clique: &u32| found.row(*clique).len() <= most;
+    let mut members = Rows::new(alloc, 0);
+    for clique in (0..found.count()).filter(is_short) {
+        members.push_row(found.row(clique))?;
     }
-    Ok((short, long))
+    let short = members.count();
+    for clique in (0..found.count()).filter(|clique| !is_short(clique)) {
+        members.push_row(found.row(clique))?;
+    }
+    Ok((members, short))
 }
 
-impl Cliques {
+impl<'a> Cliques<'a> {
     /// Cliques of given members, which rise.
     pub fn new(
         alloc: Global,
-        instance: &Instance,
+        instance: &'a Instance,
         edges: &Edges,
         found: &Rows<u32>,
-    ) -> Result<Cliques> {
-        let (members, long) = parted(alloc, found)?;
+    ) -> Result<Cliques<'a>> {
+        let (members, short) = parted(alloc, found)?;
         let all = members.all().len();
         let mut cliques = Cliques {
             alloc,
-            activities: instance.count(),
+            instance,
+            windows: Rows::new(alloc, Window::default()),
+            turned: Rows::new(alloc, Window::default()),
+            short,
             members,
-            long,
             before: Table::filled(alloc, all, 0, 0)?,
             after: Table::filled(alloc, all, 0, 0)?,
-            news: Table::new(alloc, NO_NEWS),
-            seats: Rows::new(alloc, NO_SEAT),
-            pairs: Rows::new(alloc, NO_SEATS),
+            news: Table::new(alloc, News::default()),
+            seats: Rows::new(alloc, Seat::default()),
+            pairs: Rows::new(alloc, Seats::default()),
             todo: Table::new(alloc, 0),
             queue: 0,
-            windows: Vec::new(alloc),
         };
+        cliques.list_windows()?;
         cliques.seat_all()?;
         cliques.relate_all(edges)?;
         Ok(cliques)
     }
 
+    /// Lists the windows of all members.
+    fn list_windows(&mut self) -> Result<()> {
+        for clique in 0..self.members.count() {
+            let mut place = 0u32;
+            for activity in self.members.row(clique) {
+                let (activity, duration) = (*activity, self.instance.duration(*activity));
+                let window = Window {
+                    duration,
+                    activity,
+                    place,
+                    ..Window::default()
+                };
+                self.windows.push(window)?;
+                self.turned.push(window)?;
+                place = place.wrapping_add(1);
+            }
+            self.windows.close()?;
+            self.turned.close()?;
+        }
+        Ok(())
+    }
+
     /// Finds the cliques of each activity. All are to be looked at.
     fn seat_all(&mut self) -> Result<()> {
         let mut seats = Vec::new(self.alloc);
-        for clique in 0..self.members.count() {
+        for clique in 0..self.short {
             let numbers = self.members.numbers(clique);
             let first = numbers.start;
             for number in numbers {
                 let place = number.wrapping_sub(first);
                 seats.push((self.members[number], Seat { clique, place }))?;
             }
-            self.news.push(NO_NEWS)?;
+            self.news.push(News::default())?;
             self.news[clique].moved = Set::MAX;
             self.note(clique)?;
         }
-        self.seats = Rows::by_row(self.alloc, self.activities, &seats, NO_SEAT)?;
+        self.seats = Rows::by_row(self.alloc, self.instance.count(), &seats, Seat::default())?;
         Ok(())
     }
 
     /// Finds how the members of each clique stand to each other: in an order by lags, or in one that a literal says.
     fn relate_all(&mut self, edges: &Edges) -> Result<()> {
         let mut pairs = Vec::new(self.alloc);
-        for clique in 0..self.members.count() {
+        for clique in 0..self.short {
             let count = narrow(self.members.row(clique).len()).max(1);
             for at in 0..count.wrapping_mul(count) {
                 let (one, other) = (at / count, at % count);
@@ -165,7 +176,7 @@ impl Cliques {
                 match edges.precedence(a, b) {
                     None => self.set_before(clique, one, other),
                     Some(literal) if a < b && literal != NEVER => {
-                        let pair = literal.variable().wrapping_sub(self.activities);
+                        let pair = literal.variable().wrapping_sub(self.instance.count());
                         pairs.push((pair, Seats { clique, one, other }))?;
                     }
                     _ => {}
@@ -173,7 +184,7 @@ impl Cliques {
             }
         }
         let count = narrow(edges.pairs().len());
-        self.pairs = Rows::by_row(self.alloc, count, &pairs, NO_SEATS)?;
+        self.pairs = Rows::by_row(self.alloc, count, &pairs, Seats::default())?;
         Ok(())
     }
 
@@ -252,10 +263,13 @@ impl Cliques {
     /// The last event of the trail is taken back.
     pub fn forget(&mut self, trail: &Trail, event: &Event) {
         let variable = event.slot / 2;
-        if variable < self.activities || trail.count() >= self.queue {
+        if variable < self.instance.count() || trail.count() >= self.queue {
             return;
         }
-        for number in self.pairs.numbers(variable.wrapping_sub(self.activities)) {
+        for number in self
+            .pairs
+            .numbers(variable.wrapping_sub(self.instance.count()))
+        {
             let Seats { clique, one, other } = self.seats_of(number, event.slot % 2 == 0);
             self.clear_before(clique, one, other);
         }
@@ -264,7 +278,7 @@ impl Cliques {
     /// The trail went back to so many events. Nothing was left to look at then.
     pub fn go_back(&mut self, queue: u32) {
         for clique in self.todo.all() {
-            self.news[*clique] = NO_NEWS;
+            self.news[*clique] = News::default();
         }
         self.todo.clear();
         self.queue = self.queue.min(queue);
@@ -275,10 +289,10 @@ impl Cliques {
         for number in self.queue..trail.count() {
             let slot = trail.event(number).slot;
             let (variable, is_lower) = (slot / 2, slot % 2 == 0);
-            if variable < self.activities {
+            if variable < self.instance.count() {
                 self.notice_bound(variable, is_lower)?;
             } else {
-                self.notice_order(variable.wrapping_sub(self.activities), is_lower)?;
+                self.notice_order(variable.wrapping_sub(self.instance.count()), is_lower)?;
             }
             self.queue = number.wrapping_add(1);
         }
@@ -286,95 +300,62 @@ impl Cliques {
     }
 
     /// What follows of all that changed.
-    pub fn run(&mut self, instance: &Instance, trail: &mut Trail) -> Result<(), Stop> {
+    pub fn run(&mut self, trail: &mut Trail) -> Result<(), Stop> {
         self.catch_up(trail)?;
         for _ in 0..u64::MAX {
             let Some(clique) = self.todo.all().last().copied() else {
                 break;
             };
-            self.look_at(instance, trail, clique)?;
+            self.look_at(trail, clique)?;
             self.news[clique].is_noted = false;
             self.todo.pop();
         }
         Ok(())
     }
 
-    /// The members of a clique, which rise. The long ones have numbers after the others.
-    fn members(&self, clique: u32) -> &[u32] {
-        if clique < self.members.count() {
-            self.members.row(clique)
-        } else {
-            self.long.row(clique.wrapping_sub(self.members.count()))
-        }
-    }
-
     /// How many members a clique has.
     pub fn size(&self, clique: u32) -> u32 {
-        narrow(self.members(clique).len())
+        narrow(self.members.row(clique).len())
     }
 
     /// The member at a place of a clique.
     pub fn member(&self, clique: u32, place: u32) -> u32 {
-        self.members(clique)
-            .get(place as usize)
-            .copied()
-            .unwrap_or(0)
-    }
-
-    /// Lists the windows of a clique's members, by falling least start.
-    fn list_windows(&mut self, instance: &Instance, trail: &Trail, clique: u32) -> Result<()> {
-        let mut windows = mem::replace(&mut self.windows, Vec::new(self.alloc));
-        windows.clear();
-        let mut place = 0u32;
-        for activity in self.members(clique) {
-            let duration = instance.duration(*activity);
-            windows.push(Window {
-                least: trail.least(*activity),
-                end: trail.greatest(*activity).wrapping_add(duration),
-                duration,
-                place,
-            })?;
-            place = place.wrapping_add(1);
-        }
-        sort(&mut windows);
-        self.windows = windows;
-        Ok(())
+        self.members[self.at(clique, place)]
     }
 
     /// A conflict where the windows of a clique are overloaded. Those of places that have not moved were looked at before.
-    fn find_overload(&self, clique: u32, moved: Set) -> Result<(), Stop> {
-        match find_overload(&self.windows, moved) {
+    fn find_overload(&mut self, trail: &Trail, clique: u32, moved: Set) -> Result<(), Stop> {
+        let windows = self.windows.row_mut(clique);
+        renew_all(windows, trail, false);
+        match find_overload(windows, moved) {
             Some((from, to)) => Err(Stop::Conflict(Conflict::Clique { clique, from, to })),
             None => Ok(()),
         }
     }
 
     /// Looks for overloads of the long cliques.
-    pub fn find_overloads(&mut self, instance: &Instance, trail: &Trail) -> Result<(), Stop> {
-        for number in 0..self.long.count() {
-            let clique = self.members.count().wrapping_add(number);
-            self.list_windows(instance, trail, clique)?;
-            self.find_overload(clique, Set::MAX)?;
+    pub fn find_overloads(&mut self, trail: &Trail) -> Result<(), Stop> {
+        for clique in self.short..self.members.count() {
+            self.find_overload(trail, clique, Set::MAX)?;
         }
         Ok(())
     }
 
     /// Looks at what changed in a clique.
-    fn look_at(&mut self, instance: &Instance, trail: &mut Trail, clique: u32) -> Result<(), Stop> {
+    fn look_at(&mut self, trail: &mut Trail, clique: u32) -> Result<(), Stop> {
         let is_noted = true;
         let news = mem::replace(
             &mut self.news[clique],
             News {
                 is_noted,
-                ..NO_NEWS
+                ..News::default()
             },
         );
-        self.list_windows(instance, trail, clique)?;
-        self.find_overload(clique, news.moved)?;
-        self.push_all(instance, trail, clique, news.least, true)?;
+        self.find_overload(trail, clique, news.moved)?;
+        self.push_all(trail, clique, news.least, true)?;
         if news.greatest != 0 {
-            turn_round(&mut self.windows);
-            self.push_all(instance, trail, clique, news.greatest, false)?;
+            renew_all(self.turned.row_mut(clique), trail, true);
+            self.push_all(trail, clique, news.greatest, false)?;
         }
         Ok(())
     }
@@ -382,7 +363,6 @@ impl Cliques {
     /// Looks at the bounds of some members.
     fn push_all(
         &mut self,
-        instance: &Instance,
         trail: &mut Trail,
         clique: u32,
         places: Set,
@@ -395,37 +375,34 @@ impl Cliques {
             }
             let place = left.trailing_zeros();
             left = left & left.wrapping_sub(1);
-            self.push(instance, trail, Seat { clique, place }, is_least)?;
+            self.push(trail, Seat { clique, place }, is_least)?;
         }
         Ok(())
     }
 
     /// Those before a member, seen from the latest on, end when all their work is done at least. Those after it, seen
     /// from the earliest on, start before all their work: the same with time turned round.
-    fn push(
-        &self,
-        instance: &Instance,
-        trail: &mut Trail,
-        seat: Seat,
-        is_least: bool,
-    ) -> Result<(), Stop> {
-        let at = self.at(seat.clique, seat.place);
+    fn push(&self, trail: &mut Trail, seat: Seat, is_least: bool) -> Result<(), Stop> {
+        let Seat { clique, place } = seat;
+        let at = self.at(clique, place);
         let activity = self.members[at];
-        let duration = instance.duration(activity);
-        let (others, bound) = if is_least {
-            (self.before[at], trail.least(activity))
-        } else {
-            let end = trail.greatest(activity).wrapping_add(duration);
-            (self.after[at], end.wrapping_neg())
-        };
-        let (reached, from) = reached(&self.windows, others, bound);
-        let (literal, time) = if is_least {
-            (Literal::at_least(activity, reached), from)
-        } else {
-            let latest = reached.wrapping_neg().wrapping_sub(duration);
-            (Literal::at_most(activity, latest), from.wrapping_neg())
-        };
-        let clique = seat.clique;
-        trail.force(literal, Reason::Pushed { clique, time })
+        let reason = |time: i32| Reason::Pushed { clique, time };
+        if is_least {
+            let windows = self.windows.row(clique);
+            let (reached, time) = reached(windows, self.before[at], trail.least(activity));
+            return trail.force(Literal::at_least(activity, reached), reason(time));
+        }
+        let windows = self.turned.row(clique);
+        let duration = self.instance.duration(activity);
+        let bound = trail
+            .greatest(activity)
+            .wrapping_add(duration)
+            .wrapping_neg();
+        let (reached, time) = reached(windows, self.after[at], bound);
+        let latest = reached.wrapping_neg().wrapping_sub(duration);
+        trail.force(
+            Literal::at_most(activity, latest),
+            reason(time.wrapping_neg()),
+        )
     }
 }

@@ -3,11 +3,11 @@
 use instance::{Edge, Instance, Rivals, Walks};
 use literals::{Literal, NEVER, Reason, Stop, Trail};
 use std::alloc::Global;
-use tables::{Result, Rows, Table};
+use tables::{Result, Rows, Table, narrow};
 
 /// The slot `to` has at least the value of the slot `from` and `weight`: least starts forward over a lag, greatest ones,
 /// negated, backward.
-#[derive(Clone, Copy)]
+#[derive(Clone, Copy, Default)]
 pub struct Arc {
     pub from: u32,
     pub to: u32,
@@ -15,22 +15,11 @@ pub struct Arc {
 }
 
 /// An arc that holds where a literal does.
-#[derive(Clone, Copy)]
+#[derive(Clone, Copy, Default)]
 pub struct Order {
     pub arc: Arc,
     pub literal: Literal,
 }
-
-const NO_ARC: Arc = Arc {
-    from: 0,
-    to: 0,
-    weight: 0,
-};
-
-const NO_ORDER: Order = Order {
-    arc: NO_ARC,
-    literal: NEVER,
-};
 
 /// The arcs and orders of a project.
 #[derive(Drop)]
@@ -45,7 +34,7 @@ pub struct Edges {
     precedences: Table<Option<Literal>>,
     /// By activity: others, and the literal by which it comes before.
     rivals: Rows<(u32, Literal)>,
-    pairs: Table<Rivals>,
+    pairs: Vec<Rivals>,
 }
 
 /// The two arcs of an edge.
@@ -94,7 +83,12 @@ fn needed(alloc: Global, instance: &Instance, walks: &Walks, forced: &[Edge]) ->
             arcs.push((backward.from, backward))?;
         }
     }
-    Rows::by_row(alloc, instance.count().wrapping_mul(2), &arcs, NO_ARC)
+    Rows::by_row(
+        alloc,
+        instance.count().wrapping_mul(2),
+        &arcs,
+        Arc::default(),
+    )
 }
 
 /// Both orders of each pair: the activities, the first one first, and the literal.
@@ -121,19 +115,12 @@ impl Edges {
         let mut edges = Edges {
             activities: instance.count(),
             arcs: needed(alloc, instance, walks, forced)?,
-            orders: Rows::new(alloc, NO_ORDER),
+            orders: Rows::new(alloc, Order::default()),
             by_slot: Rows::new(alloc, 0),
             precedences: Table::new(alloc, Some(NEVER)),
             rivals: Rows::new(alloc, (0, NEVER)),
-            pairs: Table::new(
-                alloc,
-                Rivals {
-                    first: 0,
-                    second: 0,
-                },
-            ),
+            pairs: Vec::from_slice(alloc, open)?,
         };
-        edges.pairs.push_all(open)?;
         let orders = orders_of(alloc, instance.count(), open)?;
         edges.take_orders(alloc, instance, &orders)?;
         edges.list_by_slot(alloc)?;
@@ -153,24 +140,13 @@ impl Edges {
             let (from, to, literal) = (*from, *to, *literal);
             let weight = instance.duration(from);
             let [forward, backward] = arcs_of(Edge { from, to, weight });
-            orders.push((
-                forward.from,
-                Order {
-                    arc: forward,
-                    literal,
-                },
-            ))?;
-            orders.push((
-                backward.from,
-                Order {
-                    arc: backward,
-                    literal,
-                },
-            ))?;
+            for arc in [forward, backward] {
+                orders.push((arc.from, Order { arc, literal }))?;
+            }
             rivals.push((from, (to, literal)))?;
         }
         let slots = self.activities.wrapping_mul(2);
-        self.orders = Rows::by_row(alloc, slots, &orders, NO_ORDER)?;
+        self.orders = Rows::by_row(alloc, slots, &orders, Order::default())?;
         self.rivals = Rows::by_row(alloc, self.activities, &rivals, (0, NEVER))?;
         Ok(())
     }
@@ -188,7 +164,7 @@ impl Edges {
             placed.push((self.place_of(order.literal.slot), number))?;
             number = number.wrapping_add(1);
         }
-        self.by_slot = Rows::by_row(alloc, self.pairs.count().wrapping_mul(2), &placed, 0)?;
+        self.by_slot = Rows::by_row(alloc, narrow(self.pairs.len()).wrapping_mul(2), &placed, 0)?;
         Ok(())
     }
 
@@ -223,10 +199,9 @@ impl Edges {
         self.precedences[self.place(a, b)]
     }
 
-    /// The slot that an arc leaves, and its weight.
-    pub fn source_of_arc(&self, number: u32) -> (u32, i32) {
-        let Arc { from, weight, .. } = self.arcs[number];
-        (from, weight)
+    /// An arc.
+    pub fn arc(&self, number: u32) -> Arc {
+        self.arcs[number]
     }
 
     /// An order.
@@ -241,7 +216,7 @@ impl Edges {
 
     /// The pairs whose orders are variables.
     pub fn pairs(&self) -> &[Rivals] {
-        self.pairs.all()
+        &self.pairs
     }
 
     /// What follows by arcs and orders from a slot that has a new value.
@@ -251,16 +226,12 @@ impl Edges {
             return self.follow_pair(trail, slot);
         }
         let value = trail.value(slot);
-        for arc in self.arcs.numbers(slot) {
-            let Arc { to, weight, .. } = self.arcs[arc];
-            let literal = Literal {
-                slot: to,
-                value: value.wrapping_add(weight),
-            };
-            trail.force(literal, Reason::Arc { arc })?;
+        for (number, arc) in self.arcs.numbers(slot).zip(self.arcs.row(slot)) {
+            let literal = Literal::new(arc.to, value.wrapping_add(arc.weight));
+            trail.force(literal, Reason::Arc { arc: number })?;
         }
-        for order in self.orders.numbers(slot) {
-            self.follow_order(trail, order)?;
+        for (number, order) in self.orders.numbers(slot).zip(self.orders.row(slot)) {
+            follow_order(trail, *order, value, number)?;
         }
         Ok(())
     }
@@ -268,27 +239,29 @@ impl Edges {
     /// What follows from the slot of a pair.
     fn follow_pair(&self, trail: &mut Trail, slot: u32) -> Result<(), Stop> {
         for order in self.by_slot.row(self.place_of(slot)) {
-            self.follow_order(trail, *order)?;
+            let value = trail.value(self.orders[*order].arc.from);
+            follow_order(trail, self.orders[*order], value, *order)?;
         }
         Ok(())
     }
+}
 
-    /// An order that holds moves a bound; one that has no room is lost.
-    #[inline(always)]
-    fn follow_order(&self, trail: &mut Trail, order: u32) -> Result<(), Stop> {
-        let Order { arc, literal } = self.orders[order];
-        let moved = Literal {
-            slot: arc.to,
-            value: trail.value(arc.from).wrapping_add(arc.weight),
-        };
-        if trail.holds(moved) {
-            Ok(())
-        } else if trail.holds(literal) {
-            trail.force(moved, Reason::Order { order })
-        } else if trail.fails(moved) {
-            trail.force(!literal, Reason::Lost { order })
-        } else {
-            Ok(())
-        }
+/// An order from a slot of a value moves a bound where it holds; one that has no room is lost.
+#[inline(always)]
+fn follow_order(
+    trail: &mut Trail,
+    Order { arc, literal }: Order,
+    from: i32,
+    order: u32,
+) -> Result<(), Stop> {
+    let moved = Literal::new(arc.to, from.wrapping_add(arc.weight));
+    if trail.fails(literal) || trail.holds(moved) {
+        Ok(())
+    } else if trail.holds(literal) {
+        trail.force(moved, Reason::Order { order })
+    } else if trail.fails(moved) {
+        trail.force(!literal, Reason::Lost { order })
+    } else {
+        Ok(())
     }
 }

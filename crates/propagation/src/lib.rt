@@ -11,7 +11,7 @@ mod time_table;
 mod windows;
 
 pub use cliques::Cliques;
-pub use edges::Edges;
+pub use edges::{Arc, Edges, Order};
 pub use energy::{find_overloads, part};
 pub use profile::{NO_PART, Part, Profile};
 pub use time_table::TimeTable;

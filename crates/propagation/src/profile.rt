@@ -179,16 +179,22 @@ impl Profile {
         self.join(part.to)
     }
 
-    /// The least room of a resource in some segments, and the first one that has it.
-    pub(crate) fn least_room(&self, resource: u32, segments: Range<u32>) -> (i32, u32) {
-        let (mut least, mut first) = (i32::MAX, 0);
+    /// Finds the least room of each resource in some segments.
+    pub(crate) fn least_rooms(&self, segments: Range<u32>, least: &mut [i32]) {
+        least.fill(i32::MAX);
         for segment in segments {
-            let room = self.room[self.room_at(segment).wrapping_add(resource)];
-            if room < least {
-                (least, first) = (room, segment);
+            for (least, room) in least.iter_mut().zip(self.room_in(segment)) {
+                *least = (*least).min(*room);
             }
         }
-        (least, first)
+    }
+
+    /// The first of the times at which some segments have least room of a resource.
+    pub(crate) fn fullest(&self, resource: u32, segments: Range<u32>) -> i32 {
+        let room = |segment: &u32| self.room[self.room_at(*segment).wrapping_add(resource)];
+        segments
+            .min_by_key(room)
+            .map_or(0, |segment| self.begin(segment))
     }
 
     /// The first resource of which a segment has less room than is demanded; none in the activity's own part.

@@ -4,39 +4,70 @@ use crate::profile::{NO_PART, Part, Profile};
 use instance::Instance;
 use literals::{Conflict, Literal, Reason, Stop, Trail};
 use std::alloc::Global;
-use std::cmp::Reverse;
-use tables::{Result, Rows, Table};
+use std::ops::Range;
+use tables::{Result, Table, narrow};
 
-/// An activity that needs so much of a resource, for so long.
-#[derive(Clone, Copy)]
-struct User {
-    activity: u32,
-    demand: i32,
-    duration: i32,
+/// The slots of activities that are to be looked at.
+#[derive(Drop)]
+struct Notes {
+    is_noted: Table<bool>,
+    todo: Table<u32>,
 }
 
-const NO_USER: User = User {
-    activity: 0,
-    demand: 0,
-    duration: 0,
-};
+impl Notes {
+    /// A slot is to be looked at.
+    #[inline(always)]
+    fn note(&mut self, slot: u32) -> Result<()> {
+        if !self.is_noted[slot] {
+            self.is_noted[slot] = true;
+            self.todo.push(slot)?;
+        }
+        Ok(())
+    }
+
+    /// The first, the second, or both slots of an activity are to be looked at.
+    fn add(&mut self, activity: u32, is_first: bool, is_second: bool) -> Result<()> {
+        let slot = activity.wrapping_mul(2);
+        if is_first {
+            self.note(slot)?;
+        }
+        if is_second {
+            self.note(slot.wrapping_add(1))?;
+        }
+        Ok(())
+    }
+
+    /// Takes a slot that was to be looked at last.
+    fn take(&mut self) -> Option<u32> {
+        let slot = self.todo.pop()?;
+        self.is_noted[slot] = false;
+        Some(slot)
+    }
+
+    /// None is to be looked at.
+    fn clear(&mut self) {
+        for slot in self.todo.all() {
+            self.is_noted[*slot] = false;
+        }
+        self.todo.clear();
+    }
+}
 
 /// The time table of a search.
 #[derive(Drop)]
 pub struct TimeTable<'a> {
     instance: &'a Instance,
-    /// By resource, by falling demand.
-    users: Rows<User>,
     /// By activity; 0 for those that need nothing.
     durations: Table<i32>,
+    /// By resource: the greatest demand, and what a part has left, if that is not enough for all.
+    greatest_demands: Table<i32>,
+    rooms: Table<i32>,
     profile: Profile,
     /// From its greatest start to its least end, by activity: what the profile has of it.
     parts: Table<Part>,
     /// Activities, and what the profile had of them before each change.
     changes: Table<(u32, Part)>,
-    /// The slots of activities that are to be looked at.
-    is_noted: Table<bool>,
-    todo: Table<u32>,
+    notes: Notes,
     /// Events before this one are in the profile.
     queue: u32,
 }
@@ -51,41 +82,31 @@ impl<'a> TimeTable<'a> {
         }
         let mut table = TimeTable {
             instance,
-            users: Rows::new(alloc, NO_USER),
             durations: Table::filled(alloc, count, 0, 0)?,
+            greatest_demands: Table::filled(alloc, instance.capacities().len(), 0, 0)?,
+            rooms: Table::filled(alloc, instance.capacities().len(), 0, 0)?,
             profile: Profile::new(alloc, instance.count(), capacities.all())?,
             parts: Table::filled(alloc, count, NO_PART, NO_PART)?,
             changes: Table::new(alloc, (0, NO_PART)),
-            is_noted: Table::filled(alloc, count.wrapping_mul(2), false, true)?,
-            todo: Table::new(alloc, 0),
+            notes: Notes {
+                is_noted: Table::filled(alloc, count.wrapping_mul(2), false, true)?,
+                todo: Table::new(alloc, 0),
+            },
             queue: 0,
         };
-        let mut users = Vec::new(alloc);
         for resource in resources {
-            table.list_users(alloc, *resource, &mut users)?;
+            table.take_users(alloc, *resource)?;
         }
-        users.sort_unstable_by_key(|(_, user): &(u32, User)| (Reverse(user.demand), user.activity));
-        table.users = Rows::by_row(alloc, instance.resource_count(), &users, NO_USER)?;
         Ok(table)
     }
 
-    /// Lists the users of a resource.
-    fn list_users(
-        &mut self,
-        alloc: Global,
-        resource: u32,
-        users: &mut Vec<(u32, User)>,
-    ) -> Result<()> {
+    /// Takes the users of a resource.
+    fn take_users(&mut self, alloc: Global, resource: u32) -> Result<()> {
         for activity in self.instance.users(alloc, resource)?.iter() {
-            let (activity, duration) = (*activity, self.instance.duration(*activity));
-            self.durations[activity] = duration;
-            let demand = self.instance.demand(activity, resource);
-            let user = User {
-                activity,
-                demand,
-                duration,
-            };
-            users.push((resource, user))?;
+            self.durations[*activity] = self.instance.duration(*activity);
+            let demand = self.instance.demand(*activity, resource);
+            let greatest = &mut self.greatest_demands[resource];
+            *greatest = demand.max(*greatest);
         }
         Ok(())
     }
@@ -121,67 +142,58 @@ impl<'a> TimeTable<'a> {
         for _ in mark..self.changes.count() {
             self.undo()?;
         }
-        for slot in self.todo.all() {
-            self.is_noted[*slot] = false;
-        }
-        self.todo.clear();
+        self.notes.clear();
         self.queue = queue;
         Ok(())
     }
 
-    /// A slot of an activity is to be looked at.
-    #[inline(always)]
-    fn note(&mut self, slot: u32) -> Result<()> {
-        if !self.is_noted[slot] {
-            self.is_noted[slot] = true;
-            self.todo.push(slot)?;
+    /// Notes those that may be pushed by a part: they need more of a resource than it has left.
+    fn note_pushed(&mut self, trail: &Trail, part: Part) -> Result<()> {
+        let windows = trail.values().chunks_exact(2).zip(self.durations.all());
+        for (activity, (window, duration)) in (0..self.parts.count()).zip(windows) {
+            let (least, greatest) = (window[0], window[1].wrapping_neg());
+            let meets = |start: i32| start < part.to && start.wrapping_add(*duration) > part.from;
+            let (is_first, is_last) = (meets(least), meets(greatest));
+            if (is_first || is_last) && least < greatest && *duration > 0 {
+                let mut needs = self.rooms.all().iter().zip(self.instance.demands(activity));
+                if needs.any(|(room, demand)| demand > room) {
+                    self.notes.add(activity, is_first, is_last)?;
+                }
+            }
         }
         Ok(())
     }
 
-    /// Notes those that may be pushed: they need more of a resource than the room that is left in a part.
-    #[inline(always)]
-    fn note_pushed(&mut self, trail: &Trail, resource: u32, room: i32, part: Part) -> Result<()> {
-        for number in self.users.numbers(resource) {
-            let User {
-                activity,
-                demand,
-                duration,
-            } = self.users[number];
-            if demand <= room {
-                break;
-            }
-            let (least, greatest) = (trail.least(activity), trail.greatest(activity));
-            let meets = |start: i32| start < part.to && start.wrapping_add(duration) > part.from;
-            let slot = activity.wrapping_mul(2);
-            if least < greatest && meets(least) {
-                self.note(slot)?;
-            }
-            if least < greatest && meets(greatest) {
-                self.note(slot.wrapping_add(1))?;
+    /// Finds what a part has left of what an activity takes of it, where that is not enough for all. Whether there is such.
+    fn find_rooms(&mut self, demands: &[i32], segments: Range<u32>) -> bool {
+        self.profile.least_rooms(segments, self.rooms.all_mut());
+        let mut is_short = false;
+        let greatest = self.greatest_demands.all().iter();
+        for ((room, demand), most) in self.rooms.all_mut().iter_mut().zip(demands).zip(greatest) {
+            if *demand == 0 || *room >= *most {
+                *room = i32::MAX;
+            } else {
+                is_short = true;
             }
         }
-        Ok(())
+        is_short
     }
 
     /// An activity must run in a part more. Gives a conflict if that is too much.
     fn fill(&mut self, trail: &Trail, activity: u32, part: Part) -> Result<Option<Conflict>> {
         let demands = self.instance.demands(activity);
         let segments = self.profile.put(activity, demands, part, 1)?;
-        for resource in 0..self.instance.resource_count() {
-            if self.instance.demand(activity, resource) == 0 {
-                continue;
-            }
-            let (room, segment) = self
-                .profile
-                .least_room(resource, segments.start..segments.end);
-            if room < 0 {
-                let time = self.profile.begin(segment);
-                return Ok(Some(Conflict::Overload { resource, time }));
-            }
-            self.note_pushed(trail, resource, room, part)?;
+        let (from, to) = (segments.start, segments.end);
+        if !self.find_rooms(demands, segments) {
+            return Ok(None);
         }
-        Ok(None)
+        let Some(resource) = self.rooms.all().iter().position(|room| *room < 0) else {
+            self.note_pushed(trail, part)?;
+            return Ok(None);
+        };
+        let resource = narrow(resource);
+        let time = self.profile.fullest(resource, from..to);
+        Ok(Some(Conflict::Overload { resource, time }))
     }
 
     /// Brings the profile up to date with what must run of an activity.
@@ -213,7 +225,7 @@ impl<'a> TimeTable<'a> {
     fn notice(&mut self, trail: &Trail, slot: u32) -> Result<(), Stop> {
         if self.durations[slot / 2] > 0 {
             self.grow(trail, slot / 2)?;
-            self.note(slot)?;
+            self.notes.note(slot)?;
         }
         Ok(())
     }
@@ -232,10 +244,9 @@ impl<'a> TimeTable<'a> {
             self.queue = number.wrapping_add(1);
             self.notice(trail, trail.event(number).slot)?;
         }
-        let Some(slot) = self.todo.pop() else {
+        let Some(slot) = self.notes.take() else {
             return Ok(false);
         };
-        self.is_noted[slot] = false;
         if slot % 2 == 0 {
             self.push_least(trail, slot / 2)?;
         } else {

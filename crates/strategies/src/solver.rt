@@ -1,8 +1,8 @@
 //! The search of a project, as callers see it.
 
-use crate::turns::{Finder, Opened, Turns};
+use crate::turns::{Finder, Turns};
 use engine::{Counts, Engine, Found, Options, Pace, Run};
-use instance::{Instance, MAX_MAKESPAN, Walks, settle};
+use instance::{Instance, MAX_MAKESPAN, Walks};
 use large_neighbourhoods::shortened;
 use lemma_text::{Claim, Line, Reason, text_of};
 use log_record::record_text;
@@ -49,7 +49,7 @@ const REDUCTIONS: u64 = 6;
 /// ceilings. A dive starts one activity after the other as early as it can.
 #[derive(Drop)]
 struct First<'a> {
-    opened: Opened<'a>,
+    engine: Engine<'a>,
     run: Run,
     pace: Pace,
     /// The ceiling of the dive, none at the root.
@@ -58,7 +58,7 @@ struct First<'a> {
 
 impl First<'_> {
     fn search(&mut self, steps: u64) -> Result<Found> {
-        self.opened.0.search(&mut self.run, &mut self.pace, steps)
+        self.engine.search(&mut self.run, &mut self.pace, steps)
     }
 }
 
@@ -68,8 +68,6 @@ enum Stage<'a> {
     /// Nothing: the project contradicts itself, as this record shows.
     Contradiction(Vec<u8>),
     First(First<'a>),
-    /// Strategies take turns from the next step on, with a first schedule or none.
-    Ready(Option<Vec<i32>>),
     Turns(Turns<'a>),
 }
 
@@ -95,7 +93,7 @@ impl<'a> Solver<'a> {
             alloc,
             instance,
             walks: Walks::new(alloc, instance)?,
-            stage: Stage::Ready(None),
+            stage: Stage::Contradiction(Vec::new(alloc)),
             limits,
             done: Counts::NOTHING,
             is_full: false,
@@ -121,32 +119,29 @@ impl<'a> Solver<'a> {
     }
 
     /// An engine for schedules that end before a ceiling; none where no search may begin.
-    fn open(&self, ceiling: i32, has_log: bool, has_cliques: bool) -> Result<Option<Opened<'a>>> {
-        let (alloc, instance) = (self.alloc, self.instance);
-        let Some(walks) = &self.walks else {
-            return Ok(None);
-        };
+    fn open(&self, ceiling: i32, has_log: bool, has_cliques: bool) -> Result<Option<Engine<'a>>> {
         let options = Options {
             has_log,
             has_cliques,
             seed: self.limits.seed,
         };
         let most = ceiling.wrapping_sub(1);
-        let settled = settle(alloc, instance, walks.try_copy(alloc)?, most)?;
-        let engine = Engine::open(alloc, instance, &settled, most, options)?;
-        Ok(Some((engine, settled.forced)))
+        let Some(walks) = &self.walks else {
+            return Ok(None);
+        };
+        Engine::open(self.alloc, self.instance, walks, most, options).map(Some)
     }
 
     /// Begins the search at the root, which keeps a log, or a dive below a ceiling.
     fn begin_first(&mut self, dive: Option<i32>) -> Result<()> {
         let last = self.instance.horizon.wrapping_add(1);
         let dive = dive.map(|ceiling| ceiling.min(last));
-        if let Some(opened) = self.open(dive.unwrap_or(last), dive.is_none(), false)? {
+        if let Some(engine) = self.open(dive.unwrap_or(last), dive.is_none(), false)? {
             let most = if dive.is_some() { DIVE } else { ROOT };
             let run = Run::new(Vec::new(self.alloc), most);
             let pace = Pace::NEW;
             self.stage = Stage::First(First {
-                opened,
+                engine,
                 run,
                 pace,
                 dive,
@@ -160,9 +155,9 @@ impl<'a> Solver<'a> {
         let last = self.instance.horizon.wrapping_add(1);
         let end = start.as_ref().and_then(|starts| starts.last().copied());
         let ceiling = end.unwrap_or(last);
-        if let Some(opened) = self.open(ceiling, true, true)? {
+        if let Some(engine) = self.open(ceiling, true, true)? {
             let seed = self.limits.seed;
-            let mut turns = Turns::new(self.alloc, self.instance, opened, ceiling, seed)?;
+            let mut turns = Turns::new(self.alloc, self.instance, engine, ceiling, seed)?;
             if let Some(starts) = &start {
                 turns.take(starts, Finder::Dive)?;
             }
@@ -171,19 +166,17 @@ impl<'a> Solver<'a> {
         Ok(())
     }
 
-    /// A first schedule is known, and put early. Strategies take turns from the next step on.
+    /// A first schedule is known. Strategies begin to take turns.
     fn begin_with(&mut self, starts: &[i32]) -> Result<()> {
         let (early, _) = shortened(self.alloc, self.instance, starts)?;
-        self.done = self.counts();
-        self.stage = Stage::Ready(Some(early));
-        Ok(())
+        self.begin_turns(Some(early))
     }
 
     /// Where the search stands.
     pub fn state(&self) -> State {
         match &self.stage {
             Stage::Contradiction(_) => State::Ended,
-            Stage::Turns(turns) if turns.engine.is_refuted() => State::Ended,
+            Stage::Turns(turns) if turns.engine.is_refuted => State::Ended,
             _ if self.is_full => State::Full,
             _ => State::Going,
         }
@@ -191,26 +184,27 @@ impl<'a> Solver<'a> {
 
     /// Searches on for a first schedule.
     fn find_first(&mut self, steps: u64) -> Result<()> {
-        let mut first = match mem::replace(&mut self.stage, Stage::Ready(None)) {
-            Stage::First(first) => first,
-            Stage::Ready(start) => return self.begin_turns(start),
-            _ => return Ok(()),
+        let Stage::First(first) = &mut self.stage else {
+            return Ok(());
         };
         let found = first.search(steps)?;
         if found == Found::Open {
-            self.stage = Stage::First(first);
             return Ok(());
         }
+        let placeholder = Stage::Contradiction(Vec::new(self.alloc));
+        let Stage::First(first) = mem::replace(&mut self.stage, placeholder) else {
+            return Ok(());
+        };
         if found == Found::Refuted && first.dive.is_none() {
             let (ceiling, seed) = (self.instance.horizon.wrapping_add(1), self.limits.seed);
-            let turns = Turns::new(self.alloc, self.instance, first.opened, ceiling, seed)?;
+            let turns = Turns::new(self.alloc, self.instance, first.engine, ceiling, seed)?;
             self.stage = Stage::Turns(turns);
             return Ok(());
         }
-        self.done = self.done.plus(first.opened.0.counts());
+        self.done = self.done.plus(first.engine.counts);
         match (found, first.dive) {
             (Found::Schedule, _) => {
-                let starts = first.opened.0.schedule()?;
+                let starts = first.engine.schedule()?;
                 self.begin_with(&starts)
             }
             (Found::Stopped, None) => {
@@ -257,7 +251,10 @@ impl<'a> Solver<'a> {
         match &mut self.stage {
             Stage::Contradiction(_) => Ok(()),
             Stage::Turns(turns) => turns.take_other(starts),
-            Stage::First(_) | Stage::Ready(_) => self.begin_with(starts),
+            Stage::First(first) => {
+                self.done = self.done.plus(first.engine.counts);
+                self.begin_with(starts)
+            }
         }
     }
 
@@ -265,7 +262,6 @@ impl<'a> Solver<'a> {
     pub fn best(&self) -> Option<&[i32]> {
         let best = match &self.stage {
             Stage::Contradiction(_) | Stage::First(_) => None,
-            Stage::Ready(start) => start.as_deref(),
             Stage::Turns(turns) => turns.best.as_deref(),
         };
         best.filter(|starts: &&[i32]| starts.last().is_none_or(|end| *end <= MAX_MAKESPAN))
@@ -291,8 +287,8 @@ impl<'a> Solver<'a> {
     /// How much was done.
     pub fn counts(&self) -> Counts {
         match &self.stage {
-            Stage::Turns(turns) => self.done.plus(turns.engine.counts()),
-            Stage::First(first) => self.done.plus(first.opened.0.counts()),
+            Stage::Turns(turns) => self.done.plus(turns.engine.counts),
+            Stage::First(first) => self.done.plus(first.engine.counts),
             _ => self.done,
         }
     }
@@ -300,17 +296,15 @@ impl<'a> Solver<'a> {
     /// The record of what was found: of a shortest schedule, of none, or of the bound. None where a number is larger than a
     /// record may have.
     pub fn into_record(mut self) -> Result<Option<Record>> {
-        match mem::replace(&mut self.stage, Stage::Ready(None)) {
-            Stage::Ready(start) => self.begin_turns(start)?,
-            Stage::First(_) => self.begin_turns(None)?,
-            stage => self.stage = stage,
+        if let Stage::First(_) = &self.stage {
+            self.begin_turns(None)?;
         }
         let (mut turns, walks) = match (self.stage, self.walks) {
             (Stage::Contradiction(text), _) => return Ok(Some(Record { bound: 0, text })),
             (Stage::Turns(turns), Some(walks)) => (turns, walks),
             _ => return Ok(None),
         };
-        if !turns.engine.is_refuted() {
+        if !turns.engine.is_refuted {
             turns.bound = turns.engine.least_end()?;
         }
         let bound = i64::from(turns.bound().min(MAX_MAKESPAN));
@@ -320,9 +314,9 @@ impl<'a> Solver<'a> {
             self.alloc,
             self.instance,
             walks,
-            &turns.forced,
+            &turns.engine.forced,
             turns.engine.pairs(),
-            turns.engine.log(),
+            &turns.engine.log,
             claim,
         )?;
         Ok(text.map(|text| Record { bound, text }))

@@ -2,7 +2,7 @@
 
 use crate::effort::{Effort, FIRST_NEAR, PROBE, WHOLE};
 use engine::{Engine, Found, Pace, Run};
-use instance::{Edge, Instance, MAX_MAKESPAN};
+use instance::{Instance, MAX_MAKESPAN};
 use large_neighbourhoods::{Random, WAYS, first_decisions, shortened};
 use lemma_text::Claim;
 use literals::Literal;
@@ -58,14 +58,10 @@ pub enum Finder {
 struct Turn {
     strategy: u32,
     run: Run,
-    pace: Pace,
     /// The events that were followed before it, and the ceiling then.
     events: u64,
     ceiling: i32,
 }
-
-/// An engine below a ceiling, and the orders that it began with.
-pub(crate) type Opened<'a> = (Engine<'a>, Vec<Edge>);
 
 /// The search of a project below a ceiling.
 #[derive(Drop)]
@@ -73,8 +69,6 @@ pub(crate) struct Turns<'a> {
     alloc: Global,
     instance: &'a Instance,
     pub(crate) engine: Engine<'a>,
-    /// Orders that hold always, which the engine began with.
-    pub(crate) forced: Vec<Edge>,
     /// The best schedule, and the same with starts as late as can be.
     pub(crate) best: Option<Vec<i32>>,
     late: Vec<i32>,
@@ -99,11 +93,11 @@ pub(crate) struct Turns<'a> {
 }
 
 impl<'a> Turns<'a> {
-    /// The turns of an engine for schedules below a ceiling, which has put these orders in.
+    /// The turns of an engine for schedules below a ceiling.
     pub(crate) fn new(
         alloc: Global,
         instance: &'a Instance,
-        (engine, forced): Opened<'a>,
+        engine: Engine<'a>,
         ceiling: i32,
         seed: u64,
     ) -> Result<Turns<'a>> {
@@ -112,7 +106,6 @@ impl<'a> Turns<'a> {
             alloc,
             instance,
             engine,
-            forced,
             best: None,
             late: Vec::new(alloc),
             finder: Finder::Other,
@@ -132,7 +125,7 @@ impl<'a> Turns<'a> {
 
     /// What no schedule is shorter than, in periods.
     pub(crate) fn bound(&self) -> i32 {
-        match self.engine.is_refuted() {
+        match self.engine.is_refuted {
             true => self.ceiling,
             false => self.bound,
         }
@@ -140,7 +133,7 @@ impl<'a> Turns<'a> {
 
     /// What the search claims, once its root has proved a bound.
     pub(crate) fn claim(&self, bound: i64) -> Result<Claim> {
-        let is_refuted = self.engine.is_refuted();
+        let is_refuted = self.engine.is_refuted;
         Ok(match &self.best {
             Some(best) if is_refuted => {
                 let starts = best.iter().map(|start| i64::from(*start));
@@ -206,7 +199,7 @@ impl<'a> Turns<'a> {
             true => self.effort.next(self.best.is_some()),
             false => PROBE,
         };
-        let (events, ceiling) = (self.engine.counts().events, self.ceiling);
+        let (events, ceiling) = (self.engine.counts.events, self.ceiling);
         self.bound = self.engine.least_end()?;
         let (goal, most) = match strategy {
             WHOLE => self.whole(),
@@ -225,7 +218,6 @@ impl<'a> Turns<'a> {
         Ok(Turn {
             strategy,
             run: Run::new(first, most),
-            pace: self.paces[u32::from(strategy >= FIRST_NEAR)],
             events,
             ceiling,
         })
@@ -253,7 +245,6 @@ impl<'a> Turns<'a> {
             let starts = self.engine.schedule()?;
             self.take(&starts, finder)?;
         }
-        self.paces[u32::from(turn.strategy >= FIRST_NEAR)] = turn.pace;
         match turn.strategy {
             WHOLE => self.below = next_step(self.below, found == Found::Schedule),
             PROBE => {
@@ -263,7 +254,7 @@ impl<'a> Turns<'a> {
             }
             strategy => self.note_neighbourhood(strategy, found),
         }
-        let events = self.engine.counts().events.wrapping_sub(turn.events);
+        let events = self.engine.counts.events.wrapping_sub(turn.events);
         let gain = turn.ceiling.saturating_sub(self.ceiling);
         if self.has_probed {
             self.effort.pay(turn.strategy, events, gain);
@@ -309,9 +300,10 @@ impl<'a> Turns<'a> {
             Some(turn) => turn,
             None => self.next_turn()?,
         };
-        let mut pace = turn.pace;
+        let number = u32::from(turn.strategy >= FIRST_NEAR);
+        let mut pace = self.paces[number];
         let found = self.engine.search(&mut turn.run, &mut pace, steps)?;
-        turn.pace = pace;
+        self.paces[number] = pace;
         match found {
             Found::Open => self.turn = Some(turn),
             _ => self.end_turn(turn, found)?,
