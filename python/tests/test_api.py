@@ -131,9 +131,10 @@ class Solving(InFolder):
 
     def test_who_listens_fails(self) -> None:
         made, *_ = site()
+        before = signal.getsignal(signal.SIGINT)
         with self.assertRaises(ZeroDivisionError):
             made.solve(10, 2, on_progress=lambda told: 1 // 0)
-        self.assertEqual(signal.getsignal(signal.SIGINT), signal.default_int_handler)
+        self.assertEqual(signal.getsignal(signal.SIGINT), before)
 
     def test_faults(self) -> None:
         made, dig, lift = site()
@@ -214,9 +215,10 @@ class Interrupted(InFolder):
         """Python hands Ctrl-C to its main thread alone; a search elsewhere changes nothing of that."""
         made, *_ = site()
         found: list[psmax.Answer] = []
+        before = signal.getsignal(signal.SIGINT)
         thread = threading.Thread(target=lambda: found.append(made.solve(10, 1)))
         thread.start()
-        self.assertEqual(signal.getsignal(signal.SIGINT), signal.default_int_handler)
+        self.assertEqual(signal.getsignal(signal.SIGINT), before)
         thread.join()
         self.assertEqual(found[0].makespan, 6)
 
