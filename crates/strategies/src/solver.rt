@@ -68,6 +68,8 @@ enum Stage<'a> {
     /// Nothing: the project contradicts itself, as this record shows.
     Contradiction(Vec<u8>),
     First(First<'a>),
+    /// Strategies take turns from the next step on, with a first schedule or none.
+    Ready(Option<Vec<i32>>),
     Turns(Turns<'a>),
 }
 
@@ -93,7 +95,7 @@ impl<'a> Solver<'a> {
             alloc,
             instance,
             walks: Walks::new(alloc, instance)?,
-            stage: Stage::Contradiction(Vec::new(alloc)),
+            stage: Stage::Ready(None),
             limits,
             done: Counts::NOTHING,
             is_full: false,
@@ -166,10 +168,12 @@ impl<'a> Solver<'a> {
         Ok(())
     }
 
-    /// A first schedule is known. Strategies begin to take turns.
+    /// A first schedule is known, and put early. Strategies take turns from the next step on.
     fn begin_with(&mut self, starts: &[i32]) -> Result<()> {
         let (early, _) = shortened(self.alloc, self.instance, starts)?;
-        self.begin_turns(Some(early))
+        self.done = self.counts();
+        self.stage = Stage::Ready(Some(early));
+        Ok(())
     }
 
     /// Where the search stands.
@@ -184,17 +188,16 @@ impl<'a> Solver<'a> {
 
     /// Searches on for a first schedule.
     fn find_first(&mut self, steps: u64) -> Result<()> {
-        let Stage::First(first) = &mut self.stage else {
-            return Ok(());
+        let mut first = match mem::replace(&mut self.stage, Stage::Ready(None)) {
+            Stage::First(first) => first,
+            Stage::Ready(start) => return self.begin_turns(start),
+            _ => return Ok(()),
         };
         let found = first.search(steps)?;
         if found == Found::Open {
+            self.stage = Stage::First(first);
             return Ok(());
         }
-        let placeholder = Stage::Contradiction(Vec::new(self.alloc));
-        let Stage::First(first) = mem::replace(&mut self.stage, placeholder) else {
-            return Ok(());
-        };
         if found == Found::Refuted && first.dive.is_none() {
             let (ceiling, seed) = (self.instance.horizon.wrapping_add(1), self.limits.seed);
             let turns = Turns::new(self.alloc, self.instance, first.engine, ceiling, seed)?;
@@ -251,10 +254,7 @@ impl<'a> Solver<'a> {
         match &mut self.stage {
             Stage::Contradiction(_) => Ok(()),
             Stage::Turns(turns) => turns.take_other(starts),
-            Stage::First(first) => {
-                self.done = self.done.plus(first.engine.counts);
-                self.begin_with(starts)
-            }
+            Stage::First(_) | Stage::Ready(_) => self.begin_with(starts),
         }
     }
 
@@ -262,6 +262,7 @@ impl<'a> Solver<'a> {
     pub fn best(&self) -> Option<&[i32]> {
         let best = match &self.stage {
             Stage::Contradiction(_) | Stage::First(_) => None,
+            Stage::Ready(start) => start.as_deref(),
             Stage::Turns(turns) => turns.best.as_deref(),
         };
         best.filter(|starts: &&[i32]| starts.last().is_none_or(|end| *end <= MAX_MAKESPAN))
@@ -296,8 +297,10 @@ impl<'a> Solver<'a> {
     /// The record of what was found: of a shortest schedule, of none, or of the bound. None where a number is larger than a
     /// record may have.
     pub fn into_record(mut self) -> Result<Option<Record>> {
-        if let Stage::First(_) = &self.stage {
-            self.begin_turns(None)?;
+        match mem::replace(&mut self.stage, Stage::Ready(None)) {
+            Stage::Ready(start) => self.begin_turns(start)?,
+            Stage::First(_) => self.begin_turns(None)?,
+            stage => self.stage = stage,
         }
         let (mut turns, walks) = match (self.stage, self.walks) {
             (Stage::Contradiction(text), _) => return Ok(Some(Record { bound: 0, text })),
