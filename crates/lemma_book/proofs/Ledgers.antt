@@ -1,5 +1,5 @@
 -- A ledger stays sound.
-use Rattle.std.proofs.Common.{◌≡◌, sym, ap, subst, ℕ, ◌+◌, ◌-◌, ◌<◌, arith, ℤ, pos, ◌+ℤ◌, ◌≤ℤ◌, ◌<ℤ◌, ⊎_elim, ◌⊎◌, inl, inr, slice_set, List, [], ◌∷◌, ◌++◌, append_assoc, Option, None, Some, MatchOption}
+use Rattle.std.proofs.Common.{Bool, true, false, refl, ◌≡◌, sym, ap, subst, ℕ, ◌+◌, ◌-◌, ◌<◌, arith, ℤ, pos, ◌+ℤ◌, ◌≤ℤ◌, ◌<ℤ◌, ⊎_elim, ◌⊎◌, inl, inr, slice_set, List, [], ◌∷◌, ◌++◌, append_assoc, Option, None, Some, MatchOption}
 use Rattle.std.specs.List.{All}
 use Rattle.std.proofs.lemmas.Int.{ints, by_lt_z}
 use Rattle.std.proofs.lemmas.List.Elements.{All-append, All-head, All-nil, All-push, Contains-append_left}
@@ -14,7 +14,8 @@ use Rattle.lemma_proof.specs.declared.line.Line.{Line}
 use Rattle.lemma_proof.specs.Lines.{IsArc, IsIn, IsRefuted, MeetsNone, Slots, impossible}
 use Rattle.lemma_proof.proofs.Refuting.{cycle_refutes}
 use Rattle.lemma_book.specs.declared.deadline.TheConstants.{MAX_CEILING}
-use Rattle.lemma_book.specs.Ledger.{IsLedger, IsRootOf, LedgerOf, ceiling_of, deadline, own_of, root_of, with_slot, without_lemma}
+use Rattle.lemma_book.proofs.TooMuch.{too_much_out}
+use Rattle.lemma_book.specs.Ledger.{IsLedger, IsRootOf, LedgerOf, asks_too_much, ceiling_of, deadline, first_roots, own_of, root_of, with_slot, without_lemma}
 use Rattle.lemma_book.proofs.Slotted.{in_set, in_with_slot}
 use Rattle.lemma_proof.proofs.Truth.{none_meets_refuted}
 use Rattle.lemma_proof.proofs.Used.{light_reverse}
@@ -28,19 +29,25 @@ deadline_met p s bound feasible less =
 
 -- ---- at first
 
-pub first_is : (p : Problem) (bound : ℤ) (roots : List Lag) (lemmas : Slots) (bench : Option BenchOf) → bound ≡ pos (horizon p + 1) → IsBetween (pos 0) MAX_CEILING bound → roots ≡ deadline p bound ∷ [] → lemmas ≡ [] → IsRootOf p (rules p ++ deadline p bound ∷ []) bench →
+first_met : (p : Problem) (s : List ℤ) → IsFeasible p s → makespan s <ℤ pos (horizon p + 1) → All (Meets s) (rules p ++ first_roots p)
+first_met p s feasible less =
+    if_asked (asks_too_much p) refl
+  where
+    if_asked : (asks : Bool) → asks_too_much p ≡ asks → All (Meets s) (rules p ++ first_roots p)
+    if_asked true asks = absurd (too_much_out p s feasible asks)
+    if_asked false asks = rw asks (All-push (Meets s) (rules p) (deadline p (pos (horizon p + 1))) feasible.schedule.rules_met (deadline_met p s (pos (horizon p + 1)) feasible less))
+
+pub first_is : (p : Problem) (roots : List Lag) (lemmas : Slots) (bench : Option BenchOf) → IsBetween (pos 0) MAX_CEILING (pos (horizon p + 1)) → roots ≡ first_roots p → lemmas ≡ [] → IsRootOf p (rules p ++ first_roots p) bench →
     IsLedger (record { project = p; best = None; roots = roots; lemmas = lemmas }) bench
-first_is p bound roots lemmas bench is within roots_are lemmas_are root = record {
+first_is p roots lemmas bench within roots_are lemmas_are root = record {
   sound = record {
     best = record {};
-    roots = λ s feasible less.
-        let met : Meets s (deadline p bound) = deadline_met p s bound feasible (rw is less) in
-        rw roots_are (All-push (Meets s) (rules p) (deadline p bound) feasible.schedule.rules_met met);
+    roots = λ s feasible less. rw roots_are (first_met p s feasible less);
     lemmas = λ s feasible less. rw lemmas_are (none_in s);
   };
   lemmas = rw lemmas_are (λ slot lemma found. absurd (nothing slot lemma found));
   root = rw roots_are root;
-  within = rw (sym is) within;
+  within = within;
 }
   where
     nothing : (slot : ℕ) (lemma : List Lag) → IsIn [] slot lemma → ⊥
@@ -58,6 +65,9 @@ rules_and p bound = rules p ++ deadline p bound ∷ []
 pub root_from : (p : Problem) (own : List Lag) (bench : Option BenchOf) → MatchOption bench (HasPositiveCycle own) (λ b. IsMatrixOf (activity_count p) own b.rows) → IsRootOf p own bench
 root_from p own None found = found
 root_from p own (Some b) found = found
+
+pub first_root_is : (p : Problem) (bound : ℤ) (bench : Option BenchOf) → bound ≡ pos (horizon p + 1) → asks_too_much p ≡ false → IsRootOf p (rules_and p bound) bench → IsRootOf p (rules p ++ first_roots p) bench
+first_root_is p bound bench is asks root = rw asks (subst (λ (b : ℤ). IsRootOf p (rules_and p b) bench) is root)
 
 -- ---- an arc more in the root
 

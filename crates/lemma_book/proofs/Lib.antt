@@ -3,3 +3,4 @@ pub mod Ledgers
 pub mod Slotted
 pub mod Claims
 pub mod Further
+pub mod TooMuch

@@ -1,9 +1,9 @@
 -- What is proved of a project: the best schedule, arcs of the root, and lemmas.
-use Rattle.std.specs.Prelude.{Bool, true, false, Vec, ◌≡◌, ◌≢◌, ◌+◌, ◌<◌, ◌-◌, ◌<ℤ◌, ◌-ℤ◌, ◌++◌, ◌∷◌, [], ℕ, ℤ, pos, List, length, replicate, slice_set, Option, None, Some, IfSome}
+use Rattle.std.specs.Prelude.{Bool, true, false, Vec, ◌&&◌, if◌then◌else◌, int_lt, nat_lt, ◌≡◌, ◌≢◌, ◌+◌, ◌<◌, ◌-◌, ◌<ℤ◌, ◌-ℤ◌, ◌++◌, ◌∷◌, [], ℕ, ℤ, pos, List, length, replicate, slice_set, Option, None, Some, IfSome}
 use Rattle.std.specs.Int.{int_min}
-use Rattle.std.specs.List.{All}
+use Rattle.std.specs.List.{All, list_any, range_with_len}
 use Rattle.network.specs.declared.parts.Lag.{Lag}
-use Rattle.network.specs.Problem.{AreStarts, IsBetween, Problem, activity_count, end_of, rules}
+use Rattle.network.specs.Problem.{AreStarts, IsBetween, Problem, activities, activity_count, capacity, demand, duration, end_of, resource_count, rules}
 use Rattle.network.specs.Walk.{HasNoPositiveCycle, HasPositiveCycle, IsGreatestWeight, IsMatrixOf}
 use Rattle.network.specs.Schedule.{IsFeasible, Meets, makespan}
 use Rattle.record_text.specs.declared.proved.Proved.{Proved}
@@ -53,9 +53,24 @@ pub record IsSound (l : LedgerOf) : Type 0 where
 
 -- ---- What changes a ledger.
 
--- nothing is proved but that a schedule in question meets the rules and the deadline
+-- the activity takes time, and asks alone for more of the resource than there is
+abbrev pub exceeds : Problem → ℕ → ℕ → Bool
+exceeds p i k = int_lt (pos 0) (duration p i) && nat_lt (capacity p k) (demand p k i)
+
+abbrev pub exceeds_some : Problem → ℕ → Bool
+exceeds_some p i = list_any (exceeds p i) (range_with_len 0 (resource_count p))
+
+-- some activity does: there is no schedule
+abbrev pub asks_too_much : Problem → Bool
+asks_too_much p = list_any (exceeds_some p) (activities p)
+
+abbrev pub first_roots : Problem → List Lag
+first_roots p = deadline p (pos (horizon p + 1)) ∷ (if asks_too_much p then impossible ∷ [] else [])
+
+-- nothing is proved but that a schedule in question meets the rules and the deadline, or that there is none where an
+-- activity asks for too much
 abbrev pub first_ledger : Problem → LedgerOf
-first_ledger p = record { project = p; best = None; roots = deadline p (pos (horizon p + 1)) ∷ []; lemmas = [] }
+first_ledger p = record { project = p; best = None; roots = first_roots p; lemmas = [] }
 
 -- empty slots more, so that there is this one
 abbrev pub with_slot : Slots → ℕ → Slots

@@ -1,14 +1,16 @@
 //! The root at first: the project's rules and a deadline.
 
-ghost use Rattle.std.specs.Prelude.{◌≡◌, ◌++◌, ◌∷◌, [], ℤ, pos, length, IfOk, MatchOption};
+ghost use Rattle.horizon.specs.Horizon.{horizon};
+ghost use Rattle.std.specs.Prelude.{◌≡◌, ◌+◌, ◌++◌, ◌∷◌, [], ℤ, pos, length, IfOk, MatchOption};
 ghost use Rattle.network.specs.Problem.{IsBetween, IsProject, activity_count, rules};
 ghost use Rattle.network.specs.Walk.{HasPositiveCycle, IsMatrixOf};
 ghost use Rattle.lemma_proof.specs.Lines.{IsArc};
-ghost use Rattle.lemma_book.specs.Ledger.{deadline};
+ghost use Rattle.lemma_book.specs.Ledger.{IsRootOf, deadline, first_roots};
 
+use crate::too_much::asks_too_much;
 use block::take;
-use horizon::MAX_HORIZON;
-use lemma_proof::Bench;
+use horizon::{MAX_HORIZON, horizon_of};
+use lemma_proof::{Bench, IMPOSSIBLE};
 use longest_path::{MarkedMatrix, PathFault, longest};
 use network::{Lag, Project};
 use std::alloc::{AllocError, Global};
@@ -51,4 +53,24 @@ pub(crate) fn first_bench(
         return Ok(None);
     }
     Ok(Some(Bench::new(alloc, matrix)?))
+}
+
+/// The root's arcs at first beside the project's rules, and the bench of all.
+pub(crate) fn first_root(
+    alloc: Global,
+    project: &Project,
+) -> Result<(Vec<Lag>, Option<Bench>), AllocError>
+    ensures roots { IfOk result (λ r. r.0.items ≡ first_roots project.now) }
+    ensures bench { IfOk result (λ r. IsRootOf project.now (rules project.now ++ first_roots project.now) r.1) }
+    ensures within { IsBetween (pos 0) MAX_CEILING (pos (horizon project.now + 1)) }
+{
+    let bound = horizon_of(project) + 1;
+    let mut roots = Vec::new(alloc);
+    roots.push(deadline(project, bound))?;
+    if asks_too_much(project) {
+        roots.push(IMPOSSIBLE)?;
+        return Ok((roots, None));
+    }
+    let bench = first_bench(alloc, project, bound)?;
+    Ok((roots, bench))
 }

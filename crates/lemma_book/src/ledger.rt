@@ -12,7 +12,7 @@ ghost use Rattle.lemma_proof.specs.declared.line.Line.{Line};
 ghost use Rattle.lemma_proof.specs.Lines.{IsArc, IsRefuted, picked};
 ghost use Rattle.lemma_book.specs.Ledger.{Claims, IsBoundOf, Leads, LetsGo, MayLead, MayTake, Takes, ceiling_of, first_ledger, own_of, root_of, with_lemma, with_slot};
 
-use crate::deadline::{deadline, first_bench};
+use crate::deadline::{deadline, first_root};
 use crate::leading::{are_starts, is_feasible};
 use crate::slots::{has_room, is_filled, make_slot};
 use horizon::horizon_of;
@@ -73,14 +73,12 @@ impl<'a> Model for Ledger<'a> {
 }
 
 impl<'a> Ledger<'a> {
-    /// Nothing is proved but that a schedule in question ends by the horizon.
+    /// Nothing is proved but that a schedule in question ends by the horizon, and that there is none where an activity
+    /// alone asks for too much.
     pub fn new(alloc: Global, project: &'a Project) -> Result<Ledger<'a>, AllocError>
         ensures { IfOk result (λ x. x ≡ first_ledger project.now) }
     {
-        let bound = horizon_of(project) + 1;
-        let mut roots = Vec::new(alloc);
-        roots.push(deadline(project, bound))?;
-        let bench = first_bench(alloc, project, bound)?;
+        let (roots, bench) = first_root(alloc, project)?;
         Ok(Ledger {
             alloc,
             project,

@@ -6,6 +6,7 @@ mod law;
 mod leading;
 mod ledger;
 mod slots;
+mod too_much;
 
 pub use law::ahead_law;
 pub use ledger::{Ledger, MAX_SLOTS};
