@@ -15,7 +15,7 @@ use Rattle.lemma_proof.specs.Lines.{IsArc, IsIn, IsRefuted, MeetsNone, Slots, im
 use Rattle.lemma_proof.proofs.Refuting.{cycle_refutes}
 use Rattle.lemma_book.specs.declared.deadline.TheConstants.{MAX_CEILING}
 use Rattle.lemma_book.proofs.TooMuch.{too_much_out}
-use Rattle.lemma_book.specs.Ledger.{IsLedger, IsRootOf, LedgerOf, asks_too_much, ceiling_of, deadline, first_roots, own_of, root_of, with_slot, without_lemma}
+use Rattle.lemma_book.specs.Ledger.{IsLedger, IsRootOf, IsSound, LedgerOf, asks_too_much, ceiling_of, deadline, first_roots, own_of, root_of, with_slot, without_lemma}
 use Rattle.lemma_book.proofs.Slotted.{in_set, in_with_slot}
 use Rattle.lemma_proof.proofs.Truth.{none_meets_refuted}
 use Rattle.lemma_proof.proofs.Used.{light_reverse}
@@ -37,14 +37,20 @@ first_met p s feasible less =
     if_asked true asks = absurd (too_much_out p s feasible asks)
     if_asked false asks = rw asks (All-push (Meets s) (rules p) (deadline p (pos (horizon p + 1))) feasible.schedule.rules_met (deadline_met p s (pos (horizon p + 1)) feasible less))
 
+pub first_sound : (p : Problem) (roots : List Lag) (lemmas : Slots) → roots ≡ first_roots p → lemmas ≡ [] → IsSound (record { project = p; best = None; roots = roots; lemmas = lemmas })
+first_sound p roots lemmas roots_are lemmas_are = record {
+  best = record {};
+  roots = λ s feasible less. rw roots_are (first_met p s feasible less);
+  lemmas = λ s feasible less. rw lemmas_are (none_in s);
+}
+  where
+    none_in : (s : List ℤ) → MeetsNone s []
+    none_in s slot lemma found = absurd cc
+
 pub first_is : (p : Problem) (roots : List Lag) (lemmas : Slots) (bench : Option BenchOf) → IsBetween (pos 0) MAX_CEILING (pos (horizon p + 1)) → roots ≡ first_roots p → lemmas ≡ [] → IsRootOf p (rules p ++ first_roots p) bench →
     IsLedger (record { project = p; best = None; roots = roots; lemmas = lemmas }) bench
 first_is p roots lemmas bench within roots_are lemmas_are root = record {
-  sound = record {
-    best = record {};
-    roots = λ s feasible less. rw roots_are (first_met p s feasible less);
-    lemmas = λ s feasible less. rw lemmas_are (none_in s);
-  };
+  sound = first_sound p roots lemmas roots_are lemmas_are;
   lemmas = rw lemmas_are (λ slot lemma found. absurd (nothing slot lemma found));
   root = rw roots_are root;
   within = within;
@@ -52,9 +58,6 @@ first_is p roots lemmas bench within roots_are lemmas_are root = record {
   where
     nothing : (slot : ℕ) (lemma : List Lag) → IsIn [] slot lemma → ⊥
     nothing slot lemma found = cc
-
-    none_in : (s : List ℤ) → MeetsNone s []
-    none_in s slot lemma found = absurd (nothing slot lemma found)
 
 pub of_sum : (h : ℕ) → (pos h +ℤ pos 1) ≡ pos (h + 1)
 of_sum h = omega (arith, ints)
@@ -77,13 +80,16 @@ with_root l arc = record l { roots = l.roots ++ arc ∷ [] }
 pub own_more : (l : LedgerOf) (arc : Lag) → own_of l ++ arc ∷ [] ≡ own_of (with_root l arc)
 own_more l arc = append_assoc (rules l.project) l.roots (arc ∷ [])
 
+pub with_root_sound : (l : LedgerOf) (arc : Lag) → IsSound l → ((s : List ℤ) → IsFeasible l.project s → makespan s <ℤ ceiling_of l → Meets s arc) → IsSound (with_root l arc)
+with_root_sound l arc sound met = record {
+  best = sound.best;
+  roots = λ s feasible less. subst (All (Meets s)) (own_more l arc) (All-push (Meets s) (own_of l) arc (sound.roots s feasible less) (met s feasible less));
+  lemmas = sound.lemmas;
+}
+
 pub with_root_is : (l : LedgerOf) (bench new : Option BenchOf) (arc : Lag) → IsLedger l bench → ((s : List ℤ) → IsFeasible l.project s → makespan s <ℤ ceiling_of l → Meets s arc) → IsRootOf l.project (own_of l ++ arc ∷ []) new → IsLedger (with_root l arc) new
 with_root_is l bench new arc is met root = record {
-  sound = record {
-    best = is.sound.best;
-    roots = λ s feasible less. subst (All (Meets s)) (own_more l arc) (All-push (Meets s) (own_of l) arc (is.sound.roots s feasible less) (met s feasible less));
-    lemmas = is.sound.lemmas;
-  };
+  sound = with_root_sound l arc is.sound met;
   lemmas = is.lemmas;
   root = subst (λ (own : List Lag). IsRootOf l.project own new) (own_more l arc) root;
   within = is.within;
@@ -103,22 +109,22 @@ ended_refutes l arcs lines are cycle = record {
 }
 
 -- no feasible schedule in question meets all arcs that are refuted
-pub refuted_out : (l : LedgerOf) (bench : Option BenchOf) (arcs : List Lag) (lines : List Line) → IsLedger l bench → IsRefuted l.project l.lemmas (own_of l) arcs lines → (s : List ℤ) → IsFeasible l.project s → makespan s <ℤ ceiling_of l → ¬ All (Meets s) arcs
-refuted_out l bench arcs lines is refuted s feasible less met =
-    none_meets_refuted l.project l.lemmas (own_of l ++ arcs) lines refuted.refuted s feasible (is.sound.lemmas s feasible less) (All-append (Meets s) (own_of l) arcs (is.sound.roots s feasible less) met)
+pub refuted_out : (l : LedgerOf) (arcs : List Lag) (lines : List Line) → IsSound l → IsRefuted l.project l.lemmas (own_of l) arcs lines → (s : List ℤ) → IsFeasible l.project s → makespan s <ℤ ceiling_of l → ¬ All (Meets s) arcs
+refuted_out l arcs lines sound refuted s feasible less met =
+    none_meets_refuted l.project l.lemmas (own_of l ++ arcs) lines refuted.refuted s feasible (sound.lemmas s feasible less) (All-append (Meets s) (own_of l) arcs (sound.roots s feasible less) met)
 
 -- so it meets the root's arc that the lemma makes
-pub root_met : (l : LedgerOf) (bench : Option BenchOf) (arcs : List Lag) (lines : List Line) (arc : Lag) → IsLedger l bench → IsRefuted l.project l.lemmas (own_of l) arcs lines → root_of arcs ≡ Some arc → (s : List ℤ) → IsFeasible l.project s → makespan s <ℤ ceiling_of l → Meets s arc
-root_met l bench [] lines arc is refuted root s feasible less = absurd (refuted_out l bench [] lines is refuted s feasible less (All-nil (Meets s)))
-root_met l bench (e ∷ []) lines arc is refuted root s feasible less =
+pub root_met : (l : LedgerOf) (arcs : List Lag) (lines : List Line) (arc : Lag) → IsSound l → IsRefuted l.project l.lemmas (own_of l) arcs lines → root_of arcs ≡ Some arc → (s : List ℤ) → IsFeasible l.project s → makespan s <ℤ ceiling_of l → Meets s arc
+root_met l [] lines arc is refuted root s feasible less = absurd (refuted_out l [] lines is refuted s feasible less (All-nil (Meets s)))
+root_met l (e ∷ []) lines arc is refuted root s feasible less =
     let same : reverse_of e ≡ arc = same_arc (reverse_of e) arc root in
     by_lt_z (start s e.to) (start s e.from +ℤ e.weight)
     (λ early. rw (sym same) (omega (arith, ints)))
-    (λ kept. absurd (refuted_out l bench (e ∷ []) lines is refuted s feasible less (All-push (Meets s) [] e (All-nil (Meets s)) kept)))
+    (λ kept. absurd (refuted_out l (e ∷ []) lines is refuted s feasible less (All-push (Meets s) [] e (All-nil (Meets s)) kept)))
   where
     same_arc : (x y : Lag) → Some x ≡ Some y → x ≡ y
     same_arc x y e = cc
-root_met l bench (e ∷ f ∷ arcs) lines arc is refuted root s feasible less = absurd (let bad : None ≡ Some arc = root in cc)
+root_met l (e ∷ f ∷ arcs) lines arc is refuted root s feasible less = absurd (let bad : None ≡ Some arc = root in cc)
 
 pub light_root : (p : Problem) (arcs : List Lag) (arc : Lag) → 0 < activity_count p → All (IsArc p) arcs → root_of arcs ≡ Some arc → IsLight (activity_count p) arc
 light_root p [] arc some are root = let same : impossible ≡ arc = same_arc impossible arc root in rw (sym same) (record { from_activity = some; to_activity = some; light = record { at_least = omega (arith, ints); at_most = omega (arith, ints) } })
@@ -146,17 +152,20 @@ in_shelved l slot k arcs lemma found =
     same : (x y : List Lag) → Some x ≡ Some y → x ≡ y
     same x y e = cc
 
+pub shelved_sound : (l : LedgerOf) (slot : ℕ) (arcs : List Lag) (lines : List Line) → IsSound l → IsRefuted l.project l.lemmas (own_of l) arcs lines → IsSound (shelved l slot arcs)
+shelved_sound l slot arcs lines sound refuted = record {
+  best = sound.best;
+  roots = sound.roots;
+  lemmas = λ s feasible less k lemma found.
+      ⊎_elim
+      (λ (new : arcs ≡ lemma). rw (sym new) (refuted_out l arcs lines sound refuted s feasible less))
+      (λ (old : IsIn l.lemmas k lemma). sound.lemmas s feasible less k lemma old)
+      (in_shelved l slot k arcs lemma found);
+}
+
 pub shelved_is : (l : LedgerOf) (bench : Option BenchOf) (slot : ℕ) (arcs : List Lag) (lines : List Line) → IsLedger l bench → IsRefuted l.project l.lemmas (own_of l) arcs lines → IsLedger (shelved l slot arcs) bench
 shelved_is l bench slot arcs lines is refuted = record {
-  sound = record {
-    best = is.sound.best;
-    roots = is.sound.roots;
-    lemmas = λ s feasible less k lemma found.
-        ⊎_elim
-        (λ (new : arcs ≡ lemma). rw (sym new) (refuted_out l bench arcs lines is refuted s feasible less))
-        (λ (old : IsIn l.lemmas k lemma). is.sound.lemmas s feasible less k lemma old)
-        (in_shelved l slot k arcs lemma found);
-  };
+  sound = shelved_sound l slot arcs lines is.sound refuted;
   lemmas = λ k lemma found.
       ⊎_elim
       (λ (new : arcs ≡ lemma). rw (sym new) refuted.are_arcs)
@@ -167,20 +176,23 @@ shelved_is l bench slot arcs lines is refuted = record {
 }
 
 -- a lemma goes
+in_emptied : (l : LedgerOf) (slot k : ℕ) (lemma : List Lag) → IsIn (slice_set l.lemmas slot None) k lemma → IsIn l.lemmas k lemma
+in_emptied l slot k lemma found = ⊎_elim (λ (none : None ≡ Some lemma). absurd (cc)) (λ (old : IsIn l.lemmas k lemma). old) (in_set l.lemmas slot k None lemma found)
+
+pub emptied_sound : (l : LedgerOf) (slot : ℕ) → IsSound l → IsSound (without_lemma l slot)
+emptied_sound l slot sound = record {
+  best = sound.best;
+  roots = sound.roots;
+  lemmas = λ s feasible less k lemma found. sound.lemmas s feasible less k lemma (in_emptied l slot k lemma found);
+}
+
 pub emptied_is : (l : LedgerOf) (bench : Option BenchOf) (slot : ℕ) → IsLedger l bench → IsLedger (without_lemma l slot) bench
 emptied_is l bench slot is = record {
-  sound = record {
-    best = is.sound.best;
-    roots = is.sound.roots;
-    lemmas = λ s feasible less k lemma found. is.sound.lemmas s feasible less k lemma (in_emptied k lemma found);
-  };
-  lemmas = λ k lemma found. is.lemmas k lemma (in_emptied k lemma found);
+  sound = emptied_sound l slot is.sound;
+  lemmas = λ k lemma found. is.lemmas k lemma (in_emptied l slot k lemma found);
   root = is.root;
   within = is.within;
 }
-  where
-    in_emptied : (k : ℕ) (lemma : List Lag) → IsIn (slice_set l.lemmas slot None) k lemma → IsIn l.lemmas k lemma
-    in_emptied k lemma found = ⊎_elim (λ (none : None ≡ Some lemma). absurd (cc)) (λ (old : IsIn l.lemmas k lemma). old) (in_set l.lemmas slot k None lemma found)
 
 -- ---- a shorter schedule
 
@@ -188,13 +200,16 @@ abbrev pub led : LedgerOf → List ℤ → LedgerOf
 led l starts = record l { best = Some starts }
 
 -- schedules in question are fewer
+pub led_sound : (l : LedgerOf) (starts : List ℤ) → IsSound l → IsFeasible l.project starts → makespan starts <ℤ ceiling_of l → IsSound (led l starts)
+led_sound l starts sound feasible shorter = record {
+  best = feasible;
+  roots = λ s f less. let below : makespan s <ℤ makespan starts = less in sound.roots s f (omega (arith, ints, below, shorter));
+  lemmas = λ s f less. let below : makespan s <ℤ makespan starts = less in sound.lemmas s f (omega (arith, ints, below, shorter));
+}
+
 pub led_is : (l : LedgerOf) (bench : Option BenchOf) (starts : List ℤ) → IsLedger l bench → IsFeasible l.project starts → makespan starts <ℤ ceiling_of l → pos 0 ≤ℤ makespan starts → IsLedger (led l starts) bench
 led_is l bench starts is feasible shorter least = record {
-  sound = record {
-    best = feasible;
-    roots = λ s f less. let below : makespan s <ℤ makespan starts = less in is.sound.roots s f (omega (arith, ints, below, shorter));
-    lemmas = λ s f less. let below : makespan s <ℤ makespan starts = less in is.sound.lemmas s f (omega (arith, ints, below, shorter));
-  };
+  sound = led_sound l starts is.sound feasible shorter;
   lemmas = is.lemmas;
   root = is.root;
   within = let high = is.within.at_most in record { at_least = least; at_most = omega (arith, ints, high, shorter) };

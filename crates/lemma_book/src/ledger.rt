@@ -112,6 +112,25 @@ impl<'a> Ledger<'a> {
         )
     }
 
+    /// The places of the lines that show something new, if a lemma may be taken: it has the slot that it needs, and the
+    /// lines refute its arcs beside what the ledger has.
+    pub fn may_take(
+        &mut self,
+        slot: usize,
+        arcs: &[Lag],
+        lines: &[Line],
+    ) -> Result<Option<Vec<usize>>, AllocError>
+        ensures same { self.new ≡ self.old }
+        ensures may { IfOk result (λ found. MatchOption found (¬ MayTake self.old slot arcs.now lines.now)
+            (λ used. MayTake self.old slot arcs.now lines.now
+            × MayTake self.old slot arcs.now (picked lines.now used.items))) }
+    {
+        if !has_room(self.lemmas.as_slice(), slot, arcs) {
+            return Ok(None);
+        }
+        self.refute(arcs, lines)
+    }
+
     /// Adds an arc to the root's, which each schedule in question meets.
     fn add_root(&mut self, arc: Lag) -> Result<(), AllocError>
         requires light { IsLight (activity_count self.old.project) arc }
@@ -150,8 +169,8 @@ impl<'a> Ledger<'a> {
         Ok(())
     }
 
-    /// Keeps a lemma.
-    fn keep(&mut self, slot: usize, arcs: Lags) -> Result<(), AllocError>
+    /// Keeps a lemma that may be taken by some lines.
+    pub fn keep(&mut self, slot: usize, arcs: Lags) -> Result<(), AllocError>
         requires { (lines : List Line) × MayTake self.old slot arcs lines }
         ensures kept { OnOk result (self.new ≡ with_lemma self.old slot arcs) }
         ensures unchanged { OnErr result (self.new ≡ self.old) }
@@ -175,10 +194,7 @@ impl<'a> Ledger<'a> {
         ensures taken { IfOk result (λ found. Takes self.old slot arcs lines.now found self.new) }
         ensures unchanged { OnErr result (self.new ≡ self.old) }
     {
-        if !has_room(self.lemmas.as_slice(), slot, arcs.as_slice()) {
-            return Ok(None);
-        }
-        let Some(used) = self.refute(arcs.as_slice(), lines)? else {
+        let Some(used) = self.may_take(slot, arcs.as_slice(), lines)? else {
             return Ok(None);
         };
         self.keep(slot, arcs)?;

@@ -1,20 +1,20 @@
 -- Bytes of an event that are cut off are short.
-use Rattle.std.proofs.Common.{◌≡◌, ◌≢◌, ◌≤◌, ◌<◌, ℕ, zero, suc, ◌-◌, List, [], ◌∷◌, ◌++◌, length, Result, Ok, Err, MatchResult, ◌⊎◌, inl, inr, refl, ap, arith}
-use Rattle.std.proofs.lemmas.List.{length-append}
-use Rattle.std.proofs.lemmas.Bool.{cases_lt, lt-ltb}
+use Rattle.std.proofs.Common.{◌≡◌, ◌≢◌, ◌≤◌, ◌<◌, ℕ, zero, suc, ◌-◌, List, [], ◌∷◌, ◌++◌, length, Result, Ok, Err, MatchResult, Option, Some, None, ◌⊎◌, inl, inr, refl, ap, arith}
+use Rattle.std.proofs.lemmas.List.{length-append, take-append-le, drop-append-le}
+use Rattle.std.proofs.lemmas.Bool.{cases_lt, lt-ltb, le-ltb}
 use Rattle.lemma_log.specs.declared.event.Event.{Event}
 use Rattle.lemma_log.specs.declared.fault.LogFault.{LogFault}
 use Rattle.lemma_log.specs.declared.fault.LogFault.TheVariants.{Short, Form, Memory}
 use Rattle.lemma_log.specs.Numbers.{Part, digits_in, with_digit}
 use Rattle.lemma_log.specs.Text.{body_text, event_text, IsWritable}
-use Rattle.lemma_log.specs.Reading.{cut, frame_in, framed, read_in}
+use Rattle.lemma_log.specs.Reading.{cut, event_in, frame_in, framed, read_in, with_event}
 use Rattle.lemma_log.specs.Law.{ReadsBack}
 use Rattle.lemma_log.proofs.Digits.{read_none, read_empty, read_low, read_high, number_again}
 use Rattle.lemma_log.proofs.EventBack.{read_back}
 
 -- what is read of bytes, and what is read where more follow them
-abbrev IsStable : List ℕ → Result (Part ℕ) LogFault → Result (Part ℕ) LogFault → Type 0
-IsStable more here there =
+abbrev pub IsStable : {A : Type 0} → List ℕ → Result (Part A) LogFault → Result (Part A) LogFault → Type 0
+IsStable {A} more here there =
     MatchResult here (λ part. there ≡ Ok (record { value = part.value; left = part.left ++ more })) (λ fault. fault ≢ Short → there ≡ Err fault)
 
 digit_stable : (more : List ℕ) (digit : ℕ) (here there : Result (Part ℕ) LogFault) → IsStable more here there → IsStable more (with_digit digit here) (with_digit digit there)
@@ -36,6 +36,34 @@ same_part r p q h k = cc
 some_length : (more : List ℕ) → more ≢ [] → 0 < length more
 some_length [] ne = absurd (ne refl)
 some_length (b ∷ bs) ne = omega arith
+
+-- ---- what is read stays where more follows
+
+cut_stable_by : (more : List ℕ) (size : Part ℕ) → (length size.left < size.value) ⊎ (size.value ≤ length size.left) → IsStable more (cut (Ok size)) (cut (Ok (record { value = size.value; left = size.left ++ more })))
+cut_stable_by more size (inl few) = rw (lt-ltb (length size.left) size.value few) (λ ne. absurd (ne refl))
+cut_stable_by more size (inr enough) =
+    let there : size.value ≤ length (size.left ++ more) = omega (arith, enough, length-append size.left more) in
+    rw (le-ltb (length size.left) size.value enough, le-ltb (length (size.left ++ more)) size.value there, take-append-le size.value size.left more enough, drop-append-le size.value size.left more enough) refl
+
+cut_stable : (more : List ℕ) (here there : Result (Part ℕ) LogFault) → IsStable more here there → IsStable more (cut here) (cut there)
+cut_stable more (Ok size) there h = rw h (cut_stable_by more size (cases_lt (length size.left) size.value))
+cut_stable more (Err fault) there h = λ ne. ap cut (h ne)
+
+frame_stable : (bytes more : List ℕ) → IsStable more (frame_in bytes) (frame_in (bytes ++ more))
+unfolding frame_in
+frame_stable bytes more = cut_stable more (digits_in 9 bytes) (digits_in 9 (bytes ++ more)) (stable 9 bytes more)
+
+framed_stable : (more : List ℕ) (here there : Result (Part (List ℕ)) LogFault) → IsStable more here there → IsStable more (framed here) (framed there)
+framed_stable more (Ok frame) there h = rw h (by_event (event_in frame.value))
+  where
+    by_event : (found : Option Event) → IsStable more (with_event found frame.left) (with_event found (frame.left ++ more))
+    by_event (Some e) = refl
+    by_event None = λ ne. refl
+framed_stable more (Err fault) there h = λ ne. ap framed (h ne)
+
+-- an event that is read is read where more follows it, and what is no event is none then
+pub read_stable : (bytes more : List ℕ) → IsStable more (read_in bytes) (read_in (bytes ++ more))
+read_stable bytes more = framed_stable more (frame_in bytes) (frame_in (bytes ++ more)) (frame_stable bytes more)
 
 -- fewer bytes follow the number than it says
 cut_short : (here : Result (Part ℕ) LogFault) (body more : List ℕ) → more ≢ [] → IsStable more here (Ok (record { value = length body; left = body })) → cut here ≡ Err Short

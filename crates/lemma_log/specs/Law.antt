@@ -1,5 +1,5 @@
 -- What is read, and that what is written is read back.
-use Rattle.std.specs.Prelude.{◌≡◌, ◌≢◌, ℕ, ◌+◌, Result, Ok, MatchResult, List, [], ◌++◌, length}
+use Rattle.std.specs.Prelude.{◌≡◌, ◌≢◌, ℕ, Result, Ok, MatchResult, List, [], ◌++◌, length, drop}
 use Rattle.lemma_log.specs.declared.event.Event.{Event}
 use Rattle.lemma_log.specs.declared.fault.LogFault.{LogFault}
 use Rattle.lemma_log.specs.declared.fault.LogFault.TheVariants.{Short, Memory}
@@ -7,11 +7,9 @@ use Rattle.lemma_log.specs.declared.read.Read.{Read}
 use Rattle.lemma_log.specs.Text.{event_text, IsWritable}
 use Rattle.lemma_log.specs.Reading.{read_in}
 
--- the event is what the bytes begin with, and it has so many of them
-pub record IsFirst (bytes : List ℕ) (read : Read) : Type 0 where
-  pub left : List ℕ
-  pub first : read_in bytes ≡ Ok (record { value = read.event; left = left })
-  pub count : read.count + length left ≡ length bytes
+-- the event is what the bytes begin with, it has so many of them, and the others follow it
+abbrev pub IsFirst : List ℕ → Read → Type 0
+IsFirst bytes read = read_in bytes ≡ Ok (record { value = read.event; left = drop read.count bytes })
 
 -- the event was read with all its bytes, unless memory ran out
 abbrev pub IsReadAs : Result Read LogFault → Event → Type 0

@@ -1,4 +1,5 @@
 pub mod Numbers
-pub mod Text
 pub mod Reading
+pub mod Text
 pub mod Law
+pub mod Logs

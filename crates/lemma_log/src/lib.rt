@@ -9,6 +9,7 @@ mod arc;
 mod body;
 mod event;
 mod fault;
+mod law;
 mod line;
 mod lists;
 mod members;
@@ -19,10 +20,13 @@ mod signed;
 #[cfg(test)]
 mod tests;
 mod title;
+mod writable;
 mod write;
 
 pub use event::{Claim, Event, Lines};
 pub use fault::LogFault;
+pub use law::spelling_law;
 pub use read::{Read, read_event};
 pub use title::{put_title, read_title};
+pub use writable::is_writable;
 pub use write::put_event;

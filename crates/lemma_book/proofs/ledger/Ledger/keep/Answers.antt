@@ -11,5 +11,5 @@ add_root-requires-clause-met c =
     let root : root_of c.args.arcs ≡ Some c.in-Some.arc = rw c.as_slice.ensures at (sym c.root_arc.ensures ∙ c.in-Some.is) in
     let l : LedgerOf = ledger_of c.self.inside.project.now c.self.inside.best c.self.inside.roots.items c.self.inside.lemmas.items in
     let may = rw (sym c.self.view_is) at c.requires in
-    let met = root_met l c.self.inside.bench c.args.arcs may.0 c.in-Some.arc c.self.invariant may.1.refuted root in
+    let met = root_met l c.args.arcs may.0 c.in-Some.arc c.self.invariant.sound may.1.refuted root in
     rw (sym c.self.view_is) met
