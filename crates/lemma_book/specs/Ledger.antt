@@ -3,7 +3,8 @@ use Rattle.std.specs.Prelude.{Bool, true, false, Vec, ◌&&◌, if◌then◌else
 use Rattle.std.specs.Int.{int_min}
 use Rattle.std.specs.List.{All, list_any, range_with_len}
 use Rattle.network.specs.declared.parts.Lag.{Lag}
-use Rattle.network.specs.Problem.{AreStarts, IsBetween, Problem, activities, activity_count, capacity, demand, duration, end_of, resource_count, rules}
+use Rattle.network.specs.Problem.{AreStarts, IsBetween, IsWithin, Problem, activities, activity_count, capacity, demand, duration, end_of, resource_count, rules}
+use Rattle.network.specs.declared.limits.TheConstants.{MAX_WALK_WEIGHT}
 use Rattle.network.specs.Walk.{HasNoPositiveCycle, HasPositiveCycle, IsGreatestWeight, IsMatrixOf}
 use Rattle.network.specs.Schedule.{IsFeasible, Meets, makespan}
 use Rattle.record_text.specs.declared.proved.Proved.{Proved}
@@ -172,3 +173,9 @@ abbrev pub Claims : LedgerOf → Proved → Type 0
 Claims l (proved.Optimal makespan) = HasPositiveCycle (own_of l) × (l.best ≢ None) × (makespan ≡ ceiling_of l)
 Claims l (proved.Bound bound) = HasNoPositiveCycle (own_of l) × IsBoundOf l bound
 Claims l proved.NoSchedule = HasPositiveCycle (own_of l) × (l.best ≡ None)
+
+-- no number of a claim is greater
+abbrev pub IsSmall : Proved → Type 0
+IsSmall (proved.Optimal makespan) = IsWithin MAX_WALK_WEIGHT makespan
+IsSmall (proved.Bound bound) = IsWithin MAX_WALK_WEIGHT bound
+IsSmall proved.NoSchedule = Unit {0}

@@ -1,16 +1,17 @@
 //! What is proved of a project, and what changes it.
 
-ghost use Rattle.std.specs.Prelude.{◌≡◌, ◌↔◌, ◌++◌, ◌∷◌, ◌<ℤ◌, ◌<◌, [], ℤ, pos, Some, slice_set, List, length, IsTrue, IfOk, OnOk, OnErr, MatchOption};
+ghost use Rattle.std.specs.Prelude.{◌≡◌, ◌↔◌, ◌++◌, ◌∷◌, ◌<ℤ◌, ◌<◌, [], ℤ, pos, Some, slice_set, List, length, None, IsTrue, IfOk, IfSome, OnOk, OnErr, MatchOption};
 ghost use Rattle.std.specs.List.{All};
 ghost use Rattle.network.specs.declared.parts.Lag.{Lag};
-ghost use Rattle.network.specs.Problem.{IsBetween, Problem, activity_count};
+ghost use Rattle.network.specs.Problem.{IsBetween, IsWithin, Problem, activity_count};
 ghost use Rattle.lemma_book.specs.declared.deadline.TheConstants.{MAX_CEILING};
+ghost use Rattle.network.specs.declared.limits.TheConstants.{MAX_WALK_WEIGHT};
 ghost use Rattle.network.specs.Schedule.{IsFeasible, IsLowerBound, Meets, makespan};
 ghost use Rattle.record_text.specs.FirstWrong.{IsFactOf};
 ghost use Rattle.block.specs.Heads.{IsLight};
 ghost use Rattle.lemma_proof.specs.declared.line.Line.{Line};
 ghost use Rattle.lemma_proof.specs.Lines.{IsArc, IsRefuted, picked};
-ghost use Rattle.lemma_book.specs.Ledger.{Claims, IsBoundOf, Leads, LetsGo, MayLead, MayTake, Takes, ceiling_of, first_ledger, own_of, root_of, with_lemma, with_slot};
+ghost use Rattle.lemma_book.specs.Ledger.{Claims, IsBoundOf, IsSmall, Leads, LetsGo, MayLead, MayTake, Takes, ceiling_of, first_ledger, own_of, root_of, with_lemma, with_slot};
 
 use crate::deadline::{deadline, first_root};
 use crate::leading::{are_starts, is_feasible};
@@ -223,6 +224,24 @@ impl<'a> Ledger<'a> {
         }
     }
 
+    /// The project of which this is proved.
+    pub fn project(&self) -> &Project
+        ensures { result.now ≡ self.now.project }
+    {
+        self.project
+    }
+
+    /// The starts of the best schedule by activity, in periods.
+    pub fn best(&self) -> Option<&[i64]>
+        ensures best { MatchOption result (self.now.best ≡ None) (λ starts. self.now.best ≡ Some starts.now) }
+        ensures feasible { IfSome result (λ starts. IsFeasible self.now.project starts.now) }
+    {
+        match &self.best {
+            Some(starts) => Some(starts.as_slice()),
+            None => None,
+        }
+    }
+
     /// Whether starts are a feasible schedule that is in question.
     fn may_lead(&self, starts: &[i64]) -> Result<bool, AllocError>
         ensures { IfOk result (λ may. IsTrue may ↔ MayLead self.now starts.now) }
@@ -260,6 +279,7 @@ impl<'a> Ledger<'a> {
     pub fn bound(&self) -> i64
         ensures value { IsBoundOf self.now result }
         ensures law { IsLowerBound self.now.project result }
+        ensures small { IsWithin MAX_WALK_WEIGHT result }
     {
         let ceiling = self.ceiling();
         let Some(bench) = &self.bench else {
@@ -275,6 +295,7 @@ impl<'a> Ledger<'a> {
     pub fn claim(&self) -> Proved
         ensures claims { Claims self.now result }
         ensures law { IsFactOf self.now.project result }
+        ensures small { IsSmall result }
     {
         prove!(self.project.activity_count() >= 2);
         if self.bench.is_some() {

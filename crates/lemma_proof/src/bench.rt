@@ -4,7 +4,8 @@ ghost use Rattle.std.specs.Prelude.{◌≡◌, ◌<◌, ◌++◌, ◌∷◌, [],
 ghost use Rattle.std.specs.Bool.{MatchBool};
 ghost use Rattle.std.specs.List.{All};
 ghost use Rattle.network.specs.declared.parts.Lag.{Lag};
-ghost use Rattle.network.specs.Problem.{activity_count};
+ghost use Rattle.network.specs.Problem.{IsWithin, activity_count};
+ghost use Rattle.network.specs.declared.limits.TheConstants.{MAX_WALK_WEIGHT};
 ghost use Rattle.network.specs.Walk.{HasPositiveCycle, IsMatrixOf, entry};
 ghost use Rattle.longest_path.specs.Matrix.{IsFull};
 ghost use Rattle.block.specs.Heads.{IsLight};
@@ -90,7 +91,8 @@ impl Bench {
     pub fn weight(&self, a: usize, b: usize) -> i64
         requires from_activity { a < length self.now.rows }
         requires to_activity { b < length self.now.rows }
-        ensures { entry self.now.rows a b ≡ Some result }
+        ensures value { entry self.now.rows a b ≡ Some result }
+        ensures small { IsWithin MAX_WALK_WEIGHT result }
     {
         self.matrix.matrix().get(a, b).unwrap_or(0)
     }

@@ -1,2 +1,3 @@
 pub mod Right
 pub mod Taking
+pub mod Book

@@ -1,0 +1,77 @@
+-- A log gets one event more.
+use Rattle.std.proofs.Common.{◌≡◌, ℕ, ◌^◌, ◌<◌, ◌≤◌, List, [], ◌∷◌, ◌++◌, get_or, length, slice_get, Option, None, Some, sym, ap, ◌∙◌, subst, append_assoc, refl, ⊎_elim, ◌⊎◌, inl, inr}
+use Rattle.std.specs.List.{AllByRecursion, flat_map}
+use Rattle.std.specs.Option.{option_to_list}
+use Rattle.std.proofs.lemmas.List.{flat_map_more}
+use Rattle.std.proofs.lemmas.Option.{slice_get_cases}
+use Rattle.network.specs.Problem.{Problem}
+use Rattle.lemma_proof.specs.declared.line.Line.{Line}
+use Rattle.lemma_proof.specs.Lines.{picked}
+use Rattle.lemma_log.specs.declared.event.Event.{Event}
+use Rattle.lemma_log.specs.declared.event.Event.TheVariants as event
+use Rattle.lemma_log.specs.Text.{IsWritable, IsWritableBody, IsWritableLine, body_text, event_text, title_text}
+use Rattle.lemma_log.specs.Logs.{log_text}
+use Rattle.lemma_log.proofs.Each.{each_at}
+use Rattle.lemma_book.specs.Ledger.{LedgerOf, first_ledger}
+use Rattle.lemma_record.specs.Right.{IsStep, Takes, TakesAll}
+use Rattle.lemma_record.specs.Taking.{IsLoggedOf, IsTaken}
+use Rattle.lemma_record.specs.Book.{IsLogOf}
+
+all_push : {X : Type 0} (P : X → Type 0) (xs : List X) (x : X) → AllByRecursion P xs → P x → AllByRecursion P (xs ++ x ∷ [])
+all_push P [] x all here = (here, record {})
+all_push P (y ∷ xs) x all here = (all.0, all_push P xs x all.1 here)
+
+taken_more : (l mid after : LedgerOf) (steps : List Event) (e : Event) → TakesAll l steps mid → Takes mid e after → TakesAll l (steps ++ e ∷ []) after
+taken_more l mid after [] e taken takes = (after, subst (λ (m : LedgerOf). Takes m e after) taken takes, refl)
+taken_more l mid after (step ∷ steps) e taken takes = (taken.0, taken.1, taken_more taken.0 mid after steps e taken.2 takes)
+
+-- ---- what is logged of an event
+
+all_append : {X : Type 0} (P : X → Type 0) (xs ys : List X) → AllByRecursion P xs → AllByRecursion P ys → AllByRecursion P (xs ++ ys)
+all_append P [] ys first second = second
+all_append P (x ∷ xs) ys first second = (first.0, all_append P xs ys first.1 second)
+
+at_place : {X : Type 0} (P : X → Type 0) (xs : List X) (place : ℕ) → AllByRecursion P xs → AllByRecursion P (option_to_list (slice_get xs place))
+at_place {X} P xs place all =
+    ⊎_elim
+    (λ (here : (x : X) × (place < length xs) × (slice_get xs place ≡ Some x) × (get_or xs place x ≡ x)).
+    rw here.2 (subst P here.3 (each_at P xs place here.0 here.1 all), record {}))
+    (λ (past : (length xs ≤ place) × (slice_get xs place ≡ None)). rw past.1 (record {}))
+    (slice_get_cases xs place).1
+
+picked_all : (P : Line → Type 0) (lines : List Line) (places : List ℕ) → AllByRecursion P lines → AllByRecursion P (picked lines places)
+picked_all P lines [] all = record {}
+picked_all P lines (place ∷ places) all = all_append P (option_to_list (slice_get lines place)) (picked lines places) (at_place P lines place all) (picked_all P lines places all)
+
+logged_step : (e logged : Event) → IsStep e → IsLoggedOf e logged → IsStep logged
+logged_step (event.Lemma slot arcs lines) logged is part = rw part.1 tt
+logged_step (event.Drop slot) logged is part = rw part tt
+logged_step (event.Schedule starts) logged is part = rw part tt
+logged_step (event.Claim c) logged is part = absurd is
+
+logged_body : (e logged : Event) → IsWritableBody e → IsLoggedOf e logged → IsWritableBody logged
+logged_body (event.Lemma slot arcs lines) logged is part = rw part.1 (is.0, is.1, is.2, picked_all IsWritableLine lines part.0 is.3)
+logged_body (event.Drop slot) logged is part = rw part is
+logged_body (event.Schedule starts) logged is part = rw part is
+logged_body (event.Claim c) logged is part = rw part is
+
+-- ---- the project stays
+
+same_project : (l after : LedgerOf) (e : Event) → Takes l e after → after.project ≡ l.project
+same_project l after (event.Lemma slot [] lines) takes = ap (λ (x : LedgerOf). x.project) takes.1
+same_project l after (event.Lemma slot (e ∷ []) lines) takes = ap (λ (x : LedgerOf). x.project) takes.1
+same_project l after (event.Lemma slot (e ∷ f ∷ arcs) lines) takes = ap (λ (x : LedgerOf). x.project) takes.1
+same_project l after (event.Drop slot) takes = ap (λ (x : LedgerOf). x.project) takes.1
+same_project l after (event.Schedule starts) takes = ap (λ (x : LedgerOf). x.project) takes.1
+same_project l after (event.Claim c) takes = ap (λ (x : LedgerOf). x.project) takes.1
+
+-- ---- the log
+
+pub logged_more : (l after : LedgerOf) (e logged : Event) (text more : List ℕ) → IsLogOf l text → IsStep e → IsWritableBody e → IsTaken l e logged after → length (body_text logged) < 2 ^ 63 → more ≡ text ++ event_text logged → IsLogOf after more
+logged_more l after e logged text more log step body taken size is = record {
+  steps = log.steps ++ logged ∷ [];
+  are_steps = all_push IsStep log.steps logged log.are_steps (logged_step e logged step taken.part);
+  writable = all_push IsWritable log.steps logged log.writable (record { size = size; body = logged_body e logged body taken.part });
+  is = is ∙ ap (λ (t : List ℕ). t ++ event_text logged) log.is ∙ flat_map_more event_text title_text log.steps logged;
+  taken = subst (λ (p : Problem). TakesAll (first_ledger p) (log.steps ++ logged ∷ []) after) (sym (same_project l after e taken.taken)) (taken_more (first_ledger l.project) l after log.steps logged log.taken taken.logged_taken);
+}

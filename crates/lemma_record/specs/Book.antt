@@ -1,0 +1,49 @@
+-- What a book keeps: a ledger, and the log of all that it took.
+use Rattle.std.specs.Prelude.{◌≡◌, Bool, true, false, ℕ, ℤ, List, Option, IfSome}
+use Rattle.std.specs.List.{AllByRecursion}
+use Rattle.network.specs.Problem.{Problem}
+use Rattle.network.specs.Schedule.{IsFeasible}
+use Rattle.record_text.specs.FirstWrong.{IsFactOf}
+use Rattle.lemma_log.specs.declared.event.Claim.{Claim}
+use Rattle.lemma_log.specs.declared.event.Event.{Event}
+use Rattle.lemma_log.specs.Text.{IsWritable, IsWritableBody}
+use Rattle.lemma_log.specs.Logs.{Spells, log_text}
+use Rattle.lemma_book.specs.Ledger.{LedgerOf, first_ledger}
+use Rattle.lemma_record.specs.Right.{IsRight, IsStep, Takes, TakesAll, proved_of}
+
+-- a ledger, and the text of the log so far; none once memory ran out for it
+pub record BookOf : Type 0 where
+  pub ledger : LedgerOf
+  pub log : Option (List ℕ)
+
+-- the text is that of steps which are taken one after another from the first ledger to this one
+pub record IsLogOf (l : LedgerOf) (text : List ℕ) : Type 0 where
+  pub steps : List Event
+  pub are_steps : AllByRecursion IsStep steps
+  pub writable : AllByRecursion IsWritable steps
+  pub is : text ≡ log_text steps
+  pub taken : TakesAll (first_ledger l.project) steps l
+
+-- the log of a book is that of its ledger
+abbrev pub IsBook : LedgerOf → Option (List ℕ) → Type 0
+IsBook ledger log = IfSome log (IsLogOf ledger)
+
+-- a step within the limits of a log, which the ledger takes
+pub record MayOffer (l : LedgerOf) (e : Event) : Type 0 where
+  pub step : IsStep e
+  pub writable : IsWritableBody e
+  pub after : LedgerOf
+  pub takes : Takes l e after
+
+-- an event is taken if it may be; or nothing changes
+abbrev pub Offers : BookOf → Event → Bool → BookOf → Type 0
+Offers old e true new = MayOffer old.ledger e × Takes old.ledger e new.ledger
+Offers old e false new = (¬ MayOffer old.ledger e) × (new ≡ old)
+
+-- ---- What a book shows in the end.
+
+-- the text is that of a right log, which claims this
+pub record IsRightText (p : Problem) (text : List ℕ) (c : Claim) : Type 0 where
+  pub events : List Event
+  pub spells : Spells text events
+  pub right : IsRight p events c
