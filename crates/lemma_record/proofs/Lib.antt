@@ -1,2 +1,5 @@
 pub mod Picking
+pub mod Refuted
 pub mod Sound
+pub mod Stepping
+pub mod Titles

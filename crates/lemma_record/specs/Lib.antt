@@ -1,2 +1,4 @@
+pub mod Faults
+pub mod Reached
 pub mod Right
 pub mod Taking
