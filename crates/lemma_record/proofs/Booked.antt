@@ -9,21 +9,21 @@ use Rattle.lemma_proof.specs.declared.line.Line.{Line}
 use Rattle.lemma_proof.specs.Lines.{picked}
 use Rattle.lemma_log.specs.declared.event.Event.{Event}
 use Rattle.lemma_log.specs.declared.event.Event.TheVariants as event
-use Rattle.lemma_log.specs.Text.{IsWritable, IsWritableBody, IsWritableLine, body_text, event_text, title_text}
-use Rattle.lemma_log.specs.Logs.{log_text}
+use Rattle.lemma_log.specs.declared.event.Claim.{Claim}
+use Rattle.lemma_log.specs.Text.{IsWritable, IsWritableBody, IsWritableClaim, IsWritableLine, body_text, event_text, title_text}
+use Rattle.lemma_log.specs.Logs.{Spells, log_text}
+use Rattle.lemma_log.proofs.Spelled.{log_is_spelled}
 use Rattle.lemma_log.proofs.Each.{each_at}
-use Rattle.lemma_book.specs.Ledger.{LedgerOf, first_ledger}
-use Rattle.lemma_record.specs.Right.{IsStep, Takes, TakesAll}
+use Rattle.lemma_book.specs.Ledger.{Claims, LedgerOf, first_ledger}
+use Rattle.lemma_record.specs.Faults.{IsRightText}
+use Rattle.lemma_record.specs.Right.{IsStep, Takes, TakesAll, proved_of}
 use Rattle.lemma_record.specs.Taking.{IsLoggedOf, IsTaken}
 use Rattle.lemma_record.specs.Book.{IsLogOf}
+use Rattle.lemma_record.proofs.Stepping.{steps_more, taken_more}
 
 all_push : {X : Type 0} (P : X → Type 0) (xs : List X) (x : X) → AllByRecursion P xs → P x → AllByRecursion P (xs ++ x ∷ [])
 all_push P [] x all here = (here, record {})
 all_push P (y ∷ xs) x all here = (all.0, all_push P xs x all.1 here)
-
-taken_more : (l mid after : LedgerOf) (steps : List Event) (e : Event) → TakesAll l steps mid → Takes mid e after → TakesAll l (steps ++ e ∷ []) after
-taken_more l mid after [] e taken takes = (after, subst (λ (m : LedgerOf). Takes m e after) taken takes, refl)
-taken_more l mid after (step ∷ steps) e taken takes = (taken.0, taken.1, taken_more taken.0 mid after steps e taken.2 takes)
 
 -- ---- what is logged of an event
 
@@ -70,8 +70,27 @@ same_project l after (event.Claim c) takes = ap (λ (x : LedgerOf). x.project) t
 pub logged_more : (l after : LedgerOf) (e logged : Event) (text more : List ℕ) → IsLogOf l text → IsStep e → IsWritableBody e → IsTaken l e logged after → length (body_text logged) < 2 ^ 63 → more ≡ text ++ event_text logged → IsLogOf after more
 logged_more l after e logged text more log step body taken size is = record {
   steps = log.steps ++ logged ∷ [];
-  are_steps = all_push IsStep log.steps logged log.are_steps (logged_step e logged step taken.part);
+  are_steps = steps_more log.steps logged log.are_steps (logged_step e logged step taken.part);
   writable = all_push IsWritable log.steps logged log.writable (record { size = size; body = logged_body e logged body taken.part });
   is = is ∙ ap (λ (t : List ℕ). t ++ event_text logged) log.is ∙ flat_map_more event_text title_text log.steps logged;
   taken = subst (λ (p : Problem). TakesAll (first_ledger p) (log.steps ++ logged ∷ []) after) (sym (same_project l after e taken.taken)) (taken_more (first_ledger l.project) l after log.steps logged log.taken taken.logged_taken);
 }
+
+-- ---- the end
+
+pub closed : (l : LedgerOf) (c : Claim) (text more : List ℕ) → IsLogOf l text → Claims l (proved_of c) → IsWritableClaim c → length (body_text (event.Claim c)) < 2 ^ 63 → more ≡ text ++ event_text (event.Claim c) → IsRightText l.project more c
+closed l c text more log claims fits size is =
+    let events : List Event = log.steps ++ event.Claim c ∷ [] in
+    let all : more ≡ log_text events = is ∙ ap (λ (t : List ℕ). t ++ event_text (event.Claim c)) log.is ∙ flat_map_more event_text title_text log.steps (event.Claim c) in
+    let spells : Spells (log_text events) events = log_is_spelled events (all_push IsWritable log.steps (event.Claim c) log.writable (record { size = size; body = fits })) in
+    record {
+      events = events;
+      spells = subst (λ (t : List ℕ). Spells t events) (sym all) spells;
+      right = record {
+        steps = log.steps;
+        are_steps = log.are_steps;
+        ends = refl;
+        after = l;
+        taken = taken_more (first_ledger l.project) l l log.steps (event.Claim c) log.taken (claims, refl);
+      };
+    }

@@ -1,15 +1,11 @@
 -- What a book keeps: a ledger, and the log of all that it took.
-use Rattle.std.specs.Prelude.{◌≡◌, Bool, true, false, ℕ, ℤ, List, Option, IfSome}
+use Rattle.std.specs.Prelude.{◌≡◌, Bool, true, false, ℕ, List, Option, IfSome}
 use Rattle.std.specs.List.{AllByRecursion}
-use Rattle.network.specs.Problem.{Problem}
-use Rattle.network.specs.Schedule.{IsFeasible}
-use Rattle.record_text.specs.FirstWrong.{IsFactOf}
-use Rattle.lemma_log.specs.declared.event.Claim.{Claim}
 use Rattle.lemma_log.specs.declared.event.Event.{Event}
 use Rattle.lemma_log.specs.Text.{IsWritable, IsWritableBody}
-use Rattle.lemma_log.specs.Logs.{Spells, log_text}
+use Rattle.lemma_log.specs.Logs.{log_text}
 use Rattle.lemma_book.specs.Ledger.{LedgerOf, first_ledger}
-use Rattle.lemma_record.specs.Right.{IsRight, IsStep, Takes, TakesAll, proved_of}
+use Rattle.lemma_record.specs.Right.{IsStep, Takes, TakesAll}
 
 -- a ledger, and the text of the log so far; none once memory ran out for it
 pub record BookOf : Type 0 where
@@ -39,11 +35,3 @@ pub record MayOffer (l : LedgerOf) (e : Event) : Type 0 where
 abbrev pub Offers : BookOf → Event → Bool → BookOf → Type 0
 Offers old e true new = MayOffer old.ledger e × Takes old.ledger e new.ledger
 Offers old e false new = (¬ MayOffer old.ledger e) × (new ≡ old)
-
--- ---- What a book shows in the end.
-
--- the text is that of a right log, which claims this
-pub record IsRightText (p : Problem) (text : List ℕ) (c : Claim) : Type 0 where
-  pub events : List Event
-  pub spells : Spells text events
-  pub right : IsRight p events c

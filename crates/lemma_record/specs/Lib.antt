@@ -1,3 +1,5 @@
+pub mod Faults
+pub mod Reached
 pub mod Right
 pub mod Taking
 pub mod Book

@@ -1,10 +1,12 @@
 //! A ledger, and the log of all that it took.
 
-ghost use Rattle.std.specs.Prelude.{◌≡◌, ◌↔◌, None, IfOk, OnErr, IsTrue};
-ghost use Rattle.lemma_log.specs.Logs.{log_text};
-ghost use Rattle.lemma_book.specs.Ledger.{first_ledger};
-ghost use Rattle.lemma_record.specs.Book.{IsRightText, Offers};
-ghost use Rattle.lemma_record.specs.Right.{IsStep};
+ghost use Rattle.std.specs.Prelude.{◌≡◌, ◌↔◌, IfOk, IsTrue};
+ghost use Rattle.lemma_book.specs.Ledger.{IsSmall, first_ledger};
+ghost use Rattle.lemma_record.specs.Book.{Offers};
+ghost use Rattle.lemma_record.specs.Faults.{IsRightText};
+ghost use Rattle.lemma_record.specs.Right.{IsStep, proved_of};
+ghost use Rattle.lemma_log.specs.declared.event.Claim.{Claim};
+ghost use Rattle.lemma_log.specs.Text.{IsWritableClaim};
 ghost use Rattle.record_text.specs.FirstWrong.{IsFactOf};
 
 use crate::taking::take;
@@ -46,11 +48,33 @@ fn is_step(event: &Event) -> bool
 }
 
 /// The claim of a log.
-fn claim_of(proved: Proved) -> Claim {
+fn claim_of(proved: Proved) -> Claim
+    ensures claim { proved_of result ≡ proved }
+    ensures writable { IsSmall proved → IsWritableClaim result }
+{
     match proved {
         Proved::Optimal { makespan } => Claim::Optimal { makespan },
         Proved::Bound { bound } => Claim::Bound { bound },
         Proved::NoSchedule => Claim::NoSchedule,
+    }
+}
+
+/// What a book shows in the end.
+#[derive(Drop, Debug)]
+pub struct Shown {
+    /// What is proved.
+    pub proved: Proved,
+    /// The starts of the best schedule by activity, in periods.
+    pub best: Option<Vec<i64>>,
+    /// The text of the log, which claims what is proved.
+    pub log: Vec<u8>,
+}
+
+/// A copy of starts, if there are any.
+fn starts_of(alloc: Global, best: Option<&[i64]>) -> Result<Option<Vec<i64>>, AllocError> {
+    match best {
+        Some(starts) => Ok(Some(Vec::from_slice(alloc, starts)?)),
+        None => Ok(None),
     }
 }
 
@@ -95,5 +119,22 @@ impl<'a> Book<'a> {
             return Err(AllocError);
         }
         Ok(true)
+    }
+
+    /// What is proved in the end: the claim that the book makes, which is true of its project, and the log of all that it
+    /// took, which proves it.
+    pub fn close(self) -> Result<Shown, AllocError>
+        ensures right { IfOk result (λ shown. (c : Claim) × IsRightText self.entry.ledger.project shown.log.items c
+            × (shown.proved ≡ proved_of c)) }
+        ensures law { IfOk result (λ shown. IsFactOf self.entry.ledger.project shown.proved) }
+    {
+        let Book { alloc, ledger, log } = self;
+        let Some(mut log) = log else {
+            return Err(AllocError);
+        };
+        let proved = ledger.claim();
+        put_event(&mut log, &Event::Claim(claim_of(proved)))?;
+        let best = starts_of(alloc, ledger.best())?;
+        Ok(Shown { proved, best, log })
     }
 }

@@ -1,13 +1,21 @@
 //! Logs of lemmas, judged: which are right for a project, and what they prove.
 //!
-//! [`take`] is what an event makes of a ledger.
+//! [`take`] is what an event makes of a ledger. A [`Checker`] is fed a log piece by piece: it takes event after event,
+//! and tells the first fault or what the log proves. A [`Book`] is a ledger that logs what it takes.
 #![tactic(auto)]
 
 mod book;
+mod checker;
 mod copies;
+mod fault;
 mod law;
+mod next;
 mod taking;
+#[cfg(test)]
+mod tests;
 
-pub use book::Book;
-pub use law::claim_law;
+pub use book::{Book, Shown};
+pub use checker::Checker;
+pub use fault::{EventFault, Wrong};
+pub use law::{claim_law, fault_law};
 pub use taking::take;

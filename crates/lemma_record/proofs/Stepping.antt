@@ -1,0 +1,215 @@
+-- A log is checked event after event.
+use Rattle.std.proofs.Common.{◌≡◌, ◌≢◌, ℕ, ◌+◌, ◌-◌, ◌^◌, min, List, [], ◌∷◌, ◌++◌, length, drop, Result, Ok, Err, Option, None, Some, MatchOption, is_some, true, false, inl, inr, refl, sym, ap, ◌∙◌, subst, append_assoc, arith}
+use Rattle.std.specs.List.{AllByRecursion}
+use Rattle.std.proofs.lemmas.Bool.{false≢true}
+use Rattle.std.proofs.lemmas.List.{length-append}
+use Rattle.network.specs.Problem.{Problem}
+use Rattle.record_text.specs.declared.proved.Proved.{Proved}
+use Rattle.lemma_log.specs.declared.event.Event.{Event}
+use Rattle.lemma_log.specs.declared.event.Event.TheVariants as event
+use Rattle.lemma_log.specs.declared.event.Claim.{Claim}
+use Rattle.lemma_log.specs.declared.fault.LogFault.{LogFault}
+use Rattle.lemma_log.specs.declared.fault.LogFault.TheVariants as reading
+use Rattle.lemma_log.specs.Numbers.{Part}
+use Rattle.lemma_log.specs.Text.{title_text}
+use Rattle.lemma_log.specs.Reading.{read_in, title_in}
+use Rattle.lemma_log.specs.Logs.{AreFirst, Begins}
+use Rattle.lemma_log.proofs.CutOff.{IsStable, read_stable}
+use Rattle.lemma_book.specs.Ledger.{LedgerOf, first_ledger}
+use Rattle.lemma_book.proofs.Claims.{none_here}
+use Rattle.lemma_record.proofs.Titles.{form_stays, title_first}
+use Rattle.lemma_record.specs.declared.fault.EventFault.{EventFault}
+use Rattle.lemma_record.specs.declared.fault.Wrong.{Wrong}
+use Rattle.lemma_record.specs.declared.fault.Wrong.TheVariants as wrong
+use Rattle.lemma_record.specs.Right.{IsStep, Takes, TakesAll, proved_of}
+use Rattle.lemma_record.specs.Faults.{IsFirstFault, IsRightText, IsWrongEvent, LeadsTo, number_after}
+use Rattle.lemma_record.specs.Reached.{Awaits, CheckerOf, HasClaimed, HasRead, IsAt, IsAtTitle, TakesNext, checker_of, claimed}
+
+-- ---- one event more
+
+first_more : (bytes : List ℕ) (steps : List Event) (left : List ℕ) (e : Event) (rest : List ℕ) → AreFirst bytes steps left → read_in left ≡ Ok (record { value = e; left = rest }) → AreFirst bytes (steps ++ e ∷ []) rest
+first_more bytes [] left e rest first read = (rest, subst (λ (b : List ℕ). read_in b ≡ Ok (record { value = e; left = rest })) first read, refl)
+first_more bytes (step ∷ steps) left e rest first read = (first.0, first.1, first_more first.0 steps left e rest first.2 read)
+
+pub taken_more : (l mid after : LedgerOf) (steps : List Event) (e : Event) → TakesAll l steps mid → Takes mid e after → TakesAll l (steps ++ e ∷ []) after
+taken_more l mid after [] e taken takes = (after, subst (λ (m : LedgerOf). Takes m e after) taken takes, refl)
+taken_more l mid after (step ∷ steps) e taken takes = (taken.0, taken.1, taken_more taken.0 mid after steps e taken.2 takes)
+
+pub steps_more : (steps : List Event) (e : Event) → AllByRecursion IsStep steps → IsStep e → AllByRecursion IsStep (steps ++ e ∷ [])
+steps_more [] e all is = (is, record {})
+steps_more (step ∷ steps) e all is = (all.0, steps_more steps e all.1 is)
+
+begins_more : (text : List ℕ) (steps : List Event) (left : List ℕ) (e : Event) (rest : List ℕ) → Begins text steps left → read_in left ≡ Ok (record { value = e; left = rest }) → Begins text (steps ++ e ∷ []) rest
+begins_more text steps left e rest begins read = record { body = begins.body; title = begins.title; first = first_more begins.body steps left e rest begins.first read }
+
+next_number : (steps : List Event) (e : Event) (due : ℕ) → due ≡ number_after (length steps) → min (due + 1) (2 ^ 64 - 1) ≡ number_after (length (steps ++ e ∷ []))
+next_number steps e due is = let long : length (steps ++ e ∷ []) ≡ length steps + 1 = length-append steps (e ∷ []) in rw long (omega (arith, is))
+
+-- what claims nothing is a step
+is_step : (e : Event) → None ≡ claimed e → IsStep e
+is_step (event.Lemma slot arcs lines) none = tt
+is_step (event.Drop slot) none = tt
+is_step (event.Schedule starts) none = tt
+is_step (event.Claim c) none = absurd (let bad : None ≡ Some (proved_of c) = none in cc)
+
+-- what claims something is a claim
+is_claim : (e : Event) (what : Proved) → Some what ≡ claimed e → (c : Claim) × (e ≡ event.Claim c) × (what ≡ proved_of c)
+is_claim (event.Lemma slot arcs lines) what some = absurd (let bad : Some what ≡ None = some in cc)
+is_claim (event.Drop slot) what some = absurd (let bad : Some what ≡ None = some in cc)
+is_claim (event.Schedule starts) what some = absurd (let bad : Some what ≡ None = some in cc)
+is_claim (event.Claim c) what some = (c, refl, let same : Some what ≡ Some (proved_of c) = some in cc)
+
+pub at_step : (p : Problem) (text : List ℕ) (l new : LedgerOf) (left rest : List ℕ) (due : ℕ) → IsAt p text l left due → TakesNext l left None rest new → IsAt p text new rest (min (due + 1) (2 ^ 64 - 1))
+at_step p text l new left rest due at next = record {
+  steps = at.steps ++ next.next ∷ [];
+  leads = record {
+    begins = begins_more text at.steps left next.next rest at.leads.begins next.read;
+    are_steps = steps_more at.steps next.next at.leads.are_steps (is_step next.next next.claims);
+    taken = taken_more (first_ledger p) l new at.steps next.next at.leads.taken next.takes;
+  };
+  number = next_number at.steps next.next due at.number;
+}
+
+pub at_claim : (p : Problem) (text : List ℕ) (l new : LedgerOf) (left rest : List ℕ) (due : ℕ) (what : Proved) → IsAt p text l left due → TakesNext l left (Some what) rest new → HasClaimed p text rest what (min (due + 1) (2 ^ 64 - 1))
+at_claim p text l new left rest due what at next =
+    let is = is_claim next.next what next.claims in
+    record {
+      events = at.steps ++ next.next ∷ [];
+      claim = is.0;
+      begins = begins_more text at.steps left next.next rest at.leads.begins next.read;
+      right = record {
+        steps = at.steps;
+        are_steps = at.leads.are_steps;
+        ends = ap (λ (e : Event). at.steps ++ e ∷ []) is.1;
+        after = new;
+        taken = taken_more (first_ledger p) l new at.steps next.next at.leads.taken next.takes;
+      };
+      number = next_number at.steps next.next due at.number;
+      says = is.2;
+    }
+
+-- ---- more bytes
+
+read_more : (bytes more left : List ℕ) (e : Event) → read_in bytes ≡ Ok (record { value = e; left = left }) → read_in (bytes ++ more) ≡ Ok (record { value = e; left = left ++ more })
+read_more bytes more left e read = subst (λ (r : Result (Part Event) LogFault). IsStable more r (read_in (bytes ++ more))) read (read_stable bytes more)
+
+form_more : (bytes more : List ℕ) → read_in bytes ≡ Err reading.Form → read_in (bytes ++ more) ≡ Err reading.Form
+form_more bytes more read = subst (λ (r : Result (Part Event) LogFault). IsStable more r (read_in (bytes ++ more))) read (read_stable bytes more) (λ is. cc)
+
+still_first : (bytes more : List ℕ) (steps : List Event) (left : List ℕ) → AreFirst bytes steps left → AreFirst (bytes ++ more) steps (left ++ more)
+still_first bytes more [] left first = ap (λ (b : List ℕ). b ++ more) first
+still_first bytes more (e ∷ steps) left first = (first.0 ++ more, read_more bytes more first.0 e first.1, still_first first.0 more steps left first.2)
+
+pub still_begins : (text more : List ℕ) (steps : List Event) (left : List ℕ) → Begins text steps left → Begins (text ++ more) steps (left ++ more)
+still_begins text more steps left begins = record {
+  body = begins.body ++ more;
+  title = ap (λ (b : List ℕ). b ++ more) begins.title ∙ append_assoc title_text begins.body more;
+  first = still_first begins.body more steps left begins.first;
+}
+
+still_leads : (p : Problem) (text more : List ℕ) (steps : List Event) (l : LedgerOf) (left : List ℕ) → LeadsTo p text steps l left → LeadsTo p (text ++ more) steps l (left ++ more)
+still_leads p text more steps l left leads = record { begins = still_begins text more steps left leads.begins; are_steps = leads.are_steps; taken = leads.taken }
+
+pub at_more : (p : Problem) (text more : List ℕ) (l : LedgerOf) (left : List ℕ) (due : ℕ) → IsAt p text l left due → IsAt p (text ++ more) l (left ++ more) due
+at_more p text more l left due at = record { steps = at.steps; leads = still_leads p text more at.steps l left at.leads; number = at.number }
+
+still_wrong : (l : LedgerOf) (left more : List ℕ) (w : Wrong) → IsWrongEvent l left w → IsWrongEvent l (left ++ more) w
+still_wrong l left more w (inl form) = inl (form.0, form_more left more form.1)
+still_wrong l left more w (inr not) = inr (record { next = not.next; more = not.more ++ more; read = read_more left more not.more not.next not.read; never = not.never; named = not.named })
+
+-- ---- faults
+
+pub wrong_found : (p : Problem) (text more : List ℕ) (l : LedgerOf) (left : List ℕ) (due : ℕ) (fault : EventFault) → IsAt p text l left due → fault.event ≡ due → IsWrongEvent l left fault.wrong → IsFirstFault p (text ++ more) fault
+wrong_found p text more l left due fault at event is = inr (inl (record {
+  steps = at.steps;
+  ledger = l;
+  left = left ++ more;
+  leads = still_leads p text more at.steps l left at.leads;
+  number = event ∙ at.number;
+  next = inr (still_wrong l left more fault.wrong is);
+}))
+
+pub short_found : (p : Problem) (text : List ℕ) (l : LedgerOf) (left : List ℕ) (due : ℕ) → IsAt p text l left due → read_in left ≡ Err reading.Short → IsFirstFault p text (record { event = due; wrong = wrong.Short })
+short_found p text l left due at short = inr (inl (record {
+  steps = at.steps;
+  ledger = l;
+  left = left;
+  leads = at.leads;
+  number = at.number;
+  next = inl (refl, short);
+}))
+
+some_more : (left more : List ℕ) → left ≢ [] → (left ++ more) ≢ []
+some_more [] more some is = some refl
+some_more (b ∷ left) more some is = cc
+
+pub trailing_found : (p : Problem) (text rest more : List ℕ) (what : Proved) (due : ℕ) → HasClaimed p text rest what due → rest ≢ [] → IsFirstFault p (text ++ more) (record { event = due; wrong = wrong.Trailing })
+trailing_found p text rest more what due has some = inr (inr (record {
+  events = has.events;
+  claim = has.claim;
+  left = rest ++ more;
+  begins = still_begins text more has.events rest has.begins;
+  right = has.right;
+  more = some_more rest more some;
+  is = ap (λ (n : ℕ). record { event = n; wrong = wrong.Trailing }) has.number;
+}))
+
+-- bytes that come after the claim
+pub claimed_more : (p : Problem) (text piece : List ℕ) (what : Proved) (due : ℕ) → HasClaimed p text [] what due → HasClaimed p (text ++ piece) piece what due
+claimed_more p text piece what due has = record {
+  events = has.events;
+  claim = has.claim;
+  begins = still_begins text piece has.events [] has.begins;
+  right = has.right;
+  number = has.number;
+  says = has.says;
+}
+
+pub claimed_right : (p : Problem) (text : List ℕ) (what : Proved) (due : ℕ) → HasClaimed p text [] what due → (c : Claim) × IsRightText p text c × (what ≡ proved_of c)
+claimed_right p text what due has = (has.claim, record { events = has.events; spells = has.begins; right = has.right }, has.says)
+
+-- ---- the title
+
+pub title_at : (p : Problem) (text rest : List ℕ) (l : LedgerOf) (n : ℕ) → l ≡ first_ledger p → title_in text ≡ Ok n → rest ≡ drop n text → IsAt p text l rest 1
+title_at p text rest l n first title is = record {
+  steps = [];
+  leads = record {
+    begins = record { body = drop n text; title = title_first text n title; first = is };
+    are_steps = record {};
+    taken = first;
+  };
+  number = refl;
+}
+
+pub title_waits : (p : Problem) (text : List ℕ) (x : CheckerOf) → IsAtTitle p text x → title_in text ≡ Err reading.Short → HasRead p text x
+title_waits p text x at short = subst (λ (proved : Option Proved). MatchOption proved (Awaits p text x) (λ what. HasClaimed p text [] what x.due)) (sym at.going) (inl (at, short))
+
+pub title_wrong : (p : Problem) (text more : List ℕ) → title_in text ≡ Err reading.Form → IsFirstFault p (text ++ more) (record { event = 0; wrong = wrong.Form })
+title_wrong p text more form = inl (record { number = refl; title = form_stays text more form })
+
+-- ---- a piece more
+
+title_due : (p : Problem) (text piece : List ℕ) (x : CheckerOf) → x.proved ≡ None → Awaits p text x → x.due ≡ 0 → IsAtTitle p (text ++ piece) (checker_of x.ledger (x.left ++ piece) x.due x.proved)
+title_due p text piece x going (inl title) due = record { ledger = title.0.ledger; left = ap (λ (b : List ℕ). b ++ piece) title.0.left; due = title.0.due; going = going }
+title_due p text piece x going (inr event) due = let number = event.0.number in absurd (omega (arith, number, due))
+
+event_due : (p : Problem) (text piece : List ℕ) (x : CheckerOf) → Awaits p text x → x.due ≢ 0 → IsAt p (text ++ piece) x.ledger (x.left ++ piece) x.due
+event_due p text piece x (inl title) due = absurd (due title.0.due)
+event_due p text piece x (inr event) due = at_more p text piece x.ledger x.left x.due event.0
+
+awaits : (p : Problem) (text : List ℕ) (x : CheckerOf) (proved : Option Proved) → is_some proved ≡ false → MatchOption proved (Awaits p text x) (λ what. HasClaimed p text [] what x.due) → Awaits p text x
+awaits p text x None none read = read
+awaits p text x (Some what) none read = absurd (false≢true (sym none))
+
+pub title_piece : (p : Problem) (text piece : List ℕ) (x : CheckerOf) → is_some x.proved ≡ false → x.due ≡ 0 → HasRead p text x → IsAtTitle p (text ++ piece) (checker_of x.ledger (x.left ++ piece) x.due x.proved)
+title_piece p text piece x none due read = title_due p text piece x (none_here x.proved none) (awaits p text x x.proved none read) due
+
+pub event_piece : (p : Problem) (text piece : List ℕ) (x : CheckerOf) → is_some x.proved ≡ false → x.due ≢ 0 → HasRead p text x → IsAt p (text ++ piece) x.ledger (x.left ++ piece) x.due
+event_piece p text piece x none due read = event_due p text piece x (awaits p text x x.proved none read) due
+
+piece_after : (p : Problem) (text piece more : List ℕ) (x : CheckerOf) (proved : Option Proved) → is_some proved ≡ true → piece ≢ [] → MatchOption proved (Awaits p text x) (λ what. HasClaimed p text [] what x.due) → IsFirstFault p ((text ++ piece) ++ more) (record { event = x.due; wrong = wrong.Trailing })
+piece_after p text piece more x None some here read = absurd (false≢true some)
+piece_after p text piece more x (Some what) some here read = trailing_found p (text ++ piece) piece more what x.due (claimed_more p text piece what x.due read) here
+
+pub trailing_piece : (p : Problem) (text piece more : List ℕ) (x : CheckerOf) → is_some x.proved ≡ true → piece ≢ [] → HasRead p text x → IsFirstFault p ((text ++ piece) ++ more) (record { event = x.due; wrong = wrong.Trailing })
+trailing_piece p text piece more x some here read = piece_after p text piece more x x.proved some here read

@@ -1,0 +1,34 @@
+use Rattle.std.proofs.Common.{◌≡◌, ◌++◌, ◌∙◌, sym, false, is_some, true}
+use Rattle.std.proofs.lemmas.Result.{MatchResult-weaker}
+use Rattle.lemma_record.specs.Reached.{CheckerOf, checker_of}
+use Rattle.lemma_record.proofs.Stepping.{event_piece, title_piece, trailing_piece}
+use Rattle.lemma_record.proofs.checker.Checker.feed.Goals as goal
+
+pub returns-then-is_some-clause-fault : goal.returns-then-is_some-clause-fault
+returns-then-is_some-clause-fault c =
+    let x : CheckerOf = checker_of c.self.inside.ledger c.self.inside.left.items c.self.inside.due c.self.inside.proved in
+    let some : is_some c.self.inside.proved ≡ true = sym c.is_some.ensures ∙ c.if-is_some.true in
+    MatchResult-weaker c.nothing_after.result c.nothing_after.ensures.fault (λ _ _. tt)
+    (λ fault told other p text more read. rw told.1 (trailing_piece p text c.args.piece.now more x some told.0 (rw (sym c.self.view_is) at read)))
+
+pub returns-then-self-eq0-clause-fault : goal.returns-then-self-eq0-clause-fault
+returns-then-self-eq0-clause-fault c =
+    let x : CheckerOf = checker_of c.self.inside.ledger c.self.inside.left.items c.self.inside.due c.self.inside.proved in
+    let none : is_some c.self.inside.proved ≡ false = sym c.is_some.ensures ∙ c.if-is_some.false in
+    MatchResult-weaker c.read_title.result (rw c.in_ok-extend_from_slice.ensures.items at c.read_title.ensures.fault) (λ _ _. tt)
+    (λ fault told other p text more read. told other p (text ++ c.args.piece.now) more (title_piece p text c.args.piece.now x none c.if-self-eq0.true (rw (sym c.self.view_is) at read)))
+
+pub returns-else-self-eq0-clause-read : goal.returns-else-self-eq0-clause-read
+returns-else-self-eq0-clause-read c =
+    let x : CheckerOf = checker_of c.self.inside.ledger c.self.inside.left.items c.self.inside.due c.self.inside.proved in
+    let none : is_some c.self.inside.proved ≡ false = sym c.is_some.ensures ∙ c.if-is_some.false in
+    MatchResult-weaker c.read_events.result (rw c.in_ok-extend_from_slice.ensures.items at c.read_events.ensures.read)
+    (λ _ told p text read. told p (text ++ c.args.piece.now) (event_piece p text c.args.piece.now x none c.if-self-eq0.false (rw (sym c.self.view_is) at read)))
+    (λ _ _. tt)
+
+pub returns-else-self-eq0-clause-fault : goal.returns-else-self-eq0-clause-fault
+returns-else-self-eq0-clause-fault c =
+    let x : CheckerOf = checker_of c.self.inside.ledger c.self.inside.left.items c.self.inside.due c.self.inside.proved in
+    let none : is_some c.self.inside.proved ≡ false = sym c.is_some.ensures ∙ c.if-is_some.false in
+    MatchResult-weaker c.read_events.result (rw c.in_ok-extend_from_slice.ensures.items at c.read_events.ensures.fault) (λ _ _. tt)
+    (λ fault told other p text more read. told other p (text ++ c.args.piece.now) more (event_piece p text c.args.piece.now x none c.if-self-eq0.false (rw (sym c.self.view_is) at read)))

@@ -1,0 +1,151 @@
+//! A log that comes piece by piece.
+
+ghost use Rattle.std.specs.Prelude.{◌≡◌, ◌≢◌, ◌++◌, [], ℕ, List, drop, None, Ok, Err, IfOk, IfErr, OnOk, MatchOption};
+ghost use Rattle.network.specs.Problem.{IsProject, Problem};
+ghost use Rattle.record_text.specs.FirstWrong.{IsFactOf};
+ghost use Rattle.lemma_log.specs.declared.event.Claim.{Claim};
+ghost use Rattle.lemma_log.specs.declared.fault.LogFault.TheVariants.{Form, Short};
+ghost use Rattle.lemma_log.specs.Reading.{title_in};
+ghost use Rattle.lemma_book.specs.Ledger.{Claims};
+ghost use Rattle.lemma_record.specs.declared.fault.Wrong.TheVariants as wrongs;
+ghost use Rattle.lemma_record.specs.Right.{proved_of};
+ghost use Rattle.lemma_record.specs.Faults.{IsFirstFault, IsRightText};
+ghost use Rattle.lemma_record.specs.Reached.{HasRead, IsAt, IsAtTitle};
+
+use crate::fault::{EventFault, NO_MEMORY, Wrong};
+use crate::next::{nothing_after, take_whole};
+use lemma_book::Ledger;
+use lemma_log::{LogFault, read_title};
+use network::Project;
+use record_text::Proved;
+use std::alloc::{AllocError, Global};
+use std::marker::Model;
+
+/// The bytes after the title that bytes begin with. None if they end within it.
+fn after_title(alloc: Global, bytes: &[u8]) -> Result<Option<Vec<u8>>, EventFault>
+    ensures rest { IfOk result (λ found. MatchOption found (title_in bytes.now ≡ Err Short)
+        (λ rest. (n : ℕ) × (title_in bytes.now ≡ Ok n) × (rest.items ≡ drop n bytes.now))) }
+    ensures fault { IfErr result (λ fault. fault.wrong ≢ wrongs.Memory
+        → (fault ≡ record { event = 0; wrong = wrongs.Form }) × (title_in bytes.now ≡ Err Form)) }
+{
+    match read_title(bytes) {
+        Ok(count) => {
+            let (_, rest) = bytes.split_at(count);
+            Ok(Some(rest.to_vec(alloc)?))
+        }
+        Err(LogFault::Short) => Ok(None),
+        Err(LogFault::Form) => Err(EventFault {
+            event: 0,
+            wrong: Wrong::Form,
+        }),
+        Err(LogFault::Memory) => Err(NO_MEMORY),
+    }
+}
+
+/// A log that comes piece by piece, checked as far as it has come. It keeps what is proved, and less than the bytes of
+/// one event.
+#[derive(Drop)]
+pub struct Checker<'a> {
+    alloc: Global,
+    ledger: Ledger<'a>,
+    /// The bytes that are not used yet.
+    left: Vec<u8>,
+    /// The number of the event that is due; that of the title is 0.
+    due: u64,
+    /// What was claimed.
+    proved: Option<Proved>,
+}
+
+impl<'a> Model for Checker<'a> {
+    ghost use Rattle.lemma_record.specs.Reached.{CheckerOf, checker_of};
+
+    ghost Value = { CheckerOf };
+
+    ghost view = { λ s. checker_of s.ledger s.left.items s.due s.proved };
+}
+
+impl<'a> Checker<'a> {
+    /// Nothing has come yet.
+    pub fn new(alloc: Global, project: &'a Project) -> Result<Checker<'a>, AllocError>
+        ensures { IfOk result (λ x. HasRead project.now [] x) }
+    {
+        let ledger = Ledger::new(alloc, project)?;
+        Ok(Checker {
+            alloc,
+            ledger,
+            left: Vec::new(alloc),
+            due: 0,
+            proved: None,
+        })
+    }
+
+    /// Reads and takes the events that have come whole.
+    fn read_events(&mut self) -> Result<(), EventFault>
+        ensures read { OnOk result ((p : Problem) (text : List ℕ)
+            → IsAt p text self.old.ledger self.old.left self.old.due → HasRead p text self.new) }
+        ensures fault { IfErr result (λ fault. fault.wrong ≢ wrongs.Memory → (p : Problem) (text more : List ℕ)
+            → IsAt p text self.old.ledger self.old.left self.old.due → IsFirstFault p (text ++ more) fault) }
+    {
+        let stop = take_whole(self.alloc, &mut self.ledger, &self.left, self.due)?;
+        self.due = stop.due;
+        self.proved = stop.proved;
+        self.left = stop.left.to_vec(self.alloc)?;
+        Ok(())
+    }
+
+    /// Reads the title, if all of it has come, and then events.
+    fn read_title(&mut self) -> Result<(), EventFault>
+        ensures read { OnOk result ((p : Problem) (text : List ℕ) → IsAtTitle p text self.old → HasRead p text self.new) }
+        ensures fault { IfErr result (λ fault. fault.wrong ≢ wrongs.Memory → (p : Problem) (text more : List ℕ)
+            → IsAtTitle p text self.old → IsFirstFault p (text ++ more) fault) }
+    {
+        let Some(rest) = after_title(self.alloc, &self.left)? else {
+            return Ok(());
+        };
+        self.left = rest;
+        self.due = 1;
+        self.read_events()
+    }
+
+    /// Takes the next piece of the log. A fault is the first of the log, whatever else comes; the log is done with then.
+    pub fn feed(&mut self, piece: &[u8]) -> Result<(), EventFault>
+        ensures read { OnOk result ((p : Problem) (text : List ℕ) → HasRead p text self.old
+            → HasRead p (text ++ piece.now) self.new) }
+        ensures fault { IfErr result (λ fault. fault.wrong ≢ wrongs.Memory → (p : Problem) (text more : List ℕ)
+            → HasRead p text self.old → IsFirstFault p ((text ++ piece.now) ++ more) fault) }
+    {
+        if self.proved.is_some() {
+            return nothing_after(piece, self.due);
+        }
+        self.left.extend_from_slice(piece)?;
+        if self.due == 0 {
+            self.read_title()
+        } else {
+            self.read_events()
+        }
+    }
+
+    /// What the log proves, which ends here.
+    pub fn finish(&self) -> Result<Proved, EventFault>
+        ensures right { IfOk result (λ proved. (p : Problem) (text : List ℕ) → HasRead p text self.now
+            → (c : Claim) × IsRightText p text c × (proved ≡ proved_of c)) }
+        ensures fault { IfErr result (λ fault. (p : Problem) (text : List ℕ) → HasRead p text self.now
+            → IsFirstFault p text fault) }
+    {
+        match self.proved {
+            Some(proved) => Ok(proved),
+            None => Err(EventFault {
+                event: self.due,
+                wrong: Wrong::Short,
+            }),
+        }
+    }
+
+    /// What is proved so far. It is true of the project.
+    pub fn claim(&self) -> Proved
+        ensures claims { Claims self.now.ledger result }
+        ensures law { IsFactOf self.now.ledger.project result }
+    {
+        self.ledger.claim()
+    }
+}
