@@ -1,4 +1,6 @@
 pub mod Implied
 pub mod Heads
+pub mod Rising
 pub mod Tables
 pub mod Block
+pub mod Halves
