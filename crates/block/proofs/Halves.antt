@@ -11,20 +11,22 @@ use Rattle.network.specs.Problem.{IsWithin}
 use Rattle.network.specs.Schedule.{start, Meets}
 use Rattle.network.specs.Walk.{weight, IsMatrixOf, HasPositiveCycle, HasNoPositiveCycle, Rows, entry}
 use Rattle.network.proofs.Schedules.{walk_holds}
-use Rattle.longest_path.specs.Insert.{arc_of}
-use Rattle.longest_path.specs.Matrix.{IsSquare}
+use Rattle.longest_path.specs.Insert.{ClosesNone, arc_of, rows_over}
+use Rattle.longest_path.proofs.Inserted.{entry-rows_over, length-rows_over}
+use Rattle.longest_path.specs.Matrix.{IsSquare, greater}
 use Rattle.longest_path.proofs.OneArc.{IsGreatest-matrix}
 use Rattle.longest_path.proofs.Over.{transitive}
 use Rattle.longest_path.proofs.Reach.{same_some}
 use Rattle.longest_path.proofs.Weights.{square_of, IsSquare-inside}
 use Rattle.block.specs.Implied.{Implies, AreReached}
-use Rattle.block.specs.Heads.{HeadsOf, IsLight, IsTable, IsFirstRow}
+use Rattle.block.specs.Heads.{HeadsOf, IsLight, IsTable, IsRowAt}
 use Rattle.block.specs.Rising.{AreAmong, AreThereAndBack, HaveRisen, IsLate, IsRisenBy, MeetEach}
 use Rattle.block.specs.Block.{converse_of, AreEnds, AreReaching, IsBlock, IsToldOf, told_by}
-use Rattle.block.specs.Halves.{AreConverse, AreHalves, AreLate, AreMet, AreRaised, AreToldBoth, AreTried, HaveBothRisen, IsCovered, IsListed, MayList, block_of, converses}
+use Rattle.block.specs.Halves.{AreConverse, AreHalves, AreLate, AreMet, AreRaised, AreRooted, AreToldBoth, AreTried, HaveBothRisen, IsCovered, IsListed, MayList, block_of, converses}
 use Rattle.block.proofs.Converse.{converse_back, converse_there, reached_back}
 use Rattle.block.proofs.Implying.{implied_part, implied_entry, implied_arc, implied_joined}
 use Rattle.block.proofs.Rising.{at_home, there_small}
+use Rattle.block.proofs.Rooting.{table_over}
 
 -- ---- the other direction
 
@@ -124,7 +126,7 @@ is_block more x y settled halves h k = record {
 
 -- ---- with no arc beside the matrix
 
-pub first_both : (rows columns : Rows) (heads tails : List ℤ) → IsTable rows → AreConverse rows columns → IsFirstRow rows heads → IsFirstRow columns tails → AreThereAndBack rows heads tails
+pub first_both : (rows columns : Rows) (heads tails : List ℤ) → IsTable rows → AreConverse rows columns → IsRowAt rows 0 heads → IsRowAt columns 0 tails → AreThereAndBack rows heads tails
 first_both rows columns heads tails t c one two =
     let column : (b : ℕ) → b < length rows → entry rows b 0 ≡ Some (start tails b) = λ b lb. sym (c.entries b 0 lb t.some) ∙ two.says b (rw c.long lb) in
     record {
@@ -160,14 +162,14 @@ first_both rows columns heads tails t c one two =
         let low : pos 0 ≤ℤ home.0 = home.2 in
         omega (arith, ints, same, low)
 
-pub first_reached : (rows : Rows) (more : List Lag) (heads : List ℤ) → IsTable rows → IsFirstRow rows heads → AreReached (length rows) rows more heads
+pub first_reached : (rows : Rows) (more : List Lag) (heads : List ℤ) → IsTable rows → IsRowAt rows 0 heads → AreReached (length rows) rows more heads
 first_reached rows more heads t one i li own m =
     implied_part own (own ++ more) (arc_of 0 i (start heads i)) (λ f d. Contains-append_left own more f d) (implied_entry (length rows) own rows 0 i (start heads i) m t.some li (one.says i li))
 
 none_in : (P : Lag → Type 0) (e : Lag) → Contains [] e → P e
 none_in P e c = absurd (omega (arith, c.1))
 
-pub first_halves : (x y : HeadsOf) → AreConverse x.rows y.rows → IsTable x.rows → IsTable y.rows → x.arcs ≡ [] → y.arcs ≡ [] → IsFirstRow x.rows x.heads → IsFirstRow y.rows y.heads → AreThereAndBack x.rows x.tried y.tried → AreHalves [] x y true
+pub first_halves : (x y : HeadsOf) → AreConverse x.rows y.rows → IsTable x.rows → IsTable y.rows → x.arcs ≡ [] → y.arcs ≡ [] → IsRowAt x.rows 0 x.heads → IsRowAt y.rows 0 y.heads → AreThereAndBack x.rows x.tried y.tried → AreHalves [] x y true
 first_halves x y c t u none back_none one two tried = record {
   converse = c;
   light = none_in (IsLight (length x.rows));
@@ -393,7 +395,7 @@ both_tried e x y b d x' y' c t begun back_begun same back_same h k = record {
 
 -- ---- a block that begins anew, and one with an arc more
 
-pub begun_halves : (more : List Lag) (x y x' y' : HeadsOf) (settled : Bool) → AreHalves more x y settled → IsTable x.rows → IsTable y.rows → x' ≡ record x { arcs = []; heads = x'.heads } → y' ≡ record y { arcs = []; heads = y'.heads } → IsFirstRow x.rows x'.heads → IsFirstRow y.rows y'.heads → AreHalves [] x' y' true
+pub begun_halves : (more : List Lag) (x y x' y' : HeadsOf) (settled : Bool) → AreHalves more x y settled → IsTable x.rows → IsTable y.rows → x' ≡ record x { arcs = []; heads = x'.heads } → y' ≡ record y { arcs = []; heads = y'.heads } → IsRowAt x.rows 0 x'.heads → IsRowAt y.rows 0 y'.heads → AreHalves [] x' y' true
 begun_halves more x y x' y' settled h t u same back_same one two =
     let begun : HeadsOf = record x { arcs = []; heads = x'.heads } in
     let back : HeadsOf = record y { arcs = []; heads = y'.heads } in
@@ -424,3 +426,44 @@ told_more more x y x' y' x'' y'' e told t u light h one two listed risen by = by
     by_told None late = late_told (more ++ e ∷ []) x' y' x'' y'' e back_table (listed_halves more x y x' y' e true h light one two) (newest more e) risen late
     by_told (Some false) raised = tt
     by_told (Some true) raised = live_told (more ++ e ∷ []) x'' y'' table (told_halves more x y x' y' x'' y'' e (Some true) light h one two listed risen raised)
+
+-- ---- an arc that the matrix takes
+
+pub converse_none : (rows columns : Rows) (e : Lag) → AreConverse rows columns → IsLight (length rows) e → ClosesNone e rows → ClosesNone (converse_of e) columns
+converse_none rows columns e c light none = λ x is. none x (sym (c.entries e.to e.from light.to_activity light.from_activity) ∙ is)
+
+same_over : (here from on w : ℤ) → greater (Some here) (Some ((on +ℤ w) +ℤ from)) ≡ greater (Some here) (Some ((from +ℤ w) +ℤ on))
+same_over here from on w =
+    let sums : ((on +ℤ w) +ℤ from) ≡ ((from +ℤ w) +ℤ on) = omega (arith, ints) in
+    ap (λ (z : ℤ). greater (Some here) (Some z)) sums
+
+converse_over : (rows columns : Rows) (e : Lag) → AreConverse rows columns → IsTable rows → IsLight (length rows) e → AreConverse (rows_over e rows) (rows_over (converse_of e) columns)
+converse_over rows columns e c t light = record {
+  long = length-rows_over (converse_of e) columns ∙ c.long ∙ sym (length-rows_over e rows);
+  entries = λ a b la lb.
+      let ra : a < length rows = rw (length-rows_over e rows) at la in
+      let rb : b < length rows = rw (length-rows_over e rows) at lb in
+      let here = t.full a b ra rb in
+      let from = t.full a e.from ra light.from_activity in
+      let on = t.full e.to b light.to_activity rb in
+      let first : entry (rows_over (converse_of e) columns) b a ≡ greater (Some here.0) (Some ((on.0 +ℤ e.weight) +ℤ from.0)) =
+      entry-rows_over (converse_of e) columns b a (rw c.long rb) (rw c.long ra)
+      ∙ rw (c.entries a b ra rb ∙ here.1, c.entries e.to b light.to_activity rb ∙ on.1, c.entries a e.from ra light.from_activity ∙ from.1) refl in
+      let last : entry (rows_over e rows) a b ≡ greater (Some here.0) (Some ((from.0 +ℤ e.weight) +ℤ on.0)) = entry-rows_over e rows a b ra rb ∙ rw (here.1, from.1, on.1) refl in
+      first ∙ same_over here.0 from.0 on.0 e.weight ∙ sym last;
+}
+
+pub rooted_halves : (e : Lag) (x y x' y' : HeadsOf) → AreConverse x.rows y.rows → IsTable x.rows → IsTable y.rows → IsLight (length x.rows) e → ClosesNone e x.rows → x' ≡ record { rows = rows_over e x.rows; arcs = []; heads = x'.heads; tried = x'.heads } → y' ≡ record { rows = rows_over (converse_of e) y.rows; arcs = []; heads = y'.heads; tried = y'.heads } → IsRowAt x'.rows 0 x'.heads → IsRowAt y'.rows 0 y'.heads → AreRooted e x x' y'
+rooted_halves e x y x' y' c t u light none same back_same one two =
+    let rows : x'.rows ≡ rows_over e x.rows = ap (λ (h : HeadsOf). h.rows) same in
+    let columns : y'.rows ≡ rows_over (converse_of e) y.rows = ap (λ (h : HeadsOf). h.rows) back_same in
+    let table : IsTable x'.rows = subst IsTable (sym rows) (table_over x.rows e t light none) in
+    let back_table : IsTable y'.rows = subst IsTable (sym columns) (table_over y.rows (converse_of e) u (converse_light x.rows y.rows e c light) (converse_none x.rows y.rows e c light none)) in
+    let converse : AreConverse x'.rows y'.rows = rw (rows, columns) (converse_over x.rows y.rows e c t light) in
+    let both = first_both x'.rows y'.rows x'.heads y'.heads table converse one two in
+    let tried : x'.tried ≡ x'.heads = ap (λ (h : HeadsOf). h.tried) same in
+    let back_tried : y'.tried ≡ y'.heads = ap (λ (h : HeadsOf). h.tried) back_same in
+    record {
+      rows = rows;
+      halves = first_halves x' y' converse table back_table (ap (λ (h : HeadsOf). h.arcs) same) (ap (λ (h : HeadsOf). h.arcs) back_same) one two (rw (tried, back_tried) both);
+    }

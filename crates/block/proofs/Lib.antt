@@ -3,6 +3,7 @@ pub mod Implying
 pub mod Rows
 pub mod Rising
 pub mod Passing
+pub mod Rooting
 pub mod Converse
 pub mod Halves
 pub mod Blocks

@@ -42,3 +42,6 @@ written n old new e = rw e (take-append_seam new (drop (length new) old))
 
 pub table_long : (table : List (Vec ℤ Global)) (rows : Rows) → table_rows table ≡ rows → length rows ≡ length table
 table_long table rows is = ap length (sym is) ∙ length-map (map (λ row. row.items) table) (λ row. map Some row) ∙ length-map table (λ row. row.items)
+
+pub written_rows : (n : ℕ) (old new : List (Vec ℤ Global)) → n ≡ length new → take n (new ++ drop (length new) old) ≡ new
+written_rows n old new e = rw e (take-append_seam new (drop (length new) old))

@@ -1,10 +1,11 @@
 -- The two halves of a block: walks from 0, and walks back to it.
-use Rattle.std.specs.Prelude.{pos, ◌+ℤ◌, ◌≤ℤ◌, ◌<ℤ◌, ◌≡◌, ◌<◌, ◌⊎◌, ℕ, Bool, List, ◌∷◌, Option, None, Some, map, length}
+use Rattle.std.specs.Prelude.{pos, ◌+ℤ◌, ◌≤ℤ◌, ◌<ℤ◌, ◌≡◌, ◌<◌, ◌⊎◌, ℕ, Bool, true, List, [], ◌∷◌, Option, None, Some, map, length}
 use Rattle.std.specs.List.{Contains}
 use Rattle.std.specs.Bool.{MatchBool}
 use Rattle.network.specs.declared.parts.Lag.{Lag}
 use Rattle.network.specs.Schedule.{start, Meets}
 use Rattle.network.specs.Walk.{Rows, entry}
+use Rattle.longest_path.specs.Insert.{rows_over}
 use Rattle.block.specs.Implied.{AreReached}
 use Rattle.block.specs.Heads.{HeadsOf, IsLight}
 use Rattle.block.specs.Rising.{AreAmong, AreThereAndBack, MeetEach}
@@ -94,3 +95,8 @@ pub record AreTried (e : Lag) (x y x' y' : HeadsOf) : Type 0 where
       AreReached (length x.rows) x.rows all x.heads → AreReached (length x.rows) x.rows all x'.tried
   pub reaching : (all : List Lag) → AreAmong (converse_of e ∷ y.arcs) all →
       AreReached (length y.rows) y.rows all y.heads → AreReached (length y.rows) y.rows all y'.tried
+
+-- the matrix has the arc, no arc is beside it, and heads and tails are those of the matrix
+pub record AreRooted (e : Lag) (x x' y' : HeadsOf) : Type 0 where
+  pub rows : x'.rows ≡ rows_over e x.rows
+  pub halves : AreHalves [] x' y' true

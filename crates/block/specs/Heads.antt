@@ -13,8 +13,12 @@ use Rattle.longest_path.specs.Matrix.{IsMatrix, IsFull}
 abbrev pub rows_of : List (List ℤ) → Rows
 rows_of table = map (λ row. map Some row) table
 
+-- the cells of each row of a table
+abbrev pub cells_of : List (Vec ℤ Global) → List (List ℤ)
+cells_of table = map (λ row. row.items) table
+
 abbrev pub table_rows : List (Vec ℤ Global) → Rows
-table_rows table = rows_of (map (λ row. row.items) table)
+table_rows table = rows_of (cells_of table)
 
 -- a matrix, arcs beside it that don't touch 0, and the weights of walks from 0 over both; and weights for a trial
 pub record HeadsOf : Type 0 where
@@ -42,7 +46,7 @@ pub record AreHeads (x : HeadsOf) : Type 0 where
   pub heads_long : length x.heads ≡ length x.rows
   pub tried_long : length x.tried ≡ length x.rows
 
--- the first row of a table
-pub record IsFirstRow (rows : Rows) (cells : List ℤ) : Type 0 where
+-- the cells are row a, in which every entry is there
+pub record IsRowAt (rows : Rows) (a : ℕ) (cells : List ℤ) : Type 0 where
   pub long : length cells ≡ length rows
-  pub says : (b : ℕ) → b < length rows → entry rows 0 b ≡ Some (start cells b)
+  pub says : (b : ℕ) → b < length rows → entry rows a b ≡ Some (start cells b)

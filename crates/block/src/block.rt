@@ -5,13 +5,14 @@ ghost use Rattle.network.specs.Problem.{IsWithin};
 ghost use Rattle.network.specs.Schedule.{start};
 ghost use Rattle.std.specs.Bool.{MatchBool};
 ghost use Rattle.network.specs.declared.limits.TheConstants.{MAX_WALK_WEIGHT};
+ghost use Rattle.longest_path.specs.Insert.{ClosesNone, rows_over};
 ghost use Rattle.longest_path.specs.Matrix.{IsFull, greater};
 ghost use Rattle.block.specs.declared.block.TheConstants.{MAX_SEEN};
 ghost use Rattle.block.specs.Implied.{ImpliesWith};
 ghost use Rattle.block.specs.Heads.{IsLight};
 ghost use Rattle.block.specs.Block.{AreEnds, IsBlock, IsToldOf, seen, told_by};
 
-use crate::both::{push_both, rise_both, try_both};
+use crate::both::{push_both, rise_both, root_both, try_both};
 use crate::heads::Heads;
 use crate::table::{columns, rows};
 use longest_path::Matrix;
@@ -118,6 +119,18 @@ impl Block {
         self.more.clear();
         self.heads.begin();
         self.tails.begin();
+        self.settled = true;
+    }
+
+    /// Takes an arc into the matrix, with which it closes no walk of positive weight, and begins anew. Takes no memory.
+    pub fn take_root(&mut self, arc: Lag)
+        requires light { IsLight (length self.old.rows) arc }
+        requires none { ClosesNone arc self.old.rows }
+        ensures rows { self.new.rows ≡ rows_over arc self.old.rows }
+        ensures more { self.new.more ≡ [] }
+    {
+        self.more.clear();
+        root_both(&mut self.heads, &mut self.tails, arc);
         self.settled = true;
     }
 

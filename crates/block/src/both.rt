@@ -1,10 +1,11 @@
 //! The two halves of a block: walks from 0, and walks back to it.
 
 ghost use Rattle.std.specs.Prelude.{◌≡◌, length, OnOk};
+ghost use Rattle.longest_path.specs.Insert.{ClosesNone};
 ghost use Rattle.block.specs.Heads.{IsLight};
 ghost use Rattle.block.specs.Rising.{AreThereAndBack};
 ghost use Rattle.block.specs.Block.{converse_of};
-ghost use Rattle.block.specs.Halves.{AreConverse, AreToldBoth, AreTried, HaveBothRisen, IsListed, MayList};
+ghost use Rattle.block.specs.Halves.{AreConverse, AreRooted, AreToldBoth, AreTried, HaveBothRisen, IsListed, MayList};
 
 use crate::heads::Heads;
 use network::Lag;
@@ -61,4 +62,16 @@ pub(crate) fn try_both(heads: &mut Heads, tails: &mut Heads, arc: Lag)
     tails.begin_trial();
     heads.try_arc(tails.all_tried(), arc);
     tails.try_arc(heads.all_tried(), converse_of(arc));
+}
+
+/// Takes an arc into the matrix of both halves, and begins anew with that alone.
+pub(crate) fn root_both(heads: &mut Heads, tails: &mut Heads, arc: Lag)
+    requires converse { AreConverse heads.old.rows tails.old.rows }
+    requires light { IsLight (length heads.old.rows) arc }
+    requires none { ClosesNone arc heads.old.rows }
+    ensures { AreRooted arc heads.old heads.new tails.new }
+{
+    prove!(heads.activity_count() == tails.activity_count());
+    heads.take_root(arc);
+    tails.take_root(converse_of(arc));
 }

@@ -6,10 +6,12 @@ ghost use Rattle.network.specs.declared.limits.TheConstants.{MAX_WALK_WEIGHT};
 ghost use Rattle.network.specs.Problem.{IsWithin};
 ghost use Rattle.network.specs.Schedule.{start};
 ghost use Rattle.network.specs.Walk.{entry};
-ghost use Rattle.block.specs.Heads.{AreHeads, IsFirstRow, IsLight, IsTable, table_rows};
+ghost use Rattle.longest_path.specs.Insert.{ClosesNone, rows_over};
+ghost use Rattle.block.specs.Heads.{AreHeads, IsRowAt, IsLight, IsTable, table_rows};
 ghost use Rattle.block.specs.Rising.{AreThereAndBack, HaveRisen, IsRisenBy};
 
 use crate::rise::rise;
+use crate::root::go_over;
 use network::Lag;
 use std::alloc::{AllocError, Global};
 use std::marker::Model;
@@ -127,12 +129,51 @@ impl Heads {
     /// Begins anew, with the matrix alone.
     pub(crate) fn begin(&mut self)
         ensures begun { self.new ≡ record self.old { arcs = []; heads = self.new.heads } }
-        ensures first { IsFirstRow self.old.rows self.new.heads }
+        ensures first { IsRowAt self.old.rows 0 self.new.heads }
     {
         self.arcs.clear();
         self.heads
             .as_mut_slice()
             .copy_from_slice(self.table[0].as_slice());
+    }
+
+    /// Takes a row of the matrix for the trial.
+    fn take_row(&mut self, a: usize)
+        requires { a < length self.old.rows }
+        ensures same { self.new ≡ record self.old { tried = self.new.tried } }
+        ensures row { IsRowAt self.old.rows a self.new.tried }
+    {
+        self.tried
+            .as_mut_slice()
+            .copy_from_slice(self.table[a].as_slice());
+    }
+
+    /// Takes an arc into the matrix, of whose end the trial has the row.
+    fn go_over(&mut self, arc: Lag)
+        requires light { IsLight (length self.old.rows) arc }
+        requires none { ClosesNone arc self.old.rows }
+        requires row { IsRowAt self.old.rows arc.to self.old.tried }
+        ensures { self.new ≡ record self.old { rows = rows_over arc self.old.rows } }
+    {
+        go_over(self.table.as_mut_slice(), self.tried.as_slice(), arc);
+    }
+
+    /// Takes an arc into the matrix, and begins anew with that alone.
+    pub(crate) fn take_root(&mut self, arc: Lag)
+        requires light { IsLight (length self.old.rows) arc }
+        requires none { ClosesNone arc self.old.rows }
+        ensures rooted { self.new ≡ record {
+          rows = rows_over arc self.old.rows;
+          arcs = [];
+          heads = self.new.heads;
+          tried = self.new.heads;
+        } }
+        ensures first { IsRowAt self.new.rows 0 self.new.heads }
+    {
+        self.take_row(arc.to);
+        self.go_over(arc);
+        self.begin();
+        self.begin_trial();
     }
 
     /// Raises the weights by an arc, beside weights back to 0. Whether they meet all arcs then, if they met the others
@@ -187,7 +228,7 @@ impl Heads {
           heads = x.heads;
           tried = x.heads;
         }) }
-        ensures first { IfOk result (λ x. IsFirstRow (table_rows table.items) x.heads) }
+        ensures first { IfOk result (λ x. IsRowAt (table_rows table.items) 0 x.heads) }
     {
         let heads = Vec::from_slice(alloc, table[0].as_slice())?;
         let tried = Vec::from_slice(alloc, table[0].as_slice())?;

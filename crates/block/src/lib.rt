@@ -8,6 +8,7 @@ mod dense;
 mod heads;
 mod raise;
 mod rise;
+mod root;
 mod table;
 
 pub use block::{Block, MAX_SEEN};

@@ -13,7 +13,7 @@ use crate::raise::raise;
 use network::Lag;
 
 /// The weight of an activity.
-fn weight_at(weights: &[i32], i: usize) -> i64
+pub(crate) fn weight_at(weights: &[i32], i: usize) -> i64
     requires { i < length weights.now }
     ensures { result ≡ start weights.now i }
 {
@@ -21,7 +21,7 @@ fn weight_at(weights: &[i32], i: usize) -> i64
 }
 
 /// Whether one weight is greater than another.
-fn exceeds(weight: i64, other: i64) -> bool
+pub(crate) fn exceeds(weight: i64, other: i64) -> bool
     ensures { MatchBool result (other <ℤ weight) (weight ≤ℤ other) }
 {
     weight > other
