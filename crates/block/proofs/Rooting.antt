@@ -1,8 +1,7 @@
 -- A table that takes the ways over an arc, row after row.
-use Rattle.std.proofs.Common.{◌≡◌, refl, sym, ◌∙◌, ap, subst, ℕ, ◌+◌, ◌<◌, ◌≤◌, ◌≢◌, arith, inl, inr, ⊎_elim, ℤ, pos, neg_ℤ, ◌+ℤ◌, ◌≤ℤ◌, List, [], Some, None, Option, map, length, get_or, get_or-set_same, get_or-set_other, Vec, Global}
+use Rattle.std.proofs.Common.{◌≡◌, refl, sym, ◌∙◌, ap, subst, ℕ, ◌+◌, ◌<◌, ◌≤◌, ◌≢◌, arith, inl, inr, ℤ, pos, ◌+ℤ◌, ◌≤ℤ◌, List, [], Some, None, Option, map, length, get_or, get_or-set_same, get_or-set_other}
 use Rattle.std.proofs.Math.ListN.{set}
 use Rattle.std.specs.Int.{int_max}
-use Rattle.std.specs.List.{All}
 use Rattle.std.proofs.lemmas.Bool.{cases_eq}
 use Rattle.std.proofs.lemmas.Int.{ints, clamps, by_lt_z}
 use Rattle.std.proofs.lemmas.List.{length-map, get_or-map, length-set}
@@ -12,7 +11,7 @@ use Rattle.network.specs.declared.limits.TheConstants.{MAX_WALK_WEIGHT}
 use Rattle.network.specs.Problem.{IsWithin}
 use Rattle.network.specs.Schedule.{start}
 use Rattle.network.specs.Walk.{Rows, entry}
-use Rattle.longest_path.specs.Insert.{ClosesNone, FillsRows, entry_over, rows_over}
+use Rattle.longest_path.specs.Insert.{ClosesNone, FillsRows, rows_over}
 use Rattle.longest_path.specs.Matrix.{IsMatrix, IsSquare, greater}
 use Rattle.longest_path.proofs.Bound.{same_rows}
 use Rattle.longest_path.proofs.Full.{full_over, still_matrix}

@@ -1,4 +1,4 @@
-use Rattle.std.proofs.Common.{◌<◌, ◌≡◌, arith, sym, ◌∙◌, ap, ℤ, length, [], List, Vec, Global}
+use Rattle.std.proofs.Common.{◌<◌, arith, ℤ, length, Vec, Global}
 use Rattle.std.proofs.lemmas.List.{length-map}
 use Rattle.block.specs.Heads.{cells_of}
 use Rattle.block.proofs.Rooting.{none_over, may_take, over_more, all_over}
