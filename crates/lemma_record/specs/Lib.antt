@@ -1,4 +1,5 @@
 pub mod Faults
 pub mod Reached
 pub mod Right
+pub mod SoFar
 pub mod Taking
