@@ -1,5 +1,6 @@
 pub mod Picking
 pub mod Refuted
+pub mod SoFar
 pub mod Sound
 pub mod Booked
 pub mod Stepping

@@ -1,5 +1,6 @@
 pub mod Faults
 pub mod Reached
 pub mod Right
+pub mod SoFar
 pub mod Taking
 pub mod Book

@@ -1,16 +1,13 @@
 //! A log that comes piece by piece.
 
 ghost use Rattle.std.specs.Prelude.{◌≡◌, ◌≢◌, ◌++◌, [], ℕ, List, drop, None, Ok, Err, IfOk, IfErr, OnOk, MatchOption};
-ghost use Rattle.network.specs.Problem.{IsProject, Problem};
-ghost use Rattle.record_text.specs.FirstWrong.{IsFactOf};
-ghost use Rattle.lemma_log.specs.declared.event.Claim.{Claim};
+ghost use Rattle.network.specs.Problem.{Problem};
 ghost use Rattle.lemma_log.specs.declared.fault.LogFault.TheVariants.{Form, Short};
 ghost use Rattle.lemma_log.specs.Reading.{title_in};
-ghost use Rattle.lemma_book.specs.Ledger.{Claims};
 ghost use Rattle.lemma_record.specs.declared.fault.Wrong.TheVariants as wrongs;
-ghost use Rattle.lemma_record.specs.Right.{proved_of};
-ghost use Rattle.lemma_record.specs.Faults.{IsFirstFault, IsRightText};
+ghost use Rattle.lemma_record.specs.Faults.{IsFirstFault};
 ghost use Rattle.lemma_record.specs.Reached.{HasRead, IsAt, IsAtTitle};
+ghost use Rattle.lemma_record.specs.SoFar.{IsClaimed, IsProvedSoFar};
 
 use crate::fault::{EventFault, NO_MEMORY, Wrong};
 use crate::next::{nothing_after, take_whole};
@@ -128,9 +125,10 @@ impl<'a> Checker<'a> {
     /// What the log proves, which ends here.
     pub fn finish(&self) -> Result<Proved, EventFault>
         ensures right { IfOk result (λ proved. (p : Problem) (text : List ℕ) → HasRead p text self.now
-            → (c : Claim) × IsRightText p text c × (proved ≡ proved_of c)) }
+            → IsClaimed p text proved) }
         ensures fault { IfErr result (λ fault. (p : Problem) (text : List ℕ) → HasRead p text self.now
             → IsFirstFault p text fault) }
+        ensures short { IfErr result (λ fault. fault.wrong ≡ wrongs.Short) }
     {
         match self.proved {
             Some(proved) => Ok(proved),
@@ -141,11 +139,13 @@ impl<'a> Checker<'a> {
         }
     }
 
-    /// What is proved so far. It is true of the project.
-    pub fn claim(&self) -> Proved
-        ensures claims { Claims self.now.ledger result }
-        ensures law { IsFactOf self.now.ledger.project result }
+    /// What is proved so far: what the log claims, and where no claim has come what the ledger claims.
+    pub fn proved(&self) -> Proved
+        ensures { (p : Problem) (text : List ℕ) → HasRead p text self.now → IsProvedSoFar p text result }
     {
-        self.ledger.claim()
+        match self.proved {
+            Some(proved) => proved,
+            None => self.ledger.claim(),
+        }
     }
 }

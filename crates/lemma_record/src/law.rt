@@ -2,10 +2,12 @@
 
 ghost use Rattle.lemma_record.specs.Faults.{FaultIsWrong};
 ghost use Rattle.lemma_record.specs.Right.{ClaimIsTrue};
+ghost use Rattle.lemma_record.specs.SoFar.{SoFarIsTrue};
 
-/// The theorem: what a right log claims is true of its project.
+/// The theorem: what a right log claims is true of its project, and so is what a log proves that is cut off.
 pub fn claim_law()
-    ensures { ClaimIsTrue }
+    ensures claim { ClaimIsTrue }
+    ensures so_far { SoFarIsTrue }
 {}
 
 /// A law over the definitions: a text that has a first fault is not that of a right log.

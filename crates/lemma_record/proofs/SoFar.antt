@@ -1,0 +1,37 @@
+-- What a log proves as far as it goes.
+use Rattle.std.proofs.Common.{◌≡◌, subst, List, [], ℕ, Option, None, Some, MatchOption, inl, inr}
+use Rattle.network.specs.Problem.{IsProject, Problem}
+use Rattle.record_text.specs.FirstWrong.{IsFactOf}
+use Rattle.record_text.specs.declared.proved.Proved.{Proved}
+use Rattle.lemma_book.specs.Ledger.{Claims, LedgerOf, first_ledger}
+use Rattle.lemma_record.specs.Reached.{Awaits, CheckerOf, HasClaimed, HasRead}
+use Rattle.lemma_record.specs.SoFar.{IsClaimed, IsProvedSoFar, SoFarIsTrue}
+use Rattle.lemma_record.proofs.Sound.{IsSoundFor, claim_is_true, claim_true, sound_all, sound_first}
+
+claimed_by : (p : Problem) (text : List ℕ) (x : CheckerOf) (what : Proved) → HasClaimed p text [] what x.due → IsClaimed p text what
+claimed_by p text x what has = record { claim = has.claim; right = record { events = has.events; spells = has.begins; right = has.right }; says = has.says }
+
+pub claimed_here : (p : Problem) (text : List ℕ) (x : CheckerOf) (what : Proved) → x.proved ≡ Some what → HasRead p text x → IsClaimed p text what
+claimed_here p text x what is read =
+    claimed_by p text x what (subst (λ (proved : Option Proved). MatchOption proved (Awaits p text x) (λ (w : Proved). HasClaimed p text [] w x.due)) is read)
+
+pub so_far_claimed : (p : Problem) (text : List ℕ) (x : CheckerOf) (what : Proved) → x.proved ≡ Some what → HasRead p text x → IsProvedSoFar p text what
+so_far_claimed p text x what is read = inl (claimed_here p text x what is read)
+
+awaited : (p : Problem) (text : List ℕ) (x : CheckerOf) (what : Proved) → Claims x.ledger what → Awaits p text x → IsProvedSoFar p text what
+awaited p text x what claims (inl title) =
+    inr (inl (record { short = title.1; claims = subst (λ (l : LedgerOf). Claims l what) title.0.ledger claims }))
+awaited p text x what claims (inr event) =
+    inr (inr (record { steps = event.0.steps; ledger = x.ledger; left = x.left; leads = event.0.leads; short = event.1; claims = claims }))
+
+pub so_far_open : (p : Problem) (text : List ℕ) (x : CheckerOf) (what : Proved) → x.proved ≡ None → Claims x.ledger what → HasRead p text x → IsProvedSoFar p text what
+so_far_open p text x what is claims read =
+    awaited p text x what claims (subst (λ (proved : Option Proved). MatchOption proved (Awaits p text x) (λ (w : Proved). HasClaimed p text [] w x.due)) is read)
+
+here_true : (p : Problem) (l : LedgerOf) (what : Proved) → IsProject p → IsSoundFor p l → Claims l what → IsFactOf p what
+here_true p l what is sound claims = subst (λ (q : Problem). IsFactOf q what) sound.project (claim_true l what (rw sound.project is) sound.sound claims)
+
+pub so_far_is_true : SoFarIsTrue
+so_far_is_true p text what is (inl claimed) = rw claimed.says (claim_is_true p claimed.right.events claimed.claim is claimed.right.right)
+so_far_is_true p text what is (inr (inl cut)) = here_true p (first_ledger p) what is (sound_first p) cut.claims
+so_far_is_true p text what is (inr (inr cut)) = here_true p cut.ledger what is (sound_all p (first_ledger p) cut.ledger cut.steps (sound_first p) cut.leads.taken) cut.claims
