@@ -12,7 +12,8 @@ fn exceeds(project: &Project, activity: usize, resource: usize) -> bool
     requires resource { resource < resource_count project.now }
     ensures { result ≡ exceeds project.now activity resource }
 {
-    0 < project.duration(activity) && project.capacity(resource) < project.demand(resource, activity)
+    0 < project.duration(activity)
+        && project.capacity(resource) < project.demand(resource, activity)
 }
 
 /// Whether it asks for more of some resource than there is.
