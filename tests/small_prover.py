@@ -171,7 +171,7 @@ class Prover:
             self.tidy(news)
 
 
-def proved(project: verify.Project, rng: random.Random, most: int = 200) -> list[Event]:
+def proved(project: verify.Project, rng: random.Random, most: int = 120) -> list[Event]:
     """The events of a log of so many at most, with its claim."""
     prover = Prover(project, rng, rng.randrange(1, 12) if rng.random() < 0.2 else most - 1)
     try:
