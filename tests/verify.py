@@ -272,10 +272,10 @@ def read_project(path: str) -> Project:
     raise Fault(0, f"{path}: not a project", 2)
 
 
-def printed(program: str, verdict: Callable[[], str]) -> int:
-    """Prints the verdict, or the fault as the program names it; the exit status."""
+def status_of(program: str, action: Callable[[], None]) -> int:
+    """Does this, and prints a fault as the program names it; the exit status."""
     try:
-        print(verdict(), flush=True)
+        action()
     except Fault as fault:
         print(f"{program}: {fault}", file=sys.stderr)
         return fault.status
@@ -287,13 +287,13 @@ def printed(program: str, verdict: Callable[[], str]) -> int:
 
 
 def run(program: str, words: Sequence[str], verdict: Callable[[Project, bytes], str]) -> int:
-    """Prints the verdict on PROJECT.sch and RECORD."""
-    def of_words() -> str:
+    """Prints the verdict on PROJECT.sch and RECORD, or the fault; the exit status."""
+    def judge() -> None:
         if len(words) != 2:
             raise Fault(0, f"the words are {os.path.basename(sys.argv[0])} PROJECT.sch RECORD", 2)
-        return verdict(read_project(words[0]), read(words[1]))
+        print(verdict(read_project(words[0]), read(words[1])), flush=True)
 
-    return printed(program, of_words)
+    return status_of(program, judge)
 
 
 if __name__ == "__main__":

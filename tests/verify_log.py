@@ -14,7 +14,7 @@ import sys
 from collections.abc import Callable, Iterable, Iterator, Sequence
 from typing import BinaryIO, NamedTuple
 
-from verify import Fault, Project, Rows, printed, read_project, root_matrix
+from verify import Fault, Project, Rows, read_project, root_matrix, status_of
 
 TITLE = b"record 3\n"
 MAX_DIGITS = 9  # bytes of a number
@@ -405,7 +405,11 @@ def main() -> int:
     parser.add_argument("project")
     parser.add_argument("--partial", action="store_true")
     o = parser.parse_args()
-    return printed("psprove", lambda: verify(read_project(o.project), sys.stdin.buffer, o.partial))
+
+    def judge() -> None:
+        print(verify(read_project(o.project), sys.stdin.buffer, o.partial), flush=True)
+
+    return status_of("psprove", judge)
 
 
 if __name__ == "__main__":
