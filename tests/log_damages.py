@@ -118,12 +118,48 @@ def on_lemma(rng: random.Random, bodies: Bodies, change: Callable[[Lemma], Lemma
 
 
 def line_more(rng: random.Random, bodies: Bodies) -> None:
-    """A line more, often after those that refute the lemma, where it is idle."""
+    """A line more: after those that refute the lemma it is idle."""
     def change(lemma: Lemma) -> Lemma:
-        at = len(lemma.lines) if rng.randrange(2) else rng.randrange(len(lemma.lines) + 1)
+        at = rng.choice([0, rng.randrange(len(lemma.lines) + 1), len(lemma.lines)])
         return lemma._replace(lines=[*lemma.lines[:at], some_line(rng), *lemma.lines[at:]])
 
     on_lemma(rng, bodies, change)
+
+
+def limit_arc(rng: random.Random, bodies: Bodies) -> None:
+    """An arc more, of a lemma or after `shows`, whose weight is at the limit; it asks for nothing."""
+    i, j, weight = rng.randrange(9), rng.randrange(9), -MAX_WEIGHT - rng.randrange(-1, 2)
+
+    def change(lemma: Lemma) -> Lemma:
+        if rng.randrange(2):
+            return lemma._replace(arcs=[(i, j, weight), *lemma.arcs])
+        return lemma._replace(lines=[Push(Load(rng.randrange(4), 2, 1), (i, j, weight)), *lemma.lines])
+
+    on_lemma(rng, bodies, change)
+
+
+def other_window(rng: random.Random, bodies: Bodies) -> None:
+    """Windows that begin or end a little earlier or later, for one line or some."""
+    by = rng.choice([(0, 1), (0, -1), (1, 0), (-1, 0), (0, -2), (2, 0)])
+
+    def other(line: Line) -> Line:
+        if not isinstance(line, Push) or rng.randrange(2):
+            return line
+        return line._replace(over=line.over._replace(start=line.over.start + by[0], end=line.over.end + by[1]))
+
+    on_lemma(rng, bodies, lambda lemma: lemma._replace(lines=list(map(other, lemma.lines))))
+
+
+def far_slot(rng: random.Random, bodies: Bodies) -> None:
+    """A lemma in a slot at the limit."""
+    slot = SLOTS - rng.randrange(-1, 3)
+    on_lemma(rng, bodies, lambda lemma: lemma._replace(slot=slot))
+
+
+def lemma_late(rng: random.Random, bodies: Bodies) -> None:
+    """A lemma more before the claim, where the root is often dead."""
+    arcs = [some_arc(rng) for _ in range(rng.randrange(4))]
+    bodies.insert(len(bodies) - 1, body_of(of_event(Lemma(rng.randrange(4), arcs, [some_line(rng)]))))
 
 
 def other_lines(rng: random.Random, bodies: Bodies) -> None:
@@ -141,7 +177,7 @@ def line_gone(rng: random.Random, bodies: Bodies) -> None:
 def other_arcs(rng: random.Random, bodies: Bodies) -> None:
     """An arc of a lemma twice or not at all, or another one more."""
     def change(lemma: Lemma) -> Lemma:
-        mores: list[list[Arc]] = [[], lemma.arcs[:1], [some_arc(rng)]]
+        mores: list[list[Arc]] = [[], rng.sample(lemma.arcs, min(1, len(lemma.arcs))), [some_arc(rng)]]
         arcs = [*lemma.arcs, *rng.choice(mores)]
         return lemma._replace(arcs=rng.sample(arcs, max(0, len(arcs) - rng.randrange(2))))
 
@@ -191,7 +227,7 @@ def other_byte(rng: random.Random, log: bytes) -> bytes:
 
 
 def cut_off(rng: random.Random, log: bytes) -> bytes:
-    return log[:rng.randrange(len(log))]
+    return log[:rng.choice([rng.randrange(len(log)), rng.randrange(2 * len(TITLE))])]
 
 
 def cut_between(rng: random.Random, log: bytes) -> bytes:
@@ -213,9 +249,12 @@ def more_bytes(rng: random.Random, log: bytes) -> bytes:
     return log + rng.choice([b"\0", b"\n", log, b"\1\13", bytes(rng.choices(range(256), k=9))])
 
 
-DAMAGES: list[Damage] = [event_gone, event_twice, events_swapped, drop_more, other_claim, other_number, other_number,
-                         numbers_moved, longer_number, huge_count, line_more, other_lines, line_gone, other_arcs, wider_arc,
-                         use_of_itself, member_twice, deep_uses]
+DAMAGES: list[Damage] = [
+    event_gone, event_twice, events_swapped, drop_more, other_claim,
+    other_number, other_number, numbers_moved, longer_number, huge_count,
+    line_more, line_more, other_lines, line_gone, other_window, other_window, use_of_itself, member_twice, deep_uses,
+    other_arcs, wider_arc, limit_arc, far_slot, lemma_late,
+]
 DAMAGES_OF_BYTES = [other_byte, other_byte, cut_off, cut_between, other_frame, more_bytes]
 
 

@@ -26,6 +26,8 @@ class Prover:
         makers = [self.forces, self.wide_loads, self.cliques, self.late_starts, self.early_starts, self.orders]
         self.makers = [self.uses, self.loads, *rng.sample(makers, rng.randrange(len(makers) + 1))]
         rng.shuffle(self.makers)
+        if rng.random() < 0.4:
+            self.makers = [self.cliques, self.orders, *self.makers]
         self.is_short, self.is_tidy = rng.random() < 0.5, rng.random() < 0.7
 
     def take(self, event: Event) -> None:
