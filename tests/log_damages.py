@@ -138,6 +138,13 @@ def limit_arc(rng: random.Random, bodies: Bodies) -> None:
     on_lemma(rng, bodies, change)
 
 
+def line_of_nothing(rng: random.Random, bodies: Bodies) -> None:
+    """A clique of no members in a window that ends before it begins, or a load in one as wide as it may be or wider."""
+    wide = Load(rng.randrange(3), -MAX_TIME - rng.randrange(2), MAX_TIME + rng.randrange(2))
+    over: Load | Clique = wide if rng.randrange(3) else Clique(4, 0, [])
+    on_lemma(rng, bodies, lambda lemma: lemma._replace(lines=[Push(over, None), *lemma.lines]))
+
+
 def other_window(rng: random.Random, bodies: Bodies) -> None:
     """Windows that begin or end a little earlier or later, for one line or some."""
     by = rng.choice([(0, 1), (0, -1), (1, 0), (-1, 0), (0, -2), (2, 0)])
@@ -182,6 +189,13 @@ def other_arcs(rng: random.Random, bodies: Bodies) -> None:
         return lemma._replace(arcs=rng.sample(arcs, max(0, len(arcs) - rng.randrange(2))))
 
     on_lemma(rng, bodies, change)
+
+
+def arcs_twice(rng: random.Random, bodies: Bodies) -> None:
+    """Each lemma of two arcs or more has one of them twice."""
+    for place, lemma in enumerate(map(lemma_of, bodies)):
+        if lemma and len(lemma.arcs) > 1:
+            bodies[place] = body_of(of_event(lemma._replace(arcs=[*lemma.arcs, rng.choice(lemma.arcs)])))
 
 
 def wider_arc(rng: random.Random, bodies: Bodies) -> None:
@@ -252,8 +266,8 @@ def more_bytes(rng: random.Random, log: bytes) -> bytes:
 DAMAGES: list[Damage] = [
     event_gone, event_twice, events_swapped, drop_more, other_claim,
     other_number, other_number, numbers_moved, longer_number, huge_count,
-    line_more, line_more, other_lines, line_gone, other_window, other_window, use_of_itself, member_twice, deep_uses,
-    other_arcs, wider_arc, limit_arc, far_slot, lemma_late,
+    line_more, line_more, other_lines, line_gone, line_of_nothing, other_window, other_window, use_of_itself, member_twice,
+    deep_uses, other_arcs, arcs_twice, wider_arc, limit_arc, far_slot, lemma_late,
 ]
 DAMAGES_OF_BYTES = [other_byte, other_byte, cut_off, cut_between, other_frame, more_bytes]
 
