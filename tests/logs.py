@@ -48,12 +48,12 @@ class Judge(NamedTuple):
         told = judges.by_program_of_logs(self.program, whole.file, log, partial) if self.program else said
         if told != said:
             return f"the program says {told}, the script {said}"
-        if want is not None and want != text(said):
-            return f"both say {text(said)}, not {want}"
+        if want is not None and want != said_text(said):
+            return f"both say {said_text(said)}, not {want}"
         return falsehood(whole.shortest, said)
 
 
-def text(said: Ended) -> str:
+def said_text(said: Ended) -> str:
     return (said[2].partition(b": ")[2] or said[1]).decode().removesuffix("\n")
 
 
