@@ -84,7 +84,7 @@ class Form(Exception):
 class LogFault(Fault):
     def __init__(self, event: int, why: str) -> None:
         super().__init__(0, f"event {event}: {why}", 4)
-        self.is_cut = why == "short" and event > 0
+        self.is_cut = why == "short"
 
 
 def number_of(next_byte: Callable[[], int]) -> int:
