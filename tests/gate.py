@@ -30,6 +30,7 @@ import events
 import growths
 import harness
 import lemmas
+import logs
 import records
 import run
 import searches
@@ -95,6 +96,7 @@ def scripts(folder: pathlib.Path, with_tests: bool) -> Iterator[Script]:
     yield "workers", workers.verdicts, [psmax, "--runs", "100"]
     yield "records", records.verdicts, [psmax, "--seeded", "20", "--damaged", "1000"]
     yield "lemmas", lemmas.verdicts, [psprove, "--damaged", "200"]
+    yield "logs", logs.verdicts, ["-", "--logs", "500"]
     yield "searches", searches.verdicts, [psmax, psprove, "--seeded", "200", "--large", "10"]
     yield "books", books.verdicts, [book_events]
     if shutil.which(os.environ.get("CC", "cc")):

@@ -1,10 +1,12 @@
 """What is said of a record: by a program, and by the checker in Python of its kind, in the words of the program."""
+import io
 import pathlib
 from collections.abc import Callable
 
 import harness
 import verify
 import verify_lemmas
+import verify_log
 from harness import Ended
 
 
@@ -18,6 +20,14 @@ def by_script(project: verify.Project, record: bytes) -> Ended:
 
 def by_script_of_lemmas(project: verify.Project, record: bytes) -> Ended:
     return said("psprove", lambda: verify_lemmas.verify(project, *verify_lemmas.read_record(record)))
+
+
+def by_program_of_logs(program: str, project: pathlib.Path, log: bytes, partial: bool = False) -> Ended:
+    return harness.ended([program, "verify", *["--partial"] * partial, "--project", project], log, 600)
+
+
+def by_script_of_logs(project: verify.Project, log: bytes, partial: bool = False) -> Ended:
+    return said("psprove", lambda: verify_log.verify(project, io.BytesIO(log), partial))
 
 
 def said(program: str, verdict: Callable[[], str]) -> Ended:

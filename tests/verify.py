@@ -272,12 +272,10 @@ def read_project(path: str) -> Project:
     raise Fault(0, f"{path}: not a project", 2)
 
 
-def run(program: str, words: Sequence[str], verdict: Callable[[Project, bytes], str]) -> int:
-    """Prints the verdict on PROJECT.sch and RECORD, or the fault as the program names it; the exit status."""
+def status_of(program: str, action: Callable[[], None]) -> int:
+    """Does this, and prints a fault as the program names it; the exit status."""
     try:
-        if len(words) != 2:
-            raise Fault(0, f"the words are {os.path.basename(sys.argv[0])} PROJECT.sch RECORD", 2)
-        print(verdict(read_project(words[0]), read(words[1])), flush=True)
+        action()
     except Fault as fault:
         print(f"{program}: {fault}", file=sys.stderr)
         return fault.status
@@ -286,6 +284,16 @@ def run(program: str, words: Sequence[str], verdict: Callable[[Project, bytes], 
         print(f"{program}: ended by {type(fault).__name__}", file=sys.stderr)
         return 1
     return 0
+
+
+def run(program: str, words: Sequence[str], verdict: Callable[[Project, bytes], str]) -> int:
+    """Prints the verdict on PROJECT.sch and RECORD, or the fault; the exit status."""
+    def judge() -> None:
+        if len(words) != 2:
+            raise Fault(0, f"the words are {os.path.basename(sys.argv[0])} PROJECT.sch RECORD", 2)
+        print(verdict(read_project(words[0]), read(words[1])), flush=True)
+
+    return status_of(program, judge)
 
 
 if __name__ == "__main__":
