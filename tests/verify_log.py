@@ -1,5 +1,5 @@
 #!/usr/bin/env python3
-"""Checks a log of lemmas against a project, as docs/LEMMAS.md says, and shares nothing with psprove.
+"""Checks a log of lemmas against a project, as docs/LOG.md says, and shares nothing with psprove.
 
     verify_log.py PROJECT.sch [--partial] < LOG
 
@@ -293,6 +293,12 @@ def is_overload(project: Project, weight: Weight, over: Load | Clique) -> bool:
     return is_load(project, weight, *over) if isinstance(over, Load) else is_clique(project, weight, *over)
 
 
+def asks_too_much(project: Project) -> bool:
+    """Whether an activity alone asks for more of a resource than there is."""
+    takes_time = filter(project.takes_time, range(project.count))
+    return any(project.exceeds(k, (i,)) for i in takes_time for k in range(len(project.capacities)))
+
+
 def is_arc(project: Project, arc: Arc) -> bool:
     return max(arc[:2]) < project.count and abs(arc[2]) <= MAX_WEIGHT
 
@@ -306,7 +312,7 @@ class Ledger:
         for activity, _, lag in project.arcs:
             stretches[activity] = max(stretches[activity], lag)
         self.ceiling = sum(stretches) + 1
-        self.rows = with_arc(root_matrix(project), self.deadline())
+        self.rows = None if asks_too_much(project) else with_arc(root_matrix(project), self.deadline())
         self.lemmas: dict[int, list[Arc]] = {}
 
     def deadline(self) -> Arc:
