@@ -1,6 +1,6 @@
 //! The events that bytes begin with, read and taken.
 
-ghost use Rattle.std.specs.Prelude.{◌≡◌, ◌≢◌, ◌<◌, ◌≤◌, ◌++◌, [], ℕ, List, length, min, ◌+◌, ◌-◌, ◌^◌, Err, IfOk, OnOk, IfErr, IfSome, MatchOption};
+ghost use Rattle.std.specs.Prelude.{◌≡◌, ◌≢◌, ◌<◌, ◌≤◌, ◌++◌, [], ℕ, List, length, Err, IfOk, OnOk, IfErr, IfSome, MatchOption};
 ghost use Rattle.network.specs.Problem.{Problem};
 ghost use Rattle.lemma_log.specs.declared.fault.LogFault.TheVariants as read_faults;
 ghost use Rattle.lemma_log.specs.Law.{IsFirst};
