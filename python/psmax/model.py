@@ -106,6 +106,7 @@ class Parts:
                  due: int | None = None) -> Activity:
         must_be_new(name, self._named, "activity")
         must_be_room(self.activities, MOST_ACTIVITIES, "activities")
+        must_be_a(Mapping, demands or {}, "a mapping from resources to demands")
         needs = {self._own(resource): whole(units, f"the demand of {name} for {resource.name}")
                  for resource, units in (demands or {}).items()}
         made = Activity(name, whole(duration, f"the duration of {name}"), needs, len(self.activities) + 1,
@@ -116,6 +117,7 @@ class Parts:
 
     def lag(self, before: Point, after: Point, *, at_least: int | None = None, at_most: int | None = None) -> Lag:
         for point in (before, after):
+            must_be_a(Point, point, "a start or an end")
             self.number(point.activity)
         limits = [None if limit is None else whole(limit, "a lag", -MOST_UNITS) for limit in (at_least, at_most)]
         if limits == [None, None]:
@@ -143,6 +145,7 @@ class Parts:
 
     def number(self, activity: Activity) -> int:
         """The number of an activity of this project, with its start and its end."""
+        must_be_a(Activity, activity, "an activity")
         if activity is self._sink:
             return len(self.activities) + 1
         own = [self._source] if activity.number == 0 else self.activities[activity.number - 1 : activity.number]
@@ -151,6 +154,7 @@ class Parts:
         return activity.number
 
     def _own(self, resource: Resource) -> Resource:
+        must_be_a(Resource, resource, "a resource")
         if self.resources[resource.number : resource.number + 1] != [resource]:
             raise BadInput(f"'{short(resource.name)}' is no resource of this project")
         return resource
@@ -195,6 +199,11 @@ def goal_of(minimize: str) -> Goal:
         return Goal(minimize)
     except ValueError:
         raise BadInput(f"minimize {short(str(minimize))}: neither {' nor '.join(goal.value for goal in Goal)}") from None
+
+
+def must_be_a(kind: type, value: object, what: str) -> None:
+    if not isinstance(value, kind):
+        raise BadInput(f"'{short(str(value))}' is not {what}")
 
 
 def must_be_new(name: str, there: Collection[str], what: str) -> None:

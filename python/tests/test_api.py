@@ -12,6 +12,7 @@ import sys
 import threading
 import time
 from collections.abc import Callable
+from typing import Any
 from unittest import mock
 
 import psmax
@@ -140,6 +141,9 @@ class Solving(InFolder):
         made, dig, lift = site()
         other, far, _ = site()
         crew = made.resources[0]
+        text: Any = "crew"
+        texts: Any = ["crew"]
+        activity: Any = far
         cases: list[tuple[Callable[[], object], str]] = [
             (lambda: made.activity("dig", 1), "a second activity 'dig'"),
             (lambda: made.activity("", 1), "the name of an activity is not a text"),
@@ -147,6 +151,10 @@ class Solving(InFolder):
             (lambda: made.activity("x", True), "the duration of x: True is not a whole number"),
             (lambda: made.activity("x", 1, {other.resources[0]: 1}), "'crew' is no resource of this project"),
             (lambda: made.lag(dig.end, far.start, at_least=0), "'dig' is no activity of this project"),
+            (lambda: made.activity("x", 1, {text: 1}), "'crew' is not a resource"),
+            (lambda: made.activity("x", 1, texts), "'['crew']' is not a mapping from resources to demands"),
+            (lambda: made.absence(text, 0), "'crew' is not a resource"),
+            (lambda: made.lag(activity, far.start, at_least=0), "is not a start or an end"),
             (lambda: made.lag(dig.end, lift.start), "a lag has a least length, a greatest one, or both"),
             (lambda: made["gone"], "no activity 'gone'"),
             (lambda: made.check({"dig": 0}), "no start for activity 'lift'"),
