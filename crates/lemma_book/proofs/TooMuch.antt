@@ -1,5 +1,5 @@
 -- Where an activity alone asks for too much there is no schedule.
-use Rattle.std.proofs.Common.{ℕ, ◌<◌, ◌+◌, List, [], ◌∷◌, ◌++◌, get_or, arith, ℤ, pos, ◌+ℤ◌, ◌<ℤ◌, ◌≤ℤ◌, ◌≡◌, sym, refl, Bool, true, false, ◌&&◌, int_lt, nat_lt, length, slice_index_or}
+use Rattle.std.proofs.Common.{ℕ, ◌<◌, ◌+◌, List, [], ◌∷◌, ◌++◌, get_or, arith, ℤ, pos, ◌+ℤ◌, ◌<ℤ◌, ◌≤ℤ◌, ◌≡◌, refl, Bool, true, false, ◌&&◌, int_lt, nat_lt, length, slice_index_or}
 use Rattle.std.specs.List.{All, Any, Contains, range_with_len}
 use Rattle.std.proofs.lemmas.Bool.{ltb-true}
 use Rattle.std.proofs.lemmas.Int.{ints}
@@ -7,7 +7,7 @@ use Rattle.std.proofs.lemmas.List.Elements.{All-cons, All-nil, Contains-append_r
 use Rattle.std.proofs.lemmas.List.Folds.{Any-from_list_any}
 use Rattle.std.proofs.lemmas.List.FromFn.{length-range_with_len, get_or-range_with_len}
 use Rattle.network.specs.Problem.{Problem, activities, activity_count, capacity, demand, duration, resource_count}
-use Rattle.network.specs.Schedule.{start, IsFeasible, IsForbidden}
+use Rattle.network.specs.Schedule.{start, IsFeasible}
 use Rattle.rivals.proofs.Apart.{not_all_run}
 use Rattle.longest_path.proofs.Reach.{int_lt-true}
 use Rattle.network.specs.Problem.{rules}

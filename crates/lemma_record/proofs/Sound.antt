@@ -1,11 +1,10 @@
 -- What a right log claims is true.
-use Rattle.std.proofs.Common.{◌≡◌, ◌≢◌, ◌+◌, refl, sym, ap, ◌∙◌, subst, ℤ, pos, ◌≤ℤ◌, List, [], ◌∷◌, ◌++◌, Option, None, Some, arith}
+use Rattle.std.proofs.Common.{◌≡◌, ◌≢◌, refl, sym, ap, ◌∙◌, subst, ℤ, ◌≤ℤ◌, List, [], ◌∷◌, ◌++◌, Option, None, Some, arith}
 use Rattle.std.specs.Int.{int_min}
 use Rattle.std.proofs.lemmas.Int.{ints}
 use Rattle.network.specs.Problem.{IsProject, Problem, end_of}
 use Rattle.network.specs.Schedule.{IsLowerBound, IsShortest, makespan}
 use Rattle.network.specs.Walk.{IsGreatestWeight, weight}
-use Rattle.horizon.specs.Horizon.{horizon}
 use Rattle.longest_path.specs.Insert.{arc_of}
 use Rattle.reasons.specs.Reasons.{Implies, reverse_of}
 use Rattle.record_text.specs.FirstWrong.{IsFactOf}

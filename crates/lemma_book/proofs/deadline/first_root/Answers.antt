@@ -1,4 +1,4 @@
-use Rattle.std.proofs.Common.{◌≡◌, arith, sym, ◌∙◌, rules, w64, SFits, pos, ◌+ℤ◌, ◌+◌, false}
+use Rattle.std.proofs.Common.{◌≡◌, arith, sym, ◌∙◌, rules, w64, SFits, pos, ◌+ℤ◌, false}
 use Rattle.std.proofs.lemmas.Int.{ints, to_z-of_z}
 use Rattle.horizon.specs.Horizon.{horizon}
 use Rattle.lemma_book.specs.Ledger.{asks_too_much}

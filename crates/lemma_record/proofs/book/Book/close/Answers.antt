@@ -1,5 +1,5 @@
-use Rattle.std.proofs.Common.{◌≡◌, ap, sym, rules, length, ◌<◌, ◌^◌, ◌++◌, is_err, false}
-use Rattle.lemma_book.specs.Ledger.{Claims, IsSmall, LedgerOf}
+use Rattle.std.proofs.Common.{ap, sym, rules}
+use Rattle.lemma_book.specs.Ledger.{Claims}
 use Rattle.lemma_log.specs.Text.{IsWritableClaim}
 use Rattle.lemma_record.specs.Book.{BookOf, IsLogOf}
 use Rattle.lemma_record.specs.Right.{proved_of}

@@ -1,7 +1,6 @@
-use Rattle.std.proofs.Common.{◌≡◌, ◌↔◌, rules, IsTrue, false}
+use Rattle.std.proofs.Common.{◌≡◌, rules, IsTrue, false}
 use Rattle.std.specs.Result.{is_err}
 use Rattle.lemma_record.specs.Book.{IsLogOf}
-use Rattle.lemma_record.specs.Right.{IsStep}
 use Rattle.lemma_record.specs.Taking.{IsTaken}
 use Rattle.lemma_record.proofs.Booked.{logged_more}
 use Rattle.lemma_record.proofs.book.Book.offer.Goals as goal
