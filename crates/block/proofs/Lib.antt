@@ -1,10 +1,7 @@
 pub mod Raising
 pub mod Implying
-pub mod Rows
-pub mod Rising
+pub mod Raised
 pub mod Passing
-pub mod Rooting
 pub mod Converse
-pub mod Halves
 pub mod Blocks
 pub mod Existing

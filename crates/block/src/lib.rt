@@ -3,12 +3,9 @@
 #![tactic(auto)]
 
 mod block;
-mod both;
 mod dense;
 mod heads;
 mod raise;
-mod rise;
-mod root;
 mod table;
 
 pub use block::{Block, MAX_SEEN};
