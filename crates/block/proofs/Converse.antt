@@ -1,5 +1,5 @@
 -- Walks over arcs that go the other way.
-use Rattle.std.proofs.Common.{◌≡◌, refl, sym, ◌∙◌, ap, subst, ℕ, ◌<◌, arith, ℤ, pos, ◌≤ℤ◌, List, [], ◌∷◌, ◌++◌, map, length, get_or, Option, None, Some, inl, inr}
+use Rattle.std.proofs.Common.{◌≡◌, refl, sym, ◌∙◌, ap, subst, ℕ, ◌<◌, arith, ℤ, pos, ◌≤ℤ◌, List, [], ◌∷◌, ◌++◌, length, get_or, Option, None, Some, inl, inr}
 use Rattle.std.specs.List.{Contains}
 use Rattle.std.proofs.lemmas.Int.{ints}
 use Rattle.std.proofs.lemmas.List.{length-map, get_or-map}
@@ -12,16 +12,13 @@ use Rattle.longest_path.specs.Insert.{arc_of}
 use Rattle.longest_path.specs.Matrix.{IsMatrix, IsFull, IsSquare}
 use Rattle.longest_path.proofs.Weights.{IsSquare-inside}
 use Rattle.block.specs.Implied.{Implies, AreReached}
-use Rattle.block.specs.Block.{converse_of, AreConverse, AreReaching}
+use Rattle.block.specs.Block.{converse_of, AreReaching}
+use Rattle.block.specs.Halves.{AreConverse, converses}
 
 -- the walk in the other direction
 back : List Lag → List Lag
 back [] = []
 back (e ∷ es) = back es ++ converse_of e ∷ []
-
--- the arcs in the other direction
-abbrev pub converses : List Lag → List Lag
-converses arcs = map converse_of arcs
 
 -- each arc of one list has its converse in the other
 abbrev pub GoesBack : List Lag → List Lag → Type 0

@@ -15,7 +15,7 @@ use Rattle.network.specs.declared.limits.TheConstants.{MAX_WALK_WEIGHT}
 use Rattle.block.proofs.Implying.{IsPartOf, IsWalk-part, part_after}
 
 -- one arc more, by which no closed walk is positive
-closes_none : (n : ℕ) (own : List Lag) (rows : Rows) (e : Lag) (all : List Lag) → IsMatrixOf n own rows → e.from < n → e.to < n → IsPartOf own all → Contains all e → HasNoPositiveCycle all → ClosesNone e rows
+pub closes_none : (n : ℕ) (own : List Lag) (rows : Rows) (e : Lag) (all : List Lag) → IsMatrixOf n own rows → e.from < n → e.to < n → IsPartOf own all → Contains all e → HasNoPositiveCycle all → ClosesNone e rows
 closes_none n own rows e all m from to part there none = λ x is.
     let at : IsGreatestWeight own e.to e.from (Some x) = rw is at (m.greatest e.to e.from to from) in
     let goes : IsWalk all e.to (at.0.0 ++ e ∷ []) e.to = IsWalk-append all e.to e.from e.to at.0.0 (e ∷ []) (IsWalk-part own all e.to e.from at.0.0 part at.0.1) (there, refl, refl) in

@@ -1,7 +1,10 @@
 pub mod Raising
 pub mod Implying
-pub mod Raised
+pub mod Rows
+pub mod Rising
 pub mod Passing
+pub mod Rooting
 pub mod Converse
+pub mod Halves
 pub mod Blocks
 pub mod Existing

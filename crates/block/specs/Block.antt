@@ -9,7 +9,7 @@ use Rattle.longest_path.specs.Insert.{arc_of, AddsArc, ClosesCycle}
 use Rattle.longest_path.specs.Saved.{Marked}
 use Rattle.longest_path.specs.Matrix.{IsMatrix, IsFull, greater}
 use Rattle.block.specs.Implied.{ImpliesWith, AreReached}
-use Rattle.block.specs.Heads.{HeadsOf, IsLight}
+use Rattle.block.specs.Heads.{IsLight}
 
 -- the arc in the other direction
 abbrev pub converse_of : Lag → Lag
@@ -48,26 +48,18 @@ IsToldOf n rows more None = Unit {0}
 IsToldOf n rows more (Some dead) =
     (own : List Lag) → IsMatrixOf n own rows → MatchBool dead (HasPositiveCycle (own ++ more)) (HasNoPositiveCycle (own ++ more))
 
+-- whether the arcs close a walk of positive weight, by what an arc more told: a way back weighs more than 0, or heads and
+-- tails meet all arcs, or it isn't known
+abbrev pub told_by : Option Bool → Option Bool
+told_by None = Some true
+told_by (Some true) = Some false
+told_by (Some false) = None
+
 -- the weight of a walk that is easily seen: a head or a tail, or a walk over the record's own arcs, or by 0
 abbrev pub seen : Rows → List ℤ → List ℤ → ℕ → ℕ → Option ℤ
 seen rows heads tails a b =
     if a == 0 then Some (start heads b)
     else (if b == 0 then Some (start tails a) else greater (entry rows a b) (Some (start tails a +ℤ start heads b)))
-
--- ---- The two halves of a block.
-
--- rows and columns
-pub record AreConverse (rows columns : Rows) : Type 0 where
-  pub long : length columns ≡ length rows
-  pub entries : (a b : ℕ) → a < length rows → b < length rows → entry columns b a ≡ entry rows a b
-
--- one half has the rows and the arcs, the other the columns and arcs that go the other way
-pub record AreHalves (x y : HeadsOf) : Type 0 where
-  pub converse : AreConverse x.rows y.rows
-  pub part : (e : Lag) → Contains y.arcs e → Contains x.arcs (converse_of e)
-
-abbrev pub block_of : HeadsOf → HeadsOf → BlockOf
-block_of x y = record { rows = x.rows; more = x.arcs; heads = x.heads; tails = y.heads; tried_heads = x.tried; tried_tails = y.tried }
 
 -- ---- The matrix of all arcs.
 

@@ -5,52 +5,41 @@ ghost use Rattle.network.specs.Problem.{IsWithin};
 ghost use Rattle.network.specs.Schedule.{start};
 ghost use Rattle.std.specs.Bool.{MatchBool};
 ghost use Rattle.network.specs.declared.limits.TheConstants.{MAX_WALK_WEIGHT};
+ghost use Rattle.longest_path.specs.Insert.{ClosesNone, rows_over};
 ghost use Rattle.longest_path.specs.Matrix.{IsFull, greater};
-ghost use Rattle.block.specs.declared.raise.TheConstants.{MAX_TRIED};
 ghost use Rattle.block.specs.declared.block.TheConstants.{MAX_SEEN};
 ghost use Rattle.block.specs.Implied.{ImpliesWith};
-ghost use Rattle.block.specs.Heads.{AreSettled, IsLight};
-ghost use Rattle.block.specs.Block.{AreEnds, IsBlock, IsToldOf, converse_of, seen};
+ghost use Rattle.block.specs.Heads.{IsLight};
+ghost use Rattle.block.specs.Block.{AreEnds, IsBlock, IsToldOf, seen, told_by};
 
+use crate::both::{push_both, rise_both, root_both, try_both};
 use crate::heads::Heads;
-use crate::raise::MAX_TRIED;
 use crate::table::{columns, rows};
 use longest_path::Matrix;
-use network::Lag;
+use network::{Lag, MAX_WALK_WEIGHT};
 use std::alloc::{AllocError, Global};
 use std::marker::Model;
 
 /// What the weight of a walk that is easily seen is not beyond.
-pub const MAX_SEEN: i64 = MAX_TRIED + MAX_TRIED;
+pub const MAX_SEEN: i64 = MAX_WALK_WEIGHT + MAX_WALK_WEIGHT;
 
-/// The arc in the other direction.
-fn converse_of(arc: Lag) -> Lag
-    ensures { result ≡ converse_of arc }
+/// Whether the arcs of a matrix and those beside it close a walk of positive weight, by what an arc more told of heads
+/// and tails.
+fn told(settled: Option<bool>) -> Option<bool>
+    ensures { result ≡ told_by settled }
 {
-    Lag {
-        from: arc.to,
-        to: arc.from,
-        weight: arc.weight,
+    match settled {
+        None => Some(true),
+        Some(true) => Some(false),
+        Some(false) => None,
     }
-}
-
-/// Whether the arcs of a matrix and those beside it close a walk of positive weight, by the heads, of which it is told
-/// whether they meet all arcs. None where they don't tell.
-fn told(heads: &Heads, settled: bool) -> Option<bool>
-    requires { MatchBool settled (AreSettled heads.now) (Unit {0}) }
-    ensures { IsToldOf (length heads.now.rows) heads.now.rows heads.now.arcs result }
-{
-    if heads.is_late() {
-        return Some(true);
-    }
-    if settled { Some(false) } else { None }
 }
 
 /// The greater of an entry and the way by 0.
 fn or_by_start(entry: i64, tail: i64, head: i64) -> i64
     requires entry { IsWithin MAX_WALK_WEIGHT entry }
-    requires tail { IsWithin MAX_TRIED tail }
-    requires head { IsWithin MAX_TRIED head }
+    requires tail { IsWithin MAX_WALK_WEIGHT tail }
+    requires head { IsWithin MAX_WALK_WEIGHT head }
     ensures value { greater (Some entry) (Some (tail +ℤ head)) ≡ Some result }
     ensures small { IsWithin MAX_SEEN result }
 {
@@ -62,22 +51,28 @@ fn or_by_start(entry: i64, tail: i64, head: i64) -> i64
 /// walks from 0, the heads, and back to it, the tails. An arc more costs a number for each activity, and no matrix.
 ///
 /// As long as the heads meet all arcs, no closed walk is positive: they are a list of starts that meets each of them.
-/// Where the head of 0 is above 0, one is.
+/// Where a way from 0 over an arc and back weighs more than 0, one is. An arc that touches 0 is met from then on, since
+/// heads and tails are never above 0 together.
 #[derive(Drop)]
 pub struct Block {
+    /// The arcs beside the matrix.
+    more: Vec<Lag>,
     heads: Heads,
     /// The heads in the other direction.
     tails: Heads,
+    /// Whether heads and tails meet all arcs.
+    settled: bool,
 }
 
 impl Model for Block {
-    ghost use Rattle.block.specs.Block.{BlockOf, AreHalves, block_of};
+    ghost use Rattle.block.specs.Block.{BlockOf};
+    ghost use Rattle.block.specs.Halves.{AreHalves, block_of};
 
     ghost Value = { BlockOf };
 
-    ghost view = { λ s. block_of s.heads s.tails };
+    ghost view = { λ s. block_of s.more.items s.heads s.tails };
 
-    ghost invariant = { λ s. AreHalves s.heads s.tails };
+    ghost invariant = { λ s. AreHalves s.more.items s.heads s.tails s.settled };
 }
 
 impl Block {
@@ -90,7 +85,12 @@ impl Block {
     {
         let heads = Heads::new(alloc, rows(alloc, matrix)?)?;
         let tails = Heads::new(alloc, columns(alloc, matrix)?)?;
-        Ok(Block { heads, tails })
+        Ok(Block {
+            more: Vec::new(alloc),
+            heads,
+            tails,
+            settled: true,
+        })
     }
 
     /// How many activities there are.
@@ -106,7 +106,7 @@ impl Block {
     pub fn more(&self) -> &[Lag]
         ensures { result.now ≡ self.now.more }
     {
-        self.heads.arcs()
+        self.more.as_slice()
     }
 
     /// Begins anew, with no arc beside the matrix.
@@ -114,8 +114,24 @@ impl Block {
         ensures rows { self.new.rows ≡ self.old.rows }
         ensures more { self.new.more ≡ [] }
     {
+        let _columns = self.tails.activity_count();
+        let _rows = self.heads.activity_count();
+        self.more.clear();
         self.heads.begin();
         self.tails.begin();
+        self.settled = true;
+    }
+
+    /// Takes an arc into the matrix, with which it closes no walk of positive weight, and begins anew. Takes no memory.
+    pub fn take_root(&mut self, arc: Lag)
+        requires light { IsLight (length self.old.rows) arc }
+        requires none { ClosesNone arc self.old.rows }
+        ensures rows { self.new.rows ≡ rows_over arc self.old.rows }
+        ensures more { self.new.more ≡ [] }
+    {
+        self.more.clear();
+        root_both(&mut self.heads, &mut self.tails, arc);
+        self.settled = true;
     }
 
     /// Adds an arc. Whether the arcs close a walk of positive weight then; none where the heads don't tell.
@@ -125,9 +141,18 @@ impl Block {
         ensures more { OnOk result (self.new.more ≡ self.old.more ++ arc ∷ []) }
         ensures told { IfOk result (λ dead. IsToldOf (length self.new.rows) self.new.rows self.new.more dead) }
     {
-        let settled = self.heads.add(arc)?;
-        let _tails_settled = self.tails.add(converse_of(arc))?;
-        Ok(told(&self.heads, settled))
+        let _columns = self.tails.activity_count();
+        let _rows = self.heads.activity_count();
+        let was_settled = self.settled;
+        self.settled = false;
+        self.more.push(arc)?;
+        push_both(&mut self.heads, &mut self.tails, arc)?;
+        if !was_settled {
+            return Ok(None);
+        }
+        let settled = rise_both(&mut self.heads, &mut self.tails, arc);
+        self.settled = settled.unwrap_or(false);
+        Ok(told(settled))
     }
 
     /// Takes for the trial heads and tails with one arc more.
@@ -138,8 +163,7 @@ impl Block {
         ensures tried { AreEnds self.old.rows (self.old.more ++ arc ∷ []) self.new.tried_heads self.new.tried_tails }
     {
         let _columns = self.tails.activity_count();
-        self.heads.try_arc(arc);
-        self.tails.try_arc(converse_of(arc));
+        try_both(&mut self.heads, &mut self.tails, arc);
     }
 
     /// The weight of a walk from activity `a` to activity `b` that is easily seen.
@@ -194,12 +218,16 @@ impl Block {
         arc.weight <= first + over.weight + last
     }
 
-    /// Whether a way over one of the arcs beside the matrix shows that they imply this one.
+    /// Whether a way over one of the arcs beside the matrix shows that they imply this one, where neither touches 0: heads
+    /// and tails tell of the others.
     pub fn implies_by_one(&self, arc: Lag) -> bool
         requires from_activity { arc.from < length self.now.rows }
         requires to_activity { arc.to < length self.now.rows }
         ensures { IsTrue result → ImpliesWith (length self.now.rows) self.now.rows self.now.more arc }
     {
+        if arc.from == 0 || arc.to == 0 {
+            return false;
+        }
         for index in 0..self.heads.arc_count() {
             let over = self.heads.arc(index);
             let first = self.heads.weight(arc.from, over.from);

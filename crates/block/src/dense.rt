@@ -1,6 +1,6 @@
 //! The matrix of all arcs, where heads and tails don't show enough.
 
-ghost use Rattle.std.specs.Prelude.{◌≡◌, ◌<◌, length, IfOk};
+ghost use Rattle.std.specs.Prelude.{◌≡◌, ◌<◌, length, IfOk, OnErr};
 ghost use Rattle.std.specs.List.{All};
 ghost use Rattle.longest_path.specs.Insert.{FillsRows};
 ghost use Rattle.longest_path.specs.Matrix.{IsFull};
@@ -19,6 +19,7 @@ pub fn take(matrix: &mut MarkedMatrix, arc: Lag) -> Result<bool, AllocError>
     requires fills { FillsRows arc matrix.old.rows }
     ensures size { length matrix.new.rows ≡ length matrix.old.rows }
     ensures taken { IfOk result (IsTaken arc matrix.old matrix.new) }
+    ensures unchanged { OnErr result (matrix.new ≡ matrix.old) }
 {
     match matrix.insert_filling(arc.from, arc.to, arc.weight) {
         Ok(()) => Ok(false),

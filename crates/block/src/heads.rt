@@ -1,33 +1,30 @@
 //! The weights of walks from 0 over a matrix and arcs beside it.
 
-ghost use Rattle.std.specs.Prelude.{◌≡◌, ◌<◌, ◌^◌, ◌≤ℤ◌, ◌<ℤ◌, pos, ℕ, length, [], ◌∷◌, ◌++◌, IsTrue, IfOk, OnOk, OnErr, Some, slice_index_or};
+ghost use Rattle.std.specs.Prelude.{◌≡◌, ◌<◌, ◌^◌, length, [], ◌∷◌, ◌++◌, IfOk, OnOk, OnErr, Some, slice_index_or};
 ghost use Rattle.std.specs.List.{Contains};
-ghost use Rattle.std.specs.Bool.{MatchBool};
 ghost use Rattle.network.specs.declared.limits.TheConstants.{MAX_WALK_WEIGHT};
 ghost use Rattle.network.specs.Problem.{IsWithin};
-ghost use Rattle.network.specs.Schedule.{start, Meets};
+ghost use Rattle.network.specs.Schedule.{start};
 ghost use Rattle.network.specs.Walk.{entry};
-ghost use Rattle.longest_path.specs.Matrix.{IsMatrix, IsFull};
-ghost use Rattle.block.specs.declared.raise.TheConstants.{MAX_HEAD, MAX_TRIED};
-ghost use Rattle.block.specs.Implied.{AreReached};
-ghost use Rattle.block.specs.Heads.{AreHeads, AreSettled, IsLight, table_rows};
+ghost use Rattle.longest_path.specs.Insert.{ClosesNone, rows_over};
+ghost use Rattle.block.specs.Heads.{AreHeads, IsRowAt, IsLight, IsTable, table_rows};
+ghost use Rattle.block.specs.Rising.{AreThereAndBack, HaveRisen, IsRisenBy};
 
-use crate::raise::{raise, raise_from};
+use crate::rise::rise;
+use crate::root::go_over;
 use network::Lag;
 use std::alloc::{AllocError, Global};
 use std::marker::Model;
-
-/// How many passes are made beyond one for each arc.
-const MORE_PASSES: usize = 256;
 
 /// A matrix, arcs beside it, and the weights of walks from 0 over both; and weights for a trial.
 #[derive(Drop)]
 pub(crate) struct Heads {
     /// The rows of the matrix, in which every entry is there.
-    table: Vec<Vec<i64>>,
+    table: Vec<Vec<i32>>,
+    /// The arcs that don't touch 0.
     arcs: Vec<Lag>,
-    heads: Vec<i64>,
-    tried: Vec<i64>,
+    heads: Vec<i32>,
+    tried: Vec<i32>,
 }
 
 impl Model for Heads {
@@ -66,66 +63,46 @@ impl Heads {
         ensures value { entry self.now.rows a b ≡ Some result }
         ensures small { IsWithin MAX_WALK_WEIGHT result }
     {
-        self.table[a][b]
+        self.table[a][b] as i64
     }
 
-    /// The head of an activity.
+    /// The weight to an activity.
     pub(crate) fn head(&self, i: usize) -> i64
         requires { i < length self.now.rows }
         ensures value { result ≡ start self.now.heads i }
-        ensures small { IsWithin MAX_HEAD result }
+        ensures law { AreHeads self.now }
     {
-        self.heads[i]
+        self.heads[i] as i64
     }
 
     /// The weight to an activity in the trial.
     pub(crate) fn tried(&self, i: usize) -> i64
         requires { i < length self.now.rows }
         ensures value { result ≡ start self.now.tried i }
-        ensures small { IsWithin MAX_TRIED result }
-    {
-        self.tried[i]
-    }
-
-    /// Raises the head of an arc's end to the way over the arc, and what follows by the matrix, unless the heads meet
-    /// the arc. Whether it did.
-    fn raise_by(&mut self, arc: Lag) -> bool
-        requires arc { Contains self.old.arcs arc }
-        requires low { start self.old.heads 0 ≤ℤ pos 0 }
-        ensures heads { self.new ≡ record self.old { heads = self.new.heads } }
-        ensures met { MatchBool result (Unit {0}) ((self.new ≡ self.old) × Meets self.old.heads arc) }
-    {
-        let way = self.head(arc.from) + arc.weight;
-        if way <= self.head(arc.to) {
-            return false;
-        }
-        raise(
-            self.heads.as_mut_slice(),
-            way,
-            self.table[arc.to].as_slice(),
-        );
-        true
-    }
-
-    /// Whether the head of 0 is above 0: then a closed walk has positive weight.
-    pub(crate) fn is_late(&self) -> bool
-        ensures late { MatchBool result (pos 0 <ℤ start self.now.heads 0) (start self.now.heads 0 ≤ℤ pos 0) }
         ensures law { AreHeads self.now }
     {
-        self.heads[0] > 0
+        self.tried[i] as i64
     }
 
-    /// The arcs beside the matrix.
-    pub(crate) fn arcs(&self) -> &[Lag]
-        ensures { result.now ≡ self.now.arcs }
+    /// The weights to all activities.
+    pub(crate) fn all(&self) -> &[i32]
+        ensures value { result.now ≡ self.now.heads }
+        ensures law { AreHeads self.now }
     {
-        self.arcs.as_slice()
+        self.heads.as_slice()
+    }
+
+    /// The same in the trial.
+    pub(crate) fn all_tried(&self) -> &[i32]
+        ensures value { result.now ≡ self.now.tried }
+        ensures law { AreHeads self.now }
+    {
+        self.tried.as_slice()
     }
 
     /// How many arcs there are.
     pub(crate) fn arc_count(&self) -> usize
         ensures value { result ≡ length self.now.arcs }
-        ensures small { result < 2 ^ 63 }
         ensures law { AreHeads self.now }
     {
         self.arcs.len()
@@ -139,53 +116,8 @@ impl Heads {
         self.arcs[index]
     }
 
-    /// Raises the heads by each arc in turn, and stops where that of 0 is above 0. Whether it raised one or stopped.
-    fn pass(&mut self) -> bool
-        ensures heads { self.new ≡ record self.old { heads = self.new.heads } }
-        ensures settled { MatchBool result (Unit {0}) (AreSettled self.new) }
-    {
-        let mut raised = false;
-        for index in 0..self.arc_count() {
-            if self.is_late() {
-                return true;
-            }
-            let arc = self.arc(index);
-            if self.raise_by(arc) {
-                raised = true;
-            }
-        }
-        raised
-    }
-
-    /// Passes over the arcs until a pass raises nothing, but no oftener than this. Whether the heads meet all arcs then.
-    ///
-    /// Without a positive closed walk a pass for each arc is enough. Round one that avoids 0 heads rise pass by pass,
-    /// until that of 0 does: some passes more cost less than a matrix.
-    fn settle(&mut self) -> bool
-        ensures heads { self.new ≡ record self.old { heads = self.new.heads } }
-        ensures settled { MatchBool result (AreSettled self.new) (Unit {0}) }
-    {
-        for _round in 0..self.arc_count() + MORE_PASSES {
-            if !self.pass() {
-                return true;
-            }
-        }
-        false
-    }
-
-    /// Adds an arc. Whether the heads meet all arcs then.
-    pub(crate) fn add(&mut self, arc: Lag) -> Result<bool, AllocError>
-        requires { IsLight (length self.old.rows) arc }
-        ensures added { OnOk result (self.new ≡ record self.old { arcs = self.old.arcs ++ arc ∷ []; heads = self.new.heads }) }
-        ensures settled { IfOk result (λ settled. MatchBool settled (AreSettled self.new) (Unit {0})) }
-        ensures unchanged { OnErr result (self.new ≡ self.old) }
-    {
-        self.push(arc)?;
-        Ok(self.settle())
-    }
-
     /// Adds an arc to the list.
-    fn push(&mut self, arc: Lag) -> Result<(), AllocError>
+    pub(crate) fn push(&mut self, arc: Lag) -> Result<(), AllocError>
         requires { IsLight (length self.old.rows) arc }
         ensures added { OnOk result (self.new ≡ record self.old { arcs = self.old.arcs ++ arc ∷ [] }) }
         ensures unchanged { OnErr result (self.new ≡ self.old) }
@@ -196,7 +128,8 @@ impl Heads {
 
     /// Begins anew, with the matrix alone.
     pub(crate) fn begin(&mut self)
-        ensures { self.new ≡ record self.old { arcs = []; heads = self.new.heads } }
+        ensures begun { self.new ≡ record self.old { arcs = []; heads = self.new.heads } }
+        ensures first { IsRowAt self.old.rows 0 self.new.heads }
     {
         self.arcs.clear();
         self.heads
@@ -204,32 +137,98 @@ impl Heads {
             .copy_from_slice(self.table[0].as_slice());
     }
 
-    /// Takes for the trial the heads, raised by the way over one arc more.
-    pub(crate) fn try_arc(&mut self, arc: Lag)
-        requires { IsLight (length self.old.rows) arc }
-        ensures tried { self.new ≡ record self.old { tried = self.new.tried } }
-        ensures reached { AreReached (length self.old.rows) self.old.rows (self.old.arcs ++ arc ∷ []) self.new.tried }
+    /// Takes a row of the matrix for the trial.
+    fn take_row(&mut self, a: usize)
+        requires { a < length self.old.rows }
+        ensures same { self.new ≡ record self.old { tried = self.new.tried } }
+        ensures row { IsRowAt self.old.rows a self.new.tried }
     {
-        let way = self.head(arc.from) + arc.weight;
-        raise_from(
+        self.tried
+            .as_mut_slice()
+            .copy_from_slice(self.table[a].as_slice());
+    }
+
+    /// Takes an arc into the matrix, of whose end the trial has the row.
+    fn go_over(&mut self, arc: Lag)
+        requires light { IsLight (length self.old.rows) arc }
+        requires none { ClosesNone arc self.old.rows }
+        requires row { IsRowAt self.old.rows arc.to self.old.tried }
+        ensures { self.new ≡ record self.old { rows = rows_over arc self.old.rows } }
+    {
+        go_over(self.table.as_mut_slice(), self.tried.as_slice(), arc);
+    }
+
+    /// Takes an arc into the matrix, and begins anew with that alone.
+    pub(crate) fn take_root(&mut self, arc: Lag)
+        requires light { IsLight (length self.old.rows) arc }
+        requires none { ClosesNone arc self.old.rows }
+        ensures rooted { self.new ≡ record {
+          rows = rows_over arc self.old.rows;
+          arcs = [];
+          heads = self.new.heads;
+          tried = self.new.heads;
+        } }
+        ensures first { IsRowAt self.new.rows 0 self.new.heads }
+    {
+        self.take_row(arc.to);
+        self.go_over(arc);
+        self.begin();
+        self.begin_trial();
+    }
+
+    /// Raises the weights by an arc, beside weights back to 0. Whether they meet all arcs then, if they met the others
+    /// before; none where a way over one and back to 0 weighs more than 0.
+    pub(crate) fn rise(&mut self, back: &[i32], arc: Lag) -> Option<bool>
+        requires both { AreThereAndBack self.old.rows self.old.heads back.now }
+        requires light { IsLight (length self.old.rows) arc }
+        ensures heads { self.new ≡ record self.old { heads = self.new.heads } }
+        ensures risen { HaveRisen self.old.rows (arc ∷ self.old.arcs) back.now self.old.heads self.new.heads }
+        ensures told { IsRisenBy arc self.old.arcs back.now self.old.heads self.new.heads result }
+    {
+        rise(
+            self.heads.as_mut_slice(),
+            back,
+            self.table.as_slice(),
+            self.arcs.as_slice(),
+            arc,
+        )
+    }
+
+    /// Takes the weights for the trial.
+    pub(crate) fn begin_trial(&mut self)
+        ensures { self.new ≡ record self.old { tried = self.old.heads } }
+    {
+        self.tried
+            .as_mut_slice()
+            .copy_from_slice(self.heads.as_slice());
+    }
+
+    /// Raises the weights of the trial by an arc, beside weights back to 0.
+    pub(crate) fn try_arc(&mut self, back: &[i32], arc: Lag)
+        requires both { AreThereAndBack self.old.rows self.old.tried back.now }
+        requires light { IsLight (length self.old.rows) arc }
+        ensures tried { self.new ≡ record self.old { tried = self.new.tried } }
+        ensures risen { HaveRisen self.old.rows (arc ∷ self.old.arcs) back.now self.old.tried self.new.tried }
+    {
+        let _told = rise(
             self.tried.as_mut_slice(),
-            self.heads.as_slice(),
-            way,
-            self.table[arc.to].as_slice(),
+            back,
+            self.table.as_slice(),
+            self.arcs.as_slice(),
+            arc,
         );
     }
 
     /// Those of the matrix of these rows, with no arc beside it.
-    pub(crate) fn new(alloc: Global, table: Vec<Vec<i64>>) -> Result<Heads, AllocError>
-        requires matrix { IsMatrix (table_rows table.items) }
-        requires full { IsFull (table_rows table.items) }
-        requires some { 0 < length (table_rows table.items) }
-        ensures { IfOk result (λ x. x ≡ record {
+    pub(crate) fn new(alloc: Global, table: Vec<Vec<i32>>) -> Result<Heads, AllocError>
+        requires { IsTable (table_rows table.items) }
+        ensures made { IfOk result (λ x. x ≡ record {
           rows = table_rows table.items;
           arcs = [];
           heads = x.heads;
-          tried = x.tried;
+          tried = x.heads;
         }) }
+        ensures first { IfOk result (λ x. IsRowAt (table_rows table.items) 0 x.heads) }
     {
         let heads = Vec::from_slice(alloc, table[0].as_slice())?;
         let tried = Vec::from_slice(alloc, table[0].as_slice())?;

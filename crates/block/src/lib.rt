@@ -3,9 +3,12 @@
 #![tactic(auto)]
 
 mod block;
+mod both;
 mod dense;
 mod heads;
 mod raise;
+mod rise;
+mod root;
 mod table;
 
 pub use block::{Block, MAX_SEEN};

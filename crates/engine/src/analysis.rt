@@ -65,7 +65,7 @@ impl Engine<'_> {
         self.marks.end();
         let (level, lbd) = self.put_in_order()?;
         let links = self.marks.links(self.alloc)?;
-        let number = self.log.lemma(&self.marks.nogood, &links, end)?;
+        let number = self.log.lemma(&self.marks.nogood, lbd, links, end)?;
         for literal in self.marks.nogood.iter_mut() {
             *literal = !*literal;
         }

@@ -9,6 +9,7 @@ mod analysis;
 mod choices;
 mod explain;
 mod heap;
+mod imports;
 mod marks;
 mod pace;
 mod search;

@@ -4,7 +4,7 @@ use crate::pace::Pace;
 use crate::state::{Engine, Options};
 use instance::{Instance, Walks, settle};
 use literals::{Conflict, Literal, Reason, Stop};
-use proof_log::{Ground, Link};
+use proof_log::Ground;
 use propagation::find_overloads;
 use std::alloc::{AllocError, Global};
 use tables::Result;
@@ -70,7 +70,9 @@ impl<'a> Engine<'a> {
     ) -> Result<Engine<'a>> {
         let settled = settle(alloc, instance, walks.try_copy(alloc)?, most)?;
         let mut engine = Engine::new(alloc, instance, &settled, most, options)?;
-        engine.forced = settled.forced;
+        for order in &settled.forced {
+            engine.log.order(order.from, order.to)?;
+        }
         if settled.is_dead || !engine.has_room() {
             engine.refute(Ground::Arcs)?;
         } else if let Some(conflict) = conflict_of(engine.begin())? {
@@ -107,8 +109,14 @@ impl<'a> Engine<'a> {
         self.floor = if run.first.len() > 1 { 1 } else { 0 };
         pace.start();
         self.go_back(0)?;
-        run.conflict = conflict_of(self.propagate())?;
+        run.conflict = conflict_of(self.settle_root())?;
         Ok(())
+    }
+
+    /// What follows at the root, with what others have proved.
+    fn settle_root(&mut self) -> Result<(), Stop> {
+        self.admit_all()?;
+        self.propagate()
     }
 
     /// Learns from a conflict, and sees what follows.
@@ -129,7 +137,7 @@ impl<'a> Engine<'a> {
         Ok(Found::Open)
     }
 
-    /// One step without a conflict: a restart where it is time for one, and then a decision.
+    /// One step without a conflict: a restart where it is time for one, with a look at imports, or else a decision.
     fn go_on(&mut self, run: &mut Run, pace: &mut Pace) -> Result<Found> {
         if run.last.is_some_and(|last| self.counts.conflicts >= last) {
             return Ok(Found::Stopped);
@@ -139,6 +147,10 @@ impl<'a> Engine<'a> {
             return Ok(Found::Refuted);
         }
         self.start_again(pace)?;
+        if self.trail.level() == 0 && !self.imports.is_empty() {
+            run.conflict = conflict_of(self.settle_root())?;
+            return Ok(Found::Open);
+        }
         run.conflict = conflict_of(self.find_overloads(&run.first))?;
         if run.conflict.is_some() {
             return Ok(Found::Open);
@@ -169,27 +181,26 @@ impl<'a> Engine<'a> {
                 .learn(&self.marks.nogood, learnt.lbd, learnt.number)?;
             Reason::Lemma { place }
         } else {
-            self.log_root()?;
-            let lemma = learnt.number;
-            let ground = Ground::Use { lemma };
-            self.log.root(Link { literal, ground })?;
             Reason::Given
         };
         Ok(Some(self.trail.force(literal, reason)))
     }
 
-    /// Goes back to the first decisions if it is time to, or to the root if many lemmas are new, of which some go then.
+    /// Goes back to the first decisions if it is time to, or to the root if there are imports, or many lemmas are new, of
+    /// which some go then.
     fn start_again(&mut self, pace: &mut Pace) -> Result<()> {
         let is_due = self.counts.conflicts >= self.reduction;
-        if !is_due && !pace.is_due() {
+        if !is_due && !pace.is_due() && !self.has_late_imports() {
             return Ok(());
         }
         pace.start();
         self.counts.restarts = self.counts.restarts.wrapping_add(1);
         if is_due {
             self.reduce()
-        } else {
+        } else if self.imports.is_empty() {
             self.go_back(self.floor)
+        } else {
+            self.go_back(0)
         }
     }
 
@@ -197,7 +208,9 @@ impl<'a> Engine<'a> {
     pub fn reduce(&mut self) -> Result<()> {
         self.go_back(0)?;
         self.log_root()?;
-        self.lemmas.reduce(&self.trail)?;
+        for number in &self.lemmas.reduce(&self.trail)? {
+            self.log.forget(*number)?;
+        }
         self.choices.reduce()?;
         self.reduction_step = self.reduction_step.wrapping_add(LATER);
         self.reduction = self.counts.conflicts.wrapping_add(self.reduction_step);
@@ -261,16 +274,8 @@ impl<'a> Engine<'a> {
     /// No schedule ends before this, as far as the root knows. Goes back to the root.
     pub fn least_end(&mut self) -> Result<i32> {
         self.go_back(0)?;
+        self.log_root()?;
         Ok(self.trail.least(self.instance.end()))
-    }
-
-    /// The proof ends without a refutation: it shows the bound of the root.
-    pub fn close_log(&mut self) -> Result<()> {
-        if self.is_refuted {
-            return Ok(());
-        }
-        self.go_back(0)?;
-        self.refute(Ground::Arcs)
     }
 
     /// Whether a literal holds at the root, to which the search goes back.

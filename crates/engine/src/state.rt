@@ -1,10 +1,11 @@
 //! The state of a search: the trail, the propagators that read it, lemmas, choices, and the log of the proof.
 
 use crate::choices::Choices;
+use crate::imports::Import;
 use crate::marks::Marks;
-use instance::{Edge, Instance, Rivals, Settled, greedy_cliques, start_sequence};
+use instance::{Instance, Rivals, Settled, greedy_cliques, start_sequence};
 use literals::{Lemmas, Literal, Stop, Trail};
-use proof_log::Log;
+use proof_log::{Log, Slots};
 use propagation::{Cliques, Edges, TimeTable};
 use std::alloc::Global;
 use tables::{Result, Rows, Table};
@@ -18,6 +19,8 @@ pub struct Options {
     pub has_cliques: bool,
     /// Shakes the first weights.
     pub seed: u64,
+    /// Where its lemmas go.
+    pub slots: Slots,
 }
 
 /// How much was done.
@@ -63,12 +66,13 @@ pub struct Engine<'a> {
     pub(crate) table: TimeTable<'a>,
     pub(crate) cliques: Cliques<'a>,
     pub(crate) lemmas: Lemmas,
+    /// What others have proved and it has not looked at yet, and the count of conflicts when it did so last.
+    pub(crate) imports: Vec<Import>,
+    pub(crate) looked: u64,
     pub(crate) choices: Choices,
     pub(crate) marks: Marks,
     /// The log of the proof.
     pub log: Log,
-    /// Orders that hold always, which the search began with.
-    pub forced: Vec<Edge>,
     /// Events of the root before this one are in the log.
     pub(crate) logged: u32,
     /// Events before this one were followed by arcs, orders and lemmas.
@@ -159,11 +163,12 @@ impl<'a> Engine<'a> {
             cliques: Cliques::new(alloc, instance, &edges, &found)?,
             edges,
             lemmas: Lemmas::new(alloc, trail.slots())?,
+            imports: Vec::new(alloc),
+            looked: 0,
             choices: Choices::new(alloc, &trail, sequence, only_orders, options.seed)?,
             trail,
             marks: Marks::new(alloc),
-            log: Log::new(alloc, options.has_log),
-            forced: Vec::new(alloc),
+            log: Log::new(alloc, options.has_log, options.slots),
             logged: 1,
             queue: 1,
             table_marks: Table::new(alloc, 0),
@@ -265,6 +270,5 @@ impl<'a> Engine<'a> {
             .saturating_add(self.trail.bytes())
             .saturating_add(self.table.bytes())
             .saturating_add(self.choices.bytes())
-            .saturating_add(self.log.bytes())
     }
 }

@@ -10,6 +10,6 @@ mod orders;
 mod walks;
 
 pub use cliques::greedy_cliques;
-pub use numbers::{Edge, Instance, MAX_MAKESPAN};
+pub use numbers::{Edge, Instance};
 pub use orders::{Rivals, Settled, settle, start_sequence};
 pub use walks::Walks;

@@ -5,9 +5,6 @@ use network::Project;
 use std::alloc::Global;
 use tables::{Result, Rows, Table, narrow};
 
-/// No schedule of a makespan above this, in periods, has a record.
-pub const MAX_MAKESPAN: i32 = 1_000_000;
-
 /// `to` starts at least so many periods after `from` starts.
 #[derive(Clone, Copy, PartialEq, Eq, PartialOrd, Ord, Debug)]
 pub struct Edge {
@@ -193,17 +190,17 @@ impl Instance {
         (end.clamp(0, MAX_HORIZON) as i32).min(self.horizon)
     }
 
-    /// An activity and a resource of which it needs more than there is.
-    pub fn too_much(&self) -> Option<(u32, u32)> {
+    /// Whether some activity alone needs more of a resource than there is.
+    pub fn asks_too_much(&self) -> bool {
         for activity in 0..self.count() {
-            let is_too_much = |resource: &u32| {
-                self.uses(activity, *resource)
-                    && self.demand(activity, *resource) > self.capacity(*resource)
+            let is_too_much = |resource: u32| {
+                self.uses(activity, resource)
+                    && self.demand(activity, resource) > self.capacity(resource)
             };
-            if let Some(resource) = (0..self.resource_count()).find(is_too_much) {
-                return Some((activity, resource));
+            if (0..self.resource_count()).any(is_too_much) {
+                return true;
             }
         }
-        None
+        false
     }
 }

@@ -10,8 +10,8 @@ ghost use Rattle.network.specs.Schedule.{IsFeasible, IsLowerBound, Meets, makesp
 ghost use Rattle.record_text.specs.FirstWrong.{IsFactOf};
 ghost use Rattle.block.specs.Heads.{IsLight};
 ghost use Rattle.lemma_proof.specs.declared.line.Line.{Line};
-ghost use Rattle.lemma_proof.specs.Lines.{IsArc, IsRefuted, picked};
-ghost use Rattle.lemma_book.specs.Ledger.{Claims, IsBoundOf, IsSmall, Leads, LetsGo, MayLead, MayTake, Takes, ceiling_of, first_ledger, own_of, root_of, with_lemma, with_slot};
+ghost use Rattle.lemma_proof.specs.Lines.{IsArc, IsIn, IsRefuted, picked};
+ghost use Rattle.lemma_book.specs.Ledger.{Claims, IsBoundOf, IsFilled, IsSmall, Leads, LetsGo, MayLead, MayTake, Takes, ceiling_of, first_ledger, own_of, root_of, with_lemma, with_slot};
 
 use crate::deadline::{deadline, first_root};
 use crate::leading::{are_starts, is_feasible};
@@ -229,6 +229,23 @@ impl<'a> Ledger<'a> {
         ensures { result.now ≡ self.now.project }
     {
         self.project
+    }
+
+    /// The root's arcs beside the project's rules, in the order in which they came.
+    pub fn roots(&self) -> &[Lag]
+        ensures { result.now ≡ self.now.roots }
+    {
+        self.roots.as_slice()
+    }
+
+    /// The arcs of the lemma in a slot, if there is one.
+    pub fn lemma_in(&self, slot: usize) -> Option<&[Lag]>
+        ensures { MatchOption result (¬ IsFilled self.now.lemmas slot) (λ arcs. IsIn self.now.lemmas slot arcs.now) }
+    {
+        match self.lemmas.get(slot) {
+            Some(Some(arcs)) => Some(arcs.as_slice()),
+            _ => None,
+        }
     }
 
     /// The starts of the best schedule by activity, in periods.

@@ -26,7 +26,7 @@ mod write;
 pub use event::{Claim, Event, Lines};
 pub use fault::LogFault;
 pub use law::spelling_law;
-pub use read::{Read, read_event};
+pub use read::{Read, is_cut_off, read_event};
 pub use title::{put_title, read_title};
 pub use writable::is_writable;
 pub use write::put_event;

@@ -1,7 +1,7 @@
 //! Reads events.
 
-ghost use Rattle.std.specs.Prelude.{◌≡◌, ◌≢◌, ◌<◌, ◌≤◌, length, Some, None, Ok, Err, IfOk, IfErr};
-ghost use Rattle.lemma_log.specs.declared.fault.LogFault.TheVariants.{Memory};
+ghost use Rattle.std.specs.Prelude.{◌≡◌, ◌≢◌, ◌<◌, ◌≤◌, ◌↔◌, length, Some, None, Ok, Err, IfOk, IfErr, IsTrue};
+ghost use Rattle.lemma_log.specs.declared.fault.LogFault.TheVariants.{Memory, Short};
 ghost use Rattle.lemma_log.specs.Reading.{event_in, frame_in, read_in};
 ghost use Rattle.lemma_log.specs.Law.{IsFirst, ReadsBack};
 
@@ -52,6 +52,13 @@ fn event(alloc: Global, bytes: &[u8]) -> Result<(Event, &[u8]), LogFault>
     let (body, rest) = frame(bytes)?;
     let event = whole(alloc, body)?;
     Ok((event, rest))
+}
+
+/// Whether bytes end before the event does that they begin with. The event is not read for that.
+pub fn is_cut_off(bytes: &[u8]) -> bool
+    ensures { IsTrue result ↔ (read_in bytes.now ≡ Err Short) }
+{
+    matches!(frame(bytes), Err(LogFault::Short))
 }
 
 /// The event that bytes begin with, and how many bytes it has.

@@ -14,7 +14,7 @@ ghost use Rattle.lemma_proof.specs.Lines.{AreLemmas, Shows};
 ghost use Rattle.lemma_proof.specs.Bench.{Holds, IsKnownOf, IsMatrixOfAll};
 ghost use Rattle.lemma_proof.specs.Stepping.{Steps};
 
-use crate::dense::{matrix_of_all, matrix_with_arc, take_arc};
+use crate::dense::{matrix_of_all, take_arc};
 use crate::line::Line;
 use crate::shows::{Lags, seen_arc, shown_arc};
 use block::Block;
@@ -76,12 +76,10 @@ impl Bench {
         ensures failed { OnErr result (self.new ≡ self.old) }
     {
         prove!(self.block.activity_count() > 0);
-        let Some(matrix) = matrix_with_arc(self.alloc, self.matrix.matrix(), arc)? else {
+        if take_arc(&mut self.matrix, arc)? {
             return Ok(true);
-        };
-        let block = Block::new(self.alloc, matrix.matrix())?;
-        self.matrix = matrix;
-        self.block = block;
+        }
+        self.block.take_root(arc);
         self.dense = None;
         self.is_dead = false;
         Ok(false)

@@ -1,6 +1,6 @@
 //! The matrix of all arcs of a block.
 
-ghost use Rattle.std.specs.Prelude.{◌≡◌, ◌∷◌, [], length, IfOk, IfSome, OnOk};
+ghost use Rattle.std.specs.Prelude.{◌≡◌, length, IfOk, IfSome, OnErr, OnOk};
 ghost use Rattle.longest_path.specs.Matrix.{IsFull};
 ghost use Rattle.block.specs.Heads.{IsLight};
 ghost use Rattle.block.specs.Block.{IsMatrixWith, IsTaken};
@@ -33,22 +33,8 @@ pub(crate) fn take_arc(dense: &mut MarkedMatrix, arc: Lag) -> Result<bool, Alloc
     requires light { IsLight (length dense.old.rows) arc }
     ensures wide { OnOk result (IsWide (length dense.old.rows) dense.new) }
     ensures taken { IfOk result (IsTaken arc dense.old dense.new) }
+    ensures unchanged { OnErr result (dense.new ≡ dense.old) }
 {
     prove!(dense.matrix().activity_count() <= 1_002);
     take(dense, arc)
-}
-
-/// The matrix of a matrix's arcs and one more. None where they close a walk of positive weight.
-pub(crate) fn matrix_with_arc(
-    alloc: Global,
-    matrix: &Matrix,
-    arc: Lag,
-) -> Result<Option<MarkedMatrix>, AllocError>
-    requires full { IsFull matrix.now }
-    requires light { IsLight (length matrix.now) arc }
-    ensures wide { IfOk result (λ found. IfSome found (IsWide (length matrix.now))) }
-    ensures with { IfOk result (IsMatrixWith matrix.now (arc ∷ [])) }
-{
-    prove!(matrix.activity_count() <= 1_002);
-    matrix_with(alloc, matrix, &[arc])
 }

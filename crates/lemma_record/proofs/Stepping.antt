@@ -207,6 +207,9 @@ title_piece p text piece x none due read = title_due p text piece x (none_here x
 pub event_piece : (p : Problem) (text piece : List ℕ) (x : CheckerOf) → is_some x.proved ≡ false → x.due ≢ 0 → HasRead p text x → IsAt p (text ++ piece) x.ledger (x.left ++ piece) x.due
 event_piece p text piece x none due read = event_due p text piece x (awaits p text x x.proved none read) due
 
+pub event_waits : (p : Problem) (text : List ℕ) (x : CheckerOf) → is_some x.proved ≡ false → IsAt p text x.ledger x.left x.due → read_in x.left ≡ Err reading.Short → HasRead p text x
+event_waits p text x none at short = subst (λ (proved : Option Proved). MatchOption proved (Awaits p text x) (λ what. HasClaimed p text [] what x.due)) (sym (none_here x.proved none)) (inr (at, short))
+
 piece_after : (p : Problem) (text piece more : List ℕ) (x : CheckerOf) (proved : Option Proved) → is_some proved ≡ true → piece ≢ [] → MatchOption proved (Awaits p text x) (λ what. HasClaimed p text [] what x.due) → IsFirstFault p ((text ++ piece) ++ more) (record { event = x.due; wrong = wrong.Trailing })
 piece_after p text piece more x None some here read = absurd (false≢true some)
 piece_after p text piece more x (Some what) some here read = trailing_found p (text ++ piece) piece more what x.due (claimed_more p text piece what x.due read) here

@@ -1,8 +1,10 @@
 -- What a book keeps: a ledger, and the log of all that it took.
-use Rattle.std.specs.Prelude.{◌≡◌, Bool, true, false, ℕ, List, Option, IfSome}
+use Rattle.std.specs.Prelude.{◌≡◌, ◌⊎◌, Bool, true, false, ℕ, ℤ, List, Vec, Option, None, Some, IfSome, IsSome, IsNone}
 use Rattle.std.specs.List.{AllByRecursion}
+use Rattle.std.specs.declared.alloc.Global.{Global}
 use Rattle.lemma_log.specs.declared.event.Event.{Event}
-use Rattle.lemma_log.specs.Text.{IsWritable, IsWritableBody}
+use Rattle.network.specs.Problem.{Problem}
+use Rattle.lemma_log.specs.Text.{IsWritable, IsWritableBody, title_text}
 use Rattle.lemma_log.specs.Logs.{log_text}
 use Rattle.lemma_book.specs.Ledger.{LedgerOf, first_ledger}
 use Rattle.lemma_record.specs.Right.{IsStep, Takes, TakesAll}
@@ -11,6 +13,10 @@ use Rattle.lemma_record.specs.Right.{IsStep, Takes, TakesAll}
 pub record BookOf : Type 0 where
   pub ledger : LedgerOf
   pub log : Option (List ℕ)
+
+-- a book that took nothing
+abbrev pub first_book : Problem → BookOf
+first_book p = record { ledger = first_ledger p; log = Some title_text }
 
 -- the text is that of steps which are taken one after another from the first ledger to this one
 pub record IsLogOf (l : LedgerOf) (text : List ℕ) : Type 0 where
@@ -31,7 +37,16 @@ pub record MayOffer (l : LedgerOf) (e : Event) : Type 0 where
   pub after : LedgerOf
   pub takes : Takes l e after
 
--- an event is taken if it may be; or nothing changes
+-- an event that may be is taken and logged; or it may not be, and nothing changes
 abbrev pub Offers : BookOf → Event → Bool → BookOf → Type 0
-Offers old e true new = MayOffer old.ledger e × Takes old.ledger e new.ledger
+Offers old e true new = MayOffer old.ledger e × Takes old.ledger e new.ledger × IsSome new.log
 Offers old e false new = (¬ MayOffer old.ledger e) × (new ≡ old)
+
+-- memory ran out: nothing changes; or the event is taken, and no log is left
+abbrev pub IsCutShort : BookOf → Event → BookOf → Type 0
+IsCutShort old e new = (new ≡ old) ⊎ (Takes old.ledger e new.ledger × IsNone new.log)
+
+-- the starts are those of the best schedule, if there is one
+abbrev pub IsBest : LedgerOf → Option (Vec ℤ Global) → Type 0
+IsBest l None = l.best ≡ None
+IsBest l (Some starts) = l.best ≡ Some starts.items

@@ -1,8 +1,8 @@
 //! A ledger, and the log of all that it took.
 
-ghost use Rattle.std.specs.Prelude.{◌≡◌, ◌↔◌, IfOk, IsTrue};
-ghost use Rattle.lemma_book.specs.Ledger.{IsSmall, first_ledger};
-ghost use Rattle.lemma_record.specs.Book.{Offers};
+ghost use Rattle.std.specs.Prelude.{◌≡◌, ◌↔◌, None, IfOk, OnErr, MatchOption, IsSomeAnd, IsTrue};
+ghost use Rattle.lemma_book.specs.Ledger.{IsSmall};
+ghost use Rattle.lemma_record.specs.Book.{IsBest, IsCutShort, Offers, first_book};
 ghost use Rattle.lemma_record.specs.Faults.{IsRightText};
 ghost use Rattle.lemma_record.specs.Right.{IsStep, proved_of};
 ghost use Rattle.lemma_log.specs.declared.event.Claim.{Claim};
@@ -71,7 +71,9 @@ pub struct Shown {
 }
 
 /// A copy of starts, if there are any.
-fn starts_of(alloc: Global, best: Option<&[i64]>) -> Result<Option<Vec<i64>>, AllocError> {
+fn starts_of(alloc: Global, best: Option<&[i64]>) -> Result<Option<Vec<i64>>, AllocError>
+    ensures { IfOk result (λ copy. MatchOption best.entry (copy ≡ None) (λ starts. IsSomeAnd copy (λ of. of.items ≡ starts.now))) }
+{
     match best {
         Some(starts) => Ok(Some(Vec::from_slice(alloc, starts)?)),
         None => Ok(None),
@@ -81,7 +83,7 @@ fn starts_of(alloc: Global, best: Option<&[i64]>) -> Result<Option<Vec<i64>>, Al
 impl<'a> Book<'a> {
     /// A book that took nothing.
     pub fn new(alloc: Global, project: &'a Project) -> Result<Book<'a>, AllocError>
-        ensures { IfOk result (λ x. x.ledger ≡ first_ledger project.now) }
+        ensures { IfOk result (λ x. x ≡ first_book project.now) }
     {
         let ledger = Ledger::new(alloc, project)?;
         let mut log = Vec::new(alloc);
@@ -103,7 +105,8 @@ impl<'a> Book<'a> {
     /// Takes an event and logs it, if it is no claim, its numbers are within the limits of a log and the ledger takes it.
     /// Once memory runs out for the log, nothing is taken any more; what is proved stays proved.
     pub fn offer(&mut self, event: Event) -> Result<bool, AllocError>
-        ensures { IfOk result (λ taken. Offers self.old event taken self.new) }
+        ensures taken { IfOk result (λ taken. Offers self.old event taken self.new) }
+        ensures cut_short { OnErr result (IsCutShort self.old event self.new) }
     {
         if !is_step(&event) || !is_writable(&event) {
             return Ok(false);
@@ -127,6 +130,7 @@ impl<'a> Book<'a> {
         ensures right { IfOk result (λ shown. (c : Claim) × IsRightText self.entry.ledger.project shown.log.items c
             × (shown.proved ≡ proved_of c)) }
         ensures law { IfOk result (λ shown. IsFactOf self.entry.ledger.project shown.proved) }
+        ensures best { IfOk result (λ shown. IsBest self.entry.ledger shown.best) }
     {
         let Book { alloc, ledger, log } = self;
         let Some(mut log) = log else {

@@ -12,7 +12,7 @@ ghost use Rattle.lemma_record.specs.SoFar.{IsClaimed, IsProvedSoFar};
 use crate::fault::{EventFault, NO_MEMORY, Wrong};
 use crate::next::{nothing_after, take_whole};
 use lemma_book::Ledger;
-use lemma_log::{LogFault, read_title};
+use lemma_log::{LogFault, is_cut_off, read_title};
 use network::Project;
 use record_text::Proved;
 use std::alloc::{AllocError, Global};
@@ -117,6 +117,8 @@ impl<'a> Checker<'a> {
         self.left.extend_from_slice(piece)?;
         if self.due == 0 {
             self.read_title()
+        } else if is_cut_off(&self.left) {
+            Ok(())
         } else {
             self.read_events()
         }

@@ -286,8 +286,8 @@ impl Lemmas {
     }
 
     /// Forgets half of the lemmas that did little, and all that hold always. At the root only, where none is a reason
-    /// and all that follows is there.
-    pub fn reduce(&mut self, trail: &Trail) -> Result<()> {
+    /// and all that follows is there. Gives the numbers of those that go.
+    pub fn reduce(&mut self, trail: &Trail) -> Result<Vec<u32>> {
         let kept = self.kept(trail)?;
         let empty = Lemmas::new(self.alloc, narrow(self.watched.len()))?;
         let bump = self.bump;
@@ -304,6 +304,21 @@ impl Lemmas {
                 self.add(&left, *head)?;
             }
         }
-        Ok(())
+        old.gone(&kept)
+    }
+
+    /// The numbers of the lemmas that are not among these, which come by their places.
+    fn gone(&self, kept: &[Head]) -> Result<Vec<u32>> {
+        let mut gone = Vec::new(self.alloc);
+        let mut kept = kept.iter().peekable();
+        for head in self.heads.all() {
+            if kept
+                .next_if(|next: &&Head| next.place == head.place)
+                .is_none()
+            {
+                gone.push(head.number)?;
+            }
+        }
+        Ok(gone)
     }
 }

@@ -1,8 +1,10 @@
-//! What a search tells of its proof: each lemma with the steps that lead to it, in a few bytes.
+//! What a search tells of its proof: each lemma with the steps that lead to it.
 #![tactic(auto)]
 
 mod log;
+mod numbers;
 mod step;
 
 pub use log::Log;
-pub use step::{Ground, Kind, Link, NO_LINK, Step};
+pub use numbers::Slots;
+pub use step::{Ground, Link, NO_LINK, Step};

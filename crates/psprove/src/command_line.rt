@@ -5,8 +5,8 @@ use calls::{
     Call, WordsFault, file, file_name, flag, matches_of, number, program_command,
     project_subcommand, subcommand, words,
 };
-use clap::{ArgMatches, Command};
-use solve_runs::{Asked, MAX_JOBS};
+use clap::{Arg, ArgMatches, Command};
+use solve_runs::{Asked, MAX_JOBS, Progress};
 use std::alloc::{AllocError, Global};
 
 /// How many seconds a search has by default.
@@ -15,7 +15,7 @@ const DEFAULT_SECONDS: &str = "60";
 /// How many searches run side by side by default.
 const DEFAULT_JOBS: &str = "1";
 
-/// How many MiB lemmas and their proofs may take by default.
+/// How many MiB the lemmas of a search may take by default.
 const DEFAULT_MEMORY: &str = "512";
 
 /// The most MiB of `--memory`: 1 TiB.
@@ -24,55 +24,94 @@ const MAX_MEMORY: i64 = 1_048_576;
 /// The most conflicts and the most seconds of the options.
 const MAX_LIMIT: i64 = 1_000_000_000;
 
+/// The forms of `--progress`.
+const FORMS: &[&str] = &["lines", "json"];
+
 /// What words ask for.
 #[derive(Debug, Drop)]
 pub(crate) enum Work {
-    /// To check a record against the project in a file.
-    Verify { project: String },
-    /// To search, with the files of starts and of the record.
-    Solve { asked: Asked, call: Call },
+    /// To check a log against the project in a file; whether it may be cut off.
+    Verify {
+        project: String,
+        partial: bool,
+    },
+    /// To search, with the files of starts and of the record, and perhaps until there is a file.
+    Solve {
+        asked: Asked,
+        call: Call,
+        until: Option<String>,
+    },
 }
 
 /// The options that say how far a search goes.
 fn with_limits<'a>(alloc: Global, command: Command<'a>) -> Result<Command<'a>, AllocError> {
     let seconds = "Stop after S seconds";
     let conflicts = "Stop each search after N conflicts";
+    let until = "Stop once there is a file FILE";
     let jobs = "Run N searches side by side, each in its own thread, 1 to 64";
     let seed = "Break ties by the seed K";
-    let memory = "Limit the lemmas of each search and their proofs to MIB MiB";
+    let memory = "Limit the lemmas of each search to MIB MiB";
     command
         .arg(number(alloc, "seconds", "S", seconds, 0, MAX_LIMIT).default_value(DEFAULT_SECONDS))?
         .arg(number(alloc, "conflicts", "N", conflicts, 0, MAX_LIMIT))?
+        .arg(file(alloc, "until", until))?
         .arg(number(alloc, "jobs", "N", jobs, 1, MAX_JOBS as i64).default_value(DEFAULT_JOBS))?
         .arg(number(alloc, "seed", "K", seed, 0, MAX_LIMIT))?
         .arg(number(alloc, "memory", "MIB", memory, 1, MAX_MEMORY).default_value(DEFAULT_MEMORY))
 }
 
+/// An option that takes a form of reports, or none.
+fn progress<'a>(alloc: Global) -> Arg<'a> {
+    Arg::new(alloc, "progress")
+        .long("progress")
+        .value_name("FORM")
+        .help("Report each shorter schedule and greater bound on standard error, by lines or json")
+        .num_args(0..=1)
+        .default_missing_value(FORMS[0])
+        .value_parser(FORMS)
+}
+
 fn solve_command<'a>(alloc: Global) -> Result<Command<'a>, AllocError> {
-    let about = "Print a shortest schedule of a project, with a record of lemmas that proves it";
+    let about = "Print a shortest schedule of a project, with a log of lemmas that proves it";
     let start = "Start from the feasible schedule in FILE";
     let json = "Print the answer as one line of JSON";
-    let record = "Write the record that proves the answer into FILE";
-    let progress = "Report each shorter schedule and greater bound on standard error";
+    let record = "Write the log that proves the answer into FILE";
     let command = subcommand(alloc, help::HEADING, "solve", about, help::SOLVE);
     with_limits(alloc, command)?
         .arg(file(alloc, "start", start))?
         .arg(flag(alloc, "json", json))?
         .arg(file(alloc, "record", record))?
-        .arg(flag(alloc, "progress", progress))
+        .arg(progress(alloc))
+}
+
+fn verify_command<'a>(alloc: Global) -> Result<Command<'a>, AllocError> {
+    let about = "Check a log of lemmas against a project in a file";
+    let partial = "Take a log that is cut off, and print what its events prove";
+    project_subcommand(alloc, help::HEADING, "verify", about, help::VERIFY)?.arg(flag(
+        alloc, "partial", partial,
+    ))
 }
 
 fn command<'a>(alloc: Global) -> Result<Command<'a>, AllocError> {
     let heading = help::HEADING;
-    let about = "Solve projects with resources and time lags, and check records of lemmas";
-    let verify = "Check a record of lemmas against a project in a file";
+    let about = "Solve projects with resources and time lags, and check logs of lemmas";
     program_command(alloc, "psprove", heading, about, help::PROGRAM)?
         .subcommand(solve_command(alloc)?)?
-        .subcommand(project_subcommand(alloc, heading, "verify", verify, help::VERIFY)?)
+        .subcommand(verify_command(alloc)?)
+}
+
+/// What is reported while a search goes on.
+fn form(alloc: Global, matches: &ArgMatches<'_>) -> Result<Progress, AllocError> {
+    let word = file_name(alloc, matches, "progress")?;
+    Ok(match word.as_deref() {
+        None => Progress::Nothing,
+        Some("json") => Progress::Json,
+        Some(_) => Progress::Lines,
+    })
 }
 
 /// What is asked of a search.
-fn asked(matches: &ArgMatches<'_>, start: bool) -> Asked {
+fn asked(matches: &ArgMatches<'_>, start: bool, progress: Progress) -> Asked {
     let memory = matches.get_one::<u64>("memory").unwrap_or(1);
     Asked {
         jobs: matches.get_one::<u64>("jobs").unwrap_or(1),
@@ -82,7 +121,7 @@ fn asked(matches: &ArgMatches<'_>, start: bool) -> Asked {
         memory: memory.saturating_mul(1 << 20),
         start,
         json: matches.get_flag("json"),
-        progress: matches.get_flag("progress"),
+        progress,
     }
 }
 
@@ -90,13 +129,14 @@ fn asked(matches: &ArgMatches<'_>, start: bool) -> Asked {
 fn solve_work(alloc: Global, matches: &ArgMatches<'_>) -> Result<Work, AllocError> {
     let second = file_name(alloc, matches, "start")?;
     let record_file = file_name(alloc, matches, "record")?;
-    let asked = asked(matches, second.is_some());
+    let asked = asked(matches, second.is_some(), form(alloc, matches)?);
     let call = Call {
         job: asked.job(),
         second,
         record_file,
     };
-    Ok(Work::Solve { asked, call })
+    let until = file_name(alloc, matches, "until")?;
+    Ok(Work::Solve { asked, call, until })
 }
 
 /// What the matches ask for. None if words ask for nothing, which `clap` doesn't let pass.
@@ -104,7 +144,10 @@ fn found_work(alloc: Global, matches: &ArgMatches<'_>) -> Result<Option<Work>, A
     match matches.subcommand() {
         Some(("solve", found)) => Ok(Some(solve_work(alloc, found)?)),
         Some(("verify", found)) => match file_name(alloc, found, "project")? {
-            Some(project) => Ok(Some(Work::Verify { project })),
+            Some(project) => Ok(Some(Work::Verify {
+                project,
+                partial: found.get_flag("partial"),
+            })),
             None => Ok(None),
         },
         _ => Ok(None),

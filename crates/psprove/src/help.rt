@@ -4,75 +4,79 @@
 pub(crate) const HEADING: &str = "psprove 0.9.0";
 
 pub(crate) const PROGRAM: &str = "\
-Projects, starts, records and answers are texts. docs/FORMAT.md, docs/LEMMAS.md and 'man psprove'
-describe them. 'psprove COMMAND --help' says what the command reads and prints, with an example.
-Faults go to standard error.
+Projects, starts and answers are texts, and a log of lemmas is bytes. docs/FORMAT.md, docs/LEMMAS.md
+and 'man psprove' describe them. 'psprove COMMAND --help' says what the command reads and prints,
+with an example. Faults go to standard error.
 
 Exit status:
   0  answered or proved
-  1  memory, a thread or a device failed, or the record of the search was refused
+  1  memory, a thread or a device failed, or the book refused the end of a search
   2  the words of the command or a text have a fault
   3  the search stopped at a limit
-  4  the starts are not a feasible schedule, or the record is wrong";
+  4  the starts are not a feasible schedule, or the log is wrong";
 
 pub(crate) const SOLVE: &str = "\
 Reads a project on standard input, and searches by lemmas that it learns. You need not trust the
-search: psprove checks its record as 'psprove verify' does, and the answer is what the record
-proves. Prints one of these answers. If it has a schedule, a line 'activity start' for each activity
-follows.
+search: a book, which is proved, judges each lemma and each schedule as it is found, and logs what
+it takes. The answer is what the book claims. Prints one of these answers. If it has a schedule, a
+line 'activity start' for each activity follows.
   optimal C           no feasible schedule is shorter
   no schedule         the project has no feasible schedule
   feasible C bound B  the search stopped; no feasible schedule is shorter than B
   unknown bound B     the search stopped before it found a schedule; B is as above
 
-Limits: psprove looks at the clock after every 256 conflicts and decisions. Lemmas that fill the
-memory also stop a search; standard error then says so.
-Repeated runs: the same --seed and --conflicts give the same answer and record with one job, if
+Limits: psprove looks at the clock, and for the FILE of --until, after every 256 conflicts and
+decisions. Lemmas that fill the memory also stop a search; standard error then says so.
+Repeated runs: the same --seed and --conflicts give the same answer and log with one job, if
 neither the clock nor the memory stops the search.
---jobs runs searches with different seeds. A schedule that one finds is an upper bound for all. The
-first that ends gives the record.
+--jobs runs searches with different seeds. What one finds or proves the others use. The first that
+ends stops the others.
 --start reads the starts after the project. If they are not a feasible schedule, psprove prints
 their violations as 'psmax check' does, and does not search.
---record empties FILE first. After the answer it writes the record into FILE, even if the search
-stopped at a limit.
-If the record is wrong, psprove prints 'search refused' on standard error, and no answer.
+--progress reports on standard error what the book holds, once it holds something new. With json
+each report is a line with the seconds, the bound, and the makespan and the starts of the best
+schedule.
+--record empties FILE first. After the answer it writes the log into FILE, even if the search
+stopped at a limit. 'psprove verify' checks it.
 
 Examples:
   psprove solve < project.sch
-  psprove solve --seconds 600 --progress --record project.rec < project.sch
+  psprove solve --seconds 600 --progress --record project.log < project.sch
   psprove solve --conflicts 10000 --json --start plan.starts < project.sch
   psprove solve --jobs 4 --seconds 600 < project.sch
 
 Exit status:
   0  answered
-  1  memory, a thread or a device failed, or the record of the search was refused
+  1  memory, a thread or a device failed, or the book refused the end of a search
   2  the words of the command or a text have a fault
   3  the search stopped at a limit
   4  the starts of --start are not a feasible schedule";
 
 pub(crate) const VERIFY: &str = "\
-Reads the project in FILE, then a record of lemmas on standard input: a claim about the project,
-and lines that show it. Any program may have written it. verify checks each line by itself, and
-does not trust that program. If all lines are right, it prints what they prove:
+Reads the project in FILE, then a log of lemmas on standard input: event by event the lemmas and
+schedules that a search found, and last a claim about the project. Any program may have written it.
+verify checks each event by itself, and does not trust that program. It keeps the lemmas that are
+not dropped, and no more of the log than one event. If all events are right, it prints what they
+prove:
   proved optimal C    the shortest feasible schedule takes C
   proved bound C      no feasible schedule is shorter than C
   proved no schedule  the project has no feasible schedule
-Otherwise the first wrong line L goes to standard error. If the text is not a record:
-  line L: form        this line may not stand there
-  line L: short       the text ends before this line
-  line L: trailing    the record ends before this line
-If the record is wrong:
-  line L: start       the starts are not a feasible schedule of the claimed makespan
-  line L: lemma       an arc names no activity, or the record's own arcs are dead
-  line L: force       the pair is not forced
-  line L: add         the arc is not implied, and the reason does not end its reverse
-  line L: end         the reason does not end the block
+Otherwise the first event N that is wrong goes to standard error. Events count from 1, and the title
+is event 0:
+  event N: form       the bytes are no event, or not the title
+  event N: short      the log ends before this event, or within it
+  event N: trailing   the event before this one is the claim, which is the last
+  event N: lemma      its lines do not refute its arcs, or its slot is not empty
+  event N: drop       the slot is empty
+  event N: schedule   the starts are not feasible, or not shorter than the schedules before
+  event N: claim      it is not what the events before it prove
+--partial takes a log that is cut off, and prints what its events prove; 'short' is then no fault.
 
 Example:
-  psprove verify --project project.sch < project.rec
+  psprove verify --project project.sch < project.log
 
 Exit status:
   0  proved
   1  memory or a device failed
-  2  the words of the command or a text have a fault
-  4  the record is wrong";
+  2  the words of the command or the project have a fault
+  4  the log is wrong";

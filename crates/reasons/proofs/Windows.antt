@@ -2,15 +2,15 @@
 use Rattle.std.proofs.Common.{◌≡◌, ℕ, ◌+◌, ◌-◌, ◌*◌, ◌<◌, ◌≤◌, cond, ⊎_elim, List, ap, arith, ℤ, pos, negsuc, ◌+ℤ◌, ◌-ℤ◌, ◌≤ℤ◌, suc, inl, inr, Bool, true, false, [], ◌∷◌, get_or, length, refl, ◌⊎◌, Option, None, Some, ◌<ℤ◌, ◌&&◌, int_le, int_lt, unsigned_abs, map-id}
 use Rattle.std.specs.List.{All, sum_by, AllPairs, Contains, range_with_len}
 use Rattle.std.proofs.lemmas.Int.{ints, by_lt_z, clamps}
-use Rattle.std.proofs.lemmas.List.Elements.{All-from_get_or, All-head, All-tail, All-contains, Contains-get_or}
+use Rattle.std.proofs.lemmas.List.Elements.{All-from_get_or, All-head, All-tail}
 use Rattle.std.proofs.lemmas.List.FromFn.{get_or-range_with_len, length-range_with_len, sum_by-map-range_with_len_more}
 use Rattle.network.specs.declared.parts.Lag.{Lag}
 use Rattle.network.specs.Problem.{Problem, activity_count, activities, duration, demand, capacity}
 use Rattle.network.specs.Schedule.{start, is_running, IsFeasible}
 use Rattle.longest_path.specs.Insert.{arc_of}
 use Rattle.bounds.proofs.Tasks.{over, over-const, over-sum_by, over-span, sum_by-filter, sum_by-le-each, abs_is}
-use Rattle.rivals.proofs.Apart.{runs_when, apart, BeginsFrom, StartsLast, starts_last, not_all_run}
-use Rattle.reasons.specs.Reasons.{AreBelow, Entries, Implies, MustRun, IsLoad, pair_of, RunsWithin, StartsAfterEnd, RunApart, IsClique, EndsAfterStart, IsSet, least_part, part_of, load_of}
+use Rattle.rivals.proofs.Apart.{runs_when, apart, BeginsFrom}
+use Rattle.reasons.specs.Reasons.{AreBelow, Entries, Implies, MustRun, IsLoad, pair_of, RunsWithin, StartsAfterEnd, RunApart, IsClique, least_part, part_of, load_of}
 use Rattle.block.proofs.Implying.{implied_lower}
 use Rattle.reasons.proofs.Weighing.{MeetsAll, implied_met}
 use Rattle.std.proofs.lemmas.List.Sums.{sum_by-cons}
@@ -178,25 +178,9 @@ clique_refuted p arcs from to members s clique feasible met = in_window (gap fro
         let exceeds : to <ℤ (from +ℤ pos (sum_by all members)) = clique.over in
         omega (arith, ints, each, swapped, most, exceeds)
 
--- ---- Activities of which each two overlap all run when the last of them starts: Helly's theorem on a line.
-
 pub begins : (xs : List ℕ) → BeginsFrom 0 xs
 begins [] = tt
 begins (x ∷ xs) = omega arith
-
--- so no feasible schedule meets the arcs
-pub set_refuted : (p : Problem) (arcs : List Lag) (k : ℕ) (members : List ℕ) (s : List ℤ) → IsSet p arcs k members → IsFeasible p s → MeetsAll s arcs → ⊥
-set_refuted p arcs k [] s set feasible met = let exceeds = set.forbidden in omega arith
-set_refuted p arcs k (x ∷ xs) s set feasible met = by_last (starts_last s x xs)
-  where
-    by_last : (m : ℕ) × StartsLast s (x ∷ xs) m → ⊥
-    by_last (m, last) =
-        let u : ℤ = start s m in
-        let ends : (i : ℕ) → Contains (x ∷ xs) i → u <ℤ (start s i +ℤ duration p i) = λ i c.
-        let both : EndsAfterStart p arcs i m = All-contains (EndsAfterStart p arcs i) (x ∷ xs) m (All-contains (λ j. All (EndsAfterStart p arcs j) (x ∷ xs)) (x ∷ xs) i set.overlap c) last.member in
-        let h : (start s m +ℤ (pos 1 -ℤ duration p i)) ≤ℤ start s i = implied_met arcs s met (arc_of m i (pos 1 -ℤ duration p i)) both in
-        omega (arith, ints) in
-        not_all_run p s k (x ∷ xs) u feasible set.in_range set.are_members.rising (λ j d l. (set.are_members.take_time j d l).named) set.forbidden last.last (λ j d l. ends (get_or (x ∷ xs) j d) (Contains-get_or (x ∷ xs) j d l))
 
 -- ---- The part of an activity that runs in a window at least, by a matrix, is the greatest that its arcs imply.
 

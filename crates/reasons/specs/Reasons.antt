@@ -3,7 +3,6 @@ use Rattle.std.specs.Prelude.{◌≡◌, ℕ, ◌*◌, ◌<◌, ◌≤◌, ◌�
 use Rattle.std.specs.List.{All, AllPairs, sum_by, range_with_len}
 use Rattle.network.specs.declared.parts.Lag.{Lag}
 use Rattle.network.specs.declared.parts.Pair.{Pair}
-use Rattle.network.specs.Schedule.{IsForbidden}
 use Rattle.network.specs.Problem.{Problem, activities, activity_count, resource_count, duration, demand, capacity, IsWithin}
 use Rattle.network.specs.Walk.{HasNoPositiveCycle, Rows, entry, IsMatrixOf}
 use Rattle.longest_path.specs.Insert.{arc_of, rows_over}
@@ -26,13 +25,6 @@ reverse_of e = arc_of e.to e.from (pos 1 -ℤ e.weight)
 -- activity i ends after j starts
 abbrev pub EndsAfterStart : Problem → List Lag → ℕ → ℕ → Type 0
 EndsAfterStart p arcs i j = Implies arcs (arc_of j i (pos 1 -ℤ duration p i))
-
--- each two of the members overlap, and together they ask for more of the resource than there is
-pub record IsSet (p : Problem) (arcs : List Lag) (resource : ℕ) (members : List ℕ) : Type 0 where
-  pub in_range : resource < resource_count p
-  pub are_members : AreMembers p members
-  pub forbidden : IsForbidden p resource members
-  pub overlap : All (λ i. All (EndsAfterStart p arcs i) members) members
 
 -- activity i runs for m units of the window or more, whenever it starts
 pub record MustRun (p : Problem) (arcs : List Lag) (from to : ℤ) (i m : ℕ) : Type 0 where

@@ -6,11 +6,9 @@
 mod arcs;
 mod clique;
 mod load;
-mod set;
 mod weights;
 
 pub use arcs::{joins_activities, reverse_of};
 pub use clique::is_clique;
 pub use load::is_load;
-pub use set::is_set;
 pub use weights::{MAX_ARC_WEIGHT, Weights};

@@ -8,11 +8,15 @@ use Rattle.answers.specs.Faults.{IsNoDeviceFault}
 use Rattle.runs.specs.declared.job.Job.TheVariants as jobs
 use Rattle.runs.specs.Runs.{Span, GaveUpTo, IsUntouched, NeverFailed, HasRead, ReplyOf}
 use Rattle.runs.specs.Outcome.{GivesStarts, SpellsOne}
-use Rattle.solve_runs.specs.Story.{IsStartedReply, ReplyTo}
+use Rattle.solve_runs.specs.Story.{IsShownReply, IsStartedReply, ReplyTo}
 
 pub replies_started : (start json : Bool) (reply : ReplyOf) (text more : List ℕ) → start ≡ true → SpellsOne text (λ p. GivesStarts p more (IsStartedReply p json reply)) → ReplyTo start json reply text more
 replies_started true json reply text more on h = h
 replies_started false json reply text more on h = cc
+
+pub replies_alone : (start json : Bool) (reply : ReplyOf) (text more : List ℕ) → start ≡ false → SpellsOne text (λ p. IsShownReply p json reply) → ReplyTo start json reply text more
+replies_alone false json reply text more off h = h
+replies_alone true json reply text more off h = cc
 
 -- two clauses of one result
 pub err_both : {T E : Type 0} (r : Result T E) (P Q : E → Type 0) → IfErr r P → IfErr r Q → IfErr r (λ e. P e × Q e)

@@ -12,12 +12,12 @@ use Rattle.network.specs.Problem.{Problem}
 use Rattle.network.specs.Schedule.{makespan, IsFeasible}
 use Rattle.plain_search.specs.declared.search.Outcome.TheVariants.{Optimal, NoSchedule, Stopped}
 use Rattle.plain_search.specs.Verdicts.{IsTrueOf}
-use Rattle.lemma_text.specs.declared.record.Claim.{Claim}
-use Rattle.lemma_text.specs.declared.record.Claim.TheVariants as claims
-use Rattle.lemma_text.specs.Blocks.{LemmaRecordOf}
-use Rattle.lemma_check.specs.Right.{IsRight}
-use Rattle.lemma_text.specs.Text.{lemma_kind}
-use Rattle.record_text.specs.Kinds as records
+use Rattle.record_text.specs.FirstWrong.{IsFactOf}
+use Rattle.lemma_log.specs.declared.event.Claim.{Claim}
+use Rattle.lemma_log.specs.declared.event.Claim.TheVariants as claims
+use Rattle.lemma_record.specs.declared.book.Shown.{Shown}
+use Rattle.lemma_record.specs.Faults.{IsRightText}
+use Rattle.lemma_record.specs.Right.{proved_of}
 use Rattle.answers.specs.Answers.{IsViolationsText}
 use Rattle.runs.specs.Outcome.{GivesStarts, IfTextsTold, SpellsOne}
 use Rattle.runs.specs.Runs.{ReplyOf}
@@ -35,9 +35,8 @@ abbrev pub figures_text : Figures → List ℕ
 figures_text f =
     codes "{\"conflicts\":" ++ (decimal f.conflicts
     ++ (codes ",\"decisions\":" ++ (decimal f.decisions
-    ++ (codes ",\"lines\":" ++ (decimal f.lines
     ++ (codes ",\"record_bytes\":" ++ (decimal f.record_bytes
-    ++ (codes ",\"seconds\":" ++ (decimal f.seconds ++ codes ",\"version\":\"0.9.0\",")))))))))
+    ++ (codes ",\"seconds\":" ++ (decimal f.seconds ++ codes ",\"version\":\"0.9.0\",")))))))
 
 -- the line of JSON: the figures, and then the members of psmax's line, which begins with a bracket
 abbrev pub with_figures : Figures → List ℕ → List ℕ
@@ -54,31 +53,34 @@ abbrev pub Says : Bool → Figures → Outcome → ℕ → List ℕ → Type 0
 Says false f outcome exit written = SaysOutcome outcome false exit written
 Says true f outcome exit written = SaysFigures f outcome exit written
 
--- ---- An outcome that a record of lemmas shows.
+-- ---- An outcome that a log of lemmas shows.
 
--- the claim of a record that shows the outcome
+-- the log claims what is proved, and is right for the project, of which that is true
+pub record IsProof (p : Problem) (shown : Shown) : Type 0 where
+  pub claim : Claim
+  pub right : IsRightText p shown.log.items claim
+  pub says : shown.proved ≡ proved_of claim
+  pub fact : IsFactOf p shown.proved
+
+-- the claim of a log that shows the outcome
 abbrev pub claim_of : Outcome → Claim
-claim_of (Optimal best) = claims.Optimal (makespan best.starts) best.starts
+claim_of (Optimal best) = claims.Optimal (makespan best.starts)
 claim_of NoSchedule = claims.NoSchedule
 claim_of (Stopped best bound) = claims.Bound bound
 
--- the record is right for the project and claims the outcome, which is true
-pub record IsShown (p : Problem) (outcome : Outcome) (shown : LemmaRecordOf) : Type 0 where
-  pub right : IsRight p shown
-  pub claims : shown.claim ≡ claim_of outcome
+-- the text is that of a log which is right for the project and claims the outcome, which is true
+pub record IsShown (p : Problem) (outcome : Outcome) (text : List ℕ) : Type 0 where
+  pub right : IsRightText p text (claim_of outcome)
   pub true_of : IsTrueOf p outcome
 
--- the text says an outcome, which the record at hand shows: it is right for the project, and the outcome is true of it
+-- the text says an outcome, which the log at hand shows
 pub record IsShownReply (p : Problem) (json : Bool) (reply : ReplyOf) : Type 0 where
   pub outcome : Outcome
   pub figures : Figures
   pub text : List ℕ
-  pub shown : LemmaRecordOf
-  pub is_shown : IsShown p outcome shown
+  pub is_shown : IsShown p outcome text
   pub said : Says json figures outcome reply.exit reply.text
   pub recorded : reply.recorded ≡ Some text
-  pub spells : records.Spells lemma_kind text shown
-  pub lines : figures.lines ≡ length shown.lines
   pub bytes : figures.record_bytes ≡ length text
 
 -- all that starts violate, and no record

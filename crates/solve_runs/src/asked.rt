@@ -4,10 +4,21 @@ ghost use Rattle.std.specs.Prelude.{◌≡◌};
 ghost use Rattle.solve_runs.specs.Story.{job_of};
 
 use runs::{Job, ONE_WORKER};
-use strategies::Limits;
+use strategies::{Limits, Slots};
+use tables::narrow;
 
 /// How many searches can go on side by side.
 pub const MAX_JOBS: u64 = 64;
+
+/// What a run reports on standard error while its searches go on.
+#[derive(Clone, Copy, PartialEq, Eq, Debug)]
+pub enum Progress {
+    Nothing,
+    /// A line of words for each shorter schedule and each greater bound.
+    Lines,
+    /// A line of JSON for each of them, with the best schedule's starts.
+    Json,
+}
 
 /// What a run is to do, and how far its search may go.
 #[derive(Clone, Copy, PartialEq, Eq, Debug)]
@@ -20,14 +31,14 @@ pub struct Asked {
     pub seconds: u64,
     /// From where the first search breaks ties. Each further one begins at the next number.
     pub seed: u64,
-    /// How many bytes the lemmas of a search and their proofs may take.
+    /// How many bytes the lemmas of a search may take.
     pub memory: u64,
     /// Whether starts are read from the second input.
     pub start: bool,
     /// Whether the answer is one line of JSON.
     pub json: bool,
-    /// Whether the run reports each shorter schedule and each greater bound on standard error while the search goes on.
-    pub progress: bool,
+    /// What is reported while the searches go on.
+    pub progress: Progress,
 }
 
 impl Asked {
@@ -49,6 +60,10 @@ impl Asked {
         Limits {
             memory: self.memory,
             seed: self.seed.wrapping_add(job),
+            slots: Slots {
+                job: narrow(job as usize),
+                jobs: narrow(self.jobs as usize),
+            },
         }
     }
 }

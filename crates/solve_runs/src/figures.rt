@@ -12,8 +12,6 @@ use std::alloc::{AllocError, Global};
 pub(crate) struct Figures {
     pub(crate) conflicts: u64,
     pub(crate) decisions: u64,
-    /// The lines of the record's blocks.
-    pub(crate) lines: usize,
     /// The bytes of the record's text.
     pub(crate) record_bytes: usize,
     /// Whole seconds by the clock, from the start of the search to its end.
@@ -27,8 +25,8 @@ fn figures_text(alloc: Global, figures: &Figures) -> Result<String, AllocError>
     let mut out = String::new(alloc);
     write!(
         out,
-        "{{\"conflicts\":{},\"decisions\":{},\"lines\":{},\"record_bytes\":{},\"seconds\":{},\"version\":\"0.9.0\",",
-        figures.conflicts, figures.decisions, figures.lines, figures.record_bytes, figures.seconds
+        "{{\"conflicts\":{},\"decisions\":{},\"record_bytes\":{},\"seconds\":{},\"version\":\"0.9.0\",",
+        figures.conflicts, figures.decisions, figures.record_bytes, figures.seconds
     )?;
     Ok(out)
 }

@@ -1,11 +1,16 @@
 //! Searches side by side, and what they found together.
 
+ghost use Rattle.std.specs.Prelude.{IfOk};
+ghost use Rattle.solve_runs.specs.Story.{IsProof};
+
 use crate::asked::Asked;
 use crate::board::Board;
 use crate::progress::Watch;
-use crate::report::{Report, is_of_bound, raised};
 use crate::searching::{Run, search_beside};
+use crate::until::{Never, Until};
+use lemma_record::{Book, Shown};
 use network::Project;
+use record_text::Proved;
 use std::alloc::{AllocError, Global};
 use std::sync::{Mutex, Wait};
 use std::thread;
@@ -13,18 +18,16 @@ use std::thread::{JoinHandle, Threads};
 use std::time::Clock;
 use strategies::State;
 
-/// What searches say that they found.
+/// What searches found.
 #[derive(Drop)]
 pub(crate) struct Found {
-    /// The starts of the shortest schedule known, in periods.
-    pub(crate) best: Option<Vec<i64>>,
+    /// What is proved, the best schedule, and the log.
+    pub(crate) shown: Shown,
     /// How many conflicts and decisions all searches made.
     pub(crate) conflicts: u64,
     pub(crate) decisions: u64,
     /// Whole seconds by the clock.
     pub(crate) seconds: u64,
-    /// The text of the record.
-    pub(crate) text: Vec<u8>,
 }
 
 /// Why searches found nothing.
@@ -33,8 +36,8 @@ pub(crate) enum SearchFault {
     Memory,
     /// A thread could not be started.
     Thread,
-    /// A number is larger than a record may have.
-    NoRecord,
+    /// The book did not follow a search to its end, or it is of another project.
+    Refused,
 }
 
 impl From<AllocError> for SearchFault {
@@ -43,11 +46,12 @@ impl From<AllocError> for SearchFault {
     }
 }
 
-/// Has all jobs search, the first in this thread, and waits for them. Where a thread can't be started, all stop.
-fn search_all<R: Clock + Eprint + Threads + Wait + Sync>(
+/// Has all jobs search, the first in this thread, which sees when they are to end, and waits for them. Where a thread can't be started, all stop.
+fn search_all<R: Clock + Eprint + Threads + Wait + Sync, U: Until>(
     rt: &R,
     alloc: Global,
-    run: Run<'_>,
+    run: Run<'_, '_>,
+    until: &U,
 ) -> Result<(), SearchFault> {
     thread::scope(
         thread::scope_env(),
@@ -55,7 +59,7 @@ fn search_all<R: Clock + Eprint + Threads + Wait + Sync>(
         move |scope| -> Result<(), SearchFault> {
             let mut running: Vec<JoinHandle<()>> = Vec::new(alloc);
             for job in 1..run.asked.jobs {
-                let beside = move || search_beside(rt, alloc, run, job);
+                let beside = move || search_beside(rt, alloc, run, job, &Never);
                 let Ok(handle) = scope.spawn(beside) else {
                     run.board.lock(rt).is_over = true;
                     return Err(SearchFault::Thread);
@@ -65,7 +69,7 @@ fn search_all<R: Clock + Eprint + Threads + Wait + Sync>(
                     return Err(SearchFault::Memory);
                 }
             }
-            search_beside(rt, alloc, run, 0);
+            search_beside(rt, alloc, run, 0, until);
             for handle in running {
                 handle.join(rt);
             }
@@ -74,48 +78,61 @@ fn search_all<R: Clock + Eprint + Threads + Wait + Sync>(
     )
 }
 
-/// Tells on standard error why a search stopped, where no limit of time or conflicts stopped it. One that has ended with a
-/// bound alone has no schedule that is short enough for a record.
-fn tell_stop<R: Eprint>(rt: &R, state: State, is_of_bound: bool) {
-    let why = match state {
-        State::Full => "its lemmas fill the memory that they may take",
-        State::Ended if is_of_bound => "a makespan is above 1,000,000",
-        State::Going | State::Ended => return,
-    };
-    let _ = eprintln!(rt; "psprove: the search stopped: {why}");
+/// Tells on standard error that searches stopped for want of memory.
+fn tell_stop<R: Eprint>(rt: &R, state: State) {
+    if state == State::Full {
+        let why = "its lemmas fill the memory that they may take";
+        let _ = eprintln!(rt; "psprove: the search stopped: {why}");
+    }
+}
+
+/// What the book shows that searches left.
+fn shown(book: Book<'_>, project: &Project) -> Result<Shown, SearchFault>
+    ensures { IfOk result (IsProof project.now) }
+{
+    if !book.ledger().project().is_same(project) {
+        return Err(SearchFault::Refused);
+    }
+    Ok(book.close()?)
 }
 
 /// What searches within limits find together, perhaps from a schedule of the project.
-pub(crate) fn searched<R: Clock + Eprint + Threads + Wait + Sync>(
+pub(crate) fn searched<R: Clock + Eprint + Threads + Wait + Sync, U: Until>(
     rt: &R,
     alloc: Global,
     asked: Asked,
+    until: &U,
     project: &Project,
     start: Option<&[i64]>,
-) -> Result<Found, SearchFault> {
+) -> Result<Found, SearchFault>
+    ensures { IfOk result (λ found. IsProof project.now found.shown) }
+{
     let watch = Watch::start(rt);
-    let board = Mutex::new(Board::new(alloc, start)?);
+    let board = Mutex::new(Board::new(alloc, project, asked.jobs, start)?);
     let run = Run {
         asked,
         watch,
         project,
         board: &board,
     };
-    search_all(rt, alloc, run)?;
+    search_all(rt, alloc, run, until)?;
     let board = board.into_inner();
-    let (conflicts, decisions) = (board.conflicts, board.decisions);
-    let (best, report) = board.into_parts(alloc)?;
-    let Report { state, record, .. } = report;
-    let Some(record) = record else {
-        return Err(SearchFault::NoRecord);
-    };
-    tell_stop(rt, state, is_of_bound(alloc, &record)?);
-    let text = raised(alloc, record, best.as_deref())?;
+    let state = board.state()?;
+    tell_stop(rt, state);
+    let Board {
+        book,
+        conflicts,
+        decisions,
+        ..
+    } = board;
+    let shown = shown(book, project)?;
+    if state == State::Ended && matches!(shown.proved, Proved::Bound { .. }) {
+        return Err(SearchFault::Refused);
+    }
     Ok(Found {
-        best,
+        shown,
         conflicts,
         decisions,
         seconds: watch.seconds(rt).unwrap_or(0),
-        text,
     })
 }

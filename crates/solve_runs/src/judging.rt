@@ -1,49 +1,22 @@
-//! The outcome that a record shows, by the checker: what the search says counts for nothing.
+//! The outcome that a book shows: what the searches say counts for nothing.
 
-ghost use Rattle.std.specs.Prelude.{◌≡◌, IsTrue, IfOk, IfErr, IfSome, OnOk};
+ghost use Rattle.std.specs.Prelude.{◌≡◌, Some, IsTrue, IfOk, IfErr, IfSome, OnOk};
 ghost use Rattle.std.specs.Arc.{arc_value};
 ghost use Rattle.network.specs.Problem.{AreStarts};
 ghost use Rattle.network.specs.Schedule.{IsFeasible};
 ghost use Rattle.branching.specs.Fair.{IsScheduleFor};
-ghost use Rattle.lemma_text.specs.Text.{lemma_kind};
-ghost use Rattle.record_text.specs.Kinds as records;
-ghost use Rattle.record_text.specs.FirstWrong.{IsFactOf};
-ghost use Rattle.lemma_text.specs.Text.{says};
-ghost use Rattle.lemma_check.specs.Right.{IsRight};
+ghost use Rattle.network.specs.Schedule.{makespan as makespan_of};
 ghost use Rattle.answers.specs.Faults.{exit_of, IsNoDeviceFault};
-ghost use Rattle.solve_runs.specs.Story.{IsShown};
+ghost use Rattle.solve_runs.specs.Story.{IsProof, IsShown};
 
 use answers::Fault;
-use lemma_check::verify;
-use lemma_text::{Claim, LemmaRecord, RecordFault, Why};
+use lemma_record::Shown;
 use network::{MAX_START, Project, Schedule};
 use plain_search::Outcome;
+use record_text::Proved;
 use schedule_check::{AcceptFault, accept};
 use std::alloc::Global;
 use std::sync::Arc;
-
-/// The fault of a search whose own record is refused, unless memory ran out.
-fn refused(fault: RecordFault) -> Fault
-    ensures status { exit_of result ≡ 1 }
-    ensures cause { IsNoDeviceFault result }
-{
-    match fault.why {
-        Why::Memory => Fault::Memory,
-        _ => Fault::Refused,
-    }
-}
-
-/// The record that a text is that of.
-pub(crate) fn record_of(alloc: Global, text: &[u8]) -> Result<LemmaRecord, Fault>
-    ensures read { IfOk result (λ shown. records.Spells lemma_kind text.now shown) }
-    ensures status { IfErr result (λ fault. exit_of fault ≡ 1) }
-    ensures cause { IfErr result IsNoDeviceFault }
-{
-    match LemmaRecord::read(alloc, text) {
-        Ok(shown) => Ok(shown),
-        Err(fault) => Err(refused(fault)),
-    }
-}
 
 /// Whether there is a start within the limits for each activity.
 fn are_starts(project: &Project, starts: &[i64]) -> bool
@@ -89,44 +62,33 @@ fn best_of(
     }
 }
 
-/// Whether the record is right for the project, so that its claim is true.
-fn check(alloc: Global, project: &Project, shown: &LemmaRecord) -> Result<(), Fault>
-    ensures right { OnOk result (IsRight project.now shown.now) }
-    ensures holds { OnOk result (IsFactOf project.now (says shown.now.claim)) }
+/// The shortest schedule, where it takes as long as is proved.
+fn shortest_of(best: Option<Schedule>, makespan: i64) -> Result<Schedule, Fault>
+    ensures shortest { IfOk result (λ s. (best ≡ Some s) × (makespan ≡ makespan_of s.starts)) }
     ensures status { IfErr result (λ fault. exit_of fault ≡ 1) }
     ensures cause { IfErr result IsNoDeviceFault }
 {
-    match verify(alloc, project, shown) {
-        Ok(_) => Ok(()),
-        Err(fault) => Err(refused(fault)),
+    match best {
+        Some(best) if best.makespan() == makespan => Ok(best),
+        _ => Err(Fault::Refused),
     }
 }
 
-/// The outcome that a record shows, once the checker finds it right. If it claims a bound alone, the outcome has the
-/// best schedule.
+/// The outcome that is proved, with the best schedule.
 pub(crate) fn outcome_of(
     alloc: Global,
     project: &Arc<Project>,
-    shown: &LemmaRecord,
-    best: Option<&[i64]>,
+    shown: &Shown,
 ) -> Result<Outcome, Fault>
-    ensures shown { IfOk result (λ outcome. IsShown (arc_value project.now) outcome shown.now) }
+    requires { IsProof (arc_value project.now) shown.now }
+    ensures shown { IfOk result (λ outcome. IsShown (arc_value project.now) outcome shown.now.log.items) }
     ensures status { IfErr result (λ fault. exit_of fault ≡ 1) }
     ensures cause { IfErr result IsNoDeviceFault }
 {
-    check(alloc, project, shown)?;
-    match shown.claim() {
-        Claim::Optimal { starts, .. } => {
-            let best = schedule_of(alloc, project, starts.as_slice())?;
-            Ok(Outcome::Optimal(best))
-        }
-        Claim::NoSchedule => Ok(Outcome::NoSchedule),
-        Claim::Bound { bound } => {
-            let best = best_of(alloc, project, best)?;
-            Ok(Outcome::Stopped {
-                best,
-                bound: *bound,
-            })
-        }
+    let best = best_of(alloc, project, shown.best.as_deref())?;
+    match shown.proved {
+        Proved::Optimal { makespan } => Ok(Outcome::Optimal(shortest_of(best, makespan)?)),
+        Proved::NoSchedule => Ok(Outcome::NoSchedule),
+        Proved::Bound { bound } => Ok(Outcome::Stopped { best, bound }),
     }
 }

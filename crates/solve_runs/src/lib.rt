@@ -1,8 +1,8 @@
-//! Runs of `psprove solve` over devices: an untrusted search, and what the checker says of its record.
+//! Runs of `psprove solve` over devices: an untrusted search, and what a book of lemmas takes of it.
 //!
 //! [`solve`] reads a project, and perhaps starts. It searches within limits, with as many searches side by side as are
-//! asked for. It reads and checks the record of one of them as that of any other program. It writes what the record
-//! proves, and then the record itself.
+//! asked for. They share a book under a lock, which judges and logs each lemma and each schedule that one of them finds.
+//! What the book claims in the end is the answer, and its log is the record.
 #![tactic(auto)]
 
 mod asked;
@@ -11,10 +11,12 @@ mod figures;
 mod jobs;
 mod judging;
 mod progress;
-mod report;
 mod running;
 mod searching;
+mod shelf;
 mod solving;
+mod until;
 
-pub use asked::{Asked, MAX_JOBS};
+pub use asked::{Asked, MAX_JOBS, Progress};
 pub use running::solve;
+pub use until::Until;

@@ -9,6 +9,7 @@ ghost use Rattle.solve_runs.specs.Story.{job_of, IsReply, Replies};
 
 use crate::asked::Asked;
 use crate::solving::{solved, solved_from};
+use crate::until::Until;
 use answers::Fault;
 use runs::{Ended, Input, Output, Reply, read_project, read_text, write_reply};
 use std::alloc::Global;
@@ -19,10 +20,11 @@ use words::MAX_TEXT_BYTES;
 
 /// The reply of a search to what its inputs hold. The project is read and judged before the starts, and these before
 /// anything is searched.
-fn solve_reply<I: Input, S: Input, R: Clock + Eprint + Threads + Wait + Sync>(
+fn solve_reply<I: Input, S: Input, R: Clock + Eprint + Threads + Wait + Sync, U: Until>(
     rt: &R,
     alloc: Global,
     asked: Asked,
+    until: &U,
     input: &mut I,
     second: &mut S,
 ) -> Result<Reply, Fault>
@@ -38,10 +40,10 @@ fn solve_reply<I: Input, S: Input, R: Clock + Eprint + Threads + Wait + Sync>(
     let project = read_project(alloc, input)?;
     if !asked.start {
         let project = Arc::new(alloc, project)?;
-        return solved(rt, alloc, asked, &project, None);
+        return solved(rt, alloc, asked, until, &project, None);
     }
     let starts = read_text(alloc, MAX_TEXT_BYTES, second)?;
-    solved_from(rt, alloc, asked, project, &starts)
+    solved_from(rt, alloc, asked, until, project, &starts)
 }
 
 /// Searches for a shortest schedule of the project on the first input. The search starts from the starts on the second
@@ -49,14 +51,22 @@ fn solve_reply<I: Input, S: Input, R: Clock + Eprint + Threads + Wait + Sync>(
 /// over a missing device for a second input that isn't asked for, and for a record that nobody wants. After a failure a
 /// device isn't called again.
 ///
-/// With exit status 0 the answer is `optimal C` with starts, or `no schedule`. If a limit stopped the search, it is
+/// With exit status 0 the answer is `optimal C` with starts, or `no schedule`. If a limit or `until` stopped the search, it is
 /// `feasible C bound B` with starts or `unknown bound B`, exit status 3. For starts that are not a feasible schedule it
-/// is all that they violate, exit status 4, without a record. The checker gets what the search says first, as the text
-/// of its record. [`Fault::Refused`] comes if that isn't right, or if the best schedule of a stopped search is none.
-pub fn solve<I: Input, S: Input, O: Output, D: Output, R: Clock + Eprint + Threads + Wait + Sync>(
+/// is all that they violate, exit status 4, without a record. The record is the log of the book that judged all that the
+/// search found. [`Fault::Refused`] comes where the book did not follow a search to its end.
+pub fn solve<
+    I: Input,
+    S: Input,
+    O: Output,
+    D: Output,
+    R: Clock + Eprint + Threads + Wait + Sync,
+    U: Until,
+>(
     rt: &R,
     alloc: Global,
     asked: Asked,
+    until: &U,
     input: &mut I,
     second: &mut S,
     out: &mut O,
@@ -89,7 +99,7 @@ pub fn solve<I: Input, S: Input, O: Output, D: Output, R: Clock + Eprint + Threa
     ensures failed { OneFailedWhere (result.fault ≡ Some faults.WriteFailed)
         (span O.held O.failed out.old out.new) (span D.held D.failed record_out.old record_out.new) }
 {
-    match solve_reply(rt, alloc, asked, input, second) {
+    match solve_reply(rt, alloc, asked, until, input, second) {
         Ok(reply) => write_reply(out, record_out, &reply),
         Err(fault) => Ended::with(fault),
     }

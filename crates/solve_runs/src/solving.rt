@@ -5,12 +5,13 @@ ghost use Rattle.std.specs.Arc.{arc_value};
 ghost use Rattle.network.specs.Schedule.{IsFeasible};
 ghost use Rattle.answers.specs.Faults.{exit_of, IsNoDeviceFault, IsSearchFault};
 ghost use Rattle.runs.specs.Outcome.{GivesStarts, IsFirstStartsFault};
-ghost use Rattle.solve_runs.specs.Story.{IsShownReply, IsStartedReply};
+ghost use Rattle.solve_runs.specs.Story.{IsProof, IsShownReply, IsStartedReply};
 
 use crate::asked::Asked;
 use crate::figures::{Figures, answer_of};
 use crate::jobs::{Found, SearchFault, searched};
-use crate::judging::{outcome_of, record_of};
+use crate::judging::outcome_of;
+use crate::until::Until;
 use answers::Fault;
 use network::{Project, Schedule};
 use runs::{Judged, Reply, judged_starts};
@@ -27,39 +28,46 @@ fn search_fault(fault: SearchFault) -> Fault
     match fault {
         SearchFault::Memory => Fault::Memory,
         SearchFault::Thread => Fault::Thread,
-        SearchFault::NoRecord => Fault::Refused,
+        SearchFault::Refused => Fault::Refused,
     }
 }
 
-/// What the record of a search shows of the project.
+/// What the book of a search shows of the project.
 fn shown_reply(
     alloc: Global,
     project: &Arc<Project>,
     json: bool,
     found: Found,
 ) -> Result<Reply, Fault>
+    requires { IsProof (arc_value project.now) found.shown }
     ensures shown { IfOk result (IsShownReply (arc_value project.now) json) }
     ensures status { IfErr result (λ fault. exit_of fault ≡ 1) }
     ensures cause { IfErr result IsNoDeviceFault }
 {
-    let shown = record_of(alloc, &found.text)?;
-    let outcome = outcome_of(alloc, project, &shown, found.best.as_deref())?;
+    let Found {
+        shown,
+        conflicts,
+        decisions,
+        seconds,
+    } = found;
+    let outcome = outcome_of(alloc, project, &shown)?;
+    let log = shown.log;
     let figures = Figures {
-        conflicts: found.conflicts,
-        decisions: found.decisions,
-        lines: shown.lines().len(),
-        record_bytes: found.text.len(),
-        seconds: found.seconds,
+        conflicts,
+        decisions,
+        record_bytes: log.len(),
+        seconds,
     };
     let answer = answer_of(alloc, &outcome, json, &figures)?;
-    Ok(Reply::new(answer, Some(found.text)))
+    Ok(Reply::new(answer, Some(log)))
 }
 
 /// What a search has found of a project, perhaps from a schedule of it, as its record shows.
-pub(crate) fn solved<R: Clock + Eprint + Threads + Wait + Sync>(
+pub(crate) fn solved<R: Clock + Eprint + Threads + Wait + Sync, U: Until>(
     rt: &R,
     alloc: Global,
     asked: Asked,
+    until: &U,
     project: &Arc<Project>,
     start: Option<&Schedule>,
 ) -> Result<Reply, Fault>
@@ -71,7 +79,7 @@ pub(crate) fn solved<R: Clock + Eprint + Threads + Wait + Sync>(
         Some(start) => Some(start.starts()),
         None => None,
     };
-    match searched(rt, alloc, asked, project, start) {
+    match searched(rt, alloc, asked, until, project, start) {
         Ok(found) => shown_reply(alloc, project, asked.json, found),
         Err(fault) => Err(search_fault(fault)),
     }
@@ -79,10 +87,11 @@ pub(crate) fn solved<R: Clock + Eprint + Threads + Wait + Sync>(
 
 /// If the starts in a text are not a feasible schedule of the project, what they violate, without a search. Otherwise
 /// what a search has found from them.
-pub(crate) fn solved_from<R: Clock + Eprint + Threads + Wait + Sync>(
+pub(crate) fn solved_from<R: Clock + Eprint + Threads + Wait + Sync, U: Until>(
     rt: &R,
     alloc: Global,
     asked: Asked,
+    until: &U,
     project: Project,
     text: &[u8],
 ) -> Result<Reply, Fault>
@@ -93,7 +102,7 @@ pub(crate) fn solved_from<R: Clock + Eprint + Threads + Wait + Sync>(
 {
     let project = Arc::new(alloc, project)?;
     match judged_starts(alloc, &project, text)? {
-        Judged::Feasible(start) => solved(rt, alloc, asked, &project, Some(&start)),
+        Judged::Feasible(start) => solved(rt, alloc, asked, until, &project, Some(&start)),
         Judged::Refused(answer) => Ok(Reply::new(answer, None)),
     }
 }

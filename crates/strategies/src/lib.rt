@@ -5,8 +5,11 @@
 #![tactic(auto)]
 
 mod effort;
+mod sharing;
 mod solver;
 mod turns;
 
-pub use solver::{Limits, Record, Solver, State};
+pub use proof_events::Told;
+pub use proof_log::Slots;
+pub use solver::{Limits, Solver, State};
 pub use turns::Finder;

@@ -2,11 +2,11 @@
 
 use crate::turns::{Finder, Turns};
 use engine::{Counts, Engine, Found, Options, Pace, Run};
-use instance::{Instance, MAX_MAKESPAN, Walks};
+use instance::{Instance, Walks};
 use large_neighbourhoods::shortened;
-use lemma_text::{Claim, Line, Reason, text_of};
-use log_record::record_text;
-use record_text::Members;
+use network::Lag;
+use proof_events::{Told, tell};
+use proof_log::Slots;
 use std::alloc::Global;
 use std::mem;
 use tables::Result;
@@ -14,9 +14,11 @@ use tables::Result;
 /// How far a search may go, and from where it breaks ties.
 #[derive(Clone, Copy, PartialEq, Eq, Debug)]
 pub struct Limits {
-    /// How many bytes it may take, besides what a project of its size takes anyway.
+    /// How many bytes its lemmas may take, besides what a project of its size takes anyway.
     pub memory: u64,
     pub seed: u64,
+    /// Where its lemmas go.
+    pub slots: Slots,
 }
 
 /// Where a search stands.
@@ -26,15 +28,8 @@ pub enum State {
     Going,
     /// No schedule shorter than the best is left.
     Ended,
-    /// Its lemmas and their proof fill the memory that they may take.
+    /// Its lemmas fill the memory that they may take.
     Full,
-}
-
-/// The text of a record of lemmas, and the bound that it shows, in periods.
-#[derive(Drop)]
-pub struct Record {
-    pub bound: i64,
-    pub text: Vec<u8>,
 }
 
 /// How many conflicts a search at the root, and a dive, may meet.
@@ -65,12 +60,17 @@ impl First<'_> {
 /// What a search does.
 #[derive(Drop)]
 enum Stage<'a> {
-    /// Nothing: the project contradicts itself, as this record shows.
-    Contradiction(Vec<u8>),
+    /// Nothing: the project contradicts itself.
+    Contradiction,
     First(First<'a>),
     /// Strategies take turns from the next step on, with a first schedule or none.
     Ready(Option<Vec<i32>>),
     Turns(Turns<'a>),
+}
+
+/// What an engine has proved since its log was cleared.
+fn told(alloc: Global, instance: &Instance, engine: &Engine<'_>) -> Result<Vec<Told>> {
+    tell(alloc, instance, engine.pairs(), &engine.log)
 }
 
 /// The search of a project for a shortest schedule. Until a schedule is known it looks for a first one; from then on
@@ -83,7 +83,9 @@ pub struct Solver<'a> {
     walks: Option<Walks>,
     stage: Stage<'a>,
     limits: Limits,
-    /// What was done by engines that are gone.
+    /// What engines that are gone have told.
+    told: Vec<Told>,
+    /// What was done by them.
     done: Counts,
     is_full: bool,
 }
@@ -97,27 +99,16 @@ impl<'a> Solver<'a> {
             walks: Walks::new(alloc, instance)?,
             stage: Stage::Ready(None),
             limits,
+            told: Vec::new(alloc),
             done: Counts::NOTHING,
             is_full: false,
         };
-        if solver.walks.is_none() {
-            solver.contradict(Reason::Dead)?;
-        } else if let Some((activity, resource)) = instance.too_much() {
-            let resource = resource as usize;
-            let members = Members::new(vec![in alloc; activity as usize]?);
-            solver.contradict(Reason::Set { resource, members })?;
+        if solver.walks.is_none() || instance.asks_too_much() {
+            solver.stage = Stage::Contradiction;
         } else {
             solver.begin_first(None)?;
         }
         Ok(solver)
-    }
-
-    /// The project contradicts itself.
-    fn contradict(&mut self, reason: Reason) -> Result<()> {
-        let lines = vec![in self.alloc; Line::End { reason }]?;
-        let text = text_of(self.alloc, &Claim::NoSchedule, &lines)?;
-        self.stage = Stage::Contradiction(text);
-        Ok(())
     }
 
     /// An engine for schedules that end before a ceiling; none where no search may begin.
@@ -126,6 +117,7 @@ impl<'a> Solver<'a> {
             has_log,
             has_cliques,
             seed: self.limits.seed,
+            slots: self.limits.slots,
         };
         let most = ceiling.wrapping_sub(1);
         let Some(walks) = &self.walks else {
@@ -171,16 +163,24 @@ impl<'a> Solver<'a> {
     /// A first schedule is known, and put early. Strategies take turns from the next step on.
     fn begin_with(&mut self, starts: &[i32]) -> Result<()> {
         let (early, _) = shortened(self.alloc, self.instance, starts)?;
-        self.done = self.counts();
         self.stage = Stage::Ready(Some(early));
+        Ok(())
+    }
+
+    /// An engine goes, and its lemmas are forgotten.
+    fn retire(&mut self, mut engine: Engine<'a>) -> Result<()> {
+        self.done = self.done.plus(engine.counts);
+        engine.log.forget_all()?;
+        let mut events = told(self.alloc, self.instance, &engine)?;
+        self.told.append(&mut events)?;
         Ok(())
     }
 
     /// Where the search stands.
     pub fn state(&self) -> State {
         match &self.stage {
-            Stage::Contradiction(_) => State::Ended,
-            Stage::Turns(turns) if turns.engine.is_refuted => State::Ended,
+            Stage::Contradiction => State::Ended,
+            Stage::Turns(turns) if turns.is_over() => State::Ended,
             _ if self.is_full => State::Full,
             _ => State::Going,
         }
@@ -204,15 +204,15 @@ impl<'a> Solver<'a> {
             self.stage = Stage::Turns(turns);
             return Ok(());
         }
-        self.done = self.done.plus(first.engine.counts);
-        match (found, first.dive) {
-            (Found::Schedule, _) => {
-                let starts = first.engine.schedule()?;
-                self.begin_with(&starts)
-            }
+        let starts = first.engine.schedule()?;
+        let dive = first.dive;
+        self.retire(first.engine)?;
+        match (found, dive) {
+            (Found::Schedule, _) => self.begin_with(&starts),
             (Found::Stopped, None) => {
-                let walk = self.bound();
-                let likely = self.instance.likely_end(walk);
+                let end = self.instance.end();
+                let walk = self.walks.as_ref().and_then(|walks| walks.longest(0, end));
+                let likely = self.instance.likely_end(walk.unwrap_or(0));
                 self.begin_first(Some(likely.saturating_add(1)))
             }
             (Found::Refuted, Some(ceiling)) if ceiling <= self.instance.horizon => {
@@ -251,21 +251,25 @@ impl<'a> Solver<'a> {
 
     /// Takes a feasible schedule by its starts in periods, if it is shorter than the best.
     pub fn take(&mut self, starts: &[i32]) -> Result<()> {
-        match &mut self.stage {
-            Stage::Contradiction(_) => Ok(()),
-            Stage::Turns(turns) => turns.take_other(starts),
-            Stage::First(_) | Stage::Ready(_) => self.begin_with(starts),
+        if let Stage::Turns(turns) = &mut self.stage {
+            return turns.take_other(starts);
         }
+        if matches!(self.stage, Stage::Contradiction) {
+            return Ok(());
+        }
+        if let Stage::First(first) = mem::replace(&mut self.stage, Stage::Ready(None)) {
+            self.retire(first.engine)?;
+        }
+        self.begin_with(starts)
     }
 
-    /// The starts of the shortest schedule known, in periods, if it is short enough for a record.
+    /// The starts of the shortest schedule known, in periods.
     pub fn best(&self) -> Option<&[i32]> {
-        let best = match &self.stage {
-            Stage::Contradiction(_) | Stage::First(_) => None,
+        match &self.stage {
+            Stage::Contradiction | Stage::First(_) => None,
             Stage::Ready(start) => start.as_deref(),
             Stage::Turns(turns) => turns.best.as_deref(),
-        };
-        best.filter(|starts: &&[i32]| starts.last().is_none_or(|end| *end <= MAX_MAKESPAN))
+        }
     }
 
     /// Who found it.
@@ -273,15 +277,6 @@ impl<'a> Solver<'a> {
         match &self.stage {
             Stage::Turns(turns) => turns.finder,
             _ => Finder::Dive,
-        }
-    }
-
-    /// What no schedule is shorter than, in periods.
-    pub fn bound(&self) -> i32 {
-        match (&self.stage, &self.walks) {
-            (Stage::Turns(turns), _) => turns.bound(),
-            (_, Some(walks)) => walks.longest(0, self.instance.end()).unwrap_or(0),
-            (_, None) => 0,
         }
     }
 
@@ -294,34 +289,61 @@ impl<'a> Solver<'a> {
         }
     }
 
-    /// The record of what was found: of a shortest schedule, of none, or of the bound. None where a number is larger than a
-    /// record may have.
-    pub fn into_record(mut self) -> Result<Option<Record>> {
-        match mem::replace(&mut self.stage, Stage::Ready(None)) {
-            Stage::Ready(start) => self.begin_turns(start)?,
-            Stage::First(_) => self.begin_turns(None)?,
-            stage => self.stage = stage,
+    /// What the engine at work has proved since it was asked last.
+    fn heard(&mut self) -> Result<Vec<Told>> {
+        let (alloc, instance) = (self.alloc, self.instance);
+        match &mut self.stage {
+            Stage::Turns(turns) => {
+                let events = told(alloc, instance, &turns.engine)?;
+                turns.engine.log.clear();
+                Ok(events)
+            }
+            Stage::First(first) => {
+                let events = told(alloc, instance, &first.engine)?;
+                first.engine.log.clear();
+                Ok(events)
+            }
+            _ => Ok(Vec::new(alloc)),
         }
-        let (mut turns, walks) = match (self.stage, self.walks) {
-            (Stage::Contradiction(text), _) => return Ok(Some(Record { bound: 0, text })),
-            (Stage::Turns(turns), Some(walks)) => (turns, walks),
-            _ => return Ok(None),
-        };
-        if !turns.engine.is_refuted {
-            turns.bound = turns.engine.least_end()?;
+    }
+
+    /// What the search has proved since it was asked last, in order. Each lemma holds below the shortest schedule that is
+    /// known.
+    pub fn events(&mut self) -> Result<Vec<Told>> {
+        let mut heard = self.heard()?;
+        let mut events = mem::replace(&mut self.told, Vec::new(self.alloc));
+        events.append(&mut heard)?;
+        Ok(events)
+    }
+
+    /// Whether strategies take turns: then it takes what other searches have proved, and they may take its lemmas. Before
+    /// that it forgets all of them.
+    pub fn shares(&self) -> bool {
+        matches!(self.stage, Stage::Turns(_))
+    }
+
+    /// Takes a lemma of another search, which stands in a slot of the record: not all of these arcs hold.
+    pub fn import(&mut self, slot: u32, lbd: u32, arcs: &[Lag]) -> Result<()> {
+        match &mut self.stage {
+            Stage::Turns(turns) => turns.import(slot, lbd, arcs),
+            _ => Ok(()),
         }
-        let bound = i64::from(turns.bound().min(MAX_MAKESPAN));
-        let claim = turns.claim(bound)?;
-        turns.engine.close_log()?;
-        let text = record_text(
-            self.alloc,
-            self.instance,
-            walks,
-            &turns.engine.forced,
-            turns.engine.pairs(),
-            &turns.engine.log,
-            claim,
-        )?;
-        Ok(text.map(|text| Record { bound, text }))
+    }
+
+    /// Takes an arc that always holds.
+    pub fn hold(&mut self, arc: Lag) -> Result<()> {
+        match &mut self.stage {
+            Stage::Turns(turns) => turns.hold(arc),
+            _ => Ok(()),
+        }
+    }
+
+    /// No search uses the lemma in a slot any more.
+    pub fn release(&mut self, slot: u32) -> Result<()> {
+        match &mut self.stage {
+            Stage::Turns(turns) => turns.engine.log.release(slot),
+            Stage::First(first) => first.engine.log.release(slot),
+            _ => Ok(()),
+        }
     }
 }

@@ -2,11 +2,9 @@
 
 use crate::effort::{Effort, FIRST_NEAR, PROBE, WHOLE};
 use engine::{Engine, Found, Pace, Run};
-use instance::{Instance, MAX_MAKESPAN};
+use instance::Instance;
 use large_neighbourhoods::{Random, WAYS, first_decisions, shortened};
-use lemma_text::Claim;
 use literals::Literal;
-use record_text::Starts;
 use std::alloc::Global;
 use tables::{Result, Table};
 
@@ -66,7 +64,7 @@ struct Turn {
 /// The search of a project below a ceiling.
 #[derive(Drop)]
 pub(crate) struct Turns<'a> {
-    alloc: Global,
+    pub(crate) alloc: Global,
     instance: &'a Instance,
     pub(crate) engine: Engine<'a>,
     /// The best schedule, and the same with starts as late as can be.
@@ -76,7 +74,7 @@ pub(crate) struct Turns<'a> {
     /// Schedules end before it.
     pub(crate) ceiling: i32,
     /// No schedule ends before it, as far as the root knew at the last turn.
-    pub(crate) bound: i32,
+    bound: i32,
     effort: Effort,
     /// How many activities are free, in hundredths, by strategy.
     sizes: Table<u64>,
@@ -123,27 +121,9 @@ impl<'a> Turns<'a> {
         })
     }
 
-    /// What no schedule is shorter than, in periods.
-    pub(crate) fn bound(&self) -> i32 {
-        match self.engine.is_refuted {
-            true => self.ceiling,
-            false => self.bound,
-        }
-    }
-
-    /// What the search claims, once its root has proved a bound.
-    pub(crate) fn claim(&self, bound: i64) -> Result<Claim> {
-        let is_refuted = self.engine.is_refuted;
-        Ok(match &self.best {
-            Some(best) if is_refuted => {
-                let starts = best.iter().map(|start| i64::from(*start));
-                let starts = Starts::new(starts.collect(self.alloc)?);
-                let makespan = i64::from(self.ceiling);
-                Claim::Optimal { makespan, starts }
-            }
-            None if is_refuted && self.ceiling > self.instance.horizon => Claim::NoSchedule,
-            _ => Claim::Bound { bound },
-        })
+    /// Whether no schedule is left below the ceiling.
+    pub(crate) fn is_over(&self) -> bool {
+        self.engine.is_refuted
     }
 
     /// The end that the whole search looks for, shorter than the best by a step, and how many conflicts it may meet.
@@ -272,10 +252,8 @@ impl<'a> Turns<'a> {
         self.finder = finder;
         self.engine.end_by(end.wrapping_sub(1))?;
         self.engine.follow_sequence(&early);
-        if end <= MAX_MAKESPAN {
-            self.best = Some(early);
-            self.late = late;
-        }
+        self.best = Some(early);
+        self.late = late;
         Ok(())
     }
 

@@ -1,5 +1,4 @@
-use Rattle.std.proofs.Common.{◌≡◌, ◌∙◌, ap, arith, pos, rules, w64, length, [], Option, ℤ, SFits}
-use Rattle.std.specs.Option.{unwrap_or}
+use Rattle.std.proofs.Common.{◌≡◌, ◌∙◌, arith, rules, w32, length, [], SFits}
 use Rattle.std.proofs.lemmas.Int.{to_z-of_z}
 use Rattle.network.proofs.FaultLaws.{appended_more}
 use Rattle.block.specs.Tables.{cell}
@@ -7,9 +6,9 @@ use Rattle.block.proofs.table.row.Goals as goal
 
 pub loop-b-preserved : goal.loop-b-preserved
 loop-b-preserved c =
-    let fits : SFits w64 c.unwrap_or.result = search rules in
+    let fits : SFits w32 c.cell.result = search rules in
     appended_more (λ b. cell c.args.matrix.now c.args.a b) 0 c.loop-b.b c.loop-b.b _ [] c.loop-b.cells.items c.push.new.self.items c.loop-b.invariant c.in_ok-push.ensures.items (omega arith)
-    (to_z-of_z w64 c.unwrap_or.result fits ∙ c.unwrap_or.ensures ∙ ap (λ (o : Option ℤ). unwrap_or o (pos 0)) c.get.ensures.value)
+    (to_z-of_z w32 c.cell.result fits ∙ c.cell.ensures)
 
 pub returns : goal.returns
 returns c =

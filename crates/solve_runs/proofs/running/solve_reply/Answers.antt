@@ -5,7 +5,7 @@ use Rattle.network.specs.Schedule.{IsFeasible}
 use Rattle.runs.proofs.CallLaws.{refuses_start}
 use Rattle.runs.proofs.TextLaws.{starts_whole, starts_fault_whole}
 use Rattle.solve_runs.specs.Story.{job_of, IsStartedReply}
-use Rattle.solve_runs.proofs.StoryLaws.{err_both, no_failed_read, reads_alone, replies_started}
+use Rattle.solve_runs.proofs.StoryLaws.{err_both, no_failed_read, reads_alone, replies_alone, replies_started}
 use Rattle.solve_runs.proofs.running.solve_reply.Goals as goal
 
 pub returns-clause-said : goal.returns-clause-said
@@ -43,6 +43,21 @@ returns-clause-refused g c =
         has = λ _. starts_whole p c.deref.result.now more (IsFeasible p) (c.deref.ensures.value ∙ c.in_ok-starts.ensures.told more (told_more on)) (found.1 bad);
       };
     })
+
+pub returns-then-not-asked-clause-said : goal.returns-then-not-asked-clause-said
+returns-then-not-asked-clause-said g c =
+    let p = c.in_ok-project.project in
+    let of_project = c.in_ok-project.ensures.project in
+    let off : c.args.asked.start ≡ false = search rules in
+    let shown = rw c.in_ok-project-2.ensures.ok at c.solved.ensures.shown in
+    MatchResult-weaker c.solved.result shown
+    (λ reply found text more told told_more. replies_alone c.args.asked.start c.args.asked.json reply text more off (record {
+      project = p;
+      is_project = of_project.0;
+      spells = of_project.1 text told;
+      has = found;
+    }))
+    (λ _ _. tt)
 
 pub returns-then-not-asked-clause-read : goal.returns-then-not-asked-clause-read
 returns-then-not-asked-clause-read g c =

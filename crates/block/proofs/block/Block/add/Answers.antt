@@ -1,28 +1,34 @@
-use Rattle.std.proofs.Common.{ap, ◌++◌, ◌∷◌, []}
-use Rattle.std.specs.List.{Contains}
-use Rattle.block.specs.Heads.{HeadsOf}
-use Rattle.block.specs.Block.{converse_of}
-use Rattle.block.proofs.Blocks.{same_halves, first_more, both_more}
+use Rattle.std.proofs.Common.{◌≡◌, sym, subst, true, length}
+use Rattle.block.specs.Heads.{IsLight}
+use Rattle.block.specs.Halves.{AreHalves}
+use Rattle.block.proofs.Halves.{unsettled, listed_halves, told_halves, told_more}
 use Rattle.block.proofs.block.Block.add.Goals as goal
 
-pub invariant_of-self-in_err-_tails_settled : goal.invariant_of-self-in_err-_tails_settled
-invariant_of-self-in_err-_tails_settled c =
-    let x = c.self.inside.heads in
-    let y = c.self.inside.tails in
-    let first = c.in_ok-settled.ensures.added in
-    let second = c.in_err-_tails_settled.ensures.unchanged in
-    same_halves x y c.add.new.self c.add-2.new.self c.self.invariant (ap (λ (h : HeadsOf). h.rows) first) (ap (λ (h : HeadsOf). h.rows) second)
-    (λ e there.
-    let old : Contains c.self.inside.tails.arcs e = rw (ap (λ (h : HeadsOf). h.arcs) second) at there in
-    rw (ap (λ (h : HeadsOf). h.arcs) first) (first_more x y c.args.arc c.self.invariant e old))
+pub invariant_of-self : goal.invariant_of-self
+invariant_of-self c = rw c.in_err-push.ensures.items (unsettled c.self.inside.more.items c.self.inside.heads c.self.inside.tails c.self.inside.settled c.self.invariant)
+
+pub invariant_of-self-in_err-push_both : goal.invariant_of-self-in_err-push_both
+invariant_of-self-in_err-push_both c =
+    let light : IsLight (length c.self.inside.heads.rows) c.args.arc = rw (sym c.self.view_is) at c.requires in
+    rw c.in_ok-push.ensures.items (listed_halves c.self.inside.more.items c.self.inside.heads c.self.inside.tails c.push_both.new.heads c.push_both.new.tails c.args.arc c.self.inside.settled c.self.invariant light c.push_both.ensures.heads c.push_both.ensures.tails)
+
+pub invariant_of-self-then-not-was_settled : goal.invariant_of-self-then-not-was_settled
+invariant_of-self-then-not-was_settled c =
+    let light : IsLight (length c.self.inside.heads.rows) c.args.arc = rw (sym c.self.view_is) at c.requires in
+    rw c.in_ok-push.ensures.items (listed_halves c.self.inside.more.items c.self.inside.heads c.self.inside.tails c.push_both.new.heads c.push_both.new.tails c.args.arc c.self.inside.settled c.self.invariant light c.push_both.ensures.heads c.push_both.ensures.tails)
 
 pub invariant_of-self-2 : goal.invariant_of-self-2
 invariant_of-self-2 c =
-    let x = c.self.inside.heads in
-    let y = c.self.inside.tails in
-    let first = c.in_ok-settled.ensures.added in
-    let second = c.in_ok-_tails_settled.ensures.added in
-    same_halves x y c.add.new.self c.add-2.new.self c.self.invariant (ap (λ (h : HeadsOf). h.rows) first) (ap (λ (h : HeadsOf). h.rows) second)
-    (λ e there.
-    let old : Contains (c.self.inside.tails.arcs ++ converse_of c.args.arc ∷ []) e = rw (ap (λ (h : HeadsOf). h.arcs) second, c.converse_of.ensures) at there in
-    rw (ap (λ (h : HeadsOf). h.arcs) first) (both_more x y c.args.arc c.self.invariant e old))
+    let light : IsLight (length c.self.inside.heads.rows) c.args.arc = rw (sym c.self.view_is) at c.requires in
+    let settled : c.self.inside.settled ≡ true = c.if-not-was_settled.false in
+    let halves : AreHalves c.self.inside.more.items c.self.inside.heads c.self.inside.tails true = subst (AreHalves c.self.inside.more.items c.self.inside.heads c.self.inside.tails) settled c.self.invariant in
+    rw (c.in_ok-push.ensures.items, c.unwrap_or-self-inside.ensures)
+    (told_halves c.self.inside.more.items c.self.inside.heads c.self.inside.tails c.push_both.new.heads c.push_both.new.tails c.rise_both-settled.new.heads c.rise_both-settled.new.tails c.args.arc c.rise_both-settled.result light halves c.push_both.ensures.heads c.push_both.ensures.tails c.in_ok-push_both.ensures.listed c.rise_both-settled.ensures.risen c.rise_both-settled.ensures.told)
+
+pub returns-clause-told : goal.returns-clause-told
+returns-clause-told c =
+    let light : IsLight (length c.self.inside.heads.rows) c.args.arc = rw (sym c.self.view_is) at c.requires in
+    let settled : c.self.inside.settled ≡ true = c.if-not-was_settled.false in
+    let halves : AreHalves c.self.inside.more.items c.self.inside.heads c.self.inside.tails true = subst (AreHalves c.self.inside.more.items c.self.inside.heads c.self.inside.tails) settled c.self.invariant in
+    rw (c.in_ok-push.ensures.items, c.told.ensures)
+    (told_more c.self.inside.more.items c.self.inside.heads c.self.inside.tails c.push_both.new.heads c.push_both.new.tails c.rise_both-settled.new.heads c.rise_both-settled.new.tails c.args.arc c.rise_both-settled.result c.activity_count-rows.ensures.law.table c.activity_count-columns.ensures.law.table light halves c.push_both.ensures.heads c.push_both.ensures.tails c.in_ok-push_both.ensures.listed c.rise_both-settled.ensures.risen c.rise_both-settled.ensures.told)

@@ -1,4 +1,4 @@
-use Rattle.std.proofs.Common.{rules, arith, ◌≡◌, subst, sym, ◌+ℤ◌, ◌≤ℤ◌, ◌<◌, ◌∷◌, [], length, w64, SFits}
+use Rattle.std.proofs.Common.{rules, arith, subst, sym, ◌+ℤ◌, ◌≤ℤ◌, ◌<◌, ◌∷◌, [], length, w64, SFits}
 use Rattle.std.proofs.lemmas.Int.{ints, to_z-of_z}
 use Rattle.block.specs.Implied.{ImpliesWith}
 use Rattle.block.specs.Block.{BlockOf}

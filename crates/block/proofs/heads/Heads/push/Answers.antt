@@ -1,10 +1,17 @@
-use Rattle.std.proofs.Common.{sym, length}
-use Rattle.block.specs.Heads.{HeadsOf, IsLight, table_rows}
-use Rattle.block.proofs.Raised.{pushed_heads}
+use Rattle.std.proofs.Common.{sym, length, inl, inr, subst}
+use Rattle.std.proofs.lemmas.List.Elements.{Contains-push_cases}
+use Rattle.block.specs.Heads.{IsLight, table_rows}
 use Rattle.block.proofs.heads.Heads.push.Goals as goal
 
 pub invariant_of-self-2 : goal.invariant_of-self-2
 invariant_of-self-2 c =
-    let x : HeadsOf = record { rows = table_rows c.self.inside.table.items; arcs = c.self.inside.arcs.items; heads = c.self.inside.heads.items; tried = c.self.inside.tried.items } in
     let light : IsLight (length (table_rows c.self.inside.table.items)) c.args.arc = rw (sym c.self.view_is) at c.requires in
-    rw c.in_ok-push.ensures.items (pushed_heads x c.args.arc c.self.invariant light)
+    record {
+      table = c.self.invariant.table;
+      arcs_light = λ e there. elim (Contains-push_cases c.self.inside.arcs.items c.args.arc e (rw c.in_ok-push.ensures.items at there)) [
+        | inl old ↦ c.self.invariant.arcs_light e old
+        | inr is ↦ subst (IsLight (length (table_rows c.self.inside.table.items))) is light
+      ];
+      heads_long = c.self.invariant.heads_long;
+      tried_long = c.self.invariant.tried_long;
+    }

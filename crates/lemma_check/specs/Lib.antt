@@ -1,4 +1,0 @@
-pub mod Reasons
-pub mod Places
-pub mod Right
-pub mod Standing

@@ -1,4 +1,0 @@
-pub mod HeadReads
-pub mod ReasonReads
-pub mod LineReads
-pub mod TextLaws
