@@ -48,7 +48,7 @@ install:
 	install -m 755 $(AT_HAND)/psmax $(AT_HAND)/psprove $(DESTDIR)$(PREFIX)/bin
 	install -D -m 755 planner/plan $(DESTDIR)$(PREFIX)/bin/plan
 	for file in $(MODULES); do install -D -m 644 python/$$file $(DESTDIR)$(PREFIX)/share/psmax/$$file; done
-	install -m 755 tests/verify.py tests/verify_lemmas.py $(DESTDIR)$(PREFIX)/share/psmax
+	install -m 755 tests/verify.py tests/verify_log.py tests/show_log.py $(DESTDIR)$(PREFIX)/share/psmax
 	install -d $(DESTDIR)$(PREFIX)/share/man/man1
 	install -m 644 docs/psmax.1 docs/psprove.1 docs/plan.1 $(DESTDIR)$(PREFIX)/share/man/man1
 	python3 docs/install.py $(DESTDIR)$(PREFIX)/share/doc/psmax

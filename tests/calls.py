@@ -4,14 +4,20 @@ from collections.abc import Callable
 import judges
 import verify
 from harness import INPUTS, TOP, Ended
+from verify_log import TITLE
 
 
 def project(name: str) -> bytes:
     return (INPUTS / f"{name}.sch").read_bytes()
 
 
-def lemmas(name: str) -> bytes:
-    return (TOP / "tests" / "lemmas" / name).read_bytes()
+def of_logs(name: str) -> bytes:
+    return (TOP / "tests" / "logs" / name).read_bytes()
+
+
+def log(events: str) -> bytes:
+    """A log of lemmas whose events have these bytes, in base 16."""
+    return TITLE + bytes.fromhex(events)
 
 
 TWO, THREE, LAGS = project("two-jobs"), project("three-jobs-capacity-two"), project("three-jobs-lags")
@@ -108,14 +114,16 @@ CALLS = [
     Call(VERIFY, LAGS_RECORD.replace(b"cut\n", b""), LAGS, exit=2, fault=b"psmax: line 6: short\n"),
 ]
 
-WORKED, WORKED_RECORD = lemmas("worked.sch"), lemmas("worked.rec")
+WORKED, WORKED_LOG = of_logs("worked.sch"), of_logs("worked.log")
 PROOFS = [
-    Call(VERIFY, WORKED_RECORD, WORKED, out=b"proved optimal 8\n"),
-    Call(VERIFY, b"record 2\nbound 8\nforce 1 2\nend clique 3 7 2 3\n", WORKED, out=b"proved bound 8\n"),
-    Call(VERIFY, b"record 2\nno schedule\nend dead\n", CYCLE, out=b"proved no schedule\n"),
-    Call(VERIFY, WORKED_RECORD.replace(b"use 0", b"use 1"), WORKED, exit=4, fault=b"psprove: line 6: add\n"),
-    Call(VERIFY, WORKED_RECORD[:-1], WORKED, exit=2, fault=b"psprove: line 8: form\n"),
-    Call(VERIFY, WORKED_RECORD, WORKED[:20], exit=2, fault=b"psprove: ends before word 10\n"),
+    Call(VERIFY, WORKED_LOG, WORKED, out=b"proved optimal 8\n"),
+    Call(VERIFY, log("0900010d0c15000c0102 02070e"), WORKED, out=b"proved bound 7\n"),
+    Call(VERIFY, log("06160006000c10 0b00010502080c0806080306 02070a"), WORKED, out=b"proved bound 5\n"),
+    Call(VERIFY, log("010b"), CYCLE, out=b"proved no schedule\n"),
+    Call(VERIFY, log("06160006000c10 080001050208001103"), WORKED, exit=4, fault=b"psprove: event 2: lemma\n"),
+    Call(VERIFY, WORKED_LOG[:-1], WORKED, exit=4, fault=b"psprove: event 6: short\n"),
+    Call([*VERIFY, "--partial"], WORKED_LOG[:-1], WORKED, out=b"proved optimal 8\n"),
+    Call(VERIFY, WORKED_LOG, WORKED[:20], exit=2, fault=b"psprove: ends before word 10\n"),
     Call(SOLVE, DEAD, out=b"no schedule\n"),
     Call(SOLVE, CYCLE, out=b"no schedule\n"),
     Call(START, TWO, STARTS, out=b"optimal 7\n" + STARTS),

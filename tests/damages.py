@@ -1,9 +1,7 @@
 """Damages to a record's text: each makes other lines of its lines."""
 import random
 import re
-from collections.abc import Callable, Sequence
 
-Damage = Callable[[random.Random, list[bytes]], None]
 LEAVES = [b"solved", b"cut", b"dead"]
 NUMBER = re.compile(rb"[0-9]+")
 
@@ -56,13 +54,12 @@ def cut_off(rng: random.Random, lines: list[bytes]) -> None:
 
 
 DAMAGES = (without_line, line_twice, lines_swapped, other_leaf, other_number, other_claim, other_byte, cut_off)
-DAMAGES_OF_LEMMAS = (other_number, without_line, line_twice, lines_swapped)
 
 
-def damaged(rng: random.Random, record: bytes, damages: Sequence[Damage] = DAMAGES) -> bytes:
+def damaged(rng: random.Random, record: bytes) -> bytes:
     """The record with one to three damages."""
     lines = record.split(b"\n")
     for _ in range(rng.randint(1, 3)):
         if len(lines) > 2:
-            rng.choice(damages)(rng, lines)
+            rng.choice(DAMAGES)(rng, lines)
     return b"\n".join(lines)

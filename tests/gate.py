@@ -29,7 +29,6 @@ import documents
 import events
 import growths
 import harness
-import lemmas
 import logs
 import records
 import run
@@ -95,8 +94,7 @@ def scripts(folder: pathlib.Path, with_tests: bool) -> Iterator[Script]:
     yield "cases of psprove", run.verdicts, [psprove, "--cases", str(TOP / "tests" / "proofs.jsonl")]
     yield "workers", workers.verdicts, [psmax, "--runs", "100"]
     yield "records", records.verdicts, [psmax, "--seeded", "20", "--damaged", "1000"]
-    yield "lemmas", lemmas.verdicts, [psprove, "--damaged", "200"]
-    yield "logs", logs.verdicts, ["-", "--logs", "500"]
+    yield "logs", logs.verdicts, [psprove, "--logs", "2000"]
     yield "searches", searches.verdicts, [psmax, psprove, "--seeded", "200", "--large", "10"]
     yield "books", books.verdicts, [book_events]
     if shutil.which(os.environ.get("CC", "cc")):

@@ -5,25 +5,16 @@ from collections.abc import Callable
 
 import harness
 import verify
-import verify_lemmas
 import verify_log
 from harness import Ended
 
 
-def by_program(program: str, project: pathlib.Path, record: bytes) -> Ended:
-    return harness.ended([program, "verify", "--project", project], record, 600)
+def by_program(program: str, project: pathlib.Path, record: bytes, partial: bool = False) -> Ended:
+    return harness.ended([program, "verify", *["--partial"] * partial, "--project", project], record, 600)
 
 
 def by_script(project: verify.Project, record: bytes) -> Ended:
     return said("psmax", lambda: verify.verify(project, *verify.read_record(record)))
-
-
-def by_script_of_lemmas(project: verify.Project, record: bytes) -> Ended:
-    return said("psprove", lambda: verify_lemmas.verify(project, *verify_lemmas.read_record(record)))
-
-
-def by_program_of_logs(program: str, project: pathlib.Path, log: bytes, partial: bool = False) -> Ended:
-    return harness.ended([program, "verify", *["--partial"] * partial, "--project", project], log, 600)
 
 
 def by_script_of_logs(project: verify.Project, log: bytes, partial: bool = False) -> Ended:

@@ -9,7 +9,9 @@ right, or one of FOLDER; the others are that log with one to three damages. What
 with its shortest schedule, which is found by trying all orders. A third of the logs are judged with --partial. Without a
 PROGRAM (the word -) the script is judged alone. The last line counts all."""
 import functools
+import itertools
 import json
+import math
 import random
 import re
 from collections.abc import Iterator, Sequence
@@ -45,7 +47,7 @@ class Judge(NamedTuple):
     def wrong(self, whole: Whole, log: bytes, want: str | None = None, partial: bool = False) -> str | None:
         """What is wrong with what is said of a log, or None."""
         said = judges.by_script_of_logs(whole.project, log, partial)
-        told = judges.by_program_of_logs(self.program, whole.file, log, partial) if self.program else said
+        told = judges.by_program(self.program, whole.file, log, partial) if self.program else said
         if told != said:
             return f"the program says {told}, the script {said}"
         if want is not None and want != said_text(said):
@@ -84,7 +86,6 @@ def whole_in(path: Path) -> Whole:
     return Whole(path.name, project_of(path), project, shortest, path.read_bytes())
 
 
-@functools.cache
 def whole_of(folder: Path, seed: int) -> Whole:
     """The longer of two logs of small projects."""
     found = []
@@ -100,14 +101,20 @@ def whole_of(folder: Path, seed: int) -> Whole:
     return Whole(f"small project {seed}", file, project, small_projects.shortest(project), log)
 
 
-def played(judge: Judge, wholes: Sequence[Path], folder: Path, seed: int) -> Verdict:
-    """What is wrong with what is said of the log of a seed."""
-    rng, which = random.Random(seed), seed // EACH
-    whole = whole_in(rng.choice(wholes)) if wholes and which % 10 == 9 else whole_of(folder, which)
+def played(judge: Judge, wholes: Sequence[Path], made: Whole | None, seed: int) -> Verdict:
+    """What is wrong with what is said of the log of a seed, which is made of this one or of one of those."""
+    rng = random.Random(seed)
+    whole = made or whole_in(rng.choice(wholes))
     if seed % EACH == 0:
         return f"log {seed}, {whole.name}", judge.wrong(whole, whole.log, f"proved {log_bytes.claim_of(whole.log)}")
     log = damaged(rng, whole.log)
     return f"log {seed}, {whole.name} with damages", judge.wrong(whole, log, partial=rng.randrange(3) == 0)
+
+
+def some_played(judge: Judge, wholes: Sequence[Path], folder: Path, count: int, which: int) -> list[Verdict]:
+    """The same of those logs below a count that are made of one log."""
+    made = None if wholes and which % 10 == 9 else whole_of(folder, which)
+    return [played(judge, wholes, made, seed) for seed in range(which * EACH, min(count, which * EACH + EACH))]
 
 
 def rows(judge: Judge, folder: Path) -> Iterator[Verdict]:
@@ -131,7 +138,8 @@ def verdicts(words: Sequence[str]) -> Verdicts:
     yield from rows(judge, o.folder)
     with harness.new_folder() as folder:
         small = [path for path in wholes if path.stat().st_size < SMALL]
-        yield from harness.side_by_side(functools.partial(played, judge, small, folder), range(o.logs))
+        look = functools.partial(some_played, judge, small, folder, o.logs)
+        yield from itertools.chain.from_iterable(harness.side_by_side(look, range(math.ceil(o.logs / EACH))))
 
 
 if __name__ == "__main__":

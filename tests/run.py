@@ -20,6 +20,7 @@ A case is one line of JSON with a name, args and exit, and with those of the fol
 What is wanted of stdout, stderr and files is a text or an input. A word that is not UTF-8 has its bytes as Python's
 os.fsdecode gives them. An input is one of
   {"text": TEXT}            this text
+  {"hex": DIGITS}           these bytes, in base 16
   {"file": NAME}            a file of inputs/ beside the cases, with "cut": its first so many bytes,
                             with "append": and then this text
   {"repeat": [TEXT, N]}     the text so many times
@@ -39,6 +40,7 @@ from pathlib import Path
 from typing import Any
 
 import harness
+import verify_log
 from channels import given, limit_files
 from harness import TOP, Verdicts
 
@@ -52,6 +54,8 @@ def content(spec: Spec | None, inputs: Path) -> bytes:
         return str(spec["text"]).encode()
     if "concat" in spec:
         return b"".join(content(part, inputs) for part in spec["concat"])
+    if "hex" in spec:
+        return bytes.fromhex(spec["hex"])
     if "made" in spec:
         name, word = spec["made"]
         return harness.ended([sys.executable, inputs / name, word])[1]
@@ -86,8 +90,9 @@ def unverified(program: str, folder: Path, inputs: Path, out: bytes, project: Sp
     (folder / ".project").write_bytes(content(project, inputs))
     answer, shown = out.split(b"\n")[0], (folder / record).read_bytes()
     want = b"proved " + answer[max(answer.find(b"bound "), 0):] + b"\n"
-    checker = TOP / "tests" / ("verify_lemmas.py" if shown.startswith(b"record 2\n") else "verify.py")
-    judges: list[list[object]] = [[program, "verify", "--project", ".project"], [sys.executable, checker, ".project", record]]
+    name, *more = ["verify_log.py"] if shown.startswith(verify_log.TITLE) else ["verify.py", record]
+    judges: list[list[object]] = [[program, "verify", "--project", ".project"],
+                                  [sys.executable, TOP / "tests" / name, ".project", *more]]
     for words in judges:
         if (said := harness.ended(words, shown, cwd=folder)) != (0, want, b""):
             yield f"{words[1]}: {said}, not {want!r}"

@@ -3,7 +3,7 @@
 
 Has both programs solve N small seeded projects (2,000 by default), every fifth with two jobs of psprove, and wants one
 verdict of both. The starts of psprove have to pass `psmax check`, and its record has to prove the verdict, by `psprove verify`
-and, below 100,000 bytes, by tests/verify_lemmas.py. Then psprove alone solves N projects of 62 to 250 activities (40 by
+and, below 100,000 bytes, by tests/verify_log.py. Then psprove alone solves N projects of 62 to 250 activities (40 by
 default), of which psmax can prove few. Ten projects are solved twice by the same words, which have to give the same bytes.
 Three projects, of which one has no schedule, are solved with all times multiplied by 997. The last line counts the
 projects."""
@@ -63,8 +63,8 @@ class Search:
         wanted, shown = (0, b"proved " + claim + b"\n", b""), self.record.read_bytes()
         if judges.by_program(self.psprove, self.file, shown) != wanted:
             return "psprove verify refuses its record"
-        if len(shown) <= MOST_BYTES and (said := judges.by_script_of_lemmas(verify.Project(self.text), shown)) != wanted:
-            return f"verify_lemmas.py says {said}, not {wanted}"
+        if len(shown) <= MOST_BYTES and (said := judges.by_script_of_logs(verify.Project(self.text), shown)) != wanted:
+            return f"verify_log.py says {said}, not {wanted}"
         return None
 
 

@@ -1,5 +1,5 @@
 #!/usr/bin/env python3
-"""Checks a log of lemmas against a project, as docs/LOG.md says, and shares nothing with psprove.
+"""Checks a log of lemmas against a project, as docs/LEMMAS.md says, and shares nothing with psprove.
 
     verify_log.py PROJECT.sch [--partial] < LOG
 
