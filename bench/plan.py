@@ -10,7 +10,7 @@ large     ten of 100 to 500 activities, beside the same
 
 `--only` takes those alone whose name has the word.
 Each record of plan has to be accepted by `psprove verify`, with the answer that was printed; those below 200,000 bytes also
-by tests/verify_lemmas.py. Seconds are those of a clock. The last lines count what was proved, and tell the load before and
+by tests/verify_log.py. Seconds are those of a clock. The last lines count what was proved, and tell the load before and
 after."""
 import argparse
 import os
@@ -97,7 +97,7 @@ def refused(folder: pathlib.Path, project: pathlib.Path, record: pathlib.Path, o
     wanted = f"proved {'bound ' + words[-1] if 'bound' in words else ' '.join(words)}\n"
     judges: list[list[object]] = [[folder / "psprove", "verify", "--project", project]]
     if record.stat().st_size < proofs.SMALL:
-        judges.append([sys.executable, proofs.CHECKER, project, record])
+        judges.append([sys.executable, proofs.CHECKER, project])
     said = {run(words, record.read_bytes())[0] for words in judges}
     return "" if said == {wanted} else f"{said}, not {wanted!r}"
 

@@ -4,9 +4,9 @@
 What both programs prove of generated projects in some S seconds (20 by default), as a Markdown table: six projects of each size
 N: two each whose activities follow near ones, of which some three fit at once; whose activities follow any; and whose
 resources are wide. `psmax solve` gets as many nodes as it would take in S seconds at its first speed. Each record
-of psprove is checked by `psprove verify`, and where it is below 200,000 bytes by tests/verify_lemmas.py. Seconds are of a
-processor. J projects (2 by default) are tried side by side. The
-last lines count what was proved, and name where a bound of psprove is below that of psmax."""
+of psprove is checked by `psprove verify`, and where it is below 200,000 bytes by tests/verify_log.py. Seconds are of a
+processor. J projects (2 by default) are tried side by side. The last lines count what was proved, and name where a bound of
+psprove is below that of psmax."""
 import argparse
 import concurrent.futures
 import json
@@ -19,7 +19,7 @@ from typing import Any
 import measuring
 import projects
 
-CHECKER = measuring.TOP / "tests" / "verify_lemmas.py"
+CHECKER = measuring.TOP / "tests" / "verify_log.py"
 SMALL = 200_000
 FIRST_NODES = 2_000
 Family = Callable[[int, int], projects.Project]
@@ -70,7 +70,7 @@ class Row:
             self.own: Answer = json.loads(answer)
             shown = record.read_bytes()
             self.said, self.verified = run([psprove, "verify", "--project", project], shown)
-            self.by_script = run([sys.executable, CHECKER, project, record], b"")[0] if len(shown) < SMALL else self.said
+            self.by_script = run([sys.executable, CHECKER, project], shown)[0] if len(shown) < SMALL else self.said
 
     def wrong(self) -> str | None:
         """What is wrong with what psprove says, beside psmax; or None."""
@@ -85,7 +85,7 @@ class Row:
         return None
 
     def print(self) -> None:
-        counts = [f"{self.own[name]:,}" for name in ("conflicts", "lines", "record_bytes")]
+        counts = [f"{self.own[name]:,}" for name in ("conflicts", "record_bytes")]
         measuring.row(self.name, told(self.other), f"{self.other_used:.1f}", told(self.own), f"{self.used:.1f}", *counts,
                       f"{self.verified:.2f}")
 
@@ -100,7 +100,7 @@ def main() -> None:
     o = parser.parse_args()
     made = [(f"{name}, {n}, seed {seed}", family(n, seed).text())
             for n in o.sizes for name, family in FAMILIES.items() for seed in (1, 2)]
-    measuring.heads("project", "psmax", "s", "psprove", "s", "conflicts", "lines", "bytes", "verify, s")
+    measuring.heads("project", "psmax", "s", "psprove", "s", "conflicts", "bytes", "verify, s")
     rows = []
     with concurrent.futures.ThreadPoolExecutor(o.jobs) as pool:
         for row in pool.map(lambda found: Row(o.psmax, o.psprove, o.seconds, *found), made):

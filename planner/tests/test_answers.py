@@ -89,7 +89,7 @@ class Answers(InFolder):
 
     def test_what_is_no_answer(self) -> None:
         """It is a fault, also of a chart."""
-        for text in (b"", b"\n", b"\x00\x01\xff", b"PK\x03\x04", b"record 2\n", b"proved optimal 7\n"):
+        for text in (b"", b"\n", b"\x00\x01\xff", b"PK\x03\x04", b"record 3\n\x02\x07\x0a", b"proved optimal 7\n"):
             with self.subTest(text):
                 self.refused(plan("gantt", self.table, given=text), 2, "standard input: ")
         self.assertEqual(plan("gantt", self.table, given=b"no schedule\n").returncode, 0)

@@ -56,8 +56,8 @@ class Report(InFolder):
 
     def test_faults(self) -> None:
         path, out = INPUTS / "two-jobs.sch", self.folder / "page.html"
-        short, wrong = self.file("short", "0 0\n1 0\n2 3\n3 7\n"), self.file("wrong", "record 2\nbound 8\nend dead\n")
-        self.refused(plan("report", path, short, "--record", wrong, "--out", out), 2, "proves nothing of", "line 3: end")
+        short, wrong = self.file("short", "0 0\n1 0\n2 3\n3 7\n"), self.file("wrong", b"record 3\n\x02\x07\x10")
+        self.refused(plan("report", path, short, "--record", wrong, "--out", out), 2, "proves nothing of", "event 1: claim")
         self.refused(plan("report", path, short, "--record", wrong, "--out", wrong), 2, "is the record, which would be lost")
         self.refused(plan("report", path, short, "--out", short), 2, "is the answer, which would be lost")
         self.refused(plan("report", path, self.file("bad", "0 0\n1 0\n2 2\n3 6\n"), "--out", out), 2, "not a schedule")

@@ -62,8 +62,8 @@ class Schedule:
 
 @dataclass(frozen=True)
 class Progress:
-    """What a search has come by: a shorter schedule, a greater bound, or both. What is not proved is a report of the search,
-    which its checker has not judged yet."""
+    """What a search has come by: a shorter schedule, a greater bound, or both. What is not proved is a report while a program
+    searches, of which there is no record yet."""
 
     seconds: float
     value: int | None  # of what is minimized, in the shortest schedule

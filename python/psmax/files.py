@@ -19,13 +19,13 @@ LARGEST = 16_777_216  # bytes; psmax reads no longer text, so one byte more is e
 HELD: MutableMapping[TextIO, bytes] = WeakKeyDictionary()
 
 
-def read_bytes(path: str, most: int = LARGEST) -> bytes:
-    """What the file holds, or standard input, up to one byte more than the programs would read."""
+def read_bytes(path: str, most: int | None = LARGEST) -> bytes:
+    """What the file holds, or standard input, up to one byte more than the programs would read; all where there is no most."""
     if path == DASH:
         return read_input(None)
     try:
         with open(path, "rb") as file:
-            return file.read(most + 1)
+            return file.read(-1 if most is None else most + 1)
     except (OSError, ValueError) as fault:
         raise Failed(f"cannot read {path}: {reason(fault)}") from None
 

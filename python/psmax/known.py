@@ -12,8 +12,8 @@ from .spelled import Spelled
 
 @dataclass(frozen=True)
 class News:
-    """What a search has come by: a shorter schedule, a greater bound, or both. What is not proved is a report of the search
-    alone, which its checker has not judged yet."""
+    """What a search has come by: a shorter schedule, a greater bound, or both. What is not proved is a report while a program
+    searches, of which there is no record yet."""
 
     seconds: float
     value: int | None

@@ -1,4 +1,5 @@
 """Calls of psmax and psprove, each under a clock. Every fact that `plan` prints comes from one of them."""
+import math
 import os
 import pathlib
 import re
@@ -69,17 +70,18 @@ class Program:
             return status, out or told
         raise Failed(f"{self.name} {words[0]} failed, exit status {status}" + (f": {text}" if text else ""))
 
-    def judge(self, command: str, project: bytes, given: bytes) -> tuple[int, bytes]:
+    def judge(self, command: str, project: bytes, given: bytes, seconds: float = SECONDS) -> tuple[int, bytes]:
         """A call of a command that takes the project as a file, and is given what it has to judge."""
         with tempfile.TemporaryDirectory(prefix="plan-") as folder:
             path = os.path.join(folder, "project.sch")
             with open(path, "wb") as file:
                 file.write(project)
-            return self.call([command, "--project", path], given)
+            return self.call([command, "--project", path], given, seconds)
 
     def verify(self, project: bytes, record: bytes) -> tuple[int, str]:
-        """The exit status, and what the record proves of the project, or its first wrong line."""
-        status, out = self.judge("verify", project, record)
+        """The exit status, and what the record proves of the project, or its first fault. A long one may take as long as the
+        search did."""
+        status, out = self.judge("verify", project, record, math.inf)
         return status, out.decode("utf-8", "replace").strip().removeprefix(f"{self.name}: ")
 
     def _run(self, words: Sequence[str], given: bytes, seconds: float,

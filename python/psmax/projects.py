@@ -8,7 +8,6 @@ from .answer import Answer, Changed, Checked, Float, Progress, Schedule, Starts
 from .files import read_bytes, write_whole
 from .model import Activity, Parts
 from .record import Proof, Record
-from .solved import LARGEST
 from .spelled import Spelled
 
 SECONDS = 60.0
@@ -55,8 +54,8 @@ class Project(Parts):
         return solving.solve(self, seconds, jobs, on_progress, start, path, proved_by, minimize)
 
     def verify(self, record: bytes | str | os.PathLike[str], minimize: str = "makespan") -> Proof:
-        """What a record of this project proves, in a file or as its bytes; its first wrong line is a fault."""
-        data = record if isinstance(record, bytes) else read_bytes(os.fspath(record), LARGEST)
+        """What a record of this project proves, in a file or as its bytes; its first wrong line or event is a fault."""
+        data = record if isinstance(record, bytes) else read_bytes(os.fspath(record), None)
         return Record(data, Spelled(self.numbers(minimize))).verify()
 
     def whatif(self, seconds: float = SECONDS, jobs: int | None = None, minimize: str = "makespan") -> list[Changed]:

@@ -1,4 +1,4 @@
-"""Searches by psprove. Whatever it answers, its proved checker has found in the record of the search."""
+"""Searches by psprove. Whatever it answers, its proved book has taken, and the record has the log of that."""
 import math
 import os
 import re
@@ -13,7 +13,7 @@ from .psmax import starts_text
 from .solved import ODD, Solved, not_asked, of_answer
 from .spelled import Spelled
 
-GRACE = 60.0  # seconds that psprove may take beyond its limit, besides as many as the limit, for the record
+GRACE = 60.0  # seconds that psprove may take beyond its limit, besides as many as the limit, for its last steps
 
 
 @dataclass(frozen=True)

@@ -10,7 +10,7 @@ from .psmax import Psmax
 from .psprove import Psprove
 from .spelled import Spelled
 
-OF_PSMAX = b"record 1\n"  # how a record of psmax begins; any other one is of lemmas
+OF_PSMAX = b"record 1\n"  # how a record of psmax begins; any other one is a log of lemmas
 PROVED = re.compile(r"proved (no schedule|(bound|optimal) (\d+))")
 WRONG = 4  # the exit status of the programs for a record that is wrong
 
@@ -39,7 +39,7 @@ class Record:
         return (Psmax if self.data.startswith(OF_PSMAX) else Psprove)(Clock(), called)
 
     def told(self, program: Program) -> tuple[str, bool]:
-        """What a program says of it, and whether that is its first wrong line."""
+        """What a program says of it, and whether that is its first fault."""
         status, told = program.verify(self.spelled.text, self.data)
         if status != WRONG and not PROVED.fullmatch(told):
             raise Failed(f"{program.name} verify gave an answer that plan does not know: {told}")
@@ -51,7 +51,7 @@ class Record:
         return self.spelled.value(int(found[3])) if found and found[3] else None
 
     def verify(self) -> Proof:
-        """What it proves; its first wrong line is a fault."""
+        """What it proves; its first wrong line or event is a fault."""
         told, is_wrong = self.told(self.judge())
         if is_wrong:
             raise BadInput(f"the record: {told}")

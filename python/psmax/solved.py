@@ -8,9 +8,6 @@ from .project import Goal
 from .spelled import Spelled
 
 
-LARGEST = 4_294_967_296  # bytes of a record that is read
-
-
 class Claim:
     """What is known of a project: the least value of what is minimized that was found, and a bound, none where there is no
     schedule."""
@@ -61,7 +58,7 @@ def of_answer(out: bytes, record: str, spelled: Spelled) -> Solved:
     answer = json.loads(out)
     starts = None if answer["starts"] is None else spelled.outward(tuple(answer["starts"]))
     value, bound = (None if answer[key] is None else spelled.value(answer[key]) for key in ("makespan", "bound"))
-    data = read_bytes(record, LARGEST) if os.path.exists(record) else b""
+    data = read_bytes(record, None) if os.path.exists(record) else b""
     return Solved(value, starts, bound, answer.get("conflicts", 0), data, spelled.project.goal)
 
 

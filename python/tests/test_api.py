@@ -113,15 +113,15 @@ class Solving(InFolder):
         assert answer.record is not None
         self.assertEqual(answer.record.verify().bound, answer.bound)
 
-    def test_beyond_psprove(self) -> None:
-        """It shows no makespan above 1,000,000, and says so at once; psmax proves such projects."""
+    def test_a_long_makespan(self) -> None:
+        """By hand: one crane lifts twice, 900,000 periods each time."""
         made = psmax.Project()
         crane = made.resource("crane", 1)
         for number in range(2):
             made.activity(f"lift {number}", 900_000, {crane: 1})
-        for seconds in (0.5, 2):
-            self.assertNotEqual(made.solve(seconds, 1).status, psmax.Status.OPTIMAL)
-        self.assertEqual(made.solve(10, 1, proved_by="tree").makespan, 1_800_000)
+        for proved_by in ("lemmas", "tree"):
+            answer = made.solve(10, 1, proved_by=proved_by)
+            self.assertEqual((answer.status, answer.makespan), (psmax.Status.OPTIMAL, 1_800_000))
 
     def test_side_by_side(self) -> None:
         """Threads may search at once, each with a project of its own or with the same one."""
@@ -181,7 +181,7 @@ class Solving(InFolder):
         made, *_ = site()
         answer, harder = made.solve(10, 1), psmax.Project.read(EXAMPLES / "building-site.sch").solve(10, 1)
         assert answer.record is not None and harder.record is not None
-        with self.assertRaisesRegex(psmax.BadInput, "^the record: .*line"):
+        with self.assertRaisesRegex(psmax.BadInput, "^the record: event"):
             made.verify(harder.record.data)
 
     def test_a_program_that_fails(self) -> None:

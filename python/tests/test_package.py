@@ -45,7 +45,7 @@ class Installed(InFolder):
         self.assertEqual(ran.returncode, 0, ran.stderr)
 
     def test_make_install(self) -> None:
-        """The programs, plan, manual pages, documents and verify.py, which shows no traceback; and all of it gone again."""
+        """The programs, plan, manual pages, documents and checkers, which show no traceback; and all of it gone again."""
         at_hand = [f"AT_HAND={pathlib.Path(PSMAX).parent}"] if "PSMAX" in os.environ else []
         self.made("install", f"PREFIX={self.folder}", *at_hand)
         share, site = self.folder / "share", EXAMPLES / "building-site.sch"
@@ -56,7 +56,11 @@ class Installed(InFolder):
         record = self.folder / "record"
         answer = psmax("solve", "--record", record, given=site.read_bytes())
         self.assertEqual(self.run_there("bin/plan", "check", site, self.file("best", answer)).stdout, "feasible 36\n")
-        self.assertEqual(self.run_there("bin/plan", "solve", site, "--out", "own").stdout, "optimal 36\n")
+        solved = self.run_there("bin/plan", "solve", site, "--out", "own", "--record", "log")
+        self.assertEqual(solved.stdout, "optimal 36\n")
+        for words, told in (("verify_log.py", site), "proved optimal 36\n"), (("show_log.py",), "claim optimal 36\n"):
+            ran = self.run_there("sh", "-c", 'python3 share/psmax/"$@" < log', "sh", *words)
+            self.assertTrue(ran.stdout.endswith(told), ran.stderr)
         self.assertEqual(self.run_there("bin/plan", "report", site, "own", "--out", "page.html").returncode, 0)
         verify = [sys.executable, share / "psmax" / "verify.py"]
         self.assertEqual(self.run_there(*verify, site, record).stdout, "proved optimal 36\n")

@@ -28,7 +28,7 @@ NO_ANSWER = {  # the beginning of what is no answer, and what it is
     "lag ": VIOLATIONS,
     "overload ": VIOLATIONS,
     "proved ": "this is what a record proves, and there are no starts in it",
-    "record ": "this is the record of a search, which `psmax verify` checks, and no starts",
+    "record ": "this is the record of a search, which `plan verify` checks, and no starts",
     "psmax: ": "this is a fault that psmax told, and no answer",
 }
 PERIOD = "period"  # the column that says what starts count

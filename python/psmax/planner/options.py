@@ -291,7 +291,7 @@ STATUSES = """exit status:
        contradicts --known
   2    the words of the command or a text have a fault
   3    the time ran out, or you ended the search, before all was known
-  4    check found a violation, or verify a wrong line
+  4    check found a violation, or verify a wrong record
   130  interrupted before anything was known"""
 
 # Each command: its name, its options, what it does, what it reads and prints, and the words of an example.
@@ -301,7 +301,7 @@ COMMANDS = (
 limit. Prints the answer on standard output, and its progress on standard error.""",
      "site.csv --seconds 600 --out plan.csv --record plan.rec"),
     ("verify", add_verify, "say what a record proves of a project",
-     "Reads a project and a record. Prints what it proves, or its first wrong line.", "site.csv plan.rec"),
+     "Reads a project and a record. Prints what it proves, or its first fault.", "site.csv plan.rec"),
     ("write", add_write, "write a schedule as a table in CSV",
      """Reads a project and an answer. Writes a row for each activity, with its dates.
 Where --out ends in .ics it writes a calendar, and in .xml the project of Microsoft

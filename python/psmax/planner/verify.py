@@ -10,12 +10,11 @@ from .opened import ProjectFile
 from .replan import Start, begin_with
 
 RECORD = b"record "  # how one begins
-LARGEST = 268_435_456  # bytes; the programs read no longer record
 
 
 @dataclass(frozen=True)
 class Verdict:
-    """What `verify` of a program says of a record, which may be its first wrong line."""
+    """What `verify` of a program says of a record, which may be its first fault."""
 
     path: str
     record: Record
@@ -41,16 +40,16 @@ class Verdict:
         return f"{self.path} proves that no schedule of {self.which} {least}{ends}."
 
     def judges(self) -> str:
-        return (f"`{self.program} verify`, which is proved itself, has judged each line; "
-                f"{self.script} judges it without {self.program}.")
+        return (f"`{self.program} verify`, which is proved itself, has judged it; {self.script} judges it without "
+                f"{self.program}.")
 
 
 def verdict(opened: ProjectFile, path: str, start: Start) -> Verdict:
     """The verdict on a record of the project, or of it with what has started kept."""
-    record = Record(read_bytes(path, LARGEST), Spelled(begin_with(opened, start).project))
+    record = Record(read_bytes(path, None), Spelled(begin_with(opened, start).project))
     program = record.judge(path)
     told, is_wrong = record.told(program)
-    script = "verify.py" if program.name == Psmax.name else "verify_lemmas.py"
+    script = "verify.py" if program.name == Psmax.name else "verify_log.py"
     keeps = "" if start.frozen is None else f" that keeps what {start.answer} starts before {start.frozen}"
     return Verdict(path, record, f"{opened.path}{keeps}", program.name, script, told, is_wrong)
 
