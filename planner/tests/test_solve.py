@@ -41,7 +41,7 @@ class Answers(InFolder):
                 self.assertEqual(self.first_line(path), proved)
 
     def test_planners_projects(self) -> None:
-        """Each is settled; psmax alone proves four of them, with the same makespan."""
+        """Each is settled; psmax alone proves some of them, with the same makespan."""
         for path in sorted(PROJECTS.glob("*.sch")):
             with self.subTest(path.name):
                 self.assertRegex(self.first_line(path, "--seconds", "200", "--jobs", "1"), "^optimal ")
