@@ -1,6 +1,7 @@
 """What the tests share. They call the built programs, and take their expected values from the format's description, from
 calculation by hand, or from a proof of psmax."""
 import io
+import json
 import os
 import pathlib
 import signal
@@ -19,12 +20,19 @@ PLAN = TOP / "planner" / "plan"
 INPUTS = TOP / "tests" / "inputs"
 EXAMPLES = TOP / "examples"
 PROJECTS = TOP / "planner" / "projects"
+STAND_IN = TOP / "planner" / "tests" / "stand_in.py"
 PSMAX = os.environ.get("PSMAX") or str(TOP / "psmax")
 PSPROVE = os.environ.get("PSPROVE") or str(TOP / "psprove")
 CALLED = {"PSMAX": PSMAX, "PSPROVE": PSPROVE}  # the programs that are called, as variables of the environment
 
 # Two jobs of 3 and 4 on one machine: the README's first project without its lag. Every schedule takes 7 at least.
 TWO_JOBS = "2 1 0 0\n0 1 0\n1 1 0\n2 1 0\n3 1 0\n0 1 0 0\n1 1 3 1\n2 1 4 1\n3 1 0 0\n1\n"
+
+# By hand: two jobs of 3 and 4 on one machine, with time between them, so that they take 12 and then 9; they could take 7. What
+# a search may tell of them is true.
+TWO = INPUTS / "two-jobs.sch"
+LONG, SHORT = [0, 0, 8, 12], [0, 0, 5, 9]
+TELLS = [{"bound": 4}, {"bound": 4, "starts": LONG}, {"bound": 4, "starts": SHORT}, {"bound": 6, "starts": SHORT}]
 
 
 Ran = subprocess.CompletedProcess[str]
@@ -49,11 +57,12 @@ def plan(*words: object, given: bytes = b"", psmax: str = PSMAX, psprove: str = 
     return Ran([*map(str, words)], status, buffers[1].getvalue().decode(), buffers[2].getvalue().decode())
 
 
-def started(*words: object, out: int | IO[bytes] = subprocess.PIPE) -> subprocess.Popen[str]:
+def started(*words: object, out: int | IO[bytes] = subprocess.PIPE, psprove: str = PSPROVE) -> subprocess.Popen[str]:
     """The command as a process of its own, which every signal ends, however the tests were started."""
     path = f"{pathlib.Path(sys.executable).parent}:{os.environ['PATH']}"  # on which the Python of the tests is found first
-    return subprocess.Popen([PLAN, *map(str, words)], text=True, env={**os.environ, **CALLED, "PATH": path},
-                            stdout=out, stderr=subprocess.PIPE, preexec_fn=end_at_once)
+    env = {**os.environ, **CALLED, "PSPROVE": psprove, "PATH": path}
+    return subprocess.Popen([PLAN, *map(str, words)], text=True, env=env, stdout=out, stderr=subprocess.PIPE,
+                            preexec_fn=end_at_once)
 
 
 def end_at_once() -> None:
@@ -95,6 +104,11 @@ class InFolder(unittest.TestCase):
         path = self.file(name, f"#!/bin/sh\n{script}\n")
         path.chmod(0o755)
         return str(path)
+
+    def stand_in(self, **story: object) -> str:
+        """A program that stands in for psprove: stand_in.py says what it does."""
+        path = self.file("story", json.dumps(story))
+        return self.program("stand-in", f'exec {sys.executable} -ES {STAND_IN} {path} "$@"')
 
     def hard(self) -> pathlib.Path:
         """A project that no search here settles in a minute, and of which psprove finds a schedule at once."""

@@ -5,7 +5,7 @@ import subprocess
 import sys
 from unittest import mock
 
-from .helpers import CALLED, EXAMPLES, PLAN, PSPROVE, InFolder, Ran, plan, psmax, started, told_until
+from .helpers import CALLED, EXAMPLES, PLAN, InFolder, Ran, plan, psmax, started, told_until
 
 COMMANDS = ("solve", "why", "where", "gantt", "write")
 SITE = EXAMPLES / "building-site.sch"
@@ -44,14 +44,6 @@ class Faults(InFolder):
         with mock.patch("psmax.psprove.GRACE", -1.5):
             ran = plan("solve", SITE, "--seconds", "1", psprove=slow)
         self.assertEqual((ran.returncode, ran.stdout), (3, "unknown bound 0\n"))
-
-    def test_a_psprove_that_fails_later(self) -> None:
-        """What is known by then is printed, and the fault is told: this one answers once."""
-        calls = self.file("calls", "")
-        tired = self.program("tired", f"echo >> {calls}\ntest $(wc -l < {calls}) -le 1 && exec {PSPROVE} \"$@\"\nexit 1")
-        ran = plan("solve", self.hard(), "--jobs", "1", psprove=tired)
-        self.assertEqual((ran.returncode, ran.stdout[:9]), (1, "feasible "))
-        self.assertEqual(ran.stderr.splitlines()[-1], "plan: psprove solve failed, exit status 1")
 
     def test_files_that_can_not_be_written(self) -> None:
         for words in (("--out", self.folder / "no" / "x"), ("--svg", self.folder / "no" / "x"), ("--out", self.folder),
@@ -92,7 +84,7 @@ class Faults(InFolder):
         path = self.hard()
         with started("solve", path, "--out", folder / "best") as child:
             assert child.stdout is not None and child.stderr is not None
-            told_until(child, ", proved: ")
+            told_until(child, "  schedule ")
             shutil.rmtree(folder)
             child.send_signal(signal.SIGINT)
             told = child.stderr.read()

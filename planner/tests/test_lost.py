@@ -83,7 +83,7 @@ class Results(InFolder):
         """The schedule is in the file once it is told, whole, also where the command is killed."""
         best, path = self.folder / "best", self.hard()
         with started("solve", path, "--out", best) as child:
-            told_until(child, ", proved: ")
+            told_until(child, "  schedule ")
             time.sleep(0.2)
             child.kill()
         told = psmax("check", "--project", path, given=best.read_bytes())

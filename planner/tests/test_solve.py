@@ -93,35 +93,17 @@ class Starts(InFolder):
         self.refused(plan("solve", self.file("bad.sch", "x"), "--start", starts), 2, "bad.sch: word 0")
 
     def test_what_psprove_is_handed(self) -> None:
-        """A later slice begins with the best schedule of the one before, has another seed and three times its seconds. This
-        one ends before its time, so none follows."""
+        """It is started once, with all jobs and the whole time, from the schedule that is there."""
         calls, handed = self.file("calls", ""), self.folder / "handed"
-        spy = self.program("spy", f"""echo "$@" >> {calls}
-            case "$*" in *--start*) for file; do :; done; cat "$file" > {handed}; exec {PSPROVE} "$@" --conflicts 0; esac
+        spy = self.program("spy", f"""case "$1" in solve) echo "$@" >> {calls};; esac
+            for file; do case $before in --start) cat "$file" > {handed};; esac; before=$file; done
             exec {PSPROVE} "$@" """)
-        path = self.hard()
-        ran = plan("solve", path, "--seconds", "200", "--jobs", "1", psprove=spy)
-        self.assertEqual(ran.returncode, 3)
-        first, second = (line.partition(" --record")[0] for line in calls.read_text().splitlines() if line.startswith("solve"))
-        self.assertEqual(first, "solve --json --progress --seconds 1 --jobs 1 --seed 0")
-        self.assertEqual(second, "solve --json --progress --seconds 3 --jobs 1 --seed 1")
-        best = re.search(r"feasible (\d+) bound \d+, proved", ran.stderr)
-        assert best is not None
-        self.assertEqual(psmax("check", "--project", path, given=handed.read_bytes()), f"feasible {best[1]}\n")
-
-    def test_ways_side_by_side(self) -> None:
-        """Of three ways two have the whole time. One has slices, and other seeds; what is settled in one ends the other."""
-        calls = self.file("calls", "")
-        spy = self.program("spy", f"""echo "$@" >> {calls}
-            case "$*" in *"--jobs 2"*) exec sleep 100; esac
-            exec {PSPROVE} "$@" """)
-        begun = time.monotonic()
-        ran = plan("solve", INPUTS / "two-jobs.sch", "--seconds", "100", "--jobs", "3", psprove=spy)
-        self.assertLess(time.monotonic() - begun, 50)
-        self.assertEqual(ran.stdout.partition("\n")[0], "optimal 7")
-        words = sorted(line.partition(" --record")[0] for line in calls.read_text().splitlines())
-        self.assertEqual(words[0], "solve --json --progress --seconds 1 --jobs 1 --seed 2")
-        self.assertRegex("".join(words[1:]), "^(solve --json --progress --seconds 100 --jobs 2 --seed 0)?$")
+        path, starts = INPUTS / "two-jobs.sch", "0 0\n1 0\n2 5\n3 9\n"
+        ran = plan("solve", path, "--seconds", "200", "--jobs", "3", "--start", self.file("given", starts), psprove=spy)
+        self.assertEqual(ran.stdout.partition("\n")[0], "optimal 7", ran.stderr)
+        [line] = calls.read_text().splitlines()
+        self.assertTrue(line.startswith("solve --json --progress json --seconds 200 --jobs 3 --record "), line)
+        self.assertEqual(handed.read_text(), starts)
 
     def test_what_contradicts_itself(self) -> None:
         """By hand: two jobs of 3 and 4 on one machine, which a program says take 8 at least, or can't be done."""
@@ -192,20 +174,16 @@ class Records(InFolder):
 
 
 class Progress(InFolder):
-    LINE = re.compile(r" *\d+\.\d\d s  (?:schedule \d+(?:, unproved|: .+)|bound \d+, unproved|"
-                      r"(optimal (\d+)|feasible (\d+) bound (\d+)), proved: psprove solve .+|"
-                      r"unknown bound \d+, proved: psprove solve .+|the .* seconds are over|stopped)")
+    LINE = re.compile(r" *\d+\.\d\d s  (?:schedule (\d+)(?:, .+|: .+)|bound (\d+)|"
+                      r"feasible (\d+) bound (\d+), proved: psprove solve .+|the .* seconds are over|stopped)")
 
     def held(self, out: str, path: pathlib.Path, told: str) -> None:
-        """A stopped answer is what was proved last, and a schedule that psmax finds feasible."""
-        proved = []
-        for line in told.splitlines():
-            found = self.LINE.fullmatch(line)
-            self.assertIsNotNone(found, line)
-            if found and found[1]:
-                proved.append(found)
-        self.assertEqual(out.partition("\n")[0], proved[-1][1])
-        self.assertEqual(psmax("check", "--project", path, given=out.encode()), f"feasible {proved[-1][3]}\n")
+        """A stopped answer is the best that was told, and a schedule that psmax finds feasible."""
+        found = [self.LINE.fullmatch(line) or self.fail(line) for line in told.splitlines()]
+        schedule = min(int(line[place]) for line in found for place in (1, 3) if line[place])
+        bound = max(int(line[place]) for line in found for place in (2, 4) if line[place])
+        self.assertEqual(out.partition("\n")[0], f"feasible {schedule} bound {bound}")
+        self.assertEqual(psmax("check", "--project", path, given=out.encode()), f"feasible {schedule}\n")
 
     def test_time_limit(self) -> None:
         begun, path = time.monotonic(), self.hard()
@@ -221,7 +199,7 @@ class Progress(InFolder):
         for sent in ENDS:
             with self.subTest(sent), started("solve", path, "--jobs", "2") as child:
                 assert child.stdout is not None and child.stderr is not None
-                told = told_until(child, "  feasible ")
+                told = told_until(child, "  schedule ")
                 child.send_signal(sent)
                 told += child.stderr.read()
                 out = child.stdout.read()

@@ -62,18 +62,25 @@ class Schedule:
 
 @dataclass(frozen=True)
 class Progress:
-    """What a search has come by: a shorter schedule, a greater bound, or both. What is not proved is a report while a program
-    searches, of which there is no record yet."""
+    """What is known once a search has come by a shorter schedule, a greater bound, or both."""
 
     seconds: float
-    value: int | None  # of what is minimized, in the shortest schedule
+    value: int | None  # of what is minimized, in the schedule
     bound: int | None
-    is_proved: bool
     schedule: Schedule | None
+
+    @property
+    def makespan(self) -> int | None:
+        return None if self.schedule is None else self.schedule.makespan
+
+    @property
+    def is_proved(self) -> bool:
+        """Always: what psprove tells while it searches its book has proved."""
+        return True
 
     def __str__(self) -> str:
         told = [f"{word} {number}" for word, number in (("schedule", self.value), ("bound", self.bound)) if number is not None]
-        return f"{self.seconds:.2f} s: {', '.join(told) or 'no schedule'}{'' if self.is_proved else ', unproved'}"
+        return f"{self.seconds:.2f} s: {', '.join(told) or 'no schedule'}"
 
 
 @dataclass(frozen=True)

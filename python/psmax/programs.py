@@ -7,7 +7,7 @@ import shutil
 import subprocess
 import tempfile
 import time
-from collections.abc import Callable, Sequence
+from collections.abc import Callable, Iterator, Sequence
 from typing import IO
 
 from .clock import Clock
@@ -36,12 +36,26 @@ def find_program(name: str) -> str:
     return found
 
 
+class Lines:
+    """The lines that a program writes into a file. To read them doesn't move the place at which it goes on to write."""
+
+    def __init__(self, file: IO[bytes]) -> None:
+        self.file, self.place = file, 0
+
+    def new(self) -> Iterator[str]:
+        """Those that are whole, and were not there before."""
+        while True:
+            text, end, _ = os.pread(self.file.fileno(), 1 << 20, self.place).rpartition(b"\n")
+            if not end:
+                return
+            self.place += len(text + end)
+            yield from text.decode("utf-8", "replace").split("\n")
+
+
 class Program:
-    """Calls one of the programs until the clock is stopped, or the calls are ended. `project` is what its project is called
-    in faults."""
+    """Calls one of the programs until the clock is stopped. `project` is what its project is called in faults."""
 
     name: str
-    ended = False
 
     def __init__(self, clock: Clock, project: str = "the project") -> None:
         self.clock = clock
@@ -58,8 +72,9 @@ class Program:
     def call(self, words: Sequence[str], given: bytes, seconds: float = SECONDS,
              hear: Callable[[str], None] = lambda line: None) -> tuple[int, bytes]:
         """The exit status of a call that answered within these seconds, and its output, or else what it told. Each line
-        that it tells is heard."""
+        that it tells is heard, and one of JSON is no fault."""
         status, out, told = self._run(words, given, seconds, hear)
+        told = b"".join(line for line in told.splitlines(True) if not line.startswith(b"{"))
         lines = told.decode("utf-8", "replace").strip().splitlines()
         text = lines[-1].removeprefix(f"{self.name}: ") if lines else ""
         if status == 2 and lines and lines[-1].startswith(f"{self.name}: "):
@@ -86,7 +101,7 @@ class Program:
 
     def _run(self, words: Sequence[str], given: bytes, seconds: float,
              hear: Callable[[str], None]) -> tuple[int, bytes, bytes]:
-        if self.clock.stopped or self.ended:
+        if self.clock.stopped:
             raise TimeUp
         with tempfile.TemporaryFile() as source, tempfile.TemporaryFile() as out, tempfile.TemporaryFile() as told:
             source.write(given)
@@ -95,27 +110,29 @@ class Program:
                 child = subprocess.Popen([self.path, *words], stdin=source, stdout=out, stderr=told, start_new_session=True)
             except OSError as fault:
                 raise Failed(f"cannot start {self.path}: {fault.strerror}") from None
+            lines = Lines(told)
             try:
-                self._wait(child, told, time.monotonic() + seconds, hear)
+                is_over = self._wait(child, lines, time.monotonic() + seconds, hear)
             finally:
                 if child.poll() is None:
                     child.kill()
                     child.wait()
+            for line in lines.new():
+                hear(line)
+            if not is_over:
+                raise TimeUp
             out.seek(0)
             told.seek(0)
             return child.returncode, out.read(), told.read()
 
-    def _wait(self, child: subprocess.Popen[bytes], told: IO[bytes], until: float, hear: Callable[[str], None]) -> None:
-        """Hears what is told without moving the place at which the child goes on to write."""
-        heard, is_over = 0, False
-        while not is_over:
+    def _wait(self, child: subprocess.Popen[bytes], lines: Lines, until: float, hear: Callable[[str], None]) -> bool:
+        """Hears lines as they come. Whether the child has ended by itself."""
+        while True:
             try:
                 child.wait(GLANCE)
-                is_over = True
+                return True
             except subprocess.TimeoutExpired:
-                if self.clock.stopped or self.ended or time.monotonic() > until:
-                    raise TimeUp from None
-            whole = os.pread(told.fileno(), 1 << 20, heard).rpartition(b"\n")[0]
-            heard += len(whole) + 1 if whole else 0
-            for line in whole.decode("utf-8", "replace").splitlines():
+                if self.clock.stopped or time.monotonic() > until:
+                    return False
+            for line in lines.new():
                 hear(line)

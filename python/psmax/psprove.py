@@ -1,33 +1,35 @@
 """Searches by psprove. Whatever it answers, its proved book has taken, and the record has the log of that."""
 import math
 import os
-import re
 import tempfile
 from collections.abc import Callable
 from dataclasses import dataclass
 
+from .clock import tell
 from .errors import TimeUp
 from .programs import Program
 from .project import Project
 from .psmax import starts_text
-from .solved import ODD, Solved, not_asked, of_answer
+from .solved import ODD, Solved, not_asked, of_answer, of_report
 from .spelled import Spelled
 
+Hear = Callable[[Solved], object]
+
+STOPPED = "psprove: the search stopped: "  # how a line begins that says why, other than by a limit of the words
 GRACE = 60.0  # seconds that psprove may take beyond its limit, besides as many as the limit, for its last steps
 
 
 @dataclass(frozen=True)
 class Limits:
-    """Where a search stops, in how many ways it searches side by side, and how it breaks ties. psprove counts whole seconds:
-    where there is less than one, it is ended from outside."""
+    """Where a search stops, and how many jobs it has. psprove counts whole seconds: where there is less than one, it is ended
+    from outside."""
 
     seconds: float
     jobs: int = 1
-    seed: int = 0
     conflicts: int | None = None
 
     def words(self) -> list[str]:
-        told = {"--seconds": math.ceil(self.seconds), "--jobs": self.jobs, "--seed": self.seed, "--conflicts": self.conflicts}
+        told = {"--seconds": math.ceil(self.seconds), "--jobs": self.jobs, "--conflicts": self.conflicts}
         return [word for option, value in told.items() if value is not None for word in (option, f"{value}")]
 
     def patience(self) -> float:
@@ -39,33 +41,40 @@ class Psprove(Program):
     name = "psprove"
 
     def solve(self, project: Project, limits: Limits, start: tuple[int, ...] | None = None,
-              hear: Callable[[str], None] = lambda line: None) -> Solved:
-        """A search within limits, from starts that are feasible where there are some."""
+              hear: Hear = lambda told: None) -> Solved:
+        """A search within limits, from starts that are feasible where there are some. Meanwhile what psprove's book holds is
+        heard."""
         if limits.seconds <= 0:
             raise TimeUp
         spelled = Spelled(project)
         with tempfile.TemporaryDirectory(prefix="plan-") as folder:
             record, first = os.path.join(folder, "record"), os.path.join(folder, "start")
-            words = ["solve", "--json", "--progress", *limits.words(), "--record", record]
+            words = ["solve", "--json", "--progress", "json", *limits.words(), "--record", record]
             if start is not None and max([0, *project.ends(start)]) <= start[-1] + spelled.offset:
                 with open(first, "wb") as file:
                     file.write(starts_text(spelled.inward(start)))
                 words += ["--start", first]
-            _, out = self.call(words, spelled.text, limits.patience(), lambda line: hear(told(line, spelled)))
+            _, out = self.call(words, spelled.text, limits.patience(), lambda line: self.heard(line, spelled, hear))
             try:
                 return of_answer(out, record, spelled)
             except ODD:
                 raise self.odd("solve") from None
 
     def ask(self, project: Project, limits: Limits, start: tuple[int, ...] | None = None) -> Solved:
-        """The same where the time may be over, so that nothing becomes known."""
+        """The same where the time may be over: what is known then is what psprove told last."""
+        told = [not_asked(Spelled(project))]
         try:
-            return self.solve(project, limits, start)
+            return self.solve(project, limits, start, told.append)
         except TimeUp:
-            return not_asked(Spelled(project))
+            return told[-1]
 
-
-def told(line: str, spelled: Spelled) -> str:
-    """A line of progress, with what is minimized in place of when the text's end starts."""
-    found = re.fullmatch(r"(\d+ s: (?:schedule|bound) )(\d+)", line)
-    return f"{found[1]}{spelled.value(int(found[2]))}" if found else line
+    def heard(self, line: str, spelled: Spelled, hear: Hear) -> None:
+        """What the book holds, or why a search stopped."""
+        if line.startswith(STOPPED):
+            tell(self.clock, line)
+        if line.startswith("{"):
+            try:
+                told = of_report(line, spelled)
+            except ODD:
+                raise self.odd("solve") from None
+            hear(told)

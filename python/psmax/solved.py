@@ -51,6 +51,7 @@ class Solved(Claim):
     record: bytes
     goal: Goal
     was_asked: bool = True  # and not out of time before that
+    found: str = ""  # how psprove came by the schedule, where it tells that while it searches
 
 
 def of_answer(out: bytes, record: str, spelled: Spelled) -> Solved:
@@ -62,7 +63,15 @@ def of_answer(out: bytes, record: str, spelled: Spelled) -> Solved:
     return Solved(value, starts, bound, answer.get("conflicts", 0), data, spelled.project.goal)
 
 
-ODD = (ValueError, KeyError, TypeError)
+def of_report(line: str, spelled: Spelled) -> Solved:
+    """What psprove's book holds while it searches, in JSON. Any other line raises one of `ODD`."""
+    told = json.loads(line)
+    starts = spelled.outward(tuple(told["starts"])) if "starts" in told else None
+    value = None if starts is None else starts[-1]
+    return Solved(value, starts, spelled.value(told["bound"]), 0, b"", spelled.project.goal, found=told.get("found", ""))
+
+
+ODD = (ValueError, LookupError, TypeError)
 
 
 def not_asked(spelled: Spelled) -> Solved:

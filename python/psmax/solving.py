@@ -1,6 +1,5 @@
 """What the programs say of a project that is written by names."""
 import os
-import threading
 from collections.abc import Callable, Mapping
 
 from . import psmax, whatif
@@ -16,7 +15,7 @@ from .project import Project as Numbers
 from .psmax import Psmax
 from .psprove import Psprove
 from .record import Record
-from .search import Search
+from .search import search
 from .spelled import Spelled
 from .total import TotalFloat
 from .tree import TreeSearch
@@ -45,23 +44,20 @@ def clock_of(seconds: float) -> Clock:
 
 
 class Listener:
-    """Hands on what a search tells, one thing after another. A fault of who listens ends the search, and is raised at its
-    end."""
+    """Hands on what a search tells. A fault of who listens ends the search, and is raised at its end."""
 
     def __init__(self, project: Parts, clock: Clock, hear: Hear) -> None:
         self.project, self.clock, self.hear = project, clock, hear
         self.fault: BaseException | None = None
-        self.lock = threading.Lock()  # of who listens
 
     def news(self, news: News) -> None:
         schedule = None if news.starts is None else Schedule(self.project, news.starts)
-        with self.lock:
-            if self.fault is None:
-                try:
-                    self.hear(Progress(news.seconds, news.value, news.bound, news.is_proved, schedule))
-                except BaseException as fault:
-                    self.fault = fault
-                    self.clock.stop()
+        if self.fault is None:
+            try:
+                self.hear(Progress(news.seconds, news.value, news.bound, schedule))
+            except BaseException as fault:
+                self.fault = fault
+                self.clock.stop()
 
     def raise_fault(self) -> None:
         if self.fault is not None:
@@ -75,14 +71,15 @@ def solve(project: Parts, seconds: float, jobs: int | None, on_progress: Hear, s
     guard([record], {})
     numbers, clock, count = project.numbers(minimize), clock_of(seconds), jobs_of(jobs)
     known, listener = Known(clock, numbers), Listener(project, clock, on_progress)
-    known.heard = listener.news
+    known.listener = listener.news
     if start is not None:
         known.offer(feasible(project, numbers, start), "the start")
-    by_lemmas = Search(numbers, Psprove(clock, CALLED), known, count)
-    by_tree = TreeSearch(numbers, Psmax(clock, CALLED), known, count)
     try:
         with clock.interrupted():
-            by_tree.run() if proved_by == "tree" else by_lemmas.run()
+            if proved_by == "tree":
+                TreeSearch(numbers, Psmax(clock, CALLED), known, count).run()
+            else:
+                search(numbers, Psprove(clock, CALLED), known, count)
     except Failed as fault:
         fault.answer = answer_of(project, known, record)
         raise

@@ -9,7 +9,7 @@ from enum import Enum
 from .known import Known
 from .project import MOST_UNITS, Kind, Part, Project, parts, with_lag, without
 from .psprove import Limits, Psprove
-from .search import Search
+from .search import search
 from .solved import Solved
 
 SHARE = 4  # the project as it is gets one of so many parts of the time
@@ -80,6 +80,6 @@ def whatif(project: Project, psprove: Psprove, jobs: int, changeable: int | None
     clock = psprove.clock
     seconds, clock.seconds = clock.seconds, clock.seconds / SHARE
     base = Known(clock, project)
-    Search(project, Psprove(clock, psprove.project), base, jobs).run()
+    search(project, psprove, base, jobs)
     clock.seconds = seconds
     return base, outcomes(changes(project, changeable), base, psprove, jobs)

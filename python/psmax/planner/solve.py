@@ -13,7 +13,7 @@ from ..known import Known
 from ..project import Goal
 from ..psmax import Psmax
 from ..psprove import Psprove
-from ..search import Search
+from ..search import search
 from . import drawing, svg
 from .again import once_more
 from .kept import Kept, activities_of
@@ -55,7 +55,8 @@ def solve(opened: ProjectFile, start: Start, options: Options) -> int:
     for starts, called in schedules:
         known.offer(starts, f"{called}, by check")
     try:
-        Search(beginning.project, Psprove(clock, opened.path), known, options.jobs).run(beginning.repairs, start.answer or "")
+        psprove = Psprove(clock, opened.path)
+        search(beginning.project, psprove, known, options.jobs, beginning.repairs, start.answer or "")
     except Failed:
         if known.starts is not None:
             give(known, opened, options, kept)

@@ -1,0 +1,58 @@
+"""planner/tests/stand_in.py STORY solve WORD..
+
+Stands in for psprove. STORY is a file of JSON, which says what it does:
+
+tells   the reports of its book, one after another, each with the bound, and perhaps with starts
+then    "answers" at once; "waits" for its limits, and answers; "sticks", and has to be killed; or "dies"
+answer  the starts and the bound of its answer, which is otherwise that of its last report"""
+import json
+import os
+import signal
+import sys
+import time
+from typing import Any
+
+STUCK = 30.0  # seconds
+FOUND = {"found": "by a dive"}
+
+
+def report(told: dict[str, Any]) -> dict[str, Any]:
+    starts = {"makespan": told["starts"][-1], **FOUND, "starts": told["starts"]} if "starts" in told else {}
+    return {"seconds": 0, "bound": told["bound"], **starts}
+
+
+def answer(told: dict[str, Any]) -> dict[str, Any]:
+    starts = told.get("starts")
+    status = "unknown" if starts is None else "optimal" if starts[-1] == told["bound"] else "feasible"
+    return {"conflicts": 1, "bound": told["bound"], "makespan": None if starts is None else starts[-1], "starts": starts,
+            "status": status}
+
+
+def wait(options: dict[str, str]) -> None:
+    """Waits for the file that ends a search, or for the limit of seconds."""
+    end = time.monotonic() + float(options["--seconds"])
+    while time.monotonic() < end and not os.path.exists(options.get("--until", "")):
+        time.sleep(0.01)
+
+
+def main(path: str, *words: str) -> None:
+    with open(path) as file:
+        story = json.load(file)
+    for told in story["tells"]:
+        print(json.dumps(report(told)), file=sys.stderr, flush=True)
+    if story["then"] == "dies":
+        os.kill(os.getpid(), signal.SIGKILL)
+    if story["then"] == "sticks":
+        time.sleep(STUCK)
+    options = dict(zip(words, words[1:]))
+    if story["then"] == "waits":
+        wait(options)
+    told = answer(story.get("answer", story["tells"][-1]))
+    print(json.dumps(told))
+    with open(options["--record"], "w") as file:
+        file.write("record 3\n")
+    sys.exit(0 if told["status"] == "optimal" else 3)
+
+
+if __name__ == "__main__":
+    main(*sys.argv[1:])

@@ -1,0 +1,57 @@
+"""What psprove tells while it searches is known at once, and whatever ends the search loses none of it."""
+import re
+import signal
+import time
+
+from .helpers import LONG, TELLS, TWO, InFolder, plan, psmax, started, told_until
+
+ANSWER = "feasible 9 bound 6\n0 0\n1 0\n2 5\n3 9\n"
+
+
+class Live(InFolder):
+    def test_each_is_told(self) -> None:
+        """Once, as it comes; and the file of --out gets each schedule."""
+        best = self.folder / "best"
+        with started("solve", TWO, "--out", best, psprove=self.stand_in(tells=TELLS, then="waits")) as child:
+            assert child.stdout is not None
+            lines = told_until(child, "bound 6").splitlines()
+            self.assertEqual(best.read_text().split()[-1], "9")
+            child.send_signal(signal.SIGINT)
+            self.assertEqual(child.stdout.read(), "feasible 9 bound 6\n")
+        told = [line.split("  ")[-1] for line in lines]
+        self.assertEqual(told, ["bound 4", "schedule 12, by a dive", "schedule 9, by a dive", "bound 6"])
+
+    def test_ctrl_c(self) -> None:
+        """What was told stays, also where psprove then answers with a longer schedule, or with none, or not at all."""
+        for then, answer in (("waits", {"bound": 5, "starts": LONG}), ("waits", {"bound": 4}), ("sticks", {})):
+            stand_in = self.stand_in(tells=TELLS, then=then, answer=answer)
+            with self.subTest(answer), started("solve", TWO, psprove=stand_in) as child:
+                assert child.stdout is not None
+                told_until(child, "bound 6")
+                child.send_signal(signal.SIGINT)
+                self.assertEqual((child.stdout.read(), child.wait(timeout=30)), (ANSWER, 3))
+
+    def test_ctrl_c_of_psprove(self) -> None:
+        """No answer is longer than the last schedule that was told, nor its bound less."""
+        path = self.hard()
+        for place in range(5):
+            with self.subTest(place), started("solve", path, "--jobs", "2") as child:
+                assert child.stdout is not None and child.stderr is not None
+                told = told_until(child, "schedule ")
+                time.sleep(place / 5)
+                child.send_signal(signal.SIGINT)
+                told += child.stderr.read()
+                out = child.stdout.read()
+                self.assertEqual(child.wait(timeout=30), 3, told)
+                _, makespan, _, bound = out.partition("\n")[0].split()
+                self.assertLessEqual(int(makespan), min(map(int, re.findall(r"  schedule (\d+)", told))))
+                self.assertGreaterEqual(int(bound), max(map(int, re.findall(r"  bound (\d+)", told))))
+                self.assertEqual(psmax("check", "--project", path, given=out.encode()), f"feasible {makespan}\n")
+
+    def test_what_dies(self) -> None:
+        """What it told is the answer, beside the fault. There is no record."""
+        record = self.folder / "record"
+        ran = plan("solve", TWO, "--record", record, psprove=self.stand_in(tells=TELLS, then="dies"))
+        self.assertEqual((ran.returncode, ran.stdout), (1, ANSWER))
+        self.assertEqual(ran.stderr.splitlines()[-1], "plan: psprove solve was ended by signal 9")
+        self.assertFalse(record.exists())
