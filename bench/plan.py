@@ -80,6 +80,7 @@ def by_psprove(folder: pathlib.Path, text: bytes, seconds: int) -> Answer:
 
 def by_plan(folder: pathlib.Path, project: pathlib.Path, record: pathlib.Path, seconds: int, jobs: int) -> Answer:
     words = [sys.executable, TOP / "planner" / "plan", "solve", project, "--record", record]
+    record.unlink(missing_ok=True)
     return run([*words, "--seconds", seconds, "--jobs", jobs], folder=folder)
 
 
@@ -93,6 +94,8 @@ def cells(out: str, took: float) -> list[str]:
 
 def refused(folder: pathlib.Path, project: pathlib.Path, record: pathlib.Path, out: str) -> str:
     """Why a record is no proof of the answer; empty where it is one."""
+    if not record.exists():
+        return "no record"
     words = out.partition("\n")[0].split()
     wanted = f"proved {'bound ' + words[-1] if 'bound' in words else ' '.join(words)}\n"
     judges: list[list[object]] = [[folder / "psprove", "verify", "--project", project]]
@@ -124,7 +127,7 @@ def main() -> None:
         for title, text in (one for one in made() if o.only in one[0]):
             project.write_bytes(text)
             answers = [other(folder, text, o.seconds), by_plan(folder, project, record, o.seconds, o.jobs)]
-            size = f"{record.stat().st_size:,}"
+            size = f"{record.stat().st_size:,}" if record.exists() else "none"
             measuring.row(title, text.split()[0].decode(), *cells(*answers[0]), *cells(*answers[1]), size)
             proved = [proved[0] + 1, *(count + is_proved(out) for count, (out, _) in zip(proved[1:], answers))]
             wrong += [f"{title}: {fault}" for fault in [refused(folder, project, record, answers[1][0])] if fault]

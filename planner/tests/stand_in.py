@@ -4,7 +4,8 @@ Stands in for psprove. STORY is a file of JSON, which says what it does:
 
 tells   the reports of its book, one after another, each with the bound, and perhaps with starts
 then    "answers" at once; "waits" for its limits, and answers; "sticks", and has to be killed; or "dies"
-answer  the starts and the bound of its answer, which is otherwise that of its last report"""
+answer  the starts and the bound of its answer, which is otherwise that of its last report
+record  the seconds that its record takes after the answer"""
 import json
 import os
 import signal
@@ -48,7 +49,8 @@ def main(path: str, *words: str) -> None:
     if story["then"] == "waits":
         wait(options)
     told = answer(story.get("answer", story["tells"][-1]))
-    print(json.dumps(told))
+    print(json.dumps(told), flush=True)
+    time.sleep(story.get("record", 0))
     with open(options["--record"], "w") as file:
         file.write("record 3\n")
     sys.exit(0 if told["status"] == "optimal" else 3)

@@ -2,6 +2,7 @@
 import re
 import signal
 import time
+from unittest import mock
 
 from .helpers import LONG, TELLS, TWO, InFolder, plan, psmax, started, told_until
 
@@ -31,11 +32,30 @@ class Live(InFolder):
                 child.send_signal(signal.SIGINT)
                 self.assertEqual((child.stdout.read(), child.wait(timeout=30)), (ANSWER, 3))
 
+    def test_what_ends_by_a_file(self) -> None:
+        """It answers when it is asked to, at the limit too, with a record; what has to be killed has none."""
+        record = self.folder / "record"
+        for then in ("waits", "sticks"):
+            with self.subTest(then), mock.patch("psmax.running.ENDING", 1.0):
+                ran = plan("solve", TWO, "--seconds", "0.3", "--record", record, psprove=self.stand_in(tells=TELLS, then=then))
+                self.assertEqual((ran.returncode, ran.stdout, record.exists()), (3, ANSWER, then == "waits"))
+                is_told = "psprove solve did not end in time, and was killed: what it told stands" in ran.stderr
+                self.assertEqual(is_told, then == "sticks", ran.stderr)
+            record.unlink(missing_ok=True)
+
+    def test_a_long_record(self) -> None:
+        """It is waited for, once there is an answer."""
+        record = self.folder / "record"
+        with mock.patch("psmax.running.ENDING", 0.5):
+            slow = self.stand_in(tells=TELLS, then="waits", record=2)
+            ran = plan("solve", TWO, "--seconds", "0.3", "--record", record, psprove=slow)
+        self.assertEqual((ran.returncode, ran.stdout, record.exists()), (3, ANSWER, True))
+
     def test_ctrl_c_of_psprove(self) -> None:
-        """No answer is longer than the last schedule that was told, nor its bound less."""
-        path = self.hard()
+        """No answer is longer than the last schedule that was told, nor its bound less, and the record proves it."""
+        path, record = self.hard(), self.folder / "record"
         for place in range(5):
-            with self.subTest(place), started("solve", path, "--jobs", "2") as child:
+            with self.subTest(place), started("solve", path, "--jobs", "2", "--record", record) as child:
                 assert child.stdout is not None and child.stderr is not None
                 told = told_until(child, "schedule ")
                 time.sleep(place / 5)
@@ -47,6 +67,7 @@ class Live(InFolder):
                 self.assertLessEqual(int(makespan), min(map(int, re.findall(r"  schedule (\d+)", told))))
                 self.assertGreaterEqual(int(bound), max(map(int, re.findall(r"  bound (\d+)", told))))
                 self.assertEqual(psmax("check", "--project", path, given=out.encode()), f"feasible {makespan}\n")
+                self.assertIn(f"is shorter than {bound}.", plan("verify", path, record).stdout)
 
     def test_what_dies(self) -> None:
         """What it told is the answer, beside the fault. There is no record."""

@@ -105,6 +105,20 @@ class Batch(InFolder):
         self.assertEqual({name: self.rows()[name] for name in known}, known)
         self.assertEqual((self.rows()["hard.sch"]["limit"], self.rows()["hard.sch"]["status"]), ("1", "feasible"))
 
+    def test_nothing_goes_on(self) -> None:
+        """Where a batch is ended, its searches end too, and psprove with them."""
+        pids, folder = self.file("pids", ""), self.folder / "one"
+        folder.mkdir()
+        self.hard().rename(folder / "hard.sch")
+        spy = self.program("spy", f'echo $$ >> {pids}\nexec {PSPROVE} "$@"')
+        with started("batch", folder, "--csv", self.csv, psprove=spy) as child:
+            while not pids.read_text():
+                time.sleep(0.05)
+            child.terminate()
+            self.assertEqual(child.wait(timeout=20), 3)
+        for pid in pids.read_text().split():
+            self.assertFalse(pathlib.Path(f"/proc/{pid}").exists())
+
     def test_parts(self) -> None:
         """Each N-th project from the I-th on, by name; together they are all, and --join makes one table of them."""
         parts = [self.folder / f"part-{place}.csv" for place in (1, 2)]

@@ -102,7 +102,7 @@ class Starts(InFolder):
         ran = plan("solve", path, "--seconds", "200", "--jobs", "3", "--start", self.file("given", starts), psprove=spy)
         self.assertEqual(ran.stdout.partition("\n")[0], "optimal 7", ran.stderr)
         [line] = calls.read_text().splitlines()
-        self.assertTrue(line.startswith("solve --json --progress json --seconds 200 --jobs 3 --record "), line)
+        self.assertTrue(line.startswith("solve --json --progress json --seconds 200 --jobs 3 --until "), line)
         self.assertEqual(handed.read_text(), starts)
 
     def test_what_contradicts_itself(self) -> None:

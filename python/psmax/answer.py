@@ -91,7 +91,7 @@ class Answer:
     status: Status
     schedule: Schedule | None
     bound: int | None
-    record: Record | None  # proves the bound, or that there is no schedule
+    record: Record | None  # proves the bound, or that there is no schedule; none where psprove died or was killed
     minimize: Goal
     seconds: float
     conflicts: int

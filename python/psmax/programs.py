@@ -1,4 +1,5 @@
 """Calls of psmax and psprove, each under a clock. Every fact that `plan` prints comes from one of them."""
+import atexit
 import math
 import os
 import pathlib
@@ -7,15 +8,14 @@ import shutil
 import subprocess
 import tempfile
 import time
-from collections.abc import Callable, Iterator, Sequence
-from typing import IO
+from collections.abc import Callable, Sequence
 
 from .clock import Clock
 from .errors import BadInput, Failed, TimeUp
+from .running import Lines, Running
 
 SECONDS = 600.0  # the most that a program may take for an answer that no search is needed for
 INSIDE = "bin"  # the folder of the programs in the package, where it was installed from a wheel
-GLANCE = 0.05  # seconds between two looks at the clock, and at what is told, while a program runs
 
 
 def find_program(name: str) -> str:
@@ -36,22 +36,6 @@ def find_program(name: str) -> str:
     return found
 
 
-class Lines:
-    """The lines that a program writes into a file. To read them doesn't move the place at which it goes on to write."""
-
-    def __init__(self, file: IO[bytes]) -> None:
-        self.file, self.place = file, 0
-
-    def new(self) -> Iterator[str]:
-        """Those that are whole, and were not there before."""
-        while True:
-            text, end, _ = os.pread(self.file.fileno(), 1 << 20, self.place).rpartition(b"\n")
-            if not end:
-                return
-            self.place += len(text + end)
-            yield from text.decode("utf-8", "replace").split("\n")
-
-
 class Program:
     """Calls one of the programs until the clock is stopped. `project` is what its project is called in faults."""
 
@@ -70,10 +54,10 @@ class Program:
         return Failed(f"{self.path} {job} gave an answer that plan does not know; is it {self.name}?")
 
     def call(self, words: Sequence[str], given: bytes, seconds: float = SECONDS,
-             hear: Callable[[str], None] = lambda line: None) -> tuple[int, bytes]:
+             hear: Callable[[str], None] = lambda line: None, until: str | None = None) -> tuple[int, bytes]:
         """The exit status of a call that answered within these seconds, and its output, or else what it told. Each line
-        that it tells is heard, and one of JSON is no fault."""
-        status, out, told = self._run(words, given, seconds, hear)
+        that it tells is heard, and one of JSON is no fault. The file `until` asks it to end."""
+        status, out, told = self._run(words, given, seconds, hear, until)
         told = b"".join(line for line in told.splitlines(True) if not line.startswith(b"{"))
         lines = told.decode("utf-8", "replace").strip().splitlines()
         text = lines[-1].removeprefix(f"{self.name}: ") if lines else ""
@@ -99,8 +83,8 @@ class Program:
         status, out = self.judge("verify", project, record, math.inf)
         return status, out.decode("utf-8", "replace").strip().removeprefix(f"{self.name}: ")
 
-    def _run(self, words: Sequence[str], given: bytes, seconds: float,
-             hear: Callable[[str], None]) -> tuple[int, bytes, bytes]:
+    def _run(self, words: Sequence[str], given: bytes, seconds: float, hear: Callable[[str], None],
+             until: str | None) -> tuple[int, bytes, bytes]:
         if self.clock.stopped:
             raise TimeUp
         with tempfile.TemporaryFile() as source, tempfile.TemporaryFile() as out, tempfile.TemporaryFile() as told:
@@ -110,29 +94,26 @@ class Program:
                 child = subprocess.Popen([self.path, *words], stdin=source, stdout=out, stderr=told, start_new_session=True)
             except OSError as fault:
                 raise Failed(f"cannot start {self.path}: {fault.strerror}") from None
-            lines = Lines(told)
+            running, lines = Running(child, out, until), Lines(told)
+            atexit.register(running.end)
             try:
-                is_over = self._wait(child, lines, time.monotonic() + seconds, hear)
+                has_ended = self._wait(running, lines, time.monotonic() + seconds, hear)
             finally:
-                if child.poll() is None:
-                    child.kill()
-                    child.wait()
+                atexit.unregister(running.end)
+                running.kill()
             for line in lines.new():
                 hear(line)
-            if not is_over:
-                raise TimeUp
+            if not has_ended:
+                raise TimeUp(f"{self.name} {words[0]} did not end in time, and was killed")
             out.seek(0)
             told.seek(0)
             return child.returncode, out.read(), told.read()
 
-    def _wait(self, child: subprocess.Popen[bytes], lines: Lines, until: float, hear: Callable[[str], None]) -> bool:
-        """Hears lines as they come. Whether the child has ended by itself."""
-        while True:
-            try:
-                child.wait(GLANCE)
-                return True
-            except subprocess.TimeoutExpired:
-                if self.clock.stopped or time.monotonic() > until:
-                    return False
+    def _wait(self, running: Running, lines: Lines, end: float, hear: Callable[[str], None]) -> bool:
+        """Hears lines as they come. Whether the program has ended by itself, or when it was asked to."""
+        while not running.has_ended():
+            if (self.clock.stopped or time.monotonic() > end) and not running.ask():
+                return False
             for line in lines.new():
                 hear(line)
+        return True

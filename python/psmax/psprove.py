@@ -16,13 +16,11 @@ from .spelled import Spelled
 Hear = Callable[[Solved], object]
 
 STOPPED = "psprove: the search stopped: "  # how a line begins that says why, other than by a limit of the words
-GRACE = 60.0  # seconds that psprove may take beyond its limit, besides as many as the limit, for its last steps
 
 
 @dataclass(frozen=True)
 class Limits:
-    """Where a search stops, and how many jobs it has. psprove counts whole seconds: where there is less than one, it is ended
-    from outside."""
+    """Where a search stops, and how many jobs it has. psprove counts whole seconds, so a part of one ends by a file."""
 
     seconds: float
     jobs: int = 1
@@ -32,10 +30,6 @@ class Limits:
         told = {"--seconds": math.ceil(self.seconds), "--jobs": self.jobs, "--conflicts": self.conflicts}
         return [word for option, value in told.items() if value is not None for word in (option, f"{value}")]
 
-    def patience(self) -> float:
-        """Seconds after which nobody waits any longer."""
-        return 2 * self.seconds + GRACE if self.seconds >= 1 else self.seconds
-
 
 class Psprove(Program):
     name = "psprove"
@@ -43,18 +37,18 @@ class Psprove(Program):
     def solve(self, project: Project, limits: Limits, start: tuple[int, ...] | None = None,
               hear: Hear = lambda told: None) -> Solved:
         """A search within limits, from starts that are feasible where there are some. Meanwhile what psprove's book holds is
-        heard."""
+        heard. Where the clock stops, the answer is what it holds then."""
         if limits.seconds <= 0:
             raise TimeUp
         spelled = Spelled(project)
         with tempfile.TemporaryDirectory(prefix="plan-") as folder:
-            record, first = os.path.join(folder, "record"), os.path.join(folder, "start")
-            words = ["solve", "--json", "--progress", "json", *limits.words(), "--record", record]
+            record, first, end = (os.path.join(folder, name) for name in ("record", "start", "end"))
+            words = ["solve", "--json", "--progress", "json", *limits.words(), "--until", end, "--record", record]
             if start is not None and max([0, *project.ends(start)]) <= start[-1] + spelled.offset:
                 with open(first, "wb") as file:
                     file.write(starts_text(spelled.inward(start)))
                 words += ["--start", first]
-            _, out = self.call(words, spelled.text, limits.patience(), lambda line: self.heard(line, spelled, hear))
+            _, out = self.call(words, spelled.text, limits.seconds, lambda line: self.heard(line, spelled, hear), end)
             try:
                 return of_answer(out, record, spelled)
             except ODD:

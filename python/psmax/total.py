@@ -101,7 +101,7 @@ class TotalFloat:
         latest = self.found[activity]
         while not latest.is_settled and not self.psprove.clock.over():
             middle = latest.most + 1 if latest.least == latest.most else (latest.least + latest.most + 1) // 2
-            limits = Limits(min(seconds, max(1, math.ceil(self.psprove.clock.left()))))
+            limits = Limits(min(seconds, self.psprove.clock.left()))
             answer = self.psprove.ask(self.limited((Arc(0, activity, middle),)), limits)
             with self.lock:
                 if answer.starts is not None:

@@ -68,7 +68,7 @@ def outcomes(found: Sequence[Change], base: Known, psprove: Psprove, jobs: int) 
 
     def outcome(place: int) -> Outcome:
         begun, left = clock.elapsed(), clock.left()
-        limits = Limits(math.ceil(min(left, left * jobs / (len(found) - place))))
+        limits = Limits(min(left, left * jobs / (len(found) - place)))
         return Outcome(found[place], psprove.ask(found[place].project, limits, base.starts), clock.elapsed() - begun)
 
     with ThreadPoolExecutor(jobs) as pool:

@@ -104,12 +104,14 @@ class Solving(InFolder):
         self.assertEqual({one.value for one in made.whatif(10, 2)}, {6})
 
     def test_half_a_second(self) -> None:
-        """Less than a second is kept, and gives a schedule."""
+        """Less than a second is kept, and gives a schedule and a bound that are proved."""
         project, begun = psmax.Project.read(self.hard()), time.monotonic()
         answer = project.solve(0.5, 1)
         self.assertLess(time.monotonic() - begun, 5)
         self.assertEqual(answer.status, psmax.Status.FEASIBLE)
         self.assertTrue(project.check(answer))
+        assert answer.record is not None
+        self.assertEqual(answer.record.verify().bound, answer.bound)
 
     def test_a_long_makespan(self) -> None:
         """By hand: one crane lifts twice, 900,000 periods each time."""
@@ -194,7 +196,7 @@ class Solving(InFolder):
 
 class Interrupted(InFolder):
     def test_ctrl_c(self) -> None:
-        """It never answers with a longer schedule than it has reported."""
+        """It never answers with a longer schedule than it has reported, and the record is in its file."""
         for place, proved_by in enumerate(("lemmas", "tree", "lemmas")):
             path = self.hard() if proved_by == "lemmas" else PROJECTS / "vaccine-lots.sch"
             record = self.folder / f"record {place}"
@@ -212,6 +214,8 @@ class Interrupted(InFolder):
                 _, makespan, bound, status, is_feasible = last.split()
                 self.assertEqual((int(makespan), status, is_feasible), (min(told), "feasible", "True"))
                 self.assertLess(int(bound), int(makespan))
+                if proved_by == "lemmas":
+                    self.assertGreater(record.stat().st_size, 0)
             child.stdout.close()
             child.stderr.close()
 

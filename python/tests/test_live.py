@@ -2,11 +2,24 @@
 import itertools
 import math
 import os
+import subprocess
+import sys
 import time
 from unittest import mock
 
 import psmax
-from planner.tests.helpers import TELLS, TWO, InFolder
+from planner.tests.helpers import TELLS, TOP, TWO, InFolder
+
+
+# What ends while a thread of it searches, which waits for a file as psprove does.
+LEFT = """
+import sys, threading, time
+import psmax
+told = threading.Event()
+project = psmax.Project.read(sys.argv[1])
+threading.Thread(target=lambda: project.solve(60, 1, on_progress=lambda _: told.set()), daemon=True).start()
+told.wait()
+"""
 
 
 class Live(InFolder):
@@ -55,6 +68,25 @@ class Live(InFolder):
         assert isinstance(answer, psmax.Answer)
         self.assertEqual((answer.status, answer.makespan, answer.bound, answer.record), (psmax.Status.FEASIBLE, 9, 6, None))
         self.assertEqual([(told.value, told.bound) for told in self.heard], [(None, 4), (12, 4), (9, 4), (9, 6)])
+
+    def test_who_listens_fails(self) -> None:
+        """That ends the search, and comes out of it; the record is in its file."""
+        record = self.folder / "record"
+        with (mock.patch.dict(os.environ, {"PSPROVE": self.stand_in(tells=TELLS, then="waits")}),
+              self.assertRaises(ZeroDivisionError)):
+            psmax.Project.read(TWO).solve(60, 1, on_progress=lambda told: 1 // 0, record=record)
+        self.assertTrue(record.exists())
+
+    def test_the_end_of_python(self) -> None:
+        """Where Python ends, psprove ends with it."""
+        ended = self.folder / "ended"
+        stand_in = self.stand_in(tells=TELLS, then="waits")
+        waits = self.program("waits", f'{stand_in} "$@"; echo $? > {ended}')
+        begun = time.monotonic()
+        ran = subprocess.run([sys.executable, "-c", LEFT, str(TWO)], capture_output=True, text=True, timeout=60, env={
+            **os.environ, "PSPROVE": waits, "PYTHONPATH": str(TOP / "python")})
+        self.assertLess(time.monotonic() - begun, 20)
+        self.assertEqual((ran.returncode, ran.stderr, ended.read_text()), (0, "", "3\n"))
 
     def test_what_does_not_end(self) -> None:
         """It is killed, and its answer is what it told."""

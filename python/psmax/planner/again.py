@@ -1,6 +1,5 @@
 """After a search: what one more run would give, where calendar days ask for fewer periods at the dates of the schedule than
 they do on the worst of days."""
-import math
 from dataclasses import replace
 
 from ..clock import tell
@@ -36,7 +35,7 @@ def once_more(known: Known, opened: ProjectFile, project: Project) -> None:
         tell(known.clock, f"row {one.row}: with '{opened.names.activities[first]}' where it is, {allowed} periods of work keep "
              f"the {one.days} calendar days, in place of {one.periods}")
     clock = known.clock
-    limits = Limits(max(1, min(SECONDS, math.ceil(clock.seconds))))
+    limits = Limits(min(SECONDS, clock.seconds))
     answer = Psprove(clock, opened.path).ask(replace(project, arcs=tuple(arcs)), limits, starts)
     tell(clock, said(answer.value, answer.first_line(), known))
 

@@ -8,20 +8,21 @@ import sys
 from collections import Counter
 from collections.abc import Sequence
 from concurrent.futures import FIRST_COMPLETED, Future, ThreadPoolExecutor, wait
+from contextlib import suppress
 from dataclasses import dataclass
 
 from ..clock import Clock, tell
 from ..errors import BadInput, Failed
 from ..files import guard
 from ..letters import escaped
-from ..programs import GLANCE
+from ..running import ENDING, GLANCE, RECORD
 from .bar import Bar
 from .batch_table import FAULT, HEADS, Row, Rows, keep, read_rows
 from .csv_text import write_sheet
 from .opened import has_activities, is_project
 from .published import contradictions, read_published
 
-ENDING = 5.0  # seconds that a search may take to end when it is asked to
+PATIENCE = 2 * ENDING + RECORD  # seconds that a search may take to end when it is asked to
 
 
 @dataclass(frozen=True)
@@ -143,15 +144,13 @@ def row_of(task: Task, wanted: Batch, clock: Clock) -> Row | None:
 
 def answer_of(child: subprocess.Popen[bytes], clock: Clock) -> tuple[str, str] | None:
     """What a search prints; none where the batch was ended before, and the search with it."""
-    while True:
-        try:
-            out, told = child.communicate(timeout=ENDING if clock.stopped else GLANCE)
-            return None if clock.stopped else (out.decode(), told.decode("utf-8", "replace"))
-        except subprocess.TimeoutExpired:
-            if clock.stopped:
-                child.kill()
-            else:
-                continue
-        finally:
-            if clock.stopped and child.poll() is None:
-                child.terminate()
+    while not clock.stopped:
+        with suppress(subprocess.TimeoutExpired):
+            out, told = child.communicate(timeout=GLANCE)
+            return out.decode(), told.decode("utf-8", "replace")
+    child.terminate()
+    with suppress(subprocess.TimeoutExpired):
+        child.communicate(timeout=PATIENCE)
+    child.kill()
+    child.communicate()
+    return None

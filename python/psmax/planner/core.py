@@ -1,6 +1,5 @@
 """A smallest set of maximum lags, resources and absences that contradict each other: without any one of them there is a
 schedule."""
-import math
 import os
 from dataclasses import dataclass, field
 
@@ -29,7 +28,7 @@ class Core:
         """Leaves out one part after the other where psprove proves that there is still no schedule. The first proof took
         so many conflicts. What is left when the time is over may have parts that are not needed."""
         for part in self.parts():
-            limits = Limits(math.ceil(psprove.clock.left()), conflicts=max(LEAST, MANY * conflicts))
+            limits = Limits(psprove.clock.left(), conflicts=max(LEAST, MANY * conflicts))
             answer = psprove.ask(without(self.project, {*self.gone, part}), limits)
             if answer.none:
                 self.gone.add(part)

@@ -1,6 +1,4 @@
 """`plan why`: why a project has no schedule, or none that ends in time. psprove proves each cause."""
-import math
-
 from ..clock import Clock, tell
 from ..errors import BadInput, TimeUp
 from ..files import must_be_empty
@@ -58,7 +56,7 @@ class Causes:
         return 0
 
     def limits(self, conflicts: int | None) -> Limits:
-        return Limits(math.ceil(self.psprove.clock.left()), self.jobs if conflicts is None else 1, conflicts=conflicts)
+        return Limits(self.psprove.clock.left(), self.jobs if conflicts is None else 1, conflicts)
 
     def tell_core(self, found: Core) -> None:
         """What contradicts each other; one alone does so with the minimum lags and what is fixed."""
