@@ -4,7 +4,7 @@
 Has both programs solve N small seeded projects (2,000 by default), every fifth with two jobs of psprove, and wants one
 verdict of both. The starts of psprove have to pass `psmax check`, and its record has to prove the verdict, by `psprove verify`
 and, below 100,000 bytes, by tests/verify_log.py. Then psprove alone solves N projects of 62 to 250 activities (40 by
-default), of which psmax can prove few. Ten projects are solved twice by the same words, which have to give the same bytes.
+default), every second with four jobs, of which psmax can prove few. Ten projects are solved twice by the same words, which have to give the same bytes.
 Three projects, of which one has no schedule, are solved with all times multiplied by 997. The last line counts the
 projects."""
 import functools
@@ -81,7 +81,7 @@ def wrong_small(programs: tuple[str, str], folder: pathlib.Path, seed: int) -> s
 def wrong_large(programs: tuple[str, str], folder: pathlib.Path, seed: int) -> str | None:
     """What is wrong with what psprove says of a large project within few conflicts, or None."""
     search = Search(*programs, folder, f"large{seed}", large_text_of(seed))
-    told, answer = search.solve("--conflicts", "3000")
+    told, answer = search.solve("--conflicts", "3000", "--jobs", "4" if seed % 2 else "1")
     return search.wrong_answer(answer) if told in (0, 3) else f"psprove ends with {told}"
 
 
