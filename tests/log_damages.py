@@ -3,8 +3,8 @@ import random
 from collections.abc import Callable
 
 from log_bytes import bodies_of, body_of, framed, log_of, number, numbers_of, of_event
-from verify_log import MAX_TIME, MAX_WEIGHT, SLOTS, TITLE, Arc, Body, Clique, Drop, Event, Force, Form, Lemma, Line, Load
-from verify_log import Push, Use
+from verify_log import MAX_ARCS, MAX_TIME, MAX_WEIGHT, SLOTS, TITLE, Arc, Body, Clique, Drop, Event, Force, Form, Lemma
+from verify_log import Line, Load, Push, Use
 
 Bodies = list[bytes]  # events without the numbers of their bytes
 Damage = Callable[[random.Random, Bodies], None]
@@ -138,6 +138,16 @@ def limit_arc(rng: random.Random, bodies: Bodies) -> None:
     on_lemma(rng, bodies, change)
 
 
+def limit_arcs(rng: random.Random, bodies: Bodies) -> None:
+    """A lemma of as many arcs as it may have, or one more. Those that come to it ask for nothing."""
+    arc, most = (rng.randrange(3), rng.randrange(3), -MAX_WEIGHT), MAX_ARCS + rng.randrange(2)
+
+    def change(lemma: Lemma) -> Lemma:
+        return lemma._replace(arcs=[*lemma.arcs, *[arc] * (most - len(lemma.arcs))])
+
+    on_lemma(rng, bodies, change)
+
+
 def line_of_nothing(rng: random.Random, bodies: Bodies) -> None:
     """A clique of no members in a window that ends before it begins, or a load in one as wide as it may be or wider."""
     wide = Load(rng.randrange(3), -MAX_TIME - rng.randrange(2), MAX_TIME + rng.randrange(2))
@@ -267,7 +277,7 @@ DAMAGES: list[Damage] = [
     event_gone, event_twice, events_swapped, drop_more, other_claim,
     other_number, other_number, numbers_moved, longer_number, huge_count,
     line_more, line_more, other_lines, line_gone, line_of_nothing, other_window, other_window, use_of_itself, member_twice,
-    deep_uses, other_arcs, arcs_twice, wider_arc, limit_arc, far_slot, lemma_late,
+    deep_uses, other_arcs, arcs_twice, wider_arc, limit_arc, limit_arcs, far_slot, lemma_late,
 ]
 DAMAGES_OF_BYTES = [other_byte, other_byte, cut_off, cut_between, other_frame, more_bytes]
 

@@ -21,6 +21,7 @@ MAX_DIGITS = 9  # bytes of a number
 MAX_WEIGHT = 1_002_000_000  # of an arc, and of its negative
 MAX_TIME = 9_999_999_999  # of an end of a window, and of its negative
 SLOTS = 1_048_576
+MAX_ARCS = 1_024  # of a lemma
 PIECE = 65_536  # bytes that are read at a time
 Arc = tuple[int, int, int]
 Weight = Callable[[int, int], int]  # an entry of a block's weights
@@ -79,6 +80,10 @@ Event = Lemma | Drop | Schedule | Claim
 
 class Form(Exception):
     """Bytes that are no event."""
+
+
+class Long(Form):
+    """The bytes of a lemma of more arcs than it may have."""
 
 
 class LogFault(Fault):
@@ -148,7 +153,10 @@ class Body:
         return Push(self.over(kind, at), None if kind in (2, 5) else self.arc())
 
     def lemma(self, slot: int) -> Lemma:
-        arcs = [self.arc() for _ in range(self.number())]
+        count = self.number()
+        if count > MAX_ARCS:
+            raise Long
+        arcs = [self.arc() for _ in range(count)]
         return Lemma(slot, arcs, list(iter(lambda: self.line() if self.is_left() else None, None)))
 
     def claim(self, kind: int) -> Claim:
@@ -200,6 +208,8 @@ class Log:
             event = body.event()
             if not body.is_left():
                 return event
+        except Long:
+            raise self.fault("long")
         except Form:
             pass
         raise self.fault("form")

@@ -1,24 +1,22 @@
 -- What can be read off a ledger is true.
-use Rattle.std.proofs.Common.{◌≡◌, refl, sym, ap, ℕ, suc, ◌≤◌, ◌+◌, ◌-◌, arith, ℤ, pos, ◌+ℤ◌, ◌≤ℤ◌, ◌<ℤ◌, List, length, Option, None, Some, true, false, is_some}
+use Rattle.std.proofs.Common.{◌≡◌, refl, sym, ap, ℕ, suc, ◌≤◌, ◌+◌, ◌-◌, arith, ℤ, pos, ◌+ℤ◌, ◌≤ℤ◌, ◌<ℤ◌, List, length, Option, None, Some, MatchOption, true, false, is_some}
 use Rattle.std.specs.Int.{int_min}
 use Rattle.std.specs.List.{Contains}
-use Rattle.lemma_proof.specs.Bench.{BenchOf}
 use Rattle.std.proofs.lemmas.Bool.{false≢true}
 use Rattle.std.proofs.lemmas.Int.{ints, by_lt_z, clamps}
 use Rattle.std.proofs.lemmas.List.Elements.{All-contains}
 use Rattle.network.specs.declared.parts.Lag.{Lag}
 use Rattle.network.specs.Problem.{IsProject, Problem, activity_count, end_of, rules, start_arc}
 use Rattle.network.specs.Schedule.{start, HasNoSchedule, IsFeasible, IsLowerBound, IsShortest, Meets, makespan}
-use Rattle.network.specs.Walk.{Rows, entry, weight, HasNoPositiveCycle, HasPositiveCycle, IsMatrixOf}
+use Rattle.network.specs.Walk.{weight, HasNoPositiveCycle, HasPositiveCycle, IsGreatestWeight}
 use Rattle.network.proofs.Schedules.{start_rule, walk_holds}
 use Rattle.horizon.specs.Horizon.{horizon}
 use Rattle.horizon.proofs.Sooner.{horizon_suffices}
 use Rattle.longest_path.specs.Insert.{arc_of}
-use Rattle.block.proofs.Implying.{implied_entry}
 use Rattle.lemma_proof.proofs.Held.{not_both}
 use Rattle.reasons.specs.Reasons.{Implies}
 use Rattle.reasons.proofs.Weighing.{MeetsAll, implied_met}
-use Rattle.lemma_book.specs.Ledger.{IsBoundOf, IsRootOf, IsSound, LedgerOf, ceiling_of, own_of}
+use Rattle.lemma_book.specs.Ledger.{IsBoundOf, IsSound, LedgerOf, ceiling_of, own_of}
 
 own_met : (l : LedgerOf) (s : List ℤ) → IsSound l → IsFeasible l.project s → makespan s <ℤ ceiling_of l → MeetsAll s (own_of l)
 own_met l s sound feasible less e c = All-contains (Meets s) (own_of l) e (sound.roots s feasible less) c
@@ -78,24 +76,26 @@ ended_bound l bound is cycle = record { ended = λ _. is; going = λ none. absur
 pub ended_law : (l : LedgerOf) (bound : ℤ) → bound ≡ ceiling_of l → IsSound l → HasPositiveCycle (own_of l) → IsLowerBound l.project bound
 ended_law l bound is sound cycle s feasible = let reached = none_shorter l s sound cycle feasible in omega (arith, ints, is, reached)
 
-pub going_bound : (l : LedgerOf) (rows : Rows) (least bound : ℤ) → 2 ≤ activity_count l.project → IsMatrixOf (activity_count l.project) (own_of l) rows → entry rows 0 (end_of l.project) ≡ Some least → bound ≡ int_min least (ceiling_of l) → IsBoundOf l bound
-going_bound l rows least bound two m at is = record {
-  ended = λ cycle. absurd (both (own_of l) m.no_cycle cycle);
-  going = λ none. (least, rw at at (m.greatest 0 (end_of l.project) (omega (arith, two)) (omega (arith, two))), is);
-}
+pub going_bound : (l : LedgerOf) (least bound : ℤ) → HasNoPositiveCycle (own_of l) → IsGreatestWeight (own_of l) 0 (end_of l.project) (Some least) → bound ≡ int_min least (ceiling_of l) → IsBoundOf l bound
+going_bound l least bound none at is = record { ended = λ cycle. absurd (both (own_of l) none cycle); going = λ _. (least, at, is) }
 
-pub going_law : (l : LedgerOf) (rows : Rows) (least bound : ℤ) → 2 ≤ activity_count l.project → IsSound l → IsMatrixOf (activity_count l.project) (own_of l) rows → entry rows 0 (end_of l.project) ≡ Some least → bound ≡ int_min least (ceiling_of l) → IsLowerBound l.project bound
-going_law l rows least bound two sound m at is = rw is (bounded l least sound (implied_entry (activity_count l.project) (own_of l) rows 0 (end_of l.project) least m (omega (arith, two)) (omega (arith, two)) at))
+least_implied : (own : List Lag) (a b : ℕ) (least : ℤ) → IsGreatestWeight own a b (Some least) → Implies own (arc_of a b least)
+least_implied own a b least at =
+    let sum : weight at.0.0 ≡ least = at.0.2 in
+    record { walk = at.0.0; goes = at.0.1; weighs = omega (arith, ints) }
 
--- ---- what is kept says whether the root's arcs close a walk of positive weight
+pub going_law : (l : LedgerOf) (least bound : ℤ) → IsSound l → IsGreatestWeight (own_of l) 0 (end_of l.project) (Some least) → bound ≡ int_min least (ceiling_of l) → IsLowerBound l.project bound
+going_law l least bound sound at is = rw is (bounded l least sound (least_implied (own_of l) 0 (end_of l.project) least at))
 
-pub root_ended : (p : Problem) (own : List Lag) (bench : Option BenchOf) → is_some bench ≡ false → IsRootOf p own bench → HasPositiveCycle own
-root_ended p own None none root = root
-root_ended p own (Some b) none root = absurd (false≢true (sym none))
+-- ---- what is kept
 
-pub root_going : (p : Problem) (own : List Lag) (bench : Option BenchOf) → is_some bench ≡ true → IsRootOf p own bench → HasNoPositiveCycle own
-root_going p own None some root = absurd (false≢true some)
-root_going p own (Some b) some root = root.no_cycle
+pub least_ended : (own : List Lag) (end : ℕ) (least : Option ℤ) → is_some least ≡ false → MatchOption least (HasPositiveCycle own) (λ w. HasNoPositiveCycle own × IsGreatestWeight own 0 end (Some w)) → HasPositiveCycle own
+least_ended own end None none found = found
+least_ended own end (Some w) none found = absurd (false≢true (sym none))
+
+pub least_going : (own : List Lag) (end : ℕ) (least : Option ℤ) → is_some least ≡ true → MatchOption least (HasPositiveCycle own) (λ w. HasNoPositiveCycle own × IsGreatestWeight own 0 end (Some w)) → HasNoPositiveCycle own
+least_going own end None some found = absurd (false≢true some)
+least_going own end (Some w) some found = found.0
 
 pub some_there : {X : Type 0} (o : Option X) → is_some o ≡ true → (x : X) × (o ≡ Some x)
 some_there None some = absurd (false≢true some)

@@ -2,5 +2,5 @@ pub mod Deadlines
 pub mod Ledgers
 pub mod Slotted
 pub mod Claims
-pub mod Further
+pub mod Premised
 pub mod TooMuch

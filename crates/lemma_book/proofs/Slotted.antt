@@ -1,11 +1,11 @@
 -- Which lemmas are in slots that were made, filled and emptied.
-use Rattle.std.proofs.Common.{◌≡◌, ◌≢◌, slice_get, sym, ap, ◌∙◌, subst, ℕ, zero, suc, ◌<◌, ◌≤◌, ◌+◌, ◌-◌, arith, ⊎_elim, ◌⊎◌, inl, inr, List, [], ◌∷◌, ◌++◌, length, replicate, get_or, set, Option, None, Some, slice_set, append_assoc}
+use Rattle.std.proofs.Common.{◌≡◌, ◌≢◌, sym, ap, ◌∙◌, subst, ℕ, zero, suc, ◌<◌, ◌≤◌, ◌+◌, ◌-◌, arith, ⊎_elim, ◌⊎◌, inl, inr, List, [], ◌∷◌, ◌++◌, length, replicate, get_or, set, Option, None, Some, slice_set, append_assoc}
 use Rattle.std.proofs.lemmas.Bool.{cases_eq}
-use Rattle.std.proofs.lemmas.List.{length-append, get_or-replicate, get_or-set_other, get_or-set_same, length-replicate, length-set, replicate-append-replicate}
+use Rattle.std.proofs.lemmas.List.{get_or-replicate, get_or-set_other, get_or-set_same, length-replicate, length-set, replicate-append-replicate}
 use Rattle.std.proofs.lemmas.Option.{get_or_from_slice_get, slice_get-get_or, slice_get_within}
 use Rattle.network.specs.declared.parts.Lag.{Lag}
 use Rattle.lemma_proof.specs.Lines.{IsIn, Slots}
-use Rattle.lemma_book.specs.Ledger.{with_slot}
+use Rattle.lemma_book.specs.Ledger.{IsFilled, with_slot}
 
 none_there : (n k : ℕ) (lemma : List Lag) → ¬ IsIn (replicate n None) k lemma
 none_there n k lemma found =
@@ -53,28 +53,23 @@ made_more old count i le =
     let one : i + 1 - count ≡ (i - count) + 1 = omega (arith, le) in
     append_assoc old (replicate (i - count) None) (None ∷ []) ∙ ap (λ (rest : Slots). old ++ rest) (push_none (i - count) ∙ ap (λ (n : ℕ). replicate {A = Option (List Lag)} n None) (sym one))
 
--- ---- where a lemma is
+-- ---- a lemma more in a slot, and one that goes
 
-pub in_set_where : (lemmas : Slots) (slot k : ℕ) (x : Option (List Lag)) (lemma : List Lag) → IsIn (slice_set lemmas slot x) k lemma → ((k ≡ slot) × (x ≡ Some lemma)) ⊎ ((k ≢ slot) × IsIn lemmas k lemma)
-in_set_where lemmas slot k x lemma found =
-    let lt : k < length (set lemmas slot x) = slice_get_within (set lemmas slot x) k (Some lemma) found in
-    let is : get_or (set lemmas slot x) k None ≡ Some lemma = get_or_from_slice_get (set lemmas slot x) k (Some lemma) None found in
-    let long : length (set lemmas slot x) ≡ length lemmas = length-set lemmas slot x in
+pub in_shelved : (lemmas : Slots) (slot k : ℕ) (arcs lemma : List Lag) → IsIn (slice_set (with_slot lemmas slot) slot (Some arcs)) k lemma → (arcs ≡ lemma) ⊎ IsIn lemmas k lemma
+in_shelved lemmas slot k arcs lemma found =
     ⊎_elim
-    (λ (same : k ≡ slot).
-    let here : get_or (set lemmas slot x) slot None ≡ Some lemma = subst (λ (i : ℕ). get_or (set lemmas slot x) i None ≡ Some lemma) same is in
-    inl (same, sym (get_or-set_same lemmas slot x None (omega (arith, lt, long, same))) ∙ here))
-    (λ (other : k ≡ slot → ⊥).
-    let old : get_or lemmas k None ≡ Some lemma = sym (get_or-set_other lemmas slot k x None other) ∙ is in
-    inr (other, slice_get-get_or lemmas k None (omega (arith, lt, long)) ∙ ap Some old))
-    (cases_eq k slot)
+    (λ (new : Some arcs ≡ Some lemma). inl (same arcs lemma new))
+    (λ (old : IsIn (with_slot lemmas slot) k lemma). inr (in_with_slot lemmas slot k lemma old))
+    (in_set (with_slot lemmas slot) slot k (Some arcs) lemma found)
+  where
+    same : (x y : List Lag) → Some x ≡ Some y → x ≡ y
+    same x y e = cc
 
-pub set_here : (lemmas : Slots) (slot : ℕ) (x : Option (List Lag)) → slot < length lemmas → slice_get (slice_set lemmas slot x) slot ≡ Some x
-set_here lemmas slot x lt =
-    let long : length (set lemmas slot x) ≡ length lemmas = length-set lemmas slot x in
-    slice_get-get_or (set lemmas slot x) slot None (omega (arith, lt, long)) ∙ ap Some (get_or-set_same lemmas slot x None lt)
+pub in_emptied : (lemmas : Slots) (slot k : ℕ) (lemma : List Lag) → IsIn (slice_set lemmas slot None) k lemma → IsIn lemmas k lemma
+in_emptied lemmas slot k lemma found = ⊎_elim (λ (none : None ≡ Some lemma). absurd (cc)) (λ (old : IsIn lemmas k lemma). old) (in_set lemmas slot k None lemma found)
 
-pub set_other : (lemmas : Slots) (slot k : ℕ) (x : Option (List Lag)) (lemma : List Lag) → k ≢ slot → IsIn lemmas k lemma → IsIn (slice_set lemmas slot x) k lemma
+-- the lemmas of other slots stay
+set_other : (lemmas : Slots) (slot k : ℕ) (x : Option (List Lag)) (lemma : List Lag) → k ≢ slot → IsIn lemmas k lemma → IsIn (slice_set lemmas slot x) k lemma
 set_other lemmas slot k x lemma other found =
     let lt : k < length lemmas = slice_get_within lemmas k (Some lemma) found in
     let long : length (set lemmas slot x) ≡ length lemmas = length-set lemmas slot x in
@@ -86,12 +81,9 @@ more_in [] n k lemma found = absurd (cc)
 more_in (x ∷ lemmas) n zero lemma found = found
 more_in (x ∷ lemmas) n (suc k) lemma found = more_in lemmas n k lemma found
 
-pub with_slot_in : (lemmas : Slots) (slot k : ℕ) (lemma : List Lag) → IsIn lemmas k lemma → IsIn (with_slot lemmas slot) k lemma
-with_slot_in lemmas slot k lemma found = more_in lemmas (slot + 1 - length lemmas) k lemma found
-
-pub slot_there : (lemmas : Slots) (slot : ℕ) → slot < length (with_slot lemmas slot)
-slot_there lemmas slot =
-    let more : Slots = replicate (slot + 1 - length lemmas) None in
-    let sum : length (lemmas ++ more) ≡ length lemmas + length more = length-append lemmas more in
-    let many : length more ≡ slot + 1 - length lemmas = length-replicate (slot + 1 - length lemmas) None in
-    omega (arith, sum, many)
+-- what is shelved in an empty slot takes no other lemma's
+pub shelved_there : (lemmas : Slots) (slot k : ℕ) (arcs lemma : List Lag) → ¬ IsFilled lemmas slot → IsIn lemmas k lemma → IsIn (slice_set (with_slot lemmas slot) slot (Some arcs)) k lemma
+shelved_there lemmas slot k arcs lemma free found =
+    set_other (with_slot lemmas slot) slot k (Some arcs) lemma
+    (λ same. free (lemma, subst (λ (i : ℕ). IsIn lemmas i lemma) same found))
+    (more_in lemmas (slot + 1 - length lemmas) k lemma found)

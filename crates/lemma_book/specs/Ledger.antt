@@ -14,7 +14,7 @@ use Rattle.longest_path.specs.Insert.{arc_of}
 use Rattle.reasons.specs.Reasons.{reverse_of}
 use Rattle.lemma_proof.specs.declared.line.Line.{Line}
 use Rattle.lemma_proof.specs.Bench.{BenchOf}
-use Rattle.lemma_proof.specs.Lines.{AreLemmas, IsIn, IsRefuted, MeetsNone, Slots, impossible, picked}
+use Rattle.lemma_proof.specs.Lines.{IsIn, IsRefuted, MeetsNone, Slots, impossible, picked}
 use Rattle.std.specs.declared.alloc.Global.{Global}
 use Rattle.lemma_book.specs.declared.deadline.TheConstants.{MAX_CEILING}
 use Rattle.lemma_book.specs.declared.ledger.TheConstants.{MAX_SLOTS}
@@ -99,10 +99,8 @@ abbrev pub IsRootOf : Problem → List Lag → Option BenchOf → Type 0
 IsRootOf p own None = HasPositiveCycle own
 IsRootOf p own (Some bench) = IsMatrixOf (activity_count p) own bench.rows
 
-pub record IsLedger (l : LedgerOf) (bench : Option BenchOf) : Type 0 where
+pub record IsLedger (l : LedgerOf) : Type 0 where
   pub sound : IsSound l
-  pub lemmas : AreLemmas l.project l.lemmas
-  pub root : IsRootOf l.project (own_of l) bench
   pub within : IsBetween (pos 0) MAX_CEILING (ceiling_of l)
 
 -- ---- Who may change a ledger.
@@ -132,9 +130,6 @@ pub record MayLead (l : LedgerOf) (starts : List ℤ) : Type 0 where
   pub are_starts : AreStarts l.project starts
   pub feasible : IsFeasible l.project starts
   pub shorter : makespan starts <ℤ ceiling_of l
-
-abbrev pub ledger_of : Problem → Option (List ℤ) → List Lag → Slots → LedgerOf
-ledger_of p best roots lemmas = record { project = p; best = best; roots = roots; lemmas = lemmas }
 
 -- the arc that a lemma of fewer than two arcs makes one of the root's
 abbrev pub root_of : List Lag → Option Lag

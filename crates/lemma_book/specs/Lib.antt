@@ -1,2 +1,2 @@
 pub mod Ledger
-pub mod Ahead
+pub mod Premises

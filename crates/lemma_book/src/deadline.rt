@@ -2,6 +2,8 @@
 
 ghost use Rattle.horizon.specs.Horizon.{horizon};
 ghost use Rattle.std.specs.Prelude.{◌≡◌, ◌+◌, ◌++◌, ◌∷◌, [], ℤ, pos, length, IfOk, MatchOption};
+ghost use Rattle.std.specs.List.{All};
+ghost use Rattle.block.specs.Heads.{IsLight};
 ghost use Rattle.network.specs.Problem.{IsBetween, IsProject, activity_count, rules};
 ghost use Rattle.network.specs.Walk.{HasPositiveCycle, IsMatrixOf};
 ghost use Rattle.lemma_proof.specs.Lines.{IsArc};
@@ -61,9 +63,11 @@ pub(crate) fn first_root(
     project: &Project,
 ) -> Result<(Vec<Lag>, Option<Bench>), AllocError>
     ensures roots { IfOk result (λ r. r.0.items ≡ first_roots project.now) }
+    ensures light { IfOk result (λ r. All (IsLight (activity_count project.now)) r.0.items) }
     ensures bench { IfOk result (λ r. IsRootOf project.now (rules project.now ++ first_roots project.now) r.1) }
     ensures within { IsBetween (pos 0) MAX_CEILING (pos (horizon project.now + 1)) }
 {
+    prove!(project.activity_count() >= 2);
     let bound = horizon_of(project) + 1;
     let mut roots = Vec::new(alloc);
     roots.push(deadline(project, bound))?;

@@ -1,23 +1,22 @@
 //! What is proved of a project, and what changes it.
 
-ghost use Rattle.std.specs.Prelude.{◌≡◌, ◌↔◌, ◌++◌, ◌∷◌, ◌<ℤ◌, ◌<◌, [], ℤ, pos, Some, slice_set, List, length, None, IsTrue, IfOk, IfSome, OnOk, OnErr, MatchOption};
+ghost use Rattle.std.specs.Prelude.{◌≡◌, ◌↔◌, pos, Some, List, None, IsTrue, IfOk, IfSome, OnOk, OnErr, MatchOption};
 ghost use Rattle.std.specs.List.{All};
-ghost use Rattle.network.specs.declared.parts.Lag.{Lag};
-ghost use Rattle.network.specs.Problem.{IsBetween, IsWithin, Problem, activity_count};
+ghost use Rattle.network.specs.Problem.{IsBetween, IsWithin, Problem};
 ghost use Rattle.lemma_book.specs.declared.deadline.TheConstants.{MAX_CEILING};
 ghost use Rattle.network.specs.declared.limits.TheConstants.{MAX_WALK_WEIGHT};
-ghost use Rattle.network.specs.Schedule.{IsFeasible, IsLowerBound, Meets, makespan};
+ghost use Rattle.network.specs.Schedule.{IsFeasible, IsLowerBound, makespan};
 ghost use Rattle.record_text.specs.FirstWrong.{IsFactOf};
-ghost use Rattle.block.specs.Heads.{IsLight};
 ghost use Rattle.lemma_proof.specs.declared.line.Line.{Line};
 ghost use Rattle.lemma_proof.specs.Lines.{IsArc, IsIn, IsRefuted, picked};
-ghost use Rattle.lemma_book.specs.Ledger.{Claims, IsBoundOf, IsFilled, IsSmall, Leads, LetsGo, MayLead, MayTake, Takes, ceiling_of, first_ledger, own_of, root_of, with_lemma, with_slot};
+ghost use Rattle.lemma_book.specs.Ledger.{Claims, IsBoundOf, IsFilled, IsSmall, Leads, LetsGo, MayLead, MayTake, Takes, ceiling_of, first_ledger, own_of, root_of, with_lemma};
+ghost use Rattle.lemma_book.specs.Premises.{premises_in};
 
-use crate::deadline::{deadline, first_root};
+use crate::deadline::{MAX_CEILING, deadline};
 use crate::leading::{are_starts, is_feasible};
-use crate::slots::{has_room, is_filled, make_slot};
+use crate::premises::Premises;
 use horizon::horizon_of;
-use lemma_proof::{Bench, IMPOSSIBLE, Lags, Line, are_arcs};
+use lemma_proof::{IMPOSSIBLE, Lags, Line};
 use network::{Lag, Project};
 use reasons::reverse_of;
 use record_text::{Proved, Starts};
@@ -34,14 +33,10 @@ pub const MAX_SLOTS: usize = 1_048_576;
 #[derive(Drop)]
 pub struct Ledger<'a> {
     alloc: Global,
-    project: &'a Project,
+    /// The root's arcs and the lemmas.
+    premises: Premises<'a>,
     /// The starts of the best schedule.
     best: Option<Starts>,
-    /// The root's arcs beside the project's rules, in the order in which they came.
-    roots: Vec<Lag>,
-    /// The matrix of the root's arcs. None where they close a walk of positive weight.
-    bench: Option<Bench>,
-    lemmas: Vec<Option<Lags>>,
 }
 
 /// The last of these starts, that of the end; 0 if there are none.
@@ -64,13 +59,14 @@ fn root_arc(arcs: &[Lag]) -> Option<Lag>
 }
 
 impl<'a> Model for Ledger<'a> {
-    ghost use Rattle.lemma_book.specs.Ledger.{IsLedger, LedgerOf, ledger_of};
+    ghost use Rattle.lemma_book.specs.Ledger.{IsLedger, LedgerOf};
+    ghost use Rattle.lemma_book.specs.Premises.{ledger_of};
 
     ghost Value = { LedgerOf };
 
-    ghost view = { λ s. ledger_of s.project.now s.best s.roots.items s.lemmas.items };
+    ghost view = { λ s. ledger_of s.premises s.best };
 
-    ghost invariant = { λ s. IsLedger (ledger_of s.project.now s.best s.roots.items s.lemmas.items) s.bench };
+    ghost invariant = { λ s. IsLedger (ledger_of s.premises s.best) };
 }
 
 impl<'a> Ledger<'a> {
@@ -79,14 +75,11 @@ impl<'a> Ledger<'a> {
     pub fn new(alloc: Global, project: &'a Project) -> Result<Ledger<'a>, AllocError>
         ensures { IfOk result (λ x. x ≡ first_ledger project.now) }
     {
-        let (roots, bench) = first_root(alloc, project)?;
+        prove!(horizon_of(project) < MAX_CEILING);
         Ok(Ledger {
             alloc,
-            project,
+            premises: Premises::new(alloc, project)?,
             best: None,
-            roots,
-            bench,
-            lemmas: Vec::new(alloc),
         })
     }
 
@@ -98,19 +91,7 @@ impl<'a> Ledger<'a> {
             (λ used. IsRefuted self.old.project self.old.lemmas (own_of self.old) arcs.now lines.now
             × IsRefuted self.old.project self.old.lemmas (own_of self.old) arcs.now (picked lines.now used.items))) }
     {
-        let Some(bench) = &mut self.bench else {
-            if are_arcs(self.project, arcs) {
-                return Ok(Some(Vec::new(self.alloc)));
-            }
-            return Ok(None);
-        };
-        bench.refute(
-            self.alloc,
-            self.project,
-            self.lemmas.as_slice(),
-            arcs,
-            lines,
-        )
+        self.premises.refute(arcs, lines)
     }
 
     /// The places of the lines that show something new, if a lemma may be taken: it has the slot that it needs, and the
@@ -126,48 +107,10 @@ impl<'a> Ledger<'a> {
             (λ used. MayTake self.old slot arcs.now lines.now
             × MayTake self.old slot arcs.now (picked lines.now used.items))) }
     {
-        if !has_room(self.lemmas.as_slice(), slot, arcs) {
+        if !self.premises.has_room(slot, arcs) {
             return Ok(None);
         }
         self.refute(arcs, lines)
-    }
-
-    /// Adds an arc to the root's, which each schedule in question meets.
-    fn add_root(&mut self, arc: Lag) -> Result<(), AllocError>
-        requires light { IsLight (activity_count self.old.project) arc }
-        requires met { (s : List ℤ) → IsFeasible self.old.project s → makespan s <ℤ ceiling_of self.old → Meets s arc }
-        ensures added { OnOk result (self.new ≡ record self.old { roots = self.old.roots ++ arc ∷ [] }) }
-        ensures unchanged { OnErr result (self.new ≡ self.old) }
-    {
-        self.roots.push(arc)?;
-        let Some(bench) = &mut self.bench else {
-            return Ok(());
-        };
-        match bench.add_root(arc) {
-            Ok(false) => Ok(()),
-            Ok(true) => {
-                self.bench = None;
-                Ok(())
-            }
-            Err(e) => {
-                self.roots.pop();
-                Err(e)
-            }
-        }
-    }
-
-    /// Fills an empty slot.
-    fn shelve(&mut self, slot: usize, arcs: Lags) -> Result<(), AllocError>
-        requires within { slot < MAX_SLOTS }
-        requires refuted { (lines : List Line) × IsRefuted self.old.project self.old.lemmas (own_of self.old) arcs lines }
-        ensures filled { OnOk result (self.new ≡ record self.old {
-          lemmas = slice_set (with_slot self.old.lemmas slot) slot (Some arcs);
-        }) }
-        ensures unchanged { OnErr result (self.new ≡ self.old) }
-    {
-        make_slot(&mut self.lemmas, slot)?;
-        self.lemmas[slot] = Some(arcs);
-        Ok(())
     }
 
     /// Keeps a lemma that may be taken by some lines.
@@ -176,11 +119,13 @@ impl<'a> Ledger<'a> {
         ensures kept { OnOk result (self.new ≡ with_lemma self.old slot arcs) }
         ensures unchanged { OnErr result (self.new ≡ self.old) }
     {
-        prove!(self.project.activity_count() >= 2);
-        match root_arc(arcs.as_slice()) {
-            Some(arc) => self.add_root(arc),
-            None => self.shelve(slot, arcs),
-        }
+        prove!(self.premises.project().activity_count() >= 2);
+        let Some(arc) = root_arc(arcs.as_slice()) else {
+            self.premises.shelve(slot, arcs)?;
+            return Ok(());
+        };
+        self.premises.add_root(arc)?;
+        Ok(())
     }
 
     /// Takes a lemma, if lines refute its arcs beside what the ledger has: the places of the lines that show something
@@ -206,11 +151,7 @@ impl<'a> Ledger<'a> {
     pub fn let_go(&mut self, slot: usize) -> bool
         ensures { LetsGo self.old slot result self.new }
     {
-        if !is_filled(self.lemmas.as_slice(), slot) {
-            return false;
-        }
-        self.lemmas[slot] = None;
-        true
+        self.premises.let_go(slot)
     }
 
     /// What schedules in question are shorter than: the makespan of the best one, or the horizon and one.
@@ -220,7 +161,7 @@ impl<'a> Ledger<'a> {
     {
         match &self.best {
             Some(starts) => last_of(starts.as_slice()),
-            None => horizon_of(self.project) + 1,
+            None => horizon_of(self.premises.project()) + 1,
         }
     }
 
@@ -228,24 +169,28 @@ impl<'a> Ledger<'a> {
     pub fn project(&self) -> &Project
         ensures { result.now ≡ self.now.project }
     {
-        self.project
+        self.premises.project()
+    }
+
+    /// What the lines of a lemma are checked against.
+    pub fn premises(&self) -> &Premises<'a>
+        ensures { result.now ≡ premises_in self.now }
+    {
+        &self.premises
     }
 
     /// The root's arcs beside the project's rules, in the order in which they came.
     pub fn roots(&self) -> &[Lag]
         ensures { result.now ≡ self.now.roots }
     {
-        self.roots.as_slice()
+        self.premises.roots()
     }
 
     /// The arcs of the lemma in a slot, if there is one.
     pub fn lemma_in(&self, slot: usize) -> Option<&[Lag]>
         ensures { MatchOption result (¬ IsFilled self.now.lemmas slot) (λ arcs. IsIn self.now.lemmas slot arcs.now) }
     {
-        match self.lemmas.get(slot) {
-            Some(Some(arcs)) => Some(arcs.as_slice()),
-            _ => None,
-        }
+        self.premises.lemma_in(slot)
     }
 
     /// The starts of the best schedule by activity, in periods.
@@ -263,13 +208,14 @@ impl<'a> Ledger<'a> {
     fn may_lead(&self, starts: &[i64]) -> Result<bool, AllocError>
         ensures { IfOk result (λ may. IsTrue may ↔ MayLead self.now starts.now) }
     {
-        if !are_starts(self.project, starts) {
+        let project = self.premises.project();
+        if !are_starts(project, starts) {
             return Ok(false);
         }
         if last_of(starts) >= self.ceiling() {
             return Ok(false);
         }
-        is_feasible(self.alloc, self.project, starts)
+        is_feasible(self.alloc, project, starts)
     }
 
     /// Takes a schedule, if it is feasible and in question: from now on those are that are shorter. Starts are by
@@ -281,13 +227,10 @@ impl<'a> Ledger<'a> {
         if !self.may_lead(starts.as_slice())? {
             return Ok(false);
         }
-        prove!(self.project.activity_count() >= 2);
-        let arc = deadline(self.project, last_of(starts.as_slice()));
-        let before = self.best.replace(starts);
-        if let Err(e) = self.add_root(arc) {
-            self.best = before;
-            return Err(e);
-        }
+        prove!(self.premises.project().activity_count() >= 2);
+        let arc = deadline(self.premises.project(), last_of(starts.as_slice()));
+        self.premises.add_root(arc)?;
+        self.best = Some(starts);
         Ok(true)
     }
 
@@ -298,14 +241,10 @@ impl<'a> Ledger<'a> {
         ensures law { IsLowerBound self.now.project result }
         ensures small { IsWithin MAX_WALK_WEIGHT result }
     {
-        let ceiling = self.ceiling();
-        let Some(bench) = &self.bench else {
-            return ceiling;
-        };
-        prove!(self.project.activity_count() >= 2);
-        bench
-            .weight(0, self.project.activity_count() - 1)
-            .min(ceiling)
+        match self.premises.least_end() {
+            Some(least) => least.min(self.ceiling()),
+            None => self.ceiling(),
+        }
     }
 
     /// What is proved now. It is true of the project.
@@ -314,8 +253,8 @@ impl<'a> Ledger<'a> {
         ensures law { IsFactOf self.now.project result }
         ensures small { IsSmall result }
     {
-        prove!(self.project.activity_count() >= 2);
-        if self.bench.is_some() {
+        prove!(self.premises.project().activity_count() >= 2);
+        if self.premises.least_end().is_some() {
             return Proved::Bound {
                 bound: self.bound(),
             };

@@ -1,12 +1,13 @@
 //! The book of lemmas: what is proved of a project, and the only way to more.
 #![tactic(auto)]
 
+mod comparing;
 mod deadline;
-mod law;
 mod leading;
 mod ledger;
+mod premises;
 mod slots;
 mod too_much;
 
-pub use law::ahead_law;
 pub use ledger::{Ledger, MAX_SLOTS};
+pub use premises::Premises;

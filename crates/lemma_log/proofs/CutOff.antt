@@ -1,13 +1,13 @@
 -- Bytes of an event that are cut off are short.
-use Rattle.std.proofs.Common.{◌≡◌, ◌≢◌, ◌≤◌, ◌<◌, ℕ, zero, suc, ◌-◌, List, [], ◌∷◌, ◌++◌, length, Result, Ok, Err, MatchResult, Option, Some, None, ◌⊎◌, inl, inr, refl, ap, arith}
+use Rattle.std.proofs.Common.{◌≡◌, ◌≢◌, ◌≤◌, ◌<◌, ℕ, zero, suc, ◌-◌, List, [], ◌∷◌, ◌++◌, length, Result, Ok, Err, MatchResult, ◌⊎◌, inl, inr, refl, ap, arith}
 use Rattle.std.proofs.lemmas.List.{length-append, take-append-le, drop-append-le}
 use Rattle.std.proofs.lemmas.Bool.{cases_lt, lt-ltb, le-ltb}
 use Rattle.lemma_log.specs.declared.event.Event.{Event}
 use Rattle.lemma_log.specs.declared.fault.LogFault.{LogFault}
-use Rattle.lemma_log.specs.declared.fault.LogFault.TheVariants.{Short, Form, Memory}
+use Rattle.lemma_log.specs.declared.fault.LogFault.TheVariants.{Short, Form, Long, Memory}
 use Rattle.lemma_log.specs.Numbers.{Part, digits_in, with_digit}
 use Rattle.lemma_log.specs.Text.{body_text, event_text, IsWritable}
-use Rattle.lemma_log.specs.Reading.{cut, event_in, frame_in, framed, read_in, with_event}
+use Rattle.lemma_log.specs.Reading.{cut, frame_in, framed, read_in, whole_in, with_left}
 use Rattle.lemma_log.specs.Law.{ReadsBack}
 use Rattle.lemma_log.proofs.Digits.{read_none, read_empty, read_low, read_high, number_again}
 use Rattle.lemma_log.proofs.EventBack.{read_back}
@@ -54,11 +54,11 @@ unfolding frame_in
 frame_stable bytes more = cut_stable more (digits_in 9 bytes) (digits_in 9 (bytes ++ more)) (stable 9 bytes more)
 
 framed_stable : (more : List ℕ) (here there : Result (Part (List ℕ)) LogFault) → IsStable more here there → IsStable more (framed here) (framed there)
-framed_stable more (Ok frame) there h = rw h (by_event (event_in frame.value))
+framed_stable more (Ok frame) there h = rw h (by_event (whole_in frame.value))
   where
-    by_event : (found : Option Event) → IsStable more (with_event found frame.left) (with_event found (frame.left ++ more))
-    by_event (Some e) = refl
-    by_event None = λ ne. refl
+    by_event : (found : Result Event LogFault) → IsStable more (with_left found frame.left) (with_left found (frame.left ++ more))
+    by_event (Ok e) = refl
+    by_event (Err fault) = λ ne. refl
 framed_stable more (Err fault) there h = λ ne. ap framed (h ne)
 
 -- an event that is read is read where more follows it, and what is no event is none then
@@ -75,6 +75,7 @@ cut_short (Ok part) body more ne h =
     rw (lt-ltb (length part.left) part.value few)
 cut_short (Err Short) body more ne h = refl
 cut_short (Err Form) body more ne h = absurd (let e = h (λ is. cc) in cc)
+cut_short (Err Long) body more ne h = absurd (let e = h (λ is. cc) in cc)
 cut_short (Err Memory) body more ne h = absurd (let e = h (λ is. cc) in cc)
 
 frame_short : (bytes more : List ℕ) (e : Event) → IsWritable e → bytes ++ more ≡ event_text e → more ≢ [] → frame_in bytes ≡ Err Short
@@ -105,6 +106,7 @@ memory_only : (bytes rest : List ℕ) (e : Event) (fault : LogFault) → (fault 
 memory_only bytes rest e Memory h same = refl
 memory_only bytes rest e Short h same = absurd (let is = h (λ no. cc) in cc)
 memory_only bytes rest e Form h same = absurd (let is = h (λ no. cc) in cc)
+memory_only bytes rest e Long h same = absurd (let is = h (λ no. cc) in cc)
 
 pub back_fault : (bytes : List ℕ) (fault : LogFault) → (fault ≢ Memory → read_in bytes ≡ Err fault) → ReadsBack bytes (Err fault)
 back_fault bytes fault h = record {

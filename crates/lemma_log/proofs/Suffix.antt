@@ -1,12 +1,12 @@
 -- What follows an event is the end of the bytes.
-use Rattle.std.proofs.Common.{◌≡◌, ◌<◌, ◌≤◌, ℕ, zero, suc, ◌-◌, List, [], ◌∷◌, ◌++◌, length, take, drop, Result, Ok, Err, MatchResult, Option, Some, None, ◌⊎◌, inl, inr, refl, sym, ap, ◌∙◌, subst, append_assoc, arith}
+use Rattle.std.proofs.Common.{◌≡◌, ◌<◌, ◌≤◌, ℕ, zero, suc, ◌-◌, List, [], ◌∷◌, ◌++◌, length, take, drop, Result, Ok, Err, MatchResult, ◌⊎◌, inl, inr, refl, sym, ap, ◌∙◌, subst, append_assoc, arith}
 use Rattle.std.proofs.lemmas.List.{length-append, take-append-drop}
 use Rattle.std.proofs.lemmas.Bool.{cases_lt, lt-ltb, le-ltb}
 use Rattle.std.proofs.Math.Seq.{drop-append_seam}
 use Rattle.lemma_log.specs.declared.event.Event.{Event}
 use Rattle.lemma_log.specs.declared.fault.LogFault.{LogFault}
 use Rattle.lemma_log.specs.Numbers.{Part, digits_in, with_digit}
-use Rattle.lemma_log.specs.Reading.{cut, event_in, frame_in, framed, read_in, with_event}
+use Rattle.lemma_log.specs.Reading.{cut, frame_in, framed, read_in, whole_in, with_left}
 use Rattle.lemma_log.proofs.Digits.{read_none, read_empty, read_low, read_high}
 
 -- what is left of the bytes is their end
@@ -43,11 +43,11 @@ unfolding frame_in
 frame_end bytes = cut_end bytes (digits_in 9 bytes) (digits_end 9 bytes)
 
 framed_end : (bytes : List ℕ) (frame : Result (Part (List ℕ)) LogFault) → IsEnd bytes frame → IsEnd bytes (framed frame)
-framed_end bytes (Ok frame) h = by_event (event_in frame.value)
+framed_end bytes (Ok frame) h = by_event (whole_in frame.value)
   where
-    by_event : (found : Option Event) → IsEnd bytes (with_event found frame.left)
-    by_event (Some e) = h
-    by_event None = tt
+    by_event : (found : Result Event LogFault) → IsEnd bytes (with_left found frame.left)
+    by_event (Ok e) = h
+    by_event (Err fault) = tt
 framed_end bytes (Err fault) h = tt
 
 read_end : (bytes : List ℕ) → IsEnd bytes (read_in bytes)

@@ -1,5 +1,5 @@
 -- How the bytes of a log are read.
-use Rattle.std.specs.Prelude.{ℕ, zero, suc, ℤ, pos, negsuc, ◌-◌, ◌^◌, ◌/◌, ◌%◌, ◌+ℤ◌, neg_ℤ, if◌then◌else◌, ◌==◌, ◌||◌, Option, Some, None, option_map, Result, Ok, Err, List, [], ◌∷◌, length, nat_lt, nat_eq, take, drop}
+use Rattle.std.specs.Prelude.{ℕ, Bool, false, zero, suc, ℤ, pos, negsuc, ◌-◌, ◌^◌, ◌/◌, ◌%◌, ◌+ℤ◌, neg_ℤ, if◌then◌else◌, ◌==◌, ◌||◌, Option, Some, None, option_map, Result, Ok, Err, List, [], ◌∷◌, length, nat_lt, nat_eq, take, drop}
 use Rattle.std.specs.List.{starts_with}
 use Rattle.std.specs.Result.{result_ok}
 use Rattle.network.specs.declared.parts.Lag.{Lag}
@@ -14,6 +14,7 @@ use Rattle.lemma_log.specs.declared.event.Claim.TheVariants as claim
 use Rattle.lemma_log.specs.declared.fault.LogFault.{LogFault}
 use Rattle.lemma_log.specs.declared.fault.LogFault.TheVariants as fault
 use Rattle.lemma_log.specs.declared.number.TheConstants.{MAX_DIGITS}
+use Rattle.lemma_log.specs.declared.writable.TheConstants.{MAX_ARCS}
 use Rattle.lemma_log.specs.Numbers.{Part, digits_in}
 use Rattle.lemma_log.specs.Text.{title_text}
 
@@ -170,6 +171,30 @@ event_of kind at bytes =
 unfoldable pub event_in : List ℕ → Option Event
 event_in bytes = then_read (number_in bytes) (λ first. event_of (first % 4) (first / 4))
 
+-- ---- a limit
+
+-- of a number that says how many arcs follow
+abbrev pub is_beyond : Option (Part ℕ) → Bool
+is_beyond (Some count) = nat_lt MAX_ARCS count.value
+is_beyond None = false
+
+-- of a number that has the kind, and what follows
+abbrev pub is_long_at : Option (Part ℕ) → Bool
+is_long_at (Some first) = if first.value % 4 == 0 then is_beyond (number_in first.left) else false
+is_long_at None = false
+
+-- whether the bytes of an event say that it is a lemma of more arcs than it may have
+unfoldable pub is_long : List ℕ → Bool
+is_long bytes = is_long_at (number_in bytes)
+
+-- the event whose bytes these all are, where it may be so long
+abbrev pub known : Option Event → Result Event LogFault
+known (Some e) = Ok e
+known None = Err fault.Form
+
+abbrev pub whole_in : List ℕ → Result Event LogFault
+whole_in body = if is_long body then Err fault.Long else known (event_in body)
+
 -- ---- an event and what follows it
 
 -- so many bytes, and what follows them
@@ -183,12 +208,12 @@ cut (Err f) = Err f
 unfoldable pub frame_in : List ℕ → Result (Part (List ℕ)) LogFault
 frame_in bytes = cut (digits_in MAX_DIGITS bytes)
 
-abbrev pub with_event : Option Event → List ℕ → Result (Part Event) LogFault
-with_event (Some e) left = Ok (record { value = e; left = left })
-with_event None left = Err fault.Form
+abbrev pub with_left : Result Event LogFault → List ℕ → Result (Part Event) LogFault
+with_left (Ok e) left = Ok (record { value = e; left = left })
+with_left (Err f) left = Err f
 
 abbrev pub framed : Result (Part (List ℕ)) LogFault → Result (Part Event) LogFault
-framed (Ok frame) = with_event (event_in frame.value) frame.left
+framed (Ok frame) = with_left (whole_in frame.value) frame.left
 framed (Err f) = Err f
 
 -- the event that bytes begin with

@@ -1,5 +1,5 @@
 -- The bytes of a log.
-use Rattle.std.specs.Prelude.{◌<◌, ℕ, ℤ, pos, ◌+◌, ◌*◌, ◌^◌, ◌-ℤ◌, neg_ℤ, if◌then◌else◌, ◌==◌, Bool, true, false, Some, None, List, [], ◌∷◌, ◌++◌, codes, length}
+use Rattle.std.specs.Prelude.{◌<◌, ◌≤◌, ℕ, ℤ, pos, ◌+◌, ◌*◌, ◌^◌, ◌-ℤ◌, neg_ℤ, if◌then◌else◌, ◌==◌, Bool, true, false, Some, None, List, [], ◌∷◌, ◌++◌, codes, length}
 use Rattle.std.specs.List.{flat_map, AllByRecursion}
 use Rattle.std.specs.Ordering.{int_eq}
 use Rattle.network.specs.declared.parts.Lag.{Lag}
@@ -12,6 +12,7 @@ use Rattle.lemma_log.specs.declared.event.Event.{Event}
 use Rattle.lemma_log.specs.declared.event.Event.TheVariants as event
 use Rattle.lemma_log.specs.declared.event.Claim.{Claim}
 use Rattle.lemma_log.specs.declared.event.Claim.TheVariants as claim
+use Rattle.lemma_log.specs.declared.writable.TheConstants.{MAX_ARCS}
 use Rattle.lemma_log.specs.Numbers.{number_text, signed_text}
 
 -- what a log begins with
@@ -108,12 +109,12 @@ IsWritableClaim claim.NoSchedule = Unit {0}
 
 abbrev pub IsWritableBody : Event → Type 0
 IsWritableBody (event.Lemma slot arcs lines) =
-    IsIndex slot × IsIndex (length arcs) × AllByRecursion IsWritableArc arcs × AllByRecursion IsWritableLine lines
+    IsIndex slot × (length arcs ≤ MAX_ARCS) × AllByRecursion IsWritableArc arcs × AllByRecursion IsWritableLine lines
 IsWritableBody (event.Drop slot) = IsIndex slot
 IsWritableBody (event.Schedule starts) = IsIndex (length starts) × AllByRecursion IsAmount starts
 IsWritableBody (event.Claim c) = IsWritableClaim c
 
--- an event all of whose numbers are within the limits, the number of its bytes too
+-- an event all of whose numbers are within the limits, the number of its bytes and that of a lemma's arcs too
 pub record IsWritable (e : Event) : Type 0 where
   pub size : length (body_text e) < 2 ^ 63
   pub body : IsWritableBody e

@@ -2,7 +2,7 @@
 
 ghost use Rattle.std.specs.Prelude.{◌≡◌, ◌≢◌, Some, None, IfOk, OnErr, IfErr};
 ghost use Rattle.lemma_log.specs.declared.fault.LogFault.TheVariants.{Memory};
-ghost use Rattle.lemma_log.specs.Reading.{last, lemma_lines, lemma_of, schedule_of, optimal_of, bound_of, claim_of, event_of, event_in};
+ghost use Rattle.lemma_log.specs.Reading.{last, lemma_lines, lemma_of, schedule_of, optimal_of, bound_of, claim_of, event_of, is_long, event_in};
 
 use crate::event::{Claim, Event};
 use crate::fault::LogFault;
@@ -10,6 +10,7 @@ use crate::line::lines;
 use crate::lists::{arcs, starts};
 use crate::number::number;
 use crate::signed::signed;
+use crate::writable::MAX_ARCS;
 use lemma_proof::Lags;
 use std::alloc::Global;
 
@@ -94,6 +95,24 @@ fn event_of(alloc: Global, kind: usize, at: usize, bytes: &[u8]) -> Result<Event
         1 => last(Event::Drop { slot: at }, bytes),
         2 => schedule_of(alloc, at, bytes),
         _ => claim_of(at, bytes),
+    }
+}
+
+/// Whether these bytes of an event, without the number of them, are those of a lemma that has more arcs than it may have.
+/// Neither these nor its lines are read for that.
+#[tactic(auto, unfolding(crate::specs::Reading::is_long))]
+pub(crate) fn is_long(bytes: &[u8]) -> bool
+    ensures { result ≡ is_long bytes.now }
+{
+    let Ok((first, rest)) = number(bytes) else {
+        return false;
+    };
+    if first % 4 != 0 {
+        return false;
+    }
+    match number(rest) {
+        Ok((count, _)) => MAX_ARCS < count,
+        Err(_) => false,
     }
 }
 

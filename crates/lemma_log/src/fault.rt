@@ -12,6 +12,8 @@ pub enum LogFault {
     Short,
     /// They begin with no event, whatever follows them.
     Form,
+    /// They begin with a lemma of more arcs than it may have, whatever follows them.
+    Long,
     /// Memory ran out.
     Memory,
 }

@@ -28,5 +28,5 @@ pub use fault::LogFault;
 pub use law::spelling_law;
 pub use read::{Read, is_cut_off, read_event};
 pub use title::{put_title, read_title};
-pub use writable::is_writable;
+pub use writable::{MAX_ARCS, is_writable};
 pub use write::put_event;

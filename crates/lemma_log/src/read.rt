@@ -1,11 +1,11 @@
 //! Reads events.
 
-ghost use Rattle.std.specs.Prelude.{◌≡◌, ◌≢◌, ◌<◌, ◌≤◌, ◌↔◌, length, Some, None, Ok, Err, IfOk, IfErr, IsTrue};
+ghost use Rattle.std.specs.Prelude.{◌≡◌, ◌≢◌, ◌<◌, ◌≤◌, ◌↔◌, length, Ok, Err, IfOk, IfErr, IsTrue};
 ghost use Rattle.lemma_log.specs.declared.fault.LogFault.TheVariants.{Memory, Short};
-ghost use Rattle.lemma_log.specs.Reading.{event_in, frame_in, read_in};
+ghost use Rattle.lemma_log.specs.Reading.{frame_in, whole_in, read_in};
 ghost use Rattle.lemma_log.specs.Law.{IsFirst, ReadsBack};
 
-use crate::body::event_in;
+use crate::body::{event_in, is_long};
 use crate::event::Event;
 use crate::fault::LogFault;
 use crate::number::{MAX_DIGITS, digits_in};
@@ -34,12 +34,16 @@ fn frame(bytes: &[u8]) -> Result<(&[u8], &[u8]), LogFault>
 
 /// The event whose bytes these all are, without the number of them.
 fn whole(alloc: Global, body: &[u8]) -> Result<Event, LogFault>
-    ensures found { IfOk result (λ e. event_in body.now ≡ Some e) }
-    ensures fault { IfErr result (λ fault. fault ≢ Memory → (event_in body.now ≡ None) × (fault ≡ LogFault.Form)) }
+    ensures found { IfOk result (λ e. whole_in body.now ≡ Ok e) }
+    ensures fault { IfErr result (λ fault. fault ≢ Memory → whole_in body.now ≡ Err fault) }
 {
+    if is_long(body) {
+        return Err(LogFault::Long);
+    }
     match event_in(alloc, body) {
-        Err(LogFault::Short) => Err(LogFault::Form),
-        read => read,
+        Ok(event) => Ok(event),
+        Err(LogFault::Memory) => Err(LogFault::Memory),
+        Err(_) => Err(LogFault::Form),
     }
 }
 

@@ -1,4 +1,4 @@
-//! Which events are read back once they are written: those whose numbers are within the limits.
+//! Which events are read back once they are written: those whose numbers are within the limits, and lemmas of few arcs.
 
 ghost use Rattle.std.specs.Prelude.{◌≡◌, ◌↔◌, IsTrue};
 ghost use Rattle.std.specs.List.{AllByRecursion};
@@ -10,6 +10,9 @@ use network::Lag;
 
 /// What a slot, an activity, a resource or a count is below.
 const INDEX_LIMIT: usize = 1_152_921_504_606_846_976;
+
+/// The most arcs of a lemma.
+pub const MAX_ARCS: usize = 1_024;
 
 /// The greatest weight, start, makespan, bound or end of a window. The least is its negative.
 const MAX_AMOUNT: i64 = 1_152_921_504_606_846_976;
@@ -130,7 +133,7 @@ fn is_writable_claim(claim: &Claim) -> bool
     }
 }
 
-/// Whether all numbers of an event are within the limits. What [`put_event`](crate::put_event) writes of it is then read
+/// Whether all numbers of an event are within the limits, and a lemma has no more arcs than it may have. What [`put_event`](crate::put_event) writes of it is then read
 /// back: it writes no event of 2^63 bytes or more.
 pub fn is_writable(event: &Event) -> bool
     ensures { IsTrue result ↔ IsWritableBody event.now }
@@ -139,7 +142,7 @@ pub fn is_writable(event: &Event) -> bool
         Event::Lemma { slot, arcs, lines } => {
             let arcs = arcs.as_slice();
             is_index(*slot)
-                && is_index(arcs.len())
+                && arcs.len() <= MAX_ARCS
                 && are_writable_arcs(arcs)
                 && are_writable_lines(lines.as_slice())
         }

@@ -16,11 +16,11 @@ use Rattle.reasons.specs.Reasons.{Implies, reverse_of}
 use Rattle.lemma_proof.specs.declared.line.Line.{Line}
 use Rattle.lemma_proof.specs.declared.line.Line.TheVariants.{Force, Use, Push}
 use Rattle.lemma_proof.specs.declared.line.Overload.{Overload}
-use Rattle.lemma_proof.specs.Lines.{AreRefuted, HaveAll, IsArc, IsPushed, IsRefuted, IsUse, Shows, Slots, picked}
+use Rattle.lemma_proof.specs.Lines.{AreRefuted, IsArc, IsPushed, IsRefuted, IsUse, Shows, Slots, picked}
 use Rattle.lemma_proof.specs.Bench.{BenchOf, Holds}
 use Rattle.lemma_proof.specs.Stepping.{Steps, noted}
 use Rattle.lemma_proof.proofs.Held.{cycle_there, none_there, not_both}
-use Rattle.lemma_proof.proofs.Staying.{Gives, cycle_given, refuted_given}
+use Rattle.lemma_proof.proofs.Staying.{Gives, cycle_given, have_used, refuted_given}
 
 -- ---- A line shows one arc, or one that closes a walk of positive weight.
 
@@ -83,9 +83,6 @@ gives_one arcs e i f c =
 pub gives_part : (arcs : List Lag) (e : Lag) → Gives (arcs ++ e ∷ []) arcs
 gives_part arcs e f c = implied_arc (arcs ++ e ∷ []) f (Contains-append_left arcs (e ∷ []) f c)
 
-have_same : (lemmas : Slots) → HaveAll lemmas lemmas
-have_same lemmas slot lemma found = found
-
 -- what the rest of the lines refutes once the first i have been gone over, and what those of these that are used do
 pub record Leads (p : Problem) (lemmas : Slots) (all : List Lag) (lines : List Line) (i : ℕ) (used : List ℕ) (now : List Lag) : Type 0 where
   pub forth : AreRefuted p lemmas all lines → AreRefuted p lemmas now (drop i lines)
@@ -98,7 +95,7 @@ leads_first p lemmas all lines = record { forth = λ r. r; back = λ r. r; short
 pub leads_same : (p : Problem) (lemmas : Slots) (all : List Lag) (lines : List Line) (i : ℕ) (used : List ℕ) (now : List Lag) (line : Line) (e : Lag) → drop i lines ≡ line ∷ drop (i + 1) lines → Shows p lemmas now line e → Implies now e → Leads p lemmas all lines i used now → Leads p lemmas all lines (i + 1) used now
 leads_same p lemmas all lines i used now line e at shown implied leads = record {
   forth = λ refuted. first (rw at at (leads.forth refuted));
-  back = λ refuted. leads.back (rw at (inr (e, shown, refuted_given p lemmas lemmas now (now ++ e ∷ []) (drop (i + 1) lines) (have_same lemmas) (gives_part now e) refuted)));
+  back = λ refuted. leads.back (rw at (inr (e, shown, refuted_given p lemmas lemmas now (now ++ e ∷ []) (drop (i + 1) lines) (have_used lemmas lemmas (λ slot lemma found. found) (drop (i + 1) lines)) (gives_part now e) refuted)));
   short = leads.short;
 }
   where
@@ -108,7 +105,7 @@ leads_same p lemmas all lines i used now line e at shown implied leads = record 
         (λ (cycle : HasPositiveCycle now). cycle_refutes p lemmas now (drop (i + 1) lines) cycle)
         (λ (next : (f : Lag) × Shows p lemmas now line f × AreRefuted p lemmas (now ++ f ∷ []) (drop (i + 1) lines)).
         ⊎_elim
-        (λ (same : e ≡ next.0). refuted_given p lemmas lemmas (now ++ next.0 ∷ []) now (drop (i + 1) lines) (have_same lemmas) (gives_one now next.0 (rw (sym same) implied)) next.2)
+        (λ (same : e ≡ next.0). refuted_given p lemmas lemmas (now ++ next.0 ∷ []) now (drop (i + 1) lines) (have_used lemmas lemmas (λ slot lemma found. found) (drop (i + 1) lines)) (gives_one now next.0 (rw (sym same) implied)) next.2)
         (λ (cycle : HasPositiveCycle (now ++ e ∷ [])). cycle_refutes p lemmas now (drop (i + 1) lines) (cycle_given (now ++ e ∷ []) now (gives_one now e implied) cycle))
         (one_shown p lemmas now line e next.0 shown next.1))
         refuted

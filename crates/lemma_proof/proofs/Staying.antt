@@ -1,4 +1,4 @@
--- What lines refute, they refute beside more arcs and lemmas.
+-- What lines refute, they refute beside more arcs, and beside other lemmas that have those which they use.
 use Rattle.std.proofs.Common.{ℕ, get_or, List, [], arith, ℤ, pos, ◌≤ℤ◌, ◌<ℤ◌, ◌≡◌, subst, ⊎_elim, ◌⊎◌, inl, inr, ◌∷◌, ◌++◌, Option, None, Some}
 use Rattle.std.specs.List.{Contains}
 use Rattle.std.proofs.lemmas.Int.{ints}
@@ -13,7 +13,7 @@ use Rattle.lemma_proof.specs.declared.line.Line.{Line}
 use Rattle.lemma_proof.specs.declared.line.Line.TheVariants.{Force, Use, Push}
 use Rattle.lemma_proof.specs.declared.line.Overload.{Overload}
 use Rattle.lemma_proof.specs.declared.line.Overload.TheVariants.{Load, Clique}
-use Rattle.lemma_proof.specs.Lines.{AreRefuted, HaveAll, IsOverload, IsPushed, IsUse, Shows, Slots, StayRefuted}
+use Rattle.lemma_proof.specs.Lines.{AreRefuted, HasUsed, HaveUsed, IsIn, IsOverload, IsPushed, IsUse, Shows, Slots, StayRefuted}
 
 -- what some arcs imply, more arcs do, too
 abbrev pub Gives : List Lag → List Lag → Type 0
@@ -49,6 +49,18 @@ gives_more arcs more e gives f c =
     (λ (old : Contains arcs f). implied_part more (more ++ e ∷ []) f (λ g d. Contains-append_left more (e ∷ []) g d) (gives f old))
     (λ (last : Contains (e ∷ []) f). implied_arc (more ++ e ∷ []) f (Contains-append_right more (e ∷ []) f last))
     (Contains-append_cases arcs (e ∷ []) f c)
+
+-- ---- lemmas that stay where they are
+
+has_used : (others lemmas : Slots) → ((slot : ℕ) (lemma : List Lag) → IsIn lemmas slot lemma → IsIn others slot lemma) → (line : Line) → HasUsed others lemmas line
+has_used others lemmas have (Force pair) = tt
+has_used others lemmas have (Use slot) = have slot
+has_used others lemmas have (Push arc over) = tt
+
+-- where all lemmas are there, so are those that lines use
+pub have_used : (others lemmas : Slots) → ((slot : ℕ) (lemma : List Lag) → IsIn lemmas slot lemma → IsIn others slot lemma) → (lines : List Line) → HaveUsed others lemmas lines
+have_used others lemmas have [] = record {}
+have_used others lemmas have (line ∷ lines) = (has_used others lemmas have line, have_used others lemmas have lines)
 
 -- ---- each reason
 
@@ -105,27 +117,27 @@ pushed_given p (Some f) over arcs more e gives pushed = (
   pushed.2,
 )
 
-use_given : (lemmas others : Slots) (slot : ℕ) (arcs more : List Lag) (e : Lag) → HaveAll others lemmas → Gives more arcs → IsUse lemmas arcs slot e → IsUse others more slot e
-use_given lemmas others slot arcs more e have gives u = record {
+use_given : (lemmas others : Slots) (slot : ℕ) (arcs more : List Lag) (e : Lag) → HasUsed others lemmas (Use slot) → Gives more arcs → IsUse lemmas arcs slot e → IsUse others more slot e
+use_given lemmas others slot arcs more e has gives u = record {
   lemma = u.lemma;
-  found = have slot u.lemma u.found;
+  found = has u.lemma u.found;
   left = u.left;
   is_left = record { place = u.is_left.place; is = u.is_left.is; others = λ i f at other. implied_given arcs more f gives (u.is_left.others i f at other) };
   reverse = u.reverse;
 }
 
-pub shown_given : (p : Problem) (lemmas others : Slots) (arcs more : List Lag) (line : Line) (e : Lag) → HaveAll others lemmas → Gives more arcs → Shows p lemmas arcs line e → Shows p others more line e
-shown_given p lemmas others arcs more (Force pair) e have gives shown = (record { incompatible = shown.0.incompatible; too_late = implied_given arcs more _ gives shown.0.too_late }, shown.1)
-shown_given p lemmas others arcs more (Use slot) e have gives shown = use_given lemmas others slot arcs more e have gives shown
-shown_given p lemmas others arcs more (Push arc over) e have gives shown = pushed_given p arc over arcs more e gives shown
+pub shown_given : (p : Problem) (lemmas others : Slots) (arcs more : List Lag) (line : Line) (e : Lag) → HasUsed others lemmas line → Gives more arcs → Shows p lemmas arcs line e → Shows p others more line e
+shown_given p lemmas others arcs more (Force pair) e has gives shown = (record { incompatible = shown.0.incompatible; too_late = implied_given arcs more _ gives shown.0.too_late }, shown.1)
+shown_given p lemmas others arcs more (Use slot) e has gives shown = use_given lemmas others slot arcs more e has gives shown
+shown_given p lemmas others arcs more (Push arc over) e has gives shown = pushed_given p arc over arcs more e gives shown
 
-pub refuted_given : (p : Problem) (lemmas others : Slots) (arcs more : List Lag) (lines : List Line) → HaveAll others lemmas → Gives more arcs → AreRefuted p lemmas arcs lines → AreRefuted p others more lines
+pub refuted_given : (p : Problem) (lemmas others : Slots) (arcs more : List Lag) (lines : List Line) → HaveUsed others lemmas lines → Gives more arcs → AreRefuted p lemmas arcs lines → AreRefuted p others more lines
 refuted_given p lemmas others arcs more [] have gives refuted = cycle_given arcs more gives refuted
 refuted_given p lemmas others arcs more (line ∷ lines) have gives refuted =
     ⊎_elim
     (λ (cycle : HasPositiveCycle arcs). inl (cycle_given arcs more gives cycle))
     (λ (next : (e : Lag) × Shows p lemmas arcs line e × AreRefuted p lemmas (arcs ++ e ∷ []) lines).
-    inr (next.0, shown_given p lemmas others arcs more line next.0 have gives next.1, refuted_given p lemmas others (arcs ++ next.0 ∷ []) (more ++ next.0 ∷ []) lines have (gives_more arcs more next.0 gives) next.2))
+    inr (next.0, shown_given p lemmas others arcs more line next.0 have.0 gives next.1, refuted_given p lemmas others (arcs ++ next.0 ∷ []) (more ++ next.0 ∷ []) lines have.1 (gives_more arcs more next.0 gives) next.2))
     refuted
 
 pub stay_refuted : StayRefuted

@@ -1,6 +1,6 @@
 -- The proof of a lemma: lines of which each shows one arc more, until the arcs close a walk of positive weight.
 use Rattle.std.specs.Prelude.{◌≡◌, ◌≢◌, ◌⊎◌, ◌++◌, ◌∷◌, [], ℕ, ℤ, pos, List, Option, None, Some, slice_get}
-use Rattle.std.specs.List.{All}
+use Rattle.std.specs.List.{All, AllByRecursion}
 use Rattle.std.specs.Option.{option_to_list}
 use Rattle.network.specs.declared.parts.Lag.{Lag}
 use Rattle.network.specs.declared.parts.Pair.{Pair}
@@ -97,15 +97,21 @@ NoneMeetsRefuted =
 abbrev pub ImplyAll : List Lag → List Lag → Type 0
 ImplyAll others arcs = All (Implies others) arcs
 
--- each of these lemmas is in the same slot there
-abbrev pub HaveAll : Slots → Slots → Type 0
-HaveAll others lemmas = (slot : ℕ) (lemma : List Lag) → IsIn lemmas slot lemma → IsIn others slot lemma
+-- the lemma that a line uses is in the same slot there
+abbrev pub HasUsed : Slots → Slots → Line → Type 0
+HasUsed others lemmas (Force pair) = Unit {0}
+HasUsed others lemmas (Use slot) = (lemma : List Lag) → IsIn lemmas slot lemma → IsIn others slot lemma
+HasUsed others lemmas (Push arc over) = Unit {0}
 
--- what lines refute, they refute beside more arcs and lemmas
+-- each lemma that the lines use is
+abbrev pub HaveUsed : Slots → Slots → List Line → Type 0
+HaveUsed others lemmas lines = AllByRecursion (HasUsed others lemmas) lines
+
+-- what lines refute, they refute beside more arcs, and beside other lemmas that have those which they use
 abbrev pub StayRefuted : Type 0
 StayRefuted =
     (p : Problem) (lemmas others : Slots) (arcs more : List Lag) (lines : List Line) → AreRefuted p lemmas arcs lines →
-    HaveAll others lemmas → ImplyAll more arcs → AreRefuted p others more lines
+    HaveUsed others lemmas lines → ImplyAll more arcs → AreRefuted p others more lines
 
 -- each arc of each lemma is one between activities
 abbrev pub AreLemmas : Problem → Slots → Type 0

@@ -15,8 +15,9 @@ ghost use Rattle.lemma_proof.specs.Bench.{Holds, IsKnownOf, IsMatrixOfAll};
 ghost use Rattle.lemma_proof.specs.Stepping.{Steps};
 
 use crate::dense::{matrix_of_all, take_arc};
+use crate::effort::Effort;
 use crate::line::Line;
-use crate::shows::{Lags, seen_arc, shown_arc};
+use crate::shows::{Lags, seen_arc, shown_arc, weights_asked};
 use block::Block;
 use longest_path::MarkedMatrix;
 use network::{Lag, Project};
@@ -32,6 +33,8 @@ pub struct Bench {
     matrix: MarkedMatrix,
     /// This matrix, and the arcs beside it.
     block: Block,
+    /// What it took to look through these.
+    effort: Effort,
     /// The matrix of all arcs, where heads and tails didn't show enough.
     dense: Option<MarkedMatrix>,
     /// Whether all arcs close a walk of positive weight.
@@ -60,6 +63,7 @@ impl Bench {
             alloc,
             matrix,
             block,
+            effort: Effort::none(),
             dense: None,
             is_dead: false,
         })
@@ -80,6 +84,7 @@ impl Bench {
             return Ok(true);
         }
         self.block.take_root(arc);
+        self.effort = Effort::none();
         self.dense = None;
         self.is_dead = false;
         Ok(false)
@@ -103,6 +108,7 @@ impl Bench {
         ensures live { self.new.is_dead ≡ false }
     {
         self.block.begin();
+        self.effort = Effort::none();
         self.dense = None;
         self.is_dead = false;
     }
@@ -134,6 +140,7 @@ impl Bench {
             self.dense = Some(dense);
             return Ok(());
         }
+        self.effort = self.effort.with_arc(arc);
         match self.block.add(arc)? {
             Some(is_dead) => self.is_dead = is_dead,
             None => self.make_dense()?,
@@ -188,7 +195,8 @@ impl Bench {
         shown_arc(project, dense.matrix(), lemmas, line)
     }
 
-    /// The arc that a line shows, if it shows one: by walks that are easily seen, or else by the matrix of all arcs.
+    /// The arc that a line shows, if it shows one: by walks that are easily seen, as long as they take less than the matrix of
+    /// all arcs would, or else by that.
     pub(crate) fn shown_arc(
         &mut self,
         project: &Project,
@@ -209,7 +217,9 @@ impl Bench {
         if self.dense.is_some() {
             return Ok(self.shown_by_all(project, lemmas, line));
         }
-        let seen = seen_arc(project, &mut self.block, lemmas, line);
+        self.effort = self.effort.with_weights(weights_asked(lemmas, line));
+        let spent = self.effort.is_spent(self.block.activity_count());
+        let seen = seen_arc(project, &mut self.block, spent, lemmas, line);
         if seen.is_some() {
             return Ok(seen);
         }

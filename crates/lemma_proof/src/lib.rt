@@ -3,6 +3,7 @@
 
 mod bench;
 mod dense;
+mod effort;
 mod law;
 mod left;
 mod line;

@@ -195,10 +195,27 @@ fn seen_pushed_arc(
     }
 }
 
-/// The arc that a line shows of the arcs of a block, if walks that are easily seen show that it does.
+/// For how many weights a line asks at most, where each may take as many steps as there are arcs beside the matrix.
+pub(crate) fn weights_asked(lemmas: &[Option<Lags>], line: &Line) -> usize {
+    match line {
+        Line::Use(slot) => lemma_at(lemmas, *slot).map_or(0, |lemma| lemma.len()),
+        Line::Push {
+            over: Overload::Clique { members, .. },
+            ..
+        } => {
+            let count = members.as_slice().len();
+            count.saturating_mul(count)
+        }
+        _ => 1,
+    }
+}
+
+/// The arc that a line shows of the arcs of a block, if walks that are easily seen show that it does. They are not looked
+/// for if that is spent which they may take.
 pub(crate) fn seen_arc(
     project: &Project,
     block: &mut Block,
+    spent: bool,
     lemmas: &[Option<Lags>],
     line: &Line,
 ) -> Option<Lag>
@@ -212,6 +229,9 @@ pub(crate) fn seen_arc(
         IfSome result (Shows project.now lemmas.now (own ++ block.old.more) line.now) }
 {
     prove!(block.activity_count() > 0);
+    if spent {
+        return None;
+    }
     match line {
         Line::Force(pair) => forced_arc(project, &Weights::seen(block, None), *pair),
         Line::Use(slot) => used_arc(project, &Weights::seen(block, None), lemmas, *slot),

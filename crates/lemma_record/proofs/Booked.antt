@@ -1,6 +1,8 @@
 -- A log gets one event more.
-use Rattle.std.proofs.Common.{◌≡◌, ℕ, ◌^◌, ◌<◌, ◌≤◌, List, [], ◌∷◌, ◌++◌, get_or, length, slice_get, None, Some, sym, ap, ◌∙◌, subst, refl, ⊎_elim}
+use Rattle.std.proofs.Common.{◌≡◌, ℕ, ◌^◌, ◌<◌, ◌≤◌, List, [], ◌∷◌, ◌++◌, get_or, length, slice_get, Option, None, Some, MatchOption, Vec, Bor, ℤ, sym, ap, ◌∙◌, subst, refl, ⊎_elim}
+use Rattle.std.specs.Prelude.{IsSomeAnd}
 use Rattle.std.specs.List.{AllByRecursion}
+use Rattle.std.specs.declared.alloc.Global.{Global}
 use Rattle.std.specs.Option.{option_to_list}
 use Rattle.std.proofs.lemmas.List.{flat_map_more}
 use Rattle.std.proofs.lemmas.Option.{slice_get_cases}
@@ -18,10 +20,10 @@ use Rattle.lemma_book.specs.Ledger.{Claims, LedgerOf, first_ledger}
 use Rattle.lemma_record.specs.Faults.{IsRightText}
 use Rattle.lemma_record.specs.Right.{IsStep, Takes, TakesAll, proved_of}
 use Rattle.lemma_record.specs.Taking.{IsLoggedOf, IsTaken}
-use Rattle.lemma_record.specs.Book.{IsLogOf}
+use Rattle.lemma_record.specs.Book.{IsBest, IsLogOf}
 use Rattle.lemma_record.proofs.Stepping.{steps_more, taken_more}
 
-all_push : {X : Type 0} (P : X → Type 0) (xs : List X) (x : X) → AllByRecursion P xs → P x → AllByRecursion P (xs ++ x ∷ [])
+pub all_push : {X : Type 0} (P : X → Type 0) (xs : List X) (x : X) → AllByRecursion P xs → P x → AllByRecursion P (xs ++ x ∷ [])
 all_push P [] x all here = (here, record {})
 all_push P (y ∷ xs) x all here = (all.0, all_push P xs x all.1 here)
 
@@ -67,14 +69,18 @@ same_project l after (event.Claim c) takes = ap (λ (x : LedgerOf). x.project) t
 
 -- ---- the log
 
-pub logged_more : (l after : LedgerOf) (e logged : Event) (text more : List ℕ) → IsLogOf l text → IsStep e → IsWritableBody e → IsTaken l e logged after → length (body_text logged) < 2 ^ 63 → more ≡ text ++ event_text logged → IsLogOf after more
-logged_more l after e logged text more log step body taken size is = record {
-  steps = log.steps ++ logged ∷ [];
-  are_steps = steps_more log.steps logged log.are_steps (logged_step e logged step taken.part);
-  writable = all_push IsWritable log.steps logged log.writable (record { size = size; body = logged_body e logged body taken.part });
-  is = is ∙ ap (λ (t : List ℕ). t ++ event_text logged) log.is ∙ flat_map_more event_text title_text log.steps logged;
-  taken = subst (λ (p : Problem). TakesAll (first_ledger p) (log.steps ++ logged ∷ []) after) (sym (same_project l after e taken.taken)) (taken_more (first_ledger l.project) l after log.steps logged log.taken taken.logged_taken);
+pub appended : (l after : LedgerOf) (e : Event) (text more : List ℕ) → IsLogOf l text → IsStep e → IsWritableBody e → Takes l e after → length (body_text e) < 2 ^ 63 → more ≡ text ++ event_text e → IsLogOf after more
+appended l after e text more log step body takes size is = record {
+  steps = log.steps ++ e ∷ [];
+  are_steps = steps_more log.steps e log.are_steps step;
+  writable = all_push IsWritable log.steps e log.writable (record { size = size; body = body });
+  is = is ∙ ap (λ (t : List ℕ). t ++ event_text e) log.is ∙ flat_map_more event_text title_text log.steps e;
+  taken = subst (λ (p : Problem). TakesAll (first_ledger p) (log.steps ++ e ∷ []) after) (sym (same_project l after e takes)) (taken_more (first_ledger l.project) l after log.steps e log.taken takes);
 }
+
+pub logged_more : (l after : LedgerOf) (e logged : Event) (text more : List ℕ) → IsLogOf l text → IsStep e → IsWritableBody e → IsTaken l e logged after → length (body_text logged) < 2 ^ 63 → more ≡ text ++ event_text logged → IsLogOf after more
+logged_more l after e logged text more log step body taken size is =
+    appended l after logged text more log (logged_step e logged step taken.part) (logged_body e logged body taken.part) taken.logged_taken size is
 
 -- ---- the end
 
@@ -94,3 +100,11 @@ closed l c text more log claims fits size is =
         taken = taken_more (first_ledger l.project) l l log.steps (event.Claim c) log.taken (claims, refl);
       };
     }
+
+best_given : (l : LedgerOf) (starts : Bor (List ℤ)) (copy : Option (Vec ℤ Global)) → l.best ≡ Some starts.now → IsSomeAnd copy (λ of. of.items ≡ starts.now) → IsBest l copy
+best_given l starts None told is = absurd is
+best_given l starts (Some of) told is = rw is told
+
+pub best_shown : (l : LedgerOf) (found : Option (Bor (List ℤ))) (copy : Option (Vec ℤ Global)) → MatchOption found (l.best ≡ None) (λ starts. l.best ≡ Some starts.now) → MatchOption found (copy ≡ None) (λ starts. IsSomeAnd copy (λ of. of.items ≡ starts.now)) → IsBest l copy
+best_shown l None copy told copied = rw copied told
+best_shown l (Some starts) copy told copied = best_given l starts copy told copied

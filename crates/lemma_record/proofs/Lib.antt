@@ -5,3 +5,4 @@ pub mod Sound
 pub mod Booked
 pub mod Stepping
 pub mod Titles
+pub mod Desks

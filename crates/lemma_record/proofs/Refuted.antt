@@ -43,7 +43,8 @@ no_step e c is step = subst IsStep is step
 -- an event that is taken is not wrong
 taken_right : (l after : LedgerOf) (left rest : List ℕ) (e : Event) (w : Wrong) → read_in left ≡ Ok (record { value = e; left = rest }) → Takes l e after → IsWrongNext l left w → ⊥
 taken_right l after left rest e w read takes (inl short) = let is = short.1 in cc
-taken_right l after left rest e w read takes (inr (inl form)) = let is = form.1 in cc
+taken_right l after left rest e w read takes (inr (inl (inl form))) = let is = form.1 in cc
+taken_right l after left rest e w read takes (inr (inl (inr long))) = let is = long.1 in cc
 taken_right l after left rest e w read takes (inr (inr not)) =
     not.never after (subst (λ (f : Event). Takes l f after) (same_event left rest not.more e not.next read not.read) takes)
 
@@ -95,6 +96,7 @@ same_body text a b h k = cancelled (sym h ∙ k)
 
 title_right : (text body : List ℕ) (w : Wrong) → text ≡ title_text ++ body → IsWrongTitle text w → ⊥
 title_right text body wrong.Form is h = let there = title_there text body is in cc
+title_right text body wrong.Long is h = h
 title_right text body wrong.Short is h = let there = title_there text body is in cc
 title_right text body wrong.Trailing is h = h
 title_right text body wrong.Lemma is h = h

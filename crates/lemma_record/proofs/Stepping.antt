@@ -96,6 +96,9 @@ read_more bytes more left e read = subst (λ (r : Result (Part Event) LogFault).
 form_more : (bytes more : List ℕ) → read_in bytes ≡ Err reading.Form → read_in (bytes ++ more) ≡ Err reading.Form
 form_more bytes more read = subst (λ (r : Result (Part Event) LogFault). IsStable more r (read_in (bytes ++ more))) read (read_stable bytes more) (λ is. cc)
 
+long_more : (bytes more : List ℕ) → read_in bytes ≡ Err reading.Long → read_in (bytes ++ more) ≡ Err reading.Long
+long_more bytes more read = subst (λ (r : Result (Part Event) LogFault). IsStable more r (read_in (bytes ++ more))) read (read_stable bytes more) (λ is. cc)
+
 still_first : (bytes more : List ℕ) (steps : List Event) (left : List ℕ) → AreFirst bytes steps left → AreFirst (bytes ++ more) steps (left ++ more)
 still_first bytes more [] left first = ap (λ (b : List ℕ). b ++ more) first
 still_first bytes more (e ∷ steps) left first = (first.0 ++ more, read_more bytes more first.0 e first.1, still_first first.0 more steps left first.2)
@@ -114,7 +117,8 @@ pub at_more : (p : Problem) (text more : List ℕ) (l : LedgerOf) (left : List �
 at_more p text more l left due at = record { steps = at.steps; leads = still_leads p text more at.steps l left at.leads; number = at.number }
 
 still_wrong : (l : LedgerOf) (left more : List ℕ) (w : Wrong) → IsWrongEvent l left w → IsWrongEvent l (left ++ more) w
-still_wrong l left more w (inl form) = inl (form.0, form_more left more form.1)
+still_wrong l left more w (inl (inl form)) = inl (inl (form.0, form_more left more form.1))
+still_wrong l left more w (inl (inr long)) = inl (inr (long.0, long_more left more long.1))
 still_wrong l left more w (inr not) = inr (record { next = not.next; more = not.more ++ more; read = read_more left more not.more not.next not.read; never = not.never; named = not.named })
 
 -- ---- faults

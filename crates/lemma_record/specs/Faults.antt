@@ -53,9 +53,13 @@ pub record IsNotTaken (l : LedgerOf) (left : List ℕ) (w : Wrong) : Type 0 wher
   pub never : (after : LedgerOf) → ¬ Takes l next after
   pub named : w ≡ wrong_of next
 
--- what comes first is no event, or none that the ledger takes, whatever follows
+-- what comes first is no event, or a lemma of more arcs than it may have
+abbrev pub IsUnread : List ℕ → Wrong → Type 0
+IsUnread left w = ((w ≡ wrong.Form) × (read_in left ≡ Err reading.Form)) ⊎ ((w ≡ wrong.Long) × (read_in left ≡ Err reading.Long))
+
+-- or an event that the ledger doesn't take, whatever follows
 abbrev pub IsWrongEvent : LedgerOf → List ℕ → Wrong → Type 0
-IsWrongEvent l left w = ((w ≡ wrong.Form) × (read_in left ≡ Err reading.Form)) ⊎ IsNotTaken l left w
+IsWrongEvent l left w = IsUnread left w ⊎ IsNotTaken l left w
 
 -- or the bytes end before there is an event
 abbrev pub IsWrongNext : LedgerOf → List ℕ → Wrong → Type 0

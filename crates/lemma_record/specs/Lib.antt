@@ -4,3 +4,4 @@ pub mod Right
 pub mod SoFar
 pub mod Taking
 pub mod Book
+pub mod Desk

@@ -1,6 +1,6 @@
 //! A ledger, and the log of all that it took.
 
-ghost use Rattle.std.specs.Prelude.{◌≡◌, ◌↔◌, None, IfOk, OnErr, MatchOption, IsSomeAnd, IsTrue};
+ghost use Rattle.std.specs.Prelude.{◌≡◌, ◌↔◌, [], None, IfOk, OnErr, MatchOption, IsSomeAnd, IsTrue};
 ghost use Rattle.lemma_book.specs.Ledger.{IsSmall};
 ghost use Rattle.lemma_record.specs.Book.{IsBest, IsCutShort, Offers, first_book};
 ghost use Rattle.lemma_record.specs.Faults.{IsRightText};
@@ -23,10 +23,10 @@ use std::marker::Model;
 /// one. So all that the book claims is true of its project, whoever offered what.
 #[derive(Drop)]
 pub struct Book<'a> {
-    alloc: Global,
-    ledger: Ledger<'a>,
+    pub(crate) alloc: Global,
+    pub(crate) ledger: Ledger<'a>,
     /// None once memory ran out for it.
-    log: Option<Vec<u8>>,
+    pub(crate) log: Option<Vec<u8>>,
 }
 
 impl<'a> Model for Book<'a> {
@@ -100,6 +100,16 @@ impl<'a> Book<'a> {
         ensures { result.now ≡ self.now.ledger }
     {
         &self.ledger
+    }
+
+    /// The text of the log so far; nothing once memory ran out for it.
+    pub fn log(&self) -> &[u8]
+        ensures { MatchOption self.now.log (result.now ≡ []) (λ text. result.now ≡ text) }
+    {
+        match &self.log {
+            Some(log) => log.as_slice(),
+            None => &[],
+        }
     }
 
     /// Takes an event and logs it, if it is no claim, its numbers are within the limits of a log and the ledger takes it.

@@ -31,11 +31,11 @@ fn after_title(alloc: Global, bytes: &[u8]) -> Result<Option<Vec<u8>>, EventFaul
             Ok(Some(rest.to_vec(alloc)?))
         }
         Err(LogFault::Short) => Ok(None),
-        Err(LogFault::Form) => Err(EventFault {
+        Err(LogFault::Memory) => Err(NO_MEMORY),
+        Err(_) => Err(EventFault {
             event: 0,
             wrong: Wrong::Form,
         }),
-        Err(LogFault::Memory) => Err(NO_MEMORY),
     }
 }
 

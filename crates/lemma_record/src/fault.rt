@@ -10,6 +10,8 @@ use std::alloc::{AllocError, AllocFailed};
 pub enum Wrong {
     /// It is no event; at event 0 it is not the title.
     Form,
+    /// A lemma of more arcs than it may have.
+    Long,
     /// The log ends before it, or within it.
     Short,
     /// It comes after the claim, which is the last event.

@@ -1,12 +1,15 @@
 //! Logs of lemmas, judged: which are right for a project, and what they prove.
 //!
 //! [`take`] is what an event makes of a ledger. A [`Checker`] is fed a log piece by piece: it takes event after event,
-//! and tells the first fault or what the log proves. A [`Book`] is a ledger that logs what it takes.
+//! and tells the first fault or what the log proves. A [`Book`] is a ledger that logs what it takes, and accepts what was
+//! proved at a [`Desk`].
 #![tactic(auto)]
 
+mod accepting;
 mod book;
 mod checker;
 mod copies;
+mod desk;
 mod fault;
 mod law;
 mod next;
@@ -16,6 +19,7 @@ mod tests;
 
 pub use book::{Book, Shown};
 pub use checker::Checker;
+pub use desk::{Desk, Lemma};
 pub use fault::{EventFault, Wrong};
 pub use law::{claim_law, fault_law};
 pub use taking::take;

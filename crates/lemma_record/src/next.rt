@@ -6,9 +6,9 @@ ghost use Rattle.lemma_log.specs.declared.fault.LogFault.TheVariants as read_fau
 ghost use Rattle.lemma_log.specs.Law.{IsFirst};
 ghost use Rattle.lemma_log.specs.Reading.{read_in};
 ghost use Rattle.lemma_book.specs.Ledger.{LedgerOf};
-ghost use Rattle.lemma_record.specs.declared.fault.Wrong.TheVariants.{Form, Memory, Trailing};
+ghost use Rattle.lemma_record.specs.declared.fault.Wrong.TheVariants.{Memory, Trailing};
 ghost use Rattle.lemma_record.specs.Right.{Takes};
-ghost use Rattle.lemma_record.specs.Faults.{IsFirstFault, IsWrongEvent, wrong_of};
+ghost use Rattle.lemma_record.specs.Faults.{IsFirstFault, IsUnread, IsWrongEvent, wrong_of};
 ghost use Rattle.lemma_record.specs.Reached.{HasClaimed, HasRead, IsAt, TakesNext, checker_of, claimed};
 
 use crate::fault::{EventFault, NO_MEMORY, Wrong};
@@ -47,8 +47,7 @@ fn read_next(alloc: Global, bytes: &[u8], due: u64) -> Result<Option<Read>, Even
     ensures found { IfOk result (λ found. MatchOption found (read_in bytes.now ≡ Err read_faults.Short) (IsFirst bytes.now)) }
     ensures some { IfOk result (λ found. IfSome found (λ read. 0 < read.count)) }
     ensures within { IfOk result (λ found. IfSome found (λ read. read.count ≤ length bytes.now)) }
-    ensures fault { IfErr result (λ fault. fault.wrong ≢ Memory
-        → (fault ≡ record { event = due; wrong = Form }) × (read_in bytes.now ≡ Err read_faults.Form)) }
+    ensures fault { IfErr result (λ fault. fault.wrong ≢ Memory → (fault.event ≡ due) × IsUnread bytes.now fault.wrong) }
 {
     match read_event(alloc, bytes) {
         Ok(read) => Ok(Some(read)),
@@ -56,6 +55,10 @@ fn read_next(alloc: Global, bytes: &[u8], due: u64) -> Result<Option<Read>, Even
         Err(LogFault::Form) => Err(EventFault {
             event: due,
             wrong: Wrong::Form,
+        }),
+        Err(LogFault::Long) => Err(EventFault {
+            event: due,
+            wrong: Wrong::Long,
         }),
         Err(LogFault::Memory) => Err(NO_MEMORY),
     }

@@ -64,11 +64,12 @@ fn logs_that_are_right(rt: HostRuntime) -> Result<(), Fail> {
 #[test]
 fn logs_that_are_not(rt: HostRuntime) -> Result<(), Fail> {
     let alloc = rt.alloc();
-    let logs: [(&[u8], u64, Wrong); 10] = [
+    let logs: [(&[u8], u64, Wrong); 11] = [
         (b"rec", 0, Wrong::Short),
         (b"record 2\n", 0, Wrong::Form),
         (b"record 3\n", 1, Wrong::Short),
         (b"record 3\n\x01\x0f", 1, Wrong::Form),
+        (b"record 3\n\x03\0\x81\x08", 1, Wrong::Long),
         (b"record 3\n\x01\x0d", 1, Wrong::Drop),
         (b"record 3\n\x04\0\x01\x03\0", 1, Wrong::Lemma),
         (b"record 3\n\x04\x0e\0\0\x04", 1, Wrong::Schedule),

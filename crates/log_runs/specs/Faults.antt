@@ -10,6 +10,7 @@ use Rattle.log_runs.specs.declared.fault.LogFault.TheVariants as faults
 -- what is wrong with the event of this number
 abbrev pub event_fault : ℕ → Wrong → LogFault
 event_fault event wrong.Form = faults.Form event
+event_fault event wrong.Long = faults.Long event
 event_fault event wrong.Short = faults.Short event
 event_fault event wrong.Trailing = faults.Trailing event
 event_fault event wrong.Lemma = faults.Lemma event

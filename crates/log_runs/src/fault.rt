@@ -18,6 +18,8 @@ pub enum LogFault {
     Run { fault: Fault },
     #[error("event {event}: form")]
     Form { event: u64 },
+    #[error("event {event}: long")]
+    Long { event: u64 },
     #[error("event {event}: short")]
     Short { event: u64 },
     #[error("event {event}: trailing")]
@@ -50,6 +52,7 @@ impl LogFault {
         let event = cause.event;
         match cause.wrong {
             Wrong::Form => LogFault::Form { event },
+            Wrong::Long => LogFault::Long { event },
             Wrong::Short => LogFault::Short { event },
             Wrong::Trailing => LogFault::Trailing { event },
             Wrong::Lemma => LogFault::Lemma { event },

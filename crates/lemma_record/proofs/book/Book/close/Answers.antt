@@ -3,7 +3,7 @@ use Rattle.lemma_book.specs.Ledger.{Claims}
 use Rattle.lemma_log.specs.Text.{IsWritableClaim}
 use Rattle.lemma_record.specs.Book.{BookOf, IsLogOf}
 use Rattle.lemma_record.specs.Right.{proved_of}
-use Rattle.lemma_record.proofs.Booked.{closed}
+use Rattle.lemma_record.proofs.Booked.{best_shown, closed}
 use Rattle.lemma_record.proofs.book.Book.close.Goals as goal
 
 pub returns-clause-right : goal.returns-clause-right
@@ -18,3 +18,8 @@ pub returns-clause-law : goal.returns-clause-law
 returns-clause-law c =
     let view = ap (λ (x : BookOf). x.ledger) c.self.view_is in
     rw (sym view) c.claim-proved.ensures.law
+
+pub returns-clause-best : goal.returns-clause-best
+returns-clause-best c =
+    let view = ap (λ (x : BookOf). x.ledger) c.self.view_is in
+    rw (sym view) (best_shown c.self.inside.ledger c.best.result c.in_ok-best.best c.best.ensures.best c.in_ok-best.ensures)

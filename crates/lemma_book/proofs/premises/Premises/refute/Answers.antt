@@ -5,27 +5,27 @@ use Rattle.network.specs.declared.parts.Lag.{Lag}
 use Rattle.network.specs.Problem.{activity_count}
 use Rattle.network.specs.Walk.{IsMatrixOf, HasPositiveCycle}
 use Rattle.lemma_proof.specs.Lines.{IsRefuted, picked}
-use Rattle.lemma_book.specs.Ledger.{LedgerOf, ledger_of, own_of}
-use Rattle.lemma_book.proofs.Ledgers.{ended_refutes}
-use Rattle.lemma_book.proofs.ledger.Ledger.refute.Goals as goal
+use Rattle.lemma_book.specs.Premises.{PremisesOf, premises_of, root_arcs}
+use Rattle.lemma_book.proofs.Premised.{ended_refutes}
+use Rattle.lemma_book.proofs.premises.Premises.refute.Goals as goal
 
 pub returns-then-are_arcs-clause-refuted : goal.returns-then-are_arcs-clause-refuted
 returns-then-are_arcs-clause-refuted c =
-    let l : LedgerOf = ledger_of c.self.inside.project.now c.self.inside.best c.self.inside.roots.items c.self.inside.lemmas.items in
-    let cycle : HasPositiveCycle (own_of l) = rw c.in_default.is at c.self.invariant.root in
+    let x : PremisesOf = premises_of c.self.inside.project.now c.self.inside.roots.items c.self.inside.lemmas.items in
+    let cycle : HasPositiveCycle (root_arcs x) = rw c.in_default.is at c.self.invariant.root in
     let are = c.are_arcs.ensures.0 c.if-are_arcs.true in
-    rw (sym c.self.view_is, c.new.ensures.items) (ended_refutes l c.args.arcs.now c.args.lines.now are cycle, ended_refutes l c.args.arcs.now [] are cycle)
+    rw (sym c.self.view_is, c.new.ensures.items) (ended_refutes x c.args.arcs.now c.args.lines.now are cycle, ended_refutes x c.args.arcs.now [] are cycle)
 
 pub returns-clause-refuted : goal.returns-clause-refuted
 returns-clause-refuted c =
-    let l : LedgerOf = ledger_of c.self.inside.project.now c.self.inside.best c.self.inside.roots.items c.self.inside.lemmas.items in
-    let m : IsMatrixOf (activity_count c.self.inside.project.now) (own_of l) c.in-Some.bench.rows = rw c.in-Some.is at c.self.invariant.root in
+    let x : PremisesOf = premises_of c.self.inside.project.now c.self.inside.roots.items c.self.inside.lemmas.items in
+    let m : IsMatrixOf (activity_count c.self.inside.project.now) (root_arcs x) c.in-Some.bench.rows = rw c.in-Some.is at c.self.invariant.root in
     let long : length c.in-Some.bench.rows ≡ activity_count c.self.inside.project.now = m.square.0 in
     let told = rw (long, c.as_slice.ensures.value) at c.refute.ensures.refuted in
     rw (sym c.self.view_is) (IfOk-weaker c.refute.result
     (λ found. (own : List Lag) → IsMatrixOf (activity_count c.self.inside.project.now) own c.in-Some.bench.rows →
     MatchOption found (¬ IsRefuted c.self.inside.project.now c.self.inside.lemmas.items own c.args.arcs.now c.args.lines.now)
     (λ (used : Vec ℕ Global). IsRefuted c.self.inside.project.now c.self.inside.lemmas.items own c.args.arcs.now c.args.lines.now × IsRefuted c.self.inside.project.now c.self.inside.lemmas.items own c.args.arcs.now (picked c.args.lines.now used.items)))
-    (λ found. MatchOption found (¬ IsRefuted c.self.inside.project.now c.self.inside.lemmas.items (own_of l) c.args.arcs.now c.args.lines.now)
-    (λ (used : Vec ℕ Global). IsRefuted c.self.inside.project.now c.self.inside.lemmas.items (own_of l) c.args.arcs.now c.args.lines.now × IsRefuted c.self.inside.project.now c.self.inside.lemmas.items (own_of l) c.args.arcs.now (picked c.args.lines.now used.items)))
-    (λ found all. all (own_of l) m) told)
+    (λ found. MatchOption found (¬ IsRefuted c.self.inside.project.now c.self.inside.lemmas.items (root_arcs x) c.args.arcs.now c.args.lines.now)
+    (λ (used : Vec ℕ Global). IsRefuted c.self.inside.project.now c.self.inside.lemmas.items (root_arcs x) c.args.arcs.now c.args.lines.now × IsRefuted c.self.inside.project.now c.self.inside.lemmas.items (root_arcs x) c.args.arcs.now (picked c.args.lines.now used.items)))
+    (λ found all. all (root_arcs x) m) told)
