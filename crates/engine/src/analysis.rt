@@ -3,11 +3,11 @@
 
 use crate::marks::NO_VALUE;
 use crate::state::Engine;
-use literals::{Conflict, Literal, Reason};
+use literals::{Conflict, Literal, NEVER, Reason};
 use proof_log::{Ground, Link};
 use std::cmp::Reverse;
 use std::mem;
-use tables::Result;
+use tables::{Result, narrow};
 
 /// What an analysis found, beside the lemma.
 #[derive(Clone, Copy)]
@@ -19,6 +19,9 @@ pub(crate) struct Learnt {
     /// The lemma's number in the log.
     pub(crate) number: u32,
 }
+
+/// The most literals of a lemma: a log of lemmas refuses longer ones.
+const LONGEST: usize = 1_024;
 
 /// How many explanations deep a literal is looked at.
 const DEPTH: usize = 60;
@@ -41,17 +44,13 @@ impl Engine<'_> {
     }
 
     /// Learns from a conflict. The lemma is `marks.nogood`, its literals negated: the one to be set first, one of the level
-    /// to go back to second. None where the root or several first decisions alone are at fault, for which there may be no
-    /// unique point.
+    /// to go back to second. One that is too long is left out: the search goes back to the root. None where the root or
+    /// several first decisions alone are at fault, for which there may be no unique point.
     pub(crate) fn analyse(&mut self, conflict: Conflict) -> Result<Option<Learnt>> {
         self.marks.begin(self.trail.count())?;
         let end = self.explain_conflict(conflict)?;
-        let levels = self
-            .marks
-            .found
-            .all()
-            .iter()
-            .map(|literal| self.trail.level_of(*literal));
+        let found = self.marks.found.items.iter();
+        let levels = found.map(|literal| self.trail.level_of(*literal));
         let top = levels.max().unwrap_or(0);
         if top <= self.floor {
             if top == 0 {
@@ -61,11 +60,20 @@ impl Engine<'_> {
             return Ok(None);
         }
         let point = self.resolve(top)?;
-        self.minimise(point, top)?;
+        let first = self.minimise(point, top)?;
+        let (literal, ground) = (NEVER, end);
+        self.marks.replace(u32::MAX, Link { literal, ground })?;
         self.marks.end();
-        let (level, lbd) = self.put_in_order()?;
-        let links = self.marks.links(self.alloc)?;
-        let number = self.log.lemma(&self.marks.nogood, lbd, links, end)?;
+        let (mut level, lbd) = self.put_in_order(first)?;
+        let mut number = 0;
+        if self.marks.nogood.len() > LONGEST {
+            self.marks.nogood.clear();
+            level = 0;
+        } else {
+            number = self
+                .log
+                .lemma(&self.marks.nogood, lbd, &self.marks.replaced)?;
+        }
         for literal in self.marks.nogood.iter_mut() {
             *literal = !*literal;
         }
@@ -89,7 +97,7 @@ impl Engine<'_> {
                 }
             }
         }
-        self.marks.found.clear();
+        self.marks.found.items.clear();
         Ok(count)
     }
 
@@ -118,18 +126,17 @@ impl Engine<'_> {
 
     /// Events of the last level that were replaced are no longer needed.
     fn forget_replaced(&mut self, top: u32) {
-        for event in self.marks.needed.all() {
+        for event in &self.marks.needed.items {
             if self.trail.event(*event).level == top {
                 self.marks.need[*event] = NO_VALUE;
             }
         }
     }
 
-    /// The nogood: the literal of the unique point, and of lower levels what does not follow from the rest.
-    fn minimise(&mut self, point: u32, top: u32) -> Result<()> {
+    /// The nogood: of lower levels what does not follow from the rest. Gives the literal of the unique point.
+    fn minimise(&mut self, point: u32, top: u32) -> Result<Literal> {
         let first = self.needed(point);
         self.forget_replaced(top);
-        self.marks.nogood.push(first)?;
         for at in 0..self.marks.lower.count() {
             let event = self.marks.lower[at];
             let literal = self.needed(event);
@@ -138,7 +145,7 @@ impl Engine<'_> {
                 self.marks.nogood.push(literal)?;
             }
         }
-        Ok(())
+        Ok(first)
     }
 
     /// A frame for a value of an event, which is no decision: what it follows from is found.
@@ -171,7 +178,7 @@ impl Engine<'_> {
         let first = self.frame(event, value)?;
         frames.push(first)?;
         let is_redundant = self.all_follow(&mut frames)?;
-        self.marks.found.clear();
+        self.marks.found.items.clear();
         self.marks.frames = frames;
         Ok(is_redundant)
     }
@@ -218,46 +225,33 @@ impl Engine<'_> {
     }
 
     /// Of each slot the greatest value says all; the first literal's is the greatest of its slot.
-    fn keep_greatest(&mut self) {
+    fn keep_greatest(&mut self, first: Literal) {
         let nogood = &mut self.marks.nogood;
-        let Some(first) = nogood.first().copied() else {
-            return;
-        };
-        nogood.swap_remove(0);
         nogood.retain(|literal: &Literal| literal.slot != first.slot);
         nogood.sort_unstable_by_key(|literal: &Literal| Reverse(*literal));
         nogood.dedup_by_key(|literal: &mut Literal| literal.slot);
     }
 
-    /// Puts the literals of the nogood in order. Gives the level of the second one, which is the last but one, and how many
-    /// levels there are; each of several first decisions counts.
-    fn put_in_order(&mut self) -> Result<(u32, u32)> {
-        let first = self.marks.nogood.first().copied();
-        self.keep_greatest();
-        let mut levels: Vec<u32> = self
-            .marks
-            .nogood
-            .iter()
-            .map(|literal| self.trail.level_of(*literal))
-            .collect(self.alloc)?;
+    /// Puts the first literal before the nogood, and one of the last level of the others second. Gives this level, and how
+    /// many levels there are; each of several first decisions counts.
+    fn put_in_order(&mut self, first: Literal) -> Result<(u32, u32)> {
+        self.keep_greatest(first);
+        let literals = self.marks.nogood.iter();
+        let levels = literals.map(|literal| self.trail.level_of(*literal));
+        let mut levels: Vec<u32> = levels.collect(self.alloc)?;
         let level = levels.iter().copied().max().unwrap_or(0);
         let second = levels.iter().position(|here| *here == level).unwrap_or(0);
-        if let Some(first) = first {
-            self.marks.nogood.insert(0, first)?;
-        }
+        self.marks.nogood.insert(0, first)?;
         if second + 1 < self.marks.nogood.len() {
             self.marks.nogood.swap(1, second + 1);
         }
+        let floor = self.floor;
+        let firsts = levels.iter().filter(|here| **here <= floor).count();
+        levels.retain(|here: &u32| *here > floor);
         levels.sort_unstable();
-        let mut lbd = 1u32;
-        let mut last = None;
-        for here in &levels {
-            if last != Some(*here) || *here <= self.floor {
-                lbd = lbd.wrapping_add(1);
-            }
-            last = Some(*here);
-        }
-        Ok((level, lbd))
+        levels.dedup();
+        let lbd = firsts.wrapping_add(levels.len()).wrapping_add(1);
+        Ok((level, narrow(lbd)))
     }
 
     /// Tells the log what the root has got since.
@@ -265,9 +259,9 @@ impl Engine<'_> {
         for event in self.logged..self.trail.root_end() {
             let found = self.trail.event(event);
             let literal = Literal::new(found.slot, found.new);
-            if self.log.is_kept() {
+            if self.log.is_kept {
                 let ground = self.explain(literal, found.reason, event)?;
-                self.marks.found.clear();
+                self.marks.found.items.clear();
                 self.log.root(Link { literal, ground })?;
             }
         }

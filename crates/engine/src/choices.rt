@@ -9,7 +9,8 @@ use literals::{Event, Literal, NEVER, Trail};
 use propagation::Edges;
 use std::alloc::Global;
 use std::collections::HashMap;
-use tables::{Result, Table};
+use std::mem;
+use tables::{Result, Table, narrow};
 
 /// By how much a literal of an older conflict counts for less than one of the next.
 const DECAY: f64 = 0.95;
@@ -61,7 +62,7 @@ impl Choices {
         seed: u64,
     ) -> Result<Choices> {
         let mut saved = Table::new(alloc, 0);
-        for variable in 0..trail.slots() / 2 {
+        for variable in 0..trail.values().count() / 2 {
             saved.push(trail.least(variable))?;
         }
         Ok(Choices {
@@ -88,13 +89,12 @@ impl Choices {
 
     /// Forgets literals whose weight has faded. At the root only.
     pub(crate) fn reduce(&mut self) -> Result<()> {
-        let literals = self.literals.take(self.alloc);
-        let weights = self.heap.weights.take(self.alloc);
-        self.heap = Heap::new(self.alloc);
+        let literals = mem::replace(&mut self.literals, Table::new(self.alloc, NEVER));
+        let heap = mem::replace(&mut self.heap, Heap::new(self.alloc));
         self.numbers.clear();
-        self.taken.clear();
+        self.taken.items.clear();
         let least = self.bump * FADED;
-        for (literal, weight) in literals.iter().zip(weights.iter()) {
+        for (literal, weight) in literals.items.iter().zip(&heap.weights.items) {
             if *weight > least {
                 self.add(*literal, *weight)?;
             }
@@ -126,7 +126,7 @@ impl Choices {
     pub(crate) fn age(&mut self) {
         self.bump = self.bump / DECAY;
         if self.bump > MOST {
-            for weight in self.heap.weights.all_mut() {
+            for weight in &mut self.heap.weights.items {
                 *weight = *weight / MOST;
             }
             self.bump = self.bump / MOST;
@@ -190,7 +190,7 @@ impl Choices {
             found = self.next_start(trail, edges);
         }
         if found.is_none() {
-            self.levels.pop();
+            self.levels.items.pop();
         }
         Ok(found)
     }
@@ -210,38 +210,25 @@ impl Choices {
             trail.least(*activity),
             trail.greatest(*activity),
         ))?;
-        let rivals = edges.rivals_of(activity).iter().copied();
-        let before = rivals.filter(|(_, before): &(u32, Literal)| trail.is_open(*before));
-        match before.min_by_key(|(other, _): &(u32, Literal)| least(*other)) {
-            Some((_, before)) => Some(before),
+        let before = |other: u32| edges.precedence(activity, other).unwrap_or(NEVER);
+        let rivals = (0..narrow(self.sequence.len())).filter(|other| trail.is_open(before(*other)));
+        match rivals.min_by_key(|other| least(*other)) {
+            Some(rival) => Some(before(rival)),
             None => Some(Literal::at_most(activity, least(activity))),
         }
     }
 
-    /// The values of a schedule are tried first.
+    /// The values of a schedule are tried first. Where nothing has a weight, activities are started in its order.
     pub(crate) fn prefer(&mut self, instance: &Instance, starts: &[i32], pairs: &[Rivals]) {
         let start = |activity: u32| starts.get(activity as usize).copied().unwrap_or(0);
         for activity in 0..instance.count() {
             self.saved[activity] = start(activity);
         }
-        let mut variable = instance.count();
-        for pair in pairs {
-            let end = start(pair.first).wrapping_add(instance.duration(pair.first));
+        for (variable, pair) in (instance.count()..u32::MAX).zip(pairs) {
+            let end = start(pair.first).wrapping_add(instance.durations[pair.first]);
             self.saved[variable] = i32::from(start(pair.second) >= end);
-            variable = variable.wrapping_add(1);
         }
-    }
-
-    /// Where nothing has a weight, activities are started in the order of a schedule.
-    pub(crate) fn follow(&mut self, starts: &[i32]) {
-        self.sequence.sort_unstable_by_key(|activity: &u32| {
-            let start = starts.get(*activity as usize).copied();
-            (start.unwrap_or(0), *activity)
-        });
-    }
-
-    /// How many bytes it takes.
-    pub(crate) fn bytes(&self) -> u64 {
-        u64::from(self.literals.count()).wrapping_mul(40)
+        let key = |activity: &u32| (start(*activity), *activity);
+        self.sequence.sort_unstable_by_key(key);
     }
 }

@@ -2,41 +2,43 @@
 //! value that it needs, and put behind those in `marks.found`.
 
 use crate::state::Engine;
-use instance::Instance;
-use literals::{Conflict, Literal, Reason};
+use literals::{Conflict, Literal, NEVER, Reason};
 use proof_log::Ground;
-use propagation::{Arc, Order, part};
+use propagation::part;
 use tables::Result;
 
-/// The literals that make an activity run for `part` periods from one time to another at least.
-fn inside(instance: &Instance, activity: u32, part: i32, from: i32, to: i32) -> [Literal; 2] {
-    let rest = part.wrapping_sub(instance.duration(activity));
-    [
-        Literal::at_least(activity, from.wrapping_add(rest)),
-        Literal::at_most(activity, to.wrapping_sub(part)),
-    ]
-}
-
-/// How many periods of a part may go where so much is spare.
-fn most_within(spare: i64, demand: i32, part: i32) -> i32 {
-    let demand = i64::from(demand.max(1));
-    (spare / demand).clamp(0, i64::from(part.max(0))) as i32
-}
-
 impl Engine<'_> {
-    /// An event, or 0 where it is of the root.
-    fn unless_root(&self, event: u32) -> u32 {
-        if event < self.trail.root_end() {
-            0
-        } else {
-            event
-        }
+    /// The literals that make an activity run for `part` periods from one time to another at least.
+    fn inside(&self, activity: u32, part: i32, from: i32, to: i32) -> [Literal; 2] {
+        let rest = part.wrapping_sub(self.instance.durations[activity]);
+        [
+            Literal::at_least(activity, from.wrapping_add(rest)),
+            Literal::at_most(activity, to.wrapping_sub(part)),
+        ]
     }
 
-    /// The event by which both literals hold; 0 for the root.
-    fn last_event_of(&self, [first, second]: [Literal; 2]) -> u32 {
-        let event = self.trail.event_of(first).max(self.trail.event_of(second));
-        self.unless_root(event)
+    /// Both literals are found.
+    fn find(&mut self, literals: [Literal; 2]) -> Result<()> {
+        self.marks.found.items.extend_from_slice(&literals)
+    }
+
+    /// The event by which two literals hold.
+    fn last_event_of(&self, first: Literal, second: Literal) -> u32 {
+        self.trail.event_of(first).max(self.trail.event_of(second))
+    }
+
+    /// An activity is among the causes, with an amount, by its last event, if that was before `now`. Gives the amount.
+    fn note_cause(&mut self, last: u32, now: u32, amount: i32, activity: u32) -> Result<i32> {
+        if last >= now {
+            return Ok(0);
+        }
+        let event = if last < self.trail.root_end() {
+            0
+        } else {
+            last
+        };
+        self.marks.causes.push((event, amount, activity))?;
+        Ok(amount)
     }
 
     /// Finds the literals that made a conflict. Gives the reason of the record's line.
@@ -45,15 +47,12 @@ impl Engine<'_> {
         match conflict {
             Conflict::Forced { literal, reason } => {
                 // As little as contradicts the bound that is there.
-                let least = 1i32.wrapping_sub(self.trail.value(literal.slot ^ 1));
+                let least = 1i32.wrapping_sub(self.trail.values()[literal.slot ^ 1]);
                 let literal = literal.with(literal.value.min(least));
                 self.marks.found.push(!literal)?;
                 self.explain(literal, reason, now)
             }
-            Conflict::Overload { resource, time } => {
-                let room = self.instance.capacity(resource);
-                self.explain_full(resource, time, None, room, now)
-            }
+            Conflict::Overload { resource, time } => self.explain_full(NEVER, resource, time, now),
             Conflict::Energy { resource, from, to } => self.explain_energy(resource, from, to),
             Conflict::Clique { clique, from, to } => self.explain_clique(clique, from, to),
             Conflict::Lemma { place } => {
@@ -73,139 +72,107 @@ impl Engine<'_> {
     }
 
     /// Finds the literals from which one followed for a reason, as of an event.
-    pub(crate) fn explain(
-        &mut self,
-        literal: Literal,
-        reason: Reason,
-        event: u32,
-    ) -> Result<Ground> {
-        match reason {
+    pub(crate) fn explain(&mut self, literal: Literal, why: Reason, now: u32) -> Result<Ground> {
+        match why {
             Reason::Decision | Reason::Given => {}
             Reason::Lemma { place } => return self.explain_lemma(place, 1),
             Reason::Arc { arc } => {
-                let Arc { from, weight, .. } = self.edges.arc(arc);
-                let value = literal.value.wrapping_sub(weight);
-                self.marks.found.push(Literal::new(from, value))?;
-            }
-            Reason::Order { order } => {
-                let Order {
-                    arc,
-                    literal: order,
-                } = self.edges.order(order);
+                let arc = self.edges.arcs[arc];
                 let value = literal.value.wrapping_sub(arc.weight);
-                self.marks.found.push(order)?;
                 self.marks.found.push(Literal::new(arc.from, value))?;
             }
-            Reason::Lost { order } => return self.explain_lost(order, event),
+            Reason::Order { order } => {
+                let order = self.edges.orders[order];
+                let value = literal.value.wrapping_sub(order.arc.weight);
+                self.find([order.literal, Literal::new(order.arc.from, value)])?;
+            }
+            Reason::Lost { order } => return self.explain_lost(order, now),
             Reason::Pushed { clique, time } => {
-                return self.explain_push(literal, clique, time, event);
+                return self.explain_push(literal, clique, time, now);
             }
             Reason::Full { resource, time } => {
-                return self.explain_no_room(literal, resource, time, event);
+                return self.explain_full(literal, resource, time, now);
             }
         }
         Ok(Ground::Arcs)
     }
 
     /// The bound from which an order leads and the one that it would pass: of the first only as much as contradicts.
-    fn explain_lost(&mut self, order: u32, event: u32) -> Result<Ground> {
-        let arc = self.edges.order(order).arc;
+    fn explain_lost(&mut self, order: u32, now: u32) -> Result<Ground> {
+        let arc = self.edges.orders[order].arc;
         let slot = arc.to ^ 1;
-        let value = self.trail.value_at(slot, event);
-        self.marks.found.push(Literal::new(slot, value))?;
-        let value = 1i32.wrapping_sub(arc.weight).wrapping_sub(value);
-        self.marks.found.push(Literal::new(arc.from, value))?;
+        let passed = self.trail.value_at(slot, now);
+        let value = 1i32.wrapping_sub(arc.weight).wrapping_sub(passed);
+        self.find([Literal::new(slot, passed), Literal::new(arc.from, value)])?;
         Ok(Ground::Force)
     }
 
-    /// The activity would run at the time, at which others leave no room for it.
-    fn explain_no_room(
-        &mut self,
-        literal: Literal,
-        resource: u32,
-        time: i32,
-        event: u32,
-    ) -> Result<Ground> {
-        let activity = literal.variable();
-        let [least, greatest] = inside(self.instance, activity, 1, time, time.wrapping_add(1));
-        let own = if literal.is_lower() { least } else { greatest };
-        self.marks.found.push(own)?;
-        let demand = self.instance.demand(activity, resource);
-        let room = self.instance.capacity(resource).wrapping_sub(demand);
-        self.explain_full(resource, time, Some(activity), room, event)
-    }
-
-    /// Lists the users of a resource that ran at a time for sure as of an event, but one. Gives what they need.
-    fn list_users(
-        &mut self,
-        resource: u32,
-        time: i32,
-        but: Option<u32>,
-        event: u32,
-    ) -> Result<i32> {
-        self.table.list_running(time, &mut self.marks.activities)?;
-        self.marks.causes.clear();
-        let mut sum = 0i32;
+    /// Users of a resource that ran at a time for sure, as of an event, leave no room for the activity of a literal, which
+    /// would run then; or they need too much themselves.
+    fn explain_full(&mut self, own: Literal, resource: u32, time: i32, now: u32) -> Result<Ground> {
+        let (mut sum, from, to) = (0i32, time, time.wrapping_add(1));
+        if own != NEVER {
+            let [least, greatest] = self.inside(own.variable(), 1, from, to);
+            self.marks
+                .found
+                .push(if own.is_lower() { least } else { greatest })?;
+        }
+        self.marks.causes.items.clear();
+        let running = &mut self.marks.activities.items;
+        self.table.list_running(time, running)?;
         for at in 0..self.marks.activities.count() {
             let activity = self.marks.activities[at];
             let demand = self.instance.demand(activity, resource);
-            if demand == 0 || but == Some(activity) {
-                continue;
+            if demand > 0 && own.variable() != activity {
+                let [least, greatest] = self.inside(activity, 1, from, to);
+                let last = self.last_event_of(least, greatest);
+                let less = self.note_cause(last, now, demand.wrapping_neg(), activity)?;
+                sum = sum.wrapping_sub(less);
             }
-            let [least, greatest] = inside(self.instance, activity, 1, time, time.wrapping_add(1));
-            let last = self
-                .trail
-                .event_of(least)
-                .max(self.trail.event_of(greatest));
-            if last >= event {
-                continue;
-            }
-            let cause = (self.unless_root(last), demand.wrapping_neg(), activity);
-            self.marks.causes.push(cause)?;
-            sum = sum.wrapping_add(demand);
         }
-        Ok(sum)
-    }
-
-    /// Activities but one that run at a time, as of an event, and need more than the room: the last ones go while the
-    /// rest is enough.
-    fn explain_full(
-        &mut self,
-        resource: u32,
-        time: i32,
-        but: Option<u32>,
-        room: i32,
-        event: u32,
-    ) -> Result<Ground> {
-        let mut sum = self.list_users(resource, time, but, event)?;
-        let (from, to) = (time, time.wrapping_add(1));
-        self.marks.causes.all_mut().sort_unstable();
-        for (event, amount, activity) in self.marks.causes.all().iter().rev().copied() {
-            let rest = sum.wrapping_add(amount);
-            if rest > room {
-                sum = rest;
-            } else if event > 0 {
-                let literals = inside(self.instance, activity, 1, from, to);
-                self.marks.found.push_all(&literals)?;
-            }
+        let demand = self.instance.demand(own.variable(), resource);
+        let room = self.instance.capacities[resource].wrapping_sub(demand);
+        self.keep_enough(sum, room)?;
+        for at in 0..self.marks.activities.count() {
+            let activity = self.marks.activities[at];
+            let literals = self.inside(activity, 1, from, to);
+            self.find(literals)?;
         }
         Ok(Ground::Load { resource, from, to })
+    }
+
+    /// Of the causes those that are needed, the last ones first: they go while the rest is more than there is room for.
+    /// Gives how much more the rest is than it need be.
+    fn keep_enough(&mut self, all: i32, room: i32) -> Result<i32> {
+        let mut sum = all;
+        self.marks.causes.items.sort_unstable();
+        self.marks.activities.items.clear();
+        for (_, amount, activity) in self.marks.causes.items.iter().rev() {
+            let rest = sum.wrapping_sub(amount.wrapping_abs());
+            if rest > room {
+                sum = rest;
+            } else {
+                self.marks.activities.push(*activity)?;
+            }
+        }
+        Ok(sum.wrapping_sub(room).wrapping_sub(1))
     }
 
     /// Lists the parts of activities from one time to another. Gives what they need beyond what there is.
     fn list_parts(&mut self, resource: u32, from: i32, to: i32) -> Result<i64> {
         let length = i64::from(to.wrapping_sub(from));
-        let room = i64::from(self.instance.capacity(resource)).wrapping_mul(length);
+        let room = i64::from(self.instance.capacities[resource]).wrapping_mul(length);
         let mut spare = room.wrapping_neg().wrapping_sub(1);
-        self.marks.causes.clear();
+        self.marks.causes.items.clear();
         for activity in 0..self.instance.count() {
             let (least, greatest) = (self.trail.least(activity), self.trail.greatest(activity));
-            let part = part(least, greatest, self.instance.duration(activity), from, to);
+            let part = part(least, greatest, self.instance.durations[activity], from, to);
             let demand = self.instance.demand(activity, resource);
             if part > 0 && demand > 0 {
-                let event = self.last_event_of(inside(self.instance, activity, part, from, to));
+                let [least, greatest] = self.inside(activity, part, from, to);
+                let last = self.last_event_of(least, greatest);
+                self.note_cause(last, u32::MAX, part, activity)?;
                 spare = spare.wrapping_add(i64::from(part).wrapping_mul(i64::from(demand)));
-                self.marks.causes.push((event, part, activity))?;
             }
         }
         Ok(spare)
@@ -214,18 +181,18 @@ impl Engine<'_> {
     /// Parts of activities that need more than there is: what is more goes from those that came last.
     fn explain_energy(&mut self, resource: u32, from: i32, to: i32) -> Result<Ground> {
         let mut spare = self.list_parts(resource, from, to)?;
-        self.marks.causes.all_mut().sort_unstable();
-        for (event, part, activity) in self.marks.causes.all().iter().rev().copied() {
-            let demand = self.instance.demand(activity, resource);
-            let less = most_within(spare, demand, part);
+        self.marks.causes.items.sort_unstable();
+        for at in (0..self.marks.causes.count()).rev() {
+            let (event, part, activity) = self.marks.causes[at];
+            let demand = i64::from(self.instance.demand(activity, resource).max(1));
+            let less = (spare / demand).clamp(0, i64::from(part.max(0))) as i32;
             if event == 0 {
                 break;
             }
-            spare = spare.wrapping_sub(i64::from(less).wrapping_mul(i64::from(demand)));
+            spare = spare.wrapping_sub(i64::from(less).wrapping_mul(demand));
             if less < part {
-                let rest = part.wrapping_sub(less);
-                let literals = inside(self.instance, activity, rest, from, to);
-                self.marks.found.push_all(&literals)?;
+                let literals = self.inside(activity, part.wrapping_sub(less), from, to);
+                self.find(literals)?;
             }
         }
         Ok(Ground::Load { resource, from, to })
@@ -239,61 +206,53 @@ impl Engine<'_> {
             let order = self.edges.precedence(other, activity);
             return (order, Literal::at_least(other, time));
         }
-        let latest = time.wrapping_sub(self.instance.duration(other));
+        let latest = time.wrapping_sub(self.instance.durations[other]);
         let order = self.edges.precedence(activity, other);
         (order, Literal::at_most(other, latest))
     }
 
-    /// The event by which one activity pushes the one of a literal at a time; none where it doesn't.
-    fn push_event(&self, other: u32, literal: Literal, time: i32) -> Option<u32> {
-        let (order, bound) = self.pushes(other, literal, time);
-        let order = order.unwrap_or(bound);
-        if other == literal.variable() || !self.trail.holds(order) || !self.trail.holds(bound) {
-            return None;
-        }
-        Some(self.trail.event_of(order).max(self.trail.event_of(bound)))
-    }
-
     /// Lists the members of a clique that pushed the activity of a literal as of an event. Gives how long they take.
-    fn list_pushing(
-        &mut self,
-        literal: Literal,
-        clique: u32,
-        time: i32,
-        event: u32,
-    ) -> Result<i32> {
-        self.marks.causes.clear();
+    fn list_pushing(&mut self, literal: Literal, clique: u32, time: i32, now: u32) -> Result<i32> {
         let mut sum = 0i32;
-        for place in 0..self.cliques.size(clique) {
-            let activity = self.cliques.member(clique, place);
-            let Some(last) = self.push_event(activity, literal, time) else {
-                continue;
-            };
-            if last < event {
-                let (duration, last) = (self.instance.duration(activity), self.unless_root(last));
-                self.marks.causes.push((last, duration, activity))?;
-                sum = sum.wrapping_add(duration);
+        self.marks.causes.items.clear();
+        for at in self.cliques.members.numbers(clique) {
+            let other = self.cliques.members[at];
+            let (order, bound) = self.pushes(other, literal, time);
+            let order = order.unwrap_or(bound);
+            let pushes = self.trail.holds(order) && self.trail.holds(bound);
+            if pushes && other != literal.variable() {
+                let (last, duration) = (
+                    self.last_event_of(order, bound),
+                    self.instance.durations[other],
+                );
+                sum = sum.wrapping_add(self.note_cause(last, now, duration, other)?);
             }
         }
         Ok(sum)
     }
 
-    /// Of the listed causes those that are needed, as rising activities: the last ones go while the rest is more than
-    /// there is room for. Gives how much more the rest is than it need be.
-    fn keep_enough(&mut self, all: i32, room: i32) -> Result<i32> {
-        let mut sum = all;
-        self.marks.causes.all_mut().sort_unstable();
-        self.marks.activities.clear();
-        for (_, amount, activity) in self.marks.causes.all().iter().rev().copied() {
-            let rest = sum.wrapping_sub(amount);
-            if rest > room {
-                sum = rest;
-            } else {
-                self.marks.activities.push(activity)?;
-            }
+    /// Members of a clique that run before or after the literal's activity, and push it.
+    fn explain_push(&mut self, pushed: Literal, clique: u32, at: i32, now: u32) -> Result<Ground> {
+        let sum = self.list_pushing(pushed, clique, at, now)?;
+        let bound = pushed.value.wrapping_sub(1);
+        let end = self.instance.durations[pushed.variable()].wrapping_sub(bound);
+        let is_lower = pushed.is_lower();
+        let (from, to) = if is_lower { (at, bound) } else { (end, at) };
+        let room = to.wrapping_sub(from).max(0);
+        let length = room.wrapping_add(self.keep_enough(sum, room)?);
+        let (from, to) = match is_lower {
+            true => (bound.wrapping_sub(length).max(0), bound),
+            false => (end, end.wrapping_add(length)),
+        };
+        self.marks.activities.items.sort_unstable();
+        for place in 0..self.marks.activities.count() {
+            let time = if is_lower { from } else { to };
+            let other = self.marks.activities[place];
+            let (order, bound) = self.pushes(other, pushed, time);
+            self.marks.found.items.extend(order)?;
+            self.marks.found.push(bound)?;
         }
-        self.marks.activities.all_mut().sort_unstable();
-        Ok(sum.wrapping_sub(room).wrapping_sub(1))
+        self.clique_ground(from, to)
     }
 
     /// The reason of a record's line, by the members that are needed. One alone pushes by its arc.
@@ -301,61 +260,21 @@ impl Engine<'_> {
         if self.marks.activities.count() < 2 {
             return Ok(Ground::Arcs);
         }
-        let members = self.log.set(self.marks.activities.all())?;
+        let members = self.log.set(&self.marks.activities.items)?;
         Ok(Ground::Clique { members, from, to })
-    }
-
-    /// Members of a clique that run before or after the literal's activity, and push it.
-    fn explain_push(
-        &mut self,
-        literal: Literal,
-        clique: u32,
-        time: i32,
-        event: u32,
-    ) -> Result<Ground> {
-        let sum = self.list_pushing(literal, clique, time, event)?;
-        let bound = literal.value.wrapping_sub(1);
-        let end = self
-            .instance
-            .duration(literal.variable())
-            .wrapping_sub(bound);
-        let (from, to) = if literal.is_lower() {
-            (time, bound)
-        } else {
-            (end, time)
-        };
-        let room = to.wrapping_sub(from).max(0);
-        let length = room.wrapping_add(self.keep_enough(sum, room)?);
-        let (from, to, time) = if literal.is_lower() {
-            let from = bound.wrapping_sub(length).max(0);
-            (from, bound, from)
-        } else {
-            let to = end.wrapping_add(length);
-            (end, to, to)
-        };
-        for at in 0..self.marks.activities.count() {
-            let other = self.marks.activities[at];
-            let (order, bound) = self.pushes(other, literal, time);
-            if let Some(order) = order {
-                self.marks.found.push(order)?;
-            }
-            self.marks.found.push(bound)?;
-        }
-        self.clique_ground(from, to)
     }
 
     /// Lists the members of a clique that run from one time to another. Gives how long they take.
     fn list_inside(&mut self, clique: u32, from: i32, to: i32) -> Result<i32> {
-        self.marks.causes.clear();
         let mut sum = 0i32;
-        for place in 0..self.cliques.size(clique) {
-            let activity = self.cliques.member(clique, place);
-            let duration = self.instance.duration(activity);
-            let end = self.trail.greatest(activity).wrapping_add(duration);
-            if self.trail.least(activity) >= from && end <= to {
-                let event = self.last_event_of(inside(self.instance, activity, duration, from, to));
-                self.marks.causes.push((event, duration, activity))?;
-                sum = sum.wrapping_add(duration);
+        self.marks.causes.items.clear();
+        for at in self.cliques.members.numbers(clique) {
+            let activity = self.cliques.members[at];
+            let duration = self.instance.durations[activity];
+            let [least, greatest] = self.inside(activity, duration, from, to);
+            if self.trail.holds(least) && self.trail.holds(greatest) {
+                let last = self.last_event_of(least, greatest);
+                sum = sum.wrapping_add(self.note_cause(last, u32::MAX, duration, activity)?);
             }
         }
         Ok(sum)
@@ -366,11 +285,12 @@ impl Engine<'_> {
         let sum = self.list_inside(clique, from, to)?;
         let spare = self.keep_enough(sum, to.wrapping_sub(from))?;
         let from = from.wrapping_sub(spare).max(0);
+        self.marks.activities.items.sort_unstable();
         for at in 0..self.marks.activities.count() {
             let activity = self.marks.activities[at];
-            let duration = self.instance.duration(activity);
-            let literals = inside(self.instance, activity, duration, from, to);
-            self.marks.found.push_all(&literals)?;
+            let duration = self.instance.durations[activity];
+            let literals = self.inside(activity, duration, from, to);
+            self.find(literals)?;
         }
         self.clique_ground(from, to)
     }

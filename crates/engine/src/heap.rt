@@ -52,9 +52,9 @@ impl Heap {
 
     /// Takes the heaviest number out of the heap.
     pub(crate) fn take_top(&mut self) -> Option<u32> {
-        let last = self.heap.pop()?;
+        let last = self.heap.items.pop()?;
         let mut top = last;
-        if !self.heap.is_empty() {
+        if self.heap.count() > 0 {
             top = self.heap[0];
             self.move_down(last);
         }

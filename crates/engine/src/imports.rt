@@ -2,8 +2,9 @@
 
 use crate::state::Engine;
 use literals::{Conflict, Literal, NEVER, Reason, Stop};
+use network::Lag;
 use std::mem;
-use tables::Result;
+use tables::{Result, narrow};
 
 /// What another search has proved.
 #[derive(Drop)]
@@ -22,14 +23,22 @@ pub(crate) enum Import {
 const PATIENCE: u64 = 500;
 
 impl Engine<'_> {
-    /// The literal by which one activity ends before another one starts; none if it always does.
-    pub fn order_literal(&self, first: u32, second: u32) -> Option<Literal> {
-        self.edges.precedence(first, second)
+    /// The literal of an arc: a bound of a start, or the order of two activities. None if it always holds.
+    fn literal_of(&self, arc: Lag) -> Option<Literal> {
+        let (from, to) = (narrow(arc.from), narrow(arc.to));
+        let weight = arc.weight.clamp(i64::from(i32::MIN), i64::from(i32::MAX)) as i32;
+        match (from, to) {
+            (0, _) => Some(Literal::at_least(to, weight)),
+            (_, 0) => Some(!Literal::at_least(from, 1i32.wrapping_sub(weight))),
+            _ => self.edges.precedence(from, to),
+        }
     }
 
-    /// Takes a lemma of another search, which has this number and is of so many levels. It is looked at when the search is
-    /// at the root next.
-    pub fn import(&mut self, number: u32, lbd: u32, nogood: Vec<Literal>) -> Result<()> {
+    /// Takes a lemma of another search, which has this number and is of so many levels: not all of these arcs hold. It is
+    /// looked at when the search is at the root next.
+    pub fn import(&mut self, number: u32, lbd: u32, arcs: &[Lag]) -> Result<()> {
+        let literals = arcs.iter().filter_map(|arc| self.literal_of(*arc));
+        let nogood = literals.collect(self.alloc)?;
         self.log.import(number)?;
         self.imports.push(Import::Lemma {
             number,
@@ -39,10 +48,12 @@ impl Engine<'_> {
         Ok(())
     }
 
-    /// Takes a literal that always holds, as another search has proved. It is looked at when the search is at the root next.
-    pub fn import_root(&mut self, literal: Literal) -> Result<()> {
-        self.imports.push(Import::Root(literal))?;
-        Ok(())
+    /// Takes an arc that always holds, as another search has proved. It is looked at when the search is at the root next.
+    pub fn hold(&mut self, arc: Lag) -> Result<()> {
+        let literal = self
+            .literal_of(arc)
+            .filter(|literal: &Literal| *literal != NEVER);
+        self.imports.extend(literal.map(Import::Root))
     }
 
     /// Whether imports have waited for long.
@@ -51,36 +62,17 @@ impl Engine<'_> {
         !self.imports.is_empty() && self.counts.conflicts >= late
     }
 
-    /// The literals of a lemma that may hold; none if one does.
-    fn open_part(&self, nogood: &[Literal]) -> Result<Option<Vec<Literal>>> {
-        let mut open = Vec::new(self.alloc);
-        for literal in nogood {
-            if self.trail.fails(*literal) {
-                return Ok(None);
-            }
-            if !self.trail.holds(*literal) {
-                open.push(!*literal)?;
-            }
-        }
-        Ok(Some(open))
-    }
-
-    /// The store keeps a lemma of which these literals are left. Gives its place.
-    fn keep(&mut self, mut open: Vec<Literal>, lbd: u32, number: u32) -> Result<u32> {
-        for _ in open.len()..2 {
-            open.push(NEVER)?;
-        }
-        self.lemmas.learn(&open, lbd, number)
-    }
-
-    /// Looks at a lemma of another search, at the root.
+    /// Looks at a lemma of another search, at the root. Of what is left of it one literal follows, and none is a conflict.
     fn admit(&mut self, number: u32, lbd: u32, nogood: &[Literal]) -> Result<(), Stop> {
-        let Some(open) = self.open_part(nogood)? else {
+        if nogood.iter().any(|literal| self.trail.fails(*literal)) {
             self.log.forget(number)?;
             return Ok(());
-        };
+        }
+        let open = nogood.iter().filter(|literal| !self.trail.holds(**literal));
+        let mut open: Vec<Literal> = open.map(|literal| !*literal).collect(self.alloc)?;
         let (count, first) = (open.len(), open.first().copied().unwrap_or(NEVER));
-        let place = self.keep(open, lbd, number)?;
+        open.extend((count..2).map(|_| NEVER))?;
+        let place = self.lemmas.learn(&open, lbd, number)?;
         match count {
             0 => Err(Stop::Conflict(Conflict::Lemma { place })),
             1 => self.trail.force(first, Reason::Lemma { place }),

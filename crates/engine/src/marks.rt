@@ -32,7 +32,7 @@ pub(crate) struct Marks {
     /// What is_redundant works on.
     pub(crate) frames: Vec<Frame>,
     /// Literals that were replaced by what they follow from, each with its event.
-    replaced: Vec<(u32, Link)>,
+    pub(crate) replaced: Vec<(u32, Link)>,
     /// The literals that can't all hold; at the end their negations, which are the lemma.
     pub(crate) nogood: Vec<Literal>,
 }
@@ -63,21 +63,23 @@ impl Marks {
             self.gone.push(NO_VALUE)?;
             self.hard.push(i32::MAX)?;
         }
-        self.needed.clear();
-        self.tried.clear();
-        self.lower.clear();
-        self.found.clear();
+        self.needed.items.clear();
+        self.tried.items.clear();
+        self.lower.items.clear();
+        self.found.items.clear();
         self.replaced.clear();
         self.nogood.clear();
         Ok(())
     }
 
-    /// Takes all notes of events back.
+    /// Takes all notes of events back. What was replaced goes from the first event to the last.
     pub(crate) fn end(&mut self) {
-        for event in self.needed.all() {
+        let key = |replaced: &(u32, Link)| (replaced.0, replaced.1.literal);
+        self.replaced.sort_unstable_by_key(key);
+        for event in &self.needed.items {
             self.need[*event] = NO_VALUE;
         }
-        for event in self.tried.all() {
+        for event in &self.tried.items {
             self.gone[*event] = NO_VALUE;
             self.hard[*event] = i32::MAX;
         }
@@ -119,15 +121,5 @@ impl Marks {
             self.replaced.push((event, link))?;
         }
         Ok(())
-    }
-
-    /// What was replaced, from the first event to the last.
-    pub(crate) fn links(&mut self, alloc: Global) -> Result<Vec<Link>> {
-        self.replaced
-            .sort_unstable_by_key(|replaced: &(u32, Link)| (replaced.0, replaced.1.literal));
-        self.replaced
-            .iter()
-            .map(|replaced| replaced.1)
-            .collect(alloc)
     }
 }

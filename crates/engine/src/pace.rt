@@ -12,7 +12,7 @@ const SLOW: u64 = 10_000;
 const MARGIN: f64 = 0.7;
 
 /// When to start again: where lemmas of late have more levels than they used to have (Audemard and Simon 2012).
-#[derive(Clone, Copy, Debug)]
+#[derive(Clone, Copy, Default)]
 pub struct Pace {
     fast: f64,
     slow: f64,
@@ -22,14 +22,6 @@ pub struct Pace {
 }
 
 impl Pace {
-    /// No conflict yet.
-    pub const NEW: Pace = Pace {
-        fast: 0.0,
-        slow: 0.0,
-        here: 0,
-        all: 0,
-    };
-
     /// The search starts.
     pub(crate) fn start(&mut self) {
         self.here = 0;

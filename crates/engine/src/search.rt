@@ -1,12 +1,12 @@
 //! The search: first decisions, then propagate, learn, go back, restart, choose.
 
+use crate::analysis::Learnt;
 use crate::pace::Pace;
-use crate::state::{Engine, Options};
-use instance::{Instance, Walks, settle};
+use crate::state::Engine;
 use literals::{Conflict, Literal, Reason, Stop};
 use proof_log::Ground;
 use propagation::find_overloads;
-use std::alloc::{AllocError, Global};
+use std::alloc::AllocError;
 use tables::Result;
 
 /// What a search for schedules under first decisions found.
@@ -29,25 +29,13 @@ pub struct Run {
     first: Vec<Literal>,
     /// What was found is to be learnt from; none where all has followed.
     conflict: Option<Conflict>,
-    /// How many conflicts it may meet; the count of all conflicts at which it stops, once it has begun.
-    most: u64,
-    last: Option<u64>,
-}
-
-impl Run {
-    /// A search that has not begun. It may meet so many conflicts.
-    pub fn new(first: Vec<Literal>, most: u64) -> Run {
-        Run {
-            first,
-            conflict: None,
-            most,
-            last: None,
-        }
-    }
+    /// The count of all conflicts at which it stops.
+    last: u64,
+    pub pace: Pace,
 }
 
 /// A conflict, or none; memory that ran out ends the search.
-fn conflict_of(flow: Result<(), Stop>) -> Result<Option<Conflict>> {
+pub(crate) fn conflict_of(flow: Result<(), Stop>) -> Result<Option<Conflict>> {
     match flow {
         Ok(()) => Ok(None),
         Err(Stop::Conflict(conflict)) => Ok(Some(conflict)),
@@ -58,59 +46,41 @@ fn conflict_of(flow: Result<(), Stop>) -> Result<Option<Conflict>> {
 /// Each further reduction of the store comes so many conflicts later after the one before.
 const LATER: u64 = 200;
 
-impl<'a> Engine<'a> {
-    /// A search for schedules of a makespan at most `most`, in periods, over the longest walks. It looks at all that follows
-    /// at the root.
-    pub fn open(
-        alloc: Global,
-        instance: &'a Instance,
-        walks: &Walks,
-        most: i32,
-        options: Options,
-    ) -> Result<Engine<'a>> {
-        let settled = settle(alloc, instance, walks.try_copy(alloc)?, most)?;
-        let mut engine = Engine::new(alloc, instance, &settled, most, options)?;
-        for order in &settled.forced {
-            engine.log.order(order.from, order.to)?;
-        }
-        if settled.is_dead || !engine.has_room() {
-            engine.refute(Ground::Arcs)?;
-        } else if let Some(conflict) = conflict_of(engine.begin())? {
-            engine.log_root()?;
-            engine.analyse(conflict)?;
-        }
-        Ok(engine)
+impl Engine<'_> {
+    /// A search begins, at the root. It may meet so many conflicts. What one decision contradicts is a lemma; of more
+    /// decisions on one level it may be none.
+    pub fn start(&mut self, mut first: Vec<Literal>, most: u64, pace: Pace) -> Result<Run> {
+        self.go_back(0)?;
+        first.retain(|literal: &Literal| !self.trail.holds(*literal));
+        self.floor = u32::from(first.len() > 1);
+        let mut run = Run {
+            first,
+            conflict: conflict_of(self.settle_root())?,
+            last: self.counts.conflicts.saturating_add(most),
+            pace,
+        };
+        run.pace.start();
+        Ok(run)
     }
 
     /// Searches until a schedule, until there is none, or for so many steps: conflicts and decisions.
-    pub fn search(&mut self, run: &mut Run, pace: &mut Pace, steps: u64) -> Result<Found> {
-        if run.last.is_none() {
-            self.begin_run(run, pace)?;
-        }
+    pub fn search(&mut self, run: &mut Run, steps: u64) -> Result<Found> {
         for _ in 0..steps {
             if self.is_refuted {
                 return Ok(Found::Refuted);
             }
-            let found = match run.conflict {
-                Some(conflict) => self.follow_conflict(run, pace, conflict)?,
-                None => self.go_on(run, pace)?,
+            let step = match run.conflict.take() {
+                Some(conflict) => self.follow_conflict(run, conflict),
+                None => self.go_on(run),
             };
-            if found != Found::Open {
-                return Ok(found);
+            match step {
+                Ok(Found::Open) => {}
+                Ok(found) => return Ok(found),
+                Err(Stop::Conflict(conflict)) => run.conflict = Some(conflict),
+                Err(Stop::Memory) => return Err(AllocError),
             }
         }
         Ok(Found::Open)
-    }
-
-    /// The search begins, at the root. What one decision contradicts is a lemma; of more decisions on one level it may be
-    /// none.
-    fn begin_run(&mut self, run: &mut Run, pace: &mut Pace) -> Result<()> {
-        run.last = Some(self.counts.conflicts.saturating_add(run.most));
-        self.floor = if run.first.len() > 1 { 1 } else { 0 };
-        pace.start();
-        self.go_back(0)?;
-        run.conflict = conflict_of(self.settle_root())?;
-        Ok(())
     }
 
     /// What follows at the root, with what others have proved.
@@ -119,71 +89,47 @@ impl<'a> Engine<'a> {
         self.propagate()
     }
 
-    /// Learns from a conflict, and sees what follows.
-    fn follow_conflict(
-        &mut self,
-        run: &mut Run,
-        pace: &mut Pace,
-        conflict: Conflict,
-    ) -> Result<Found> {
-        let Some(flow) = self.learn(pace, conflict)? else {
+    /// Learns from a conflict, goes back, and sees what follows. The first decisions are at fault where nothing is learnt.
+    fn follow_conflict(&mut self, run: &mut Run, conflict: Conflict) -> Result<Found, Stop> {
+        self.counts.conflicts = self.counts.conflicts.wrapping_add(1);
+        self.log_root()?;
+        let Some(Learnt { level, lbd, number }) = self.analyse(conflict)? else {
             return Ok(Found::Refuted);
         };
-        let next = match flow {
-            Ok(()) => self.propagate(),
-            Err(stop) => Err(stop),
-        };
-        run.conflict = conflict_of(next)?;
+        run.pace.note(lbd);
+        self.go_back(level)?;
+        let mut reason = Reason::Given;
+        if self.marks.nogood.len() > 1 {
+            let place = self.lemmas.learn(&self.marks.nogood, lbd, number)?;
+            reason = Reason::Lemma { place };
+        }
+        if let Some(literal) = self.marks.nogood.first().copied() {
+            self.trail.force(literal, reason)?;
+        }
+        self.propagate()?;
         Ok(Found::Open)
     }
 
     /// One step without a conflict: a restart where it is time for one, with a look at imports, or else a decision.
-    fn go_on(&mut self, run: &mut Run, pace: &mut Pace) -> Result<Found> {
-        if run.last.is_some_and(|last| self.counts.conflicts >= last) {
+    fn go_on(&mut self, run: &mut Run) -> Result<Found, Stop> {
+        if self.counts.conflicts >= run.last {
             return Ok(Found::Stopped);
         }
         let fails = |literal: &Literal| self.trail.fails(*literal);
         if self.trail.level() == 0 && run.first.iter().any(fails) {
             return Ok(Found::Refuted);
         }
-        self.start_again(pace)?;
+        self.start_again(&mut run.pace)?;
         if self.trail.level() == 0 && !self.imports.is_empty() {
-            run.conflict = conflict_of(self.settle_root())?;
+            self.settle_root()?;
             return Ok(Found::Open);
         }
-        run.conflict = conflict_of(self.find_overloads(&run.first))?;
-        if run.conflict.is_some() {
-            return Ok(Found::Open);
-        }
+        self.find_overloads(&run.first)?;
         if !self.decide_next(&run.first)? {
             return Ok(Found::Schedule);
         }
-        run.conflict = conflict_of(self.propagate())?;
+        self.propagate()?;
         Ok(Found::Open)
-    }
-
-    /// Learns from a conflict, goes back, and sets what follows. Gives what follows, or none where the first decisions are
-    /// at fault; the root's are where the search is refuted.
-    fn learn(&mut self, pace: &mut Pace, conflict: Conflict) -> Result<Option<Result<(), Stop>>> {
-        self.counts.conflicts = self.counts.conflicts.wrapping_add(1);
-        self.log_root()?;
-        let Some(learnt) = self.analyse(conflict)? else {
-            return Ok(None);
-        };
-        pace.note(learnt.lbd);
-        self.go_back(learnt.level)?;
-        let Some(literal) = self.marks.nogood.first().copied() else {
-            return Ok(None);
-        };
-        let reason = if self.marks.nogood.len() > 1 {
-            let place = self
-                .lemmas
-                .learn(&self.marks.nogood, learnt.lbd, learnt.number)?;
-            Reason::Lemma { place }
-        } else {
-            Reason::Given
-        };
-        Ok(Some(self.trail.force(literal, reason)))
     }
 
     /// Goes back to the first decisions if it is time to, or to the root if there are imports, or many lemmas are new, of
@@ -194,7 +140,6 @@ impl<'a> Engine<'a> {
             return Ok(());
         }
         pace.start();
-        self.counts.restarts = self.counts.restarts.wrapping_add(1);
         if is_due {
             self.reduce()
         } else if self.imports.is_empty() {
@@ -220,7 +165,7 @@ impl<'a> Engine<'a> {
     /// Looks at energy and at long cliques, where a supposed end, or none, is the only decision.
     fn find_overloads(&mut self, first: &[Literal]) -> Result<(), Stop> {
         if first.len() < 2 && self.trail.level() as usize <= first.len() {
-            find_overloads(self.alloc, self.instance, &self.trail)?;
+            find_overloads(self.instance, &self.trail)?;
             self.cliques.find_overloads(&self.trail)?;
         }
         Ok(())
@@ -244,15 +189,10 @@ impl<'a> Engine<'a> {
     /// The least starts, and the end that they need.
     pub fn schedule(&self) -> Result<Vec<i32>> {
         let end = self.instance.end();
-        let mut starts = Vec::new(self.alloc);
-        for activity in 0..end {
-            starts.push(self.trail.least(activity))?;
-        }
-        let inner = self
-            .instance
-            .entering(end)
-            .iter()
-            .filter(|edge| edge.from != end);
+        let before = self.instance.entering.row(end).iter();
+        let starts = (0..end).map(|activity| self.trail.least(activity));
+        let mut starts: Vec<i32> = starts.collect(self.alloc)?;
+        let inner = before.filter(|edge| edge.from != end);
         let ends = inner.map(|edge| self.trail.least(edge.from).wrapping_add(edge.weight));
         starts.push(ends.max().unwrap_or(0))?;
         Ok(starts)
@@ -278,20 +218,9 @@ impl<'a> Engine<'a> {
         Ok(self.trail.least(self.instance.end()))
     }
 
-    /// Whether a literal holds at the root, to which the search goes back.
-    pub fn holds_always(&mut self, literal: Literal) -> Result<bool> {
-        self.go_back(0)?;
-        Ok(self.trail.holds(literal))
-    }
-
-    /// The values of a schedule are tried first.
+    /// The values of a schedule are tried first. Where nothing else says so, activities are started in its order.
     pub fn prefer(&mut self, starts: &[i32]) {
-        self.choices
-            .prefer(self.instance, starts, self.edges.pairs());
-    }
-
-    /// Where nothing else says so, activities are started in the order of a schedule.
-    pub fn follow_sequence(&mut self, starts: &[i32]) {
-        self.choices.follow(starts);
+        let pairs = &self.edges.pairs;
+        self.choices.prefer(self.instance, starts, pairs);
     }
 }

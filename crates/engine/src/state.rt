@@ -3,9 +3,10 @@
 use crate::choices::Choices;
 use crate::imports::Import;
 use crate::marks::Marks;
-use instance::{Instance, Rivals, Settled, greedy_cliques, start_sequence};
+use crate::search::conflict_of;
+use instance::{Instance, Settled, Walks, greedy_cliques, settle, start_sequence};
 use literals::{Lemmas, Literal, Stop, Trail};
-use proof_log::{Log, Slots};
+use proof_log::{Ground, Log, Slots};
 use propagation::{Cliques, Edges, TimeTable};
 use std::alloc::Global;
 use tables::{Result, Rows, Table};
@@ -13,6 +14,8 @@ use tables::{Result, Rows, Table};
 /// What a search is made with.
 #[derive(Clone, Copy)]
 pub struct Options {
+    /// The greatest makespan of a schedule, in periods.
+    pub most: i32,
     /// Whether the log of its proof is kept.
     pub has_log: bool,
     /// Whether it looks at cliques.
@@ -21,40 +24,21 @@ pub struct Options {
     pub seed: u64,
     /// Where its lemmas go.
     pub slots: Slots,
+    /// What was done before.
+    pub done: Counts,
 }
 
 /// How much was done.
-#[derive(Clone, Copy, PartialEq, Eq, Debug)]
+#[derive(Clone, Copy, PartialEq, Eq, Debug, Default)]
 pub struct Counts {
     pub conflicts: u64,
     pub decisions: u64,
-    pub restarts: u64,
     /// Events that were followed: the unit of effort.
     pub events: u64,
 }
 
-impl Counts {
-    /// Nothing was done.
-    pub const NOTHING: Counts = Counts {
-        conflicts: 0,
-        decisions: 0,
-        restarts: 0,
-        events: 0,
-    };
-
-    /// What was done in two searches.
-    pub fn plus(self, other: Counts) -> Counts {
-        Counts {
-            conflicts: self.conflicts.saturating_add(other.conflicts),
-            decisions: self.decisions.saturating_add(other.decisions),
-            restarts: self.restarts.saturating_add(other.restarts),
-            events: self.events.saturating_add(other.events),
-        }
-    }
-}
-
 /// The first reduction of the store comes after so many conflicts.
-pub(crate) const FIRST_REDUCTION: u64 = 2_000;
+const FIRST_REDUCTION: u64 = 2_000;
 
 /// A search of a project for schedules below a ceiling.
 #[derive(Drop)]
@@ -72,7 +56,7 @@ pub struct Engine<'a> {
     pub(crate) choices: Choices,
     pub(crate) marks: Marks,
     /// The log of the proof.
-    pub log: Log,
+    pub log: Log<'a>,
     /// Events of the root before this one are in the log.
     pub(crate) logged: u32,
     /// Events before this one were followed by arcs, orders and lemmas.
@@ -91,22 +75,17 @@ pub struct Engine<'a> {
 }
 
 /// The first values of all slots, for schedules of a makespan at most `most`.
-fn first_values(
-    alloc: Global,
-    instance: &Instance,
-    settled: &Settled,
-    most: i32,
-) -> Result<Table<i32>> {
-    let mut values = Table::new(alloc, 0);
+fn first_values(instance: &Instance, settled: &Settled, most: i32) -> Result<Table<i32>> {
+    let mut values = Table::new(instance.alloc, 0);
     let walks = &settled.walks;
     for activity in 0..instance.count() {
-        let tail = walks.direct(activity, instance.end()).unwrap_or(0);
-        let back = walks.direct(activity, 0).unwrap_or(i32::MIN);
-        values.push(walks.direct(0, activity).unwrap_or(0))?;
+        let tail = walks.longest(activity, instance.end()).unwrap_or(0);
+        let back = walks.longest(activity, 0).unwrap_or(i32::MIN);
+        values.push(walks.longest(0, activity).unwrap_or(0))?;
         values.push(tail.wrapping_sub(most).max(back))?;
     }
     for _ in &settled.open {
-        values.push_all(&[0, -1])?;
+        values.items.extend_from_slice(&[0, -1])?;
     }
     Ok(values)
 }
@@ -124,10 +103,10 @@ fn may_overlap(instance: &Instance, settled: &Settled, users: &[u32]) -> bool {
 }
 
 /// The resources of which some users may run at once.
-fn shared_resources(alloc: Global, instance: &Instance, settled: &Settled) -> Result<Vec<u32>> {
-    let mut shared = Vec::new(alloc);
+fn shared_resources(instance: &Instance, settled: &Settled) -> Result<Vec<u32>> {
+    let mut shared = Vec::new(instance.alloc);
     for resource in 0..instance.resource_count() {
-        let users = instance.users(alloc, resource)?;
+        let users = instance.users(resource)?;
         if may_overlap(instance, settled, &users) {
             shared.push(resource)?;
         }
@@ -136,58 +115,66 @@ fn shared_resources(alloc: Global, instance: &Instance, settled: &Settled) -> Re
 }
 
 impl<'a> Engine<'a> {
-    /// A search for schedules of a makespan at most `most`, in periods, under settled orders. It has looked at nothing
-    /// yet.
-    pub(crate) fn new(
-        alloc: Global,
-        instance: &'a Instance,
-        settled: &Settled,
-        most: i32,
-        options: Options,
-    ) -> Result<Engine<'a>> {
-        let walks = &settled.walks;
-        let trail = Trail::new(alloc, first_values(alloc, instance, settled, most)?)?;
-        let resources = shared_resources(alloc, instance, settled)?;
-        let edges = Edges::new(alloc, instance, walks, &settled.forced, &settled.open)?;
-        let found = if options.has_cliques {
-            greedy_cliques(alloc, instance, walks)?
-        } else {
-            Rows::new(alloc, 0)
+    /// A search for schedules, over the longest walks. It looks at all that follows at the root.
+    pub fn open(instance: &'a Instance, walks: &Walks, options: Options) -> Result<Engine<'a>> {
+        let settled = settle(instance, walks.try_copy()?, options.most)?;
+        let mut engine = Engine::new(instance, &settled, options)?;
+        for order in &settled.forced {
+            engine.log.order(*order)?;
+        }
+        if settled.is_dead || !engine.has_room() {
+            engine.refute(Ground::Arcs)?;
+        } else if let Some(conflict) = conflict_of(engine.begin())? {
+            engine.log_root()?;
+            engine.analyse(conflict)?;
+        }
+        Ok(engine)
+    }
+
+    /// A search under settled orders that has looked at nothing yet.
+    fn new(instance: &'a Instance, settled: &Settled, options: Options) -> Result<Engine<'a>> {
+        let alloc = instance.alloc;
+        let trail = Trail::new(alloc, first_values(instance, settled, options.most)?)?;
+        let resources = shared_resources(instance, settled)?;
+        let edges = Edges::new(instance, settled)?;
+        let found = match options.has_cliques {
+            true => greedy_cliques(instance, &settled.walks)?,
+            false => Rows::new(alloc, 0),
         };
-        let sequence = start_sequence(alloc, instance, walks)?;
+        let sequence = start_sequence(instance, &settled.walks)?;
         let only_orders = resources.is_empty();
         Ok(Engine {
             alloc,
             instance,
-            table: TimeTable::new(alloc, instance, &resources)?,
-            cliques: Cliques::new(alloc, instance, &edges, &found)?,
+            table: TimeTable::new(instance, &resources)?,
+            cliques: Cliques::new(instance, &edges, &found)?,
             edges,
-            lemmas: Lemmas::new(alloc, trail.slots())?,
+            lemmas: Lemmas::new(alloc, trail.values().count())?,
             imports: Vec::new(alloc),
-            looked: 0,
+            looked: options.done.conflicts,
             choices: Choices::new(alloc, &trail, sequence, only_orders, options.seed)?,
             trail,
             marks: Marks::new(alloc),
-            log: Log::new(alloc, options.has_log, options.slots),
+            log: Log::new(instance, &settled.open, options.has_log, options.slots)?,
             logged: 1,
             queue: 1,
             table_marks: Table::new(alloc, 0),
             is_refuted: false,
             floor: 0,
-            reduction: FIRST_REDUCTION,
+            reduction: options.done.conflicts.wrapping_add(FIRST_REDUCTION),
             reduction_step: FIRST_REDUCTION,
-            counts: Counts::NOTHING,
+            counts: options.done,
         })
     }
 
     /// Whether each start has a value that it may have.
-    pub(crate) fn has_room(&self) -> bool {
-        (0..self.instance.count()).all(|activity| self.trail.least(activity)
-            <= self.trail.greatest(activity))
+    fn has_room(&self) -> bool {
+        let has_room = |activity: u32| self.trail.least(activity) <= self.trail.greatest(activity);
+        (0..self.instance.count()).all(has_room)
     }
 
     /// Looks at all, at the start.
-    pub(crate) fn begin(&mut self) -> Result<(), Stop> {
+    fn begin(&mut self) -> Result<(), Stop> {
         for slot in 0..self.instance.count().wrapping_mul(2) {
             self.edges.follow(&mut self.trail, slot)?;
         }
@@ -242,8 +229,7 @@ impl<'a> Engine<'a> {
         if level >= self.trail.level() {
             return Ok(());
         }
-        let begin = self.trail.begin_of(level);
-        self.trail.end_levels(level);
+        let begin = self.trail.end_levels(level);
         for _ in begin..self.trail.count() {
             if let Some(event) = self.trail.pop() {
                 self.choices.save(&event);
@@ -258,17 +244,8 @@ impl<'a> Engine<'a> {
         Ok(())
     }
 
-    /// The pairs whose orders are variables.
-    pub fn pairs(&self) -> &[Rivals] {
-        self.edges.pairs()
-    }
-
-    /// How many bytes the search takes, but for what a project of its size takes anyway.
+    /// How many bytes lemmas take.
     pub fn bytes(&self) -> u64 {
-        self.lemmas
-            .bytes()
-            .saturating_add(self.trail.bytes())
-            .saturating_add(self.table.bytes())
-            .saturating_add(self.choices.bytes())
+        self.lemmas.bytes()
     }
 }

@@ -2,7 +2,6 @@
 
 use crate::numbers::Instance;
 use crate::walks::Walks;
-use std::alloc::Global;
 use std::cmp::Reverse;
 use tables::{Result, Rows, Table};
 
@@ -13,29 +12,25 @@ const BUDGET: u64 = 1_000_000_000;
 #[derive(Drop)]
 struct Relations<'a> {
     instance: &'a Instance,
+    walks: &'a Walks,
     /// All bits of each two that don't overlap, as rivals or by lags; else none.
     apart: Table<i32>,
-    /// Those that are rivals whose order is open.
-    open: Table<bool>,
 }
 
 impl<'a> Relations<'a> {
-    fn new(alloc: Global, instance: &'a Instance, walks: &Walks) -> Result<Relations<'a>> {
-        let (mut apart, mut open) = (Table::new(alloc, 0), Table::new(alloc, false));
+    fn new(instance: &'a Instance, walks: &'a Walks) -> Result<Relations<'a>> {
+        let mut apart = Table::new(instance.alloc, 0);
         for a in 0..instance.count() {
             for b in 0..instance.count() {
-                let (p, q) = (instance.duration(a), instance.duration(b));
-                let is_settled = walks.reaches(a, b, p) || walks.reaches(b, a, q);
-                let both_run = a != b && p > 0 && q > 0;
-                let is_apart = both_run && (is_settled || instance.are_rivals(a, b));
-                apart.push(if is_apart { -1 } else { 0 })?;
-                open.push(is_apart && !is_settled)?;
+                let both_run = a != b && instance.durations[a] > 0 && instance.durations[b] > 0;
+                let are_parted = walks.part(instance, a, b) || instance.are_rivals(a, b);
+                apart.push(if both_run && are_parted { -1 } else { 0 })?;
             }
         }
         Ok(Relations {
             instance,
+            walks,
             apart,
-            open,
         })
     }
 
@@ -54,22 +49,22 @@ impl<'a> Relations<'a> {
     fn work_beside(&self, activity: u32) -> i32 {
         (0..self.instance.count())
             .filter(|other| self.are_apart(activity, *other))
-            .map(|other| self.instance.duration(other))
-            .fold(self.instance.duration(activity), i32::wrapping_add)
+            .map(|other| self.instance.durations[other])
+            .fold(self.instance.durations[activity], i32::wrapping_add)
     }
 
     /// An activity is not counted any more in the work beside others.
     fn leave_out(&self, activity: u32, leaves: &mut Table<i32>) {
-        let duration = self.instance.duration(activity);
-        for (work, bits) in leaves.all_mut().iter_mut().zip(self.row(activity)) {
+        let duration = self.instance.durations[activity];
+        for (work, bits) in leaves.items.iter_mut().zip(self.row(activity)) {
             *work = work.wrapping_sub(duration & *bits);
         }
     }
 
     /// The clique from an activity on: next comes always the one that leaves most work, the last of these.
-    fn greedy(&self, alloc: Global, first: u32, leaves: &[i32]) -> Result<Vec<u32>> {
-        let mut left = Table::new(alloc, 0);
-        left.push_all(leaves)?;
+    fn greedy(&self, first: u32, leaves: &[i32]) -> Result<Vec<u32>> {
+        let alloc = self.instance.alloc;
+        let mut left = Table::of(Vec::from_slice(alloc, leaves)?, 0);
         let mut fits: Vec<u32> = (0..self.instance.count()).collect(alloc)?;
         let mut members = Vec::new(alloc);
         let mut next = Some(first);
@@ -90,21 +85,19 @@ impl<'a> Relations<'a> {
 
     /// The greedy cliques with their work, those of most work first. They begin from the longest activities, as many as
     /// there is time for.
-    fn all(&self, alloc: Global) -> Result<Vec<(Reverse<i64>, Vec<u32>)>> {
-        let instance = self.instance;
+    fn all(&self) -> Result<Vec<(Reverse<i64>, Vec<u32>)>> {
+        let (instance, alloc) = (self.instance, self.instance.alloc);
         let work = (0..instance.count()).map(|activity| self.work_beside(activity));
         let leaves: Vec<i32> = work.collect(alloc)?;
-        let mut seeds: Vec<(Reverse<i32>, u32)> = (1..instance.end())
-            .map(|activity| (Reverse(instance.duration(activity)), activity))
-            .filter(|(duration, _)| duration.0 > 0)
-            .collect(alloc)?;
-        seeds.sort_unstable();
+        let mut seeds: Vec<u32> = (1..instance.end()).collect(alloc)?;
+        let key = |seed: &u32| (Reverse(instance.durations[*seed]), *seed);
+        seeds.sort_unstable_by_key(key);
         let count = u64::from(instance.count().max(1));
         let most = BUDGET / count.wrapping_mul(count).max(1);
         let mut cliques = Vec::new(alloc);
-        for (_, first) in seeds.iter().take(most as usize) {
-            let members = self.greedy(alloc, *first, &leaves)?;
-            let durations = members.iter().map(|member| instance.duration(*member));
+        for first in seeds.iter().take(most as usize) {
+            let members = self.greedy(*first, &leaves)?;
+            let durations = members.iter().map(|member| instance.durations[*member]);
             let work = durations.map(i64::from).fold(0, i64::wrapping_add);
             cliques.push((Reverse(work), members))?;
         }
@@ -113,13 +106,12 @@ impl<'a> Relations<'a> {
     }
 
     /// The places of the open pairs of a clique.
-    fn open_pairs(&self, alloc: Global, members: &[u32]) -> Result<Vec<u32>> {
-        let mut pairs = Vec::new(alloc);
+    fn open_pairs(&self, members: &[u32]) -> Result<Vec<u32>> {
+        let mut pairs = Vec::new(self.instance.alloc);
         for a in members {
             for b in members.iter().filter(|b| *a < **b) {
-                let place = self.instance.place(*a, *b);
-                if self.open[place] {
-                    pairs.push(place)?;
+                if !self.walks.part(self.instance, *a, *b) {
+                    pairs.push(self.instance.place(*a, *b))?;
                 }
             }
         }
@@ -129,13 +121,13 @@ impl<'a> Relations<'a> {
 
 /// Cliques: each two members are rivals, over whatever resources, or in an order by lags. From each activity on greedily
 /// the one that leaves most work. By falling work those stay of whose open pairs a twelfth is in none before.
-pub fn greedy_cliques(alloc: Global, instance: &Instance, walks: &Walks) -> Result<Rows<u32>> {
-    let relations = Relations::new(alloc, instance, walks)?;
+pub fn greedy_cliques(instance: &Instance, walks: &Walks) -> Result<Rows<u32>> {
+    let (alloc, relations) = (instance.alloc, Relations::new(instance, walks)?);
     let places = instance.place(instance.count(), 0) as usize;
     let mut seen = Table::filled(alloc, places, false, true)?;
     let mut cliques = Rows::new(alloc, 0);
-    for (_, members) in relations.all(alloc)?.iter() {
-        let pairs = relations.open_pairs(alloc, members)?;
+    for (_, members) in relations.all()?.iter() {
+        let pairs = relations.open_pairs(members)?;
         let new = pairs.iter().filter(|place| !seen[**place]).count();
         if members.len() > 2 && new > 0 && new.wrapping_mul(12) >= pairs.len() {
             cliques.push_row(members)?;

@@ -23,13 +23,16 @@ impl Edge {
 /// What a search needs to know of a project.
 #[derive(Drop)]
 pub struct Instance {
-    durations: Table<i32>,
+    pub alloc: Global,
+    /// By activity, in periods.
+    pub durations: Table<i32>,
     /// Demands by activity and then by resource.
     demands: Table<i32>,
-    capacities: Table<i32>,
+    /// How much there is of each resource.
+    pub capacities: Table<i32>,
     /// The lags from each activity, the implied ones too, and those to each.
-    leaving: Rows<Edge>,
-    entering: Rows<Edge>,
+    pub leaving: Rows<Edge>,
+    pub entering: Rows<Edge>,
     /// Where there is a schedule, there is one that is no longer, in periods.
     pub horizon: i32,
 }
@@ -53,14 +56,14 @@ impl Instance {
             leaving.push((edge.from, edge))?;
             entering.push((edge.to, edge))?;
         }
-        let count = narrow(project.activity_count());
         let none = Edge::new(0, 0, 0);
         let mut instance = Instance {
+            alloc,
             durations: Table::new(alloc, 0),
             demands: Table::new(alloc, 0),
             capacities: Table::new(alloc, 0),
-            leaving: Rows::by_row(alloc, count, &leaving, none)?,
-            entering: Rows::by_row(alloc, count, &entering, none)?,
+            leaving: Rows::by_row(alloc, leaving, none)?,
+            entering: Rows::by_row(alloc, entering, none)?,
             horizon: horizon_of(project).clamp(0, MAX_HORIZON) as i32,
         };
         instance.take_amounts(project)?;
@@ -103,11 +106,6 @@ impl Instance {
         self.capacities.count()
     }
 
-    /// The duration of an activity, in periods.
-    pub fn duration(&self, activity: u32) -> i32 {
-        self.durations[activity]
-    }
-
     /// What an activity needs of a resource.
     pub fn demand(&self, activity: u32, resource: u32) -> i32 {
         let row = activity.wrapping_mul(self.resource_count());
@@ -121,86 +119,58 @@ impl Instance {
         self.demands.part(row, end)
     }
 
-    /// How much there is of each resource.
-    pub fn capacities(&self) -> &[i32] {
-        self.capacities.all()
-    }
-
-    /// How much there is of a resource.
-    pub fn capacity(&self, resource: u32) -> i32 {
-        self.capacities[resource]
-    }
-
-    /// All lags, the implied ones too.
-    pub fn edges(&self) -> &[Edge] {
-        self.leaving.all()
-    }
-
-    /// The lags from an activity.
-    pub fn leaving(&self, activity: u32) -> &[Edge] {
-        self.leaving.row(activity)
-    }
-
-    /// The lags to an activity.
-    pub fn entering(&self, activity: u32) -> &[Edge] {
-        self.entering.row(activity)
-    }
-
     /// Whether an activity runs and needs some of a resource.
     pub fn uses(&self, activity: u32, resource: u32) -> bool {
-        self.duration(activity) > 0 && self.demand(activity, resource) > 0
+        self.durations[activity] > 0 && self.demand(activity, resource) > 0
     }
 
     /// The activities that run and need some of a resource.
-    pub fn users(&self, alloc: Global, resource: u32) -> Result<Vec<u32>> {
-        let activities = 0..self.count();
-        activities
-            .filter(|activity: &u32| self.uses(*activity, resource))
-            .collect(alloc)
+    pub fn users(&self, resource: u32) -> Result<Vec<u32>> {
+        let users = (0..self.count()).filter(|activity: &u32| self.uses(*activity, resource));
+        users.collect(self.alloc)
     }
 
     /// Whether some resource isn't enough for two activities that run at once.
     pub fn are_rivals(&self, a: u32, b: u32) -> bool {
         let demands = self.demands(a).iter().zip(self.demands(b));
         a != b
-            && self.duration(a) > 0
-            && self.duration(b) > 0
-            && demands.zip(self.capacities()).any(|((first, second), capacity)| first.wrapping_add(
-                *second,
-            ) > *capacity)
+            && self.durations[a] > 0
+            && self.durations[b] > 0
+            && demands.zip(&self.capacities.items).any(|(
+                (first, second),
+                capacity,
+            )| first.wrapping_add(*second) > *capacity)
     }
 
-    /// The duration times the demand of all activities for a resource.
-    fn work(&self, resource: u32) -> i64 {
-        let mut work = 0i64;
-        for activity in 0..self.count() {
-            let demand = i64::from(self.demand(activity, resource));
-            work = work.wrapping_add(i64::from(self.duration(activity)).wrapping_mul(demand));
-        }
-        work
+    /// The duration times the demand of an activity for a resource.
+    fn work(&self, activity: u32, resource: u32) -> i64 {
+        let demand = i64::from(self.demand(activity, resource));
+        i64::from(self.durations[activity]).wrapping_mul(demand)
+    }
+
+    /// How long all activities need a resource, if it were always used up.
+    fn load(&self, resource: u32) -> i64 {
+        let works = (0..self.count()).map(|activity| self.work(activity, resource));
+        works.fold(0, i64::wrapping_add) / i64::from(self.capacities[resource].max(1))
     }
 
     /// A makespan that a shortest schedule seldom exceeds: twice the longest walk and the greatest load.
     pub fn likely_end(&self, walk: i32) -> i32 {
-        let load = (0..self.resource_count())
-            .map(|resource| self.work(resource) / i64::from(self.capacity(resource).max(1)))
+        let loads = (0..self.resource_count()).map(|resource| self.load(resource));
+        let end = loads
             .max()
-            .unwrap_or(0);
-        let end = load.wrapping_add(i64::from(walk)).wrapping_mul(2);
+            .unwrap_or(0)
+            .wrapping_add(i64::from(walk))
+            .wrapping_mul(2);
         (end.clamp(0, MAX_HORIZON) as i32).min(self.horizon)
     }
 
     /// Whether some activity alone needs more of a resource than there is.
     pub fn asks_too_much(&self) -> bool {
-        for activity in 0..self.count() {
-            let is_too_much = |resource: u32| {
-                self.uses(activity, resource)
-                    && self.demand(activity, resource) > self.capacity(resource)
-            };
-            if (0..self.resource_count()).any(is_too_much) {
-                return true;
-            }
-        }
-        false
+        let is_too_much = |activity: u32| {
+            let mut amounts = self.demands(activity).iter().zip(&self.capacities.items);
+            self.durations[activity] > 0 && amounts.any(|(demand, capacity)| demand > capacity)
+        };
+        (0..self.count()).any(is_too_much)
     }
 }

@@ -2,7 +2,6 @@
 
 use crate::numbers::{Edge, Instance};
 use crate::walks::Walks;
-use std::alloc::Global;
 use std::cmp::Reverse;
 use std::mem;
 use tables::{Result, Table, narrow};
@@ -30,8 +29,7 @@ pub struct Settled {
 impl Settled {
     /// Whether two activities, the lesser one first, don't run at once: by lags, or as their order is open.
     pub fn is_parted(&self, instance: &Instance, first: u32, second: u32) -> bool {
-        self.walks.reaches(first, second, instance.duration(first))
-            || self.walks.reaches(second, first, instance.duration(second))
+        self.walks.part(instance, first, second)
             || self.open.binary_search(&Rivals { first, second }).is_ok()
     }
 }
@@ -45,23 +43,22 @@ const BUDGET: u64 = 500_000_000;
 impl Settled {
     /// Whether the first activity of an order can end before the other starts, if no schedule ends after `most`.
     fn fits(&self, instance: &Instance, order: Edge, most: i32) -> bool {
-        let head = self.walks.direct(0, order.from).unwrap_or(0);
-        let tail = self.walks.direct(order.to, instance.end()).unwrap_or(0);
-        let sum = i64::from(head).wrapping_add(i64::from(tail));
-        let end = sum.wrapping_add(i64::from(order.weight));
-        end <= i64::from(most) && !self.walks.closes(order)
+        let head = self.walks.longest(0, order.from).unwrap_or(0);
+        let tail = self.walks.longest(order.to, instance.end()).unwrap_or(0);
+        let end = head.saturating_add(order.weight).saturating_add(tail);
+        let is_closed = |back: i32| back.saturating_add(order.weight) > 0;
+        end <= most
+            && !self
+                .walks
+                .longest(order.to, order.from)
+                .is_some_and(is_closed)
     }
 
     /// Puts in the order of a pair if only one fits. Whether it stays open.
-    fn stays_open(
-        &mut self,
-        alloc: Global,
-        instance: &Instance,
-        Rivals { first, second }: Rivals,
-        most: i32,
-    ) -> Result<bool> {
-        let before = Edge::new(first, second, instance.duration(first));
-        let after = Edge::new(second, first, instance.duration(second));
+    fn stays_open(&mut self, instance: &Instance, pair: Rivals, most: i32) -> Result<bool> {
+        let Rivals { first, second } = pair;
+        let before = Edge::new(first, second, instance.durations[first]);
+        let after = Edge::new(second, first, instance.durations[second]);
         let fits_before = self.fits(instance, before, most);
         let fits_after = self.fits(instance, after, most);
         if fits_before && fits_after {
@@ -71,21 +68,20 @@ impl Settled {
         self.is_dead = !fits_before && !fits_after;
         if self.is_dead || !self.walks.reaches(order.from, order.to, order.weight) {
             self.forced.push(order)?;
-            self.is_dead = self.is_dead || !self.walks.insert(alloc, order)?;
-            self.walks.forget();
+            self.walks.insert(order)?;
         }
         Ok(false)
     }
 
     /// Settles each open pair once, up to where there is no schedule.
-    fn pass(&mut self, alloc: Global, instance: &Instance, most: i32) -> Result<()> {
+    fn pass(&mut self, instance: &Instance, most: i32) -> Result<()> {
         let above = most.wrapping_add(1);
         self.is_dead = self.walks.reaches(0, instance.end(), above);
-        for pair in mem::replace(&mut self.open, Vec::new(alloc)).iter() {
+        for pair in mem::replace(&mut self.open, Vec::new(instance.alloc)).iter() {
             if self.is_dead {
                 break;
             }
-            if self.stays_open(alloc, instance, *pair, most)? {
+            if self.stays_open(instance, *pair, most)? {
                 self.open.push(*pair)?;
             }
         }
@@ -95,22 +91,22 @@ impl Settled {
 
 /// The orders of rivals that every schedule of a makespan at most `most` has, and the pairs that are left open, settled
 /// until nothing follows any more, or it gets long. Above 20,000 open pairs none is named.
-pub fn settle(alloc: Global, instance: &Instance, walks: Walks, most: i32) -> Result<Settled> {
+pub fn settle(instance: &Instance, walks: Walks, most: i32) -> Result<Settled> {
     let after = |first: u32| first.wrapping_add(1)..instance.count();
     let pairs = (0..instance.count())
         .flat_map(|first| after(first).map(move |second| Rivals { first, second }))
         .filter(|pair| instance.are_rivals(pair.first, pair.second));
     let mut settled = Settled {
         walks,
-        forced: Vec::new(alloc),
-        open: pairs.collect(alloc)?,
+        forced: Vec::new(instance.alloc),
+        open: pairs.collect(instance.alloc)?,
         is_dead: false,
     };
     let count = u64::from(instance.count().max(1));
     let limit = BUDGET / count.wrapping_mul(count).max(1);
     for _ in 0..u64::MAX {
         let before = settled.forced.len();
-        settled.pass(alloc, instance, most)?;
+        settled.pass(instance, most)?;
         let forced = settled.forced.len();
         if settled.is_dead || forced == before || forced as u64 >= limit {
             break;
@@ -124,13 +120,13 @@ pub fn settle(alloc: Global, instance: &Instance, walks: Walks, most: i32) -> Re
 
 /// Whether a walk leads from one activity to another and none back.
 fn is_before(walks: &Walks, first: u32, second: u32) -> bool {
-    walks.direct(first, second).is_some() && walks.direct(second, first).is_none()
+    walks.longest(first, second).is_some() && walks.longest(second, first).is_none()
 }
 
 /// Activities in an order to start them at once: by their latest starts, but after all that a walk leads from, unless
 /// one leads back. So what ends a maximum lag has its other predecessors placed before.
-pub fn start_sequence(alloc: Global, instance: &Instance, walks: &Walks) -> Result<Vec<u32>> {
-    let end = instance.end();
+pub fn start_sequence(instance: &Instance, walks: &Walks) -> Result<Vec<u32>> {
+    let (alloc, end) = (instance.alloc, instance.end());
     let mut waits = Table::new(alloc, 0);
     for activity in 0..instance.count() {
         let before = (0..instance.count()).filter(|other| is_before(walks, *other, activity));
@@ -138,7 +134,7 @@ pub fn start_sequence(alloc: Global, instance: &Instance, walks: &Walks) -> Resu
     }
     let mut left: Vec<u32> = (0..instance.count()).collect(alloc)?;
     left.sort_unstable_by_key(|activity: &u32| {
-        let tail = walks.direct(*activity, end).unwrap_or(0);
+        let tail = walks.longest(*activity, end).unwrap_or(0);
         (Reverse(tail), *activity)
     });
     let mut sequence = Vec::new(alloc);

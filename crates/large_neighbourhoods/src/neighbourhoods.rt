@@ -2,7 +2,6 @@
 
 use instance::Instance;
 use literals::Literal;
-use std::alloc::Global;
 use tables::{Result, Table};
 
 /// How the activities that are to be free are chosen.
@@ -58,8 +57,8 @@ impl Random {
 }
 
 /// How many lags lead from an activity by lot to each one, in any direction.
-fn steps_by_lags(alloc: Global, instance: &Instance, random: &mut Random) -> Result<Table<u32>> {
-    let (count, end) = (instance.count(), instance.end());
+fn steps_by_lags(instance: &Instance, random: &mut Random) -> Result<Table<u32>> {
+    let (alloc, count, end) = (instance.alloc, instance.count(), instance.end());
     let first = random.below(count.wrapping_sub(2)).wrapping_add(1);
     let mut steps = Table::filled(alloc, count as usize, u32::MAX, u32::MAX)?;
     let mut list = Table::filled(alloc, 1, first, 0)?;
@@ -69,8 +68,8 @@ fn steps_by_lags(alloc: Global, instance: &Instance, random: &mut Random) -> Res
             break;
         }
         let next = steps[list[at]].wrapping_add(1);
-        let after = instance.leaving(list[at]).iter().map(|edge| edge.to);
-        let before = instance.entering(list[at]).iter().map(|edge| edge.from);
+        let after = instance.leaving.row(list[at]).iter().map(|edge| edge.to);
+        let before = instance.entering.row(list[at]).iter().map(|edge| edge.from);
         for near in after.chain(before) {
             if near != 0 && near != end && steps[near] == u32::MAX {
                 steps[near] = next;
@@ -83,29 +82,29 @@ fn steps_by_lags(alloc: Global, instance: &Instance, random: &mut Random) -> Res
 
 /// How long after a time the middle of an activity is, in half periods.
 fn distance(instance: &Instance, activity: u32, start: i32, time: i32) -> i64 {
-    let duration = i64::from(instance.duration(activity));
+    let duration = i64::from(instance.durations[activity]);
     let start = i64::from(start).wrapping_sub(i64::from(time));
     start.wrapping_mul(2).wrapping_add(duration)
 }
 
 /// The inner activities that run, those that are to be free first.
 fn by_nearness(
-    alloc: Global,
     instance: &Instance,
     kind: Kind,
     starts: &[i32],
     time: i32,
     random: &mut Random,
 ) -> Result<Vec<u32>> {
+    let alloc = instance.alloc;
     let resource = random.below(instance.resource_count());
     let steps = match kind {
-        Kind::Lags => steps_by_lags(alloc, instance, random)?,
+        Kind::Lags => steps_by_lags(instance, random)?,
         _ => Table::new(alloc, 0),
     };
     let by_time = kind == Kind::Window || kind == Kind::Users;
     let mut all: Vec<(u32, u64, u32)> = Vec::new(alloc);
     for (activity, start) in (0..instance.end()).zip(starts).skip(1) {
-        if instance.duration(activity) == 0 {
+        if instance.durations[activity] == 0 {
             continue;
         }
         let class = match kind {
@@ -125,7 +124,6 @@ fn by_nearness(
 /// The first decisions of a neighbourhood in which so many activities are free, by lot. The second schedule is the
 /// first one with starts as late as can be.
 pub fn first_decisions(
-    alloc: Global,
     instance: &Instance,
     (kind, form): (Kind, Form),
     starts: &[i32],
@@ -135,12 +133,12 @@ pub fn first_decisions(
 ) -> Result<Vec<Literal>> {
     let end = starts.last().copied().unwrap_or(0).max(0);
     let time = random.below(end.unsigned_abs()).cast_signed();
-    let order = by_nearness(alloc, instance, kind, starts, time, random)?;
-    let mut is_free = Table::filled(alloc, instance.count() as usize, false, true)?;
+    let order = by_nearness(instance, kind, starts, time, random)?;
+    let mut is_free = Table::filled(instance.alloc, instance.count() as usize, false, true)?;
     for activity in order.iter().take(size) {
         is_free[*activity] = true;
     }
-    let mut first = Vec::new(alloc);
+    let mut first = Vec::new(instance.alloc);
     for (activity, (start, late)) in (0..instance.end()).zip(starts.iter().zip(late)).skip(1) {
         let (start, late) = (*start, late.wrapping_sub(1));
         let is_before = distance(instance, activity, start, time) < 0;

@@ -3,7 +3,7 @@
 use crate::literal::{Literal, NEVER};
 use crate::reason::{Conflict, Reason, Stop};
 use crate::trail::Trail;
-use std::alloc::{AllocError, Global};
+use std::alloc::Global;
 use std::cmp::Reverse;
 use std::mem;
 use tables::{Result, Table, narrow};
@@ -27,7 +27,7 @@ struct Watch {
 }
 
 /// A value of a slot that is watched, and the list of its watches.
-#[derive(Clone, Copy)]
+#[derive(Clone, Copy, Default)]
 struct Watched {
     value: i32,
     list: u32,
@@ -60,7 +60,7 @@ pub struct Lemmas {
     literals: Table<Literal>,
     heads: Table<Head>,
     /// By slot: the values that are watched, rising.
-    watched: Vec<Vec<Watched>>,
+    watched: Vec<Table<Watched>>,
     lists: Vec<Vec<Watch>>,
     bump: u64,
 }
@@ -70,7 +70,7 @@ impl Lemmas {
     pub fn new(alloc: Global, slots: u32) -> Result<Lemmas> {
         let mut watched = Vec::new(alloc);
         for _ in 0..slots {
-            watched.push(Vec::new(alloc))?;
+            watched.push(Table::new(alloc, Watched::default()))?;
         }
         Ok(Lemmas {
             alloc,
@@ -113,21 +113,17 @@ impl Lemmas {
     /// The list of the watches of a literal.
     fn list_of(&mut self, literal: Literal) -> Result<u32> {
         let Literal { slot, value } = literal;
-        let Some(values) = self.watched.get(slot as usize) else {
+        let Some(values) = self.watched.get_mut(slot as usize) else {
             return Ok(u32::MAX);
         };
-        let at = values.partition_point(|known: &Watched| known.value < value);
-        if let Some(known) = values.get(at).copied().filter(|known| known.value == value) {
-            return Ok(known.list);
+        let known = values.items.as_slice();
+        let at = narrow(known.partition_point(|known: &Watched| known.value < value));
+        if at >= values.count() || values[at].value != value {
+            let list = narrow(self.lists.len());
+            self.lists.push(Vec::new(self.alloc))?;
+            values.insert(at, Watched { value, list })?;
         }
-        let list = narrow(self.lists.len());
-        self.lists.push(Vec::new(self.alloc))?;
-        if let Some(values) = self.watched.get_mut(slot as usize) {
-            if at <= values.len() && values.insert(at, Watched { value, list }).is_err() {
-                return Err(AllocError);
-            }
-        }
-        Ok(list)
+        Ok(values[at].list)
     }
 
     /// The lemma at a place is to be looked at once a literal gets false, unless the other one holds.
@@ -142,28 +138,28 @@ impl Lemmas {
     /// A lemma of two literals or more, of so many levels, with its number in the log. The first literal is to hold next,
     /// the second is of the level that was gone back to. Gives the lemma's place.
     pub fn learn(&mut self, literals: &[Literal], lbd: u32, number: u32) -> Result<u32> {
-        let (place, activity) = (self.literals.count(), self.bump);
+        let activity = self.bump;
         let head = Head {
-            place,
+            place: 0,
             lbd,
             number,
             activity,
         };
-        self.add(literals, head)?;
-        Ok(place)
+        self.add(literals, head)
     }
 
-    /// Adds a lemma at the end.
-    fn add(&mut self, literals: &[Literal], head: Head) -> Result<()> {
+    /// Adds a lemma at the end. Gives its place.
+    fn add(&mut self, literals: &[Literal], head: Head) -> Result<u32> {
         let place = self.literals.count();
         let (slot, value) = (narrow(literals.len()), self.heads.count().cast_signed());
         self.literals.push(Literal { slot, value })?;
-        self.literals.push_all(literals)?;
+        self.literals.items.extend_from_slice(literals)?;
         self.heads.push(Head { place, ..head })?;
         let first = self.literals[place.wrapping_add(1)];
         let other = self.literals[place.wrapping_add(2)];
         self.watch(first, place, other)?;
-        self.watch(other, place, first)
+        self.watch(other, place, first)?;
+        Ok(place)
     }
 
     /// Finds another literal to watch for one that got false.
@@ -234,10 +230,12 @@ impl Lemmas {
         let Some(values) = self.watched.get(slot as usize) else {
             return Ok(());
         };
-        let first = values.partition_point(|known: &Watched| known.value <= old);
+        let first = values
+            .items
+            .partition_point(|known: &Watched| known.value <= old);
         for at in first..usize::MAX {
             let values = self.watched.get(slot as usize);
-            let found = values.and_then(|values| values.get(at).copied());
+            let found = values.and_then(|values| values.items.get(at).copied());
             let Some(Watched { value, list }) = found.filter(|found| found.value <= new) else {
                 break;
             };
@@ -257,66 +255,48 @@ impl Lemmas {
     pub fn age(&mut self) {
         self.bump = self.bump.wrapping_add(self.bump / 1_000);
         if self.bump > LAST_BUMP {
-            for head in self.heads.all_mut() {
+            for head in &mut self.heads.items {
                 head.activity = head.activity / SCALE;
             }
             self.bump = self.bump / SCALE;
         }
     }
 
-    /// The lemmas that stay where half of those that did little go, and all that hold always.
-    fn kept(&self, trail: &Trail) -> Result<Vec<Head>> {
-        let (mut kept, mut others) = (Vec::new(self.alloc), Vec::new(self.alloc));
-        for head in self.heads.all() {
+    /// Which lemmas go, by their heads: half of those that did little, and all that hold always.
+    fn going(&self, trail: &Trail) -> Result<Table<bool>> {
+        let mut goes = Table::new(self.alloc, false);
+        let mut others = Vec::new(self.alloc);
+        for head in &self.heads.items {
             let literals = self.literals(head.place);
-            if literals.iter().any(|literal| trail.holds(*literal)) {
-                continue;
+            let holds = literals.iter().any(|literal| trail.holds(*literal));
+            if !holds && head.lbd > SMALL && literals.len() > 2 {
+                others.push((head.lbd, Reverse(head.activity), goes.count()))?;
             }
-            if head.lbd <= SMALL || literals.len() == 2 {
-                kept.push(*head)?;
-            } else {
-                others.push(*head)?;
-            }
+            goes.push(holds)?;
         }
-        others.sort_unstable_by_key(|head: &Head| (head.lbd, Reverse(head.activity), head.place));
-        others.truncate(others.len() / 2);
-        kept.extend_from_slice(&others)?;
-        kept.sort_unstable_by_key(|head: &Head| head.place);
-        Ok(kept)
+        others.sort_unstable();
+        for (_, _, at) in others.iter().skip(others.len() / 2) {
+            goes[*at] = true;
+        }
+        Ok(goes)
     }
 
     /// Forgets half of the lemmas that did little, and all that hold always. At the root only, where none is a reason
     /// and all that follows is there. Gives the numbers of those that go.
     pub fn reduce(&mut self, trail: &Trail) -> Result<Vec<u32>> {
-        let kept = self.kept(trail)?;
+        let goes = self.going(trail)?;
         let empty = Lemmas::new(self.alloc, narrow(self.watched.len()))?;
         let bump = self.bump;
         let old = mem::replace(self, Lemmas { bump, ..empty });
-        let mut left = Vec::new(self.alloc);
-        for head in &kept {
-            left.clear();
-            for literal in old.literals(head.place) {
-                if !trail.fails(*literal) {
-                    left.push(*literal)?;
-                }
-            }
-            if left.len() > 1 {
-                self.add(&left, *head)?;
-            }
-        }
-        old.gone(&kept)
-    }
-
-    /// The numbers of the lemmas that are not among these, which come by their places.
-    fn gone(&self, kept: &[Head]) -> Result<Vec<u32>> {
         let mut gone = Vec::new(self.alloc);
-        let mut kept = kept.iter().peekable();
-        for head in self.heads.all() {
-            if kept
-                .next_if(|next: &&Head| next.place == head.place)
-                .is_none()
-            {
+        for (head, goes) in old.heads.items.iter().zip(&goes.items) {
+            let literals = old.literals(head.place).iter().copied();
+            let open = literals.filter(|literal: &Literal| !trail.fails(*literal));
+            let open: Vec<Literal> = open.collect(self.alloc)?;
+            if *goes {
                 gone.push(head.number)?;
+            } else if open.len() > 1 {
+                self.add(&open, *head)?;
             }
         }
         Ok(gone)

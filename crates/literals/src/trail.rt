@@ -51,19 +51,9 @@ impl Trail {
         })
     }
 
-    /// How many slots there are.
-    pub fn slots(&self) -> u32 {
-        self.values.count()
-    }
-
-    /// The value of a slot.
-    pub fn value(&self, slot: u32) -> i32 {
-        self.values[slot]
-    }
-
     /// The values of all slots.
-    pub fn values(&self) -> &[i32] {
-        self.values.all()
+    pub fn values(&self) -> &Table<i32> {
+        &self.values
     }
 
     /// The least value of a variable.
@@ -108,18 +98,9 @@ impl Trail {
         self.events[number]
     }
 
-    /// Where a level begins.
-    pub fn begin_of(&self, level: u32) -> u32 {
-        self.levels[level]
-    }
-
     /// The events before this one always hold.
     pub fn root_end(&self) -> u32 {
-        if self.levels.is_empty() {
-            self.count()
-        } else {
-            self.levels[0]
-        }
+        self.levels.items.first().copied().unwrap_or(self.count())
     }
 
     /// The event that made a literal hold, 0 where it held always.
@@ -201,22 +182,18 @@ impl Trail {
         Ok(())
     }
 
-    /// The levels from one on end. Their events are to be taken back one by one.
-    pub fn end_levels(&mut self, level: u32) {
+    /// The levels from one on end. Gives where they begin: their events are to be taken back one by one.
+    pub fn end_levels(&mut self, level: u32) -> u32 {
+        let begin = self.levels[level];
         self.levels.truncate(level);
+        begin
     }
 
     /// Takes the last event back.
     pub fn pop(&mut self) -> Option<Event> {
-        let event = self.events.pop()?;
+        let event = self.events.items.pop()?;
         self.values[event.slot] = event.old;
         self.last[event.slot] = event.before;
         Some(event)
-    }
-
-    /// How many bytes the events and values take.
-    pub fn bytes(&self) -> u64 {
-        let events = u64::from(self.count()).wrapping_mul(32);
-        events.wrapping_add(u64::from(self.slots()).wrapping_mul(8))
     }
 }

@@ -1,10 +1,10 @@
-//! What a search tells of its proof: each lemma with the steps that lead to it.
+//! What a search tells of its proof: the events of a record of lemmas, each with the lines that show it.
+//!
+//! Nothing here needs to be trusted: whoever takes an event has it checked.
 #![tactic(auto)]
 
+mod ground;
 mod log;
-mod numbers;
-mod step;
 
-pub use log::Log;
-pub use numbers::Slots;
-pub use step::{Ground, Link, NO_LINK, Step};
+pub use ground::{Ground, Link};
+pub use log::{Log, Slots, Told};

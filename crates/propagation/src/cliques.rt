@@ -6,7 +6,6 @@ use crate::edges::Edges;
 use crate::windows::{Window, find_overload, reached, renew_all};
 use instance::Instance;
 use literals::{Conflict, Event, Literal, NEVER, Reason, Stop, Trail};
-use std::alloc::Global;
 use std::mem;
 use tables::{Result, Rows, Table, narrow};
 
@@ -27,7 +26,6 @@ struct News {
     /// Those whose least start is to be looked at, and the same of greatest starts.
     least: Set,
     greatest: Set,
-    is_noted: bool,
 }
 
 /// A clique, and a place in it.
@@ -48,22 +46,22 @@ struct Seats {
 /// The cliques of a search.
 #[derive(Drop)]
 pub struct Cliques<'a> {
-    alloc: Global,
     instance: &'a Instance,
     /// The windows of each clique's members, as they went when it was looked at last; and the same with time turned round.
     windows: Rows<Window>,
     turned: Rows<Window>,
     /// So many cliques are looked at everywhere. Those after them are so at the root and below a supposed end alone.
     short: u32,
-    members: Rows<u32>,
+    pub members: Rows<u32>,
     /// By all members, clique after clique: the places of those that are known to run before it, and after it.
     before: Table<Set>,
     after: Table<Set>,
+    /// By clique. Where there are news, it is in `todo`.
     news: Table<News>,
+    todo: Vec<u32>,
     /// By activity, and by pair.
     seats: Rows<Seat>,
     pairs: Rows<Seats>,
-    todo: Table<u32>,
     /// Events before this one are noticed.
     queue: u32,
 }
@@ -74,37 +72,31 @@ fn bit(place: u32) -> Set {
 }
 
 /// The cliques that are looked at everywhere, and then the long ones. Gives how many the first are.
-fn parted(alloc: Global, found: &Rows<u32>) -> Result<(Rows<u32>, u32)> {
-    let mut work = 0u64;
-    for clique in 0..found.count() {
-        let size = found.row(clique).len().min(MOST) as u64;
-        work = work.wrapping_add(size.wrapping_mul(size));
-    }
-    let most = if work <= WORK { MOST } else { 0 };
+fn parted(instance: &Instance, found: &Rows<u32>) -> Result<(Rows<u32>, u32)> {
+    let sizes = (0..found.count()).map(|clique| found.row(clique).len().min(MOST) as u64);
+    let work = sizes.map(|size| size.wrapping_mul(size));
+    let most = if work.fold(0, u64::wrapping_add) <= WORK {
+        MOST
+    } else {
+        0
+    };
     let is_short = |clique: &u32| found.row(*clique).len() <= most;
-    let mut members = Rows::new(alloc, 0);
-    for clique in (0..found.count()).filter(is_short) {
+    let short = (0..found.count()).filter(is_short);
+    let long = (0..found.count()).filter(|clique| !is_short(clique));
+    let mut members = Rows::new(instance.alloc, 0);
+    for clique in short.chain(long) {
         members.push_row(found.row(clique))?;
     }
-    let short = members.count();
-    for clique in (0..found.count()).filter(|clique| !is_short(clique)) {
-        members.push_row(found.row(clique))?;
-    }
-    Ok((members, short))
+    let count = (0..found.count()).filter(is_short).count();
+    Ok((members, narrow(count)))
 }
 
 impl<'a> Cliques<'a> {
     /// Cliques of given members, which rise.
-    pub fn new(
-        alloc: Global,
-        instance: &'a Instance,
-        edges: &Edges,
-        found: &Rows<u32>,
-    ) -> Result<Cliques<'a>> {
-        let (members, short) = parted(alloc, found)?;
-        let all = members.all().len();
+    pub fn new(instance: &'a Instance, edges: &Edges, found: &Rows<u32>) -> Result<Cliques<'a>> {
+        let (alloc, (members, short)) = (instance.alloc, parted(instance, found)?);
+        let (all, count) = (members.values.items.len(), members.count() as usize);
         let mut cliques = Cliques {
-            alloc,
             instance,
             windows: Rows::new(alloc, Window::default()),
             turned: Rows::new(alloc, Window::default()),
@@ -112,61 +104,47 @@ impl<'a> Cliques<'a> {
             members,
             before: Table::filled(alloc, all, 0, 0)?,
             after: Table::filled(alloc, all, 0, 0)?,
-            news: Table::new(alloc, News::default()),
+            news: Table::filled(alloc, count, News::default(), News::default())?,
+            todo: Vec::new(alloc),
             seats: Rows::new(alloc, Seat::default()),
             pairs: Rows::new(alloc, Seats::default()),
-            todo: Table::new(alloc, 0),
             queue: 0,
         };
-        cliques.list_windows()?;
         cliques.seat_all()?;
         cliques.relate_all(edges)?;
         Ok(cliques)
     }
 
-    /// Lists the windows of all members.
-    fn list_windows(&mut self) -> Result<()> {
+    /// Lists the windows of all members, and the cliques of each activity. All are to be looked at.
+    fn seat_all(&mut self) -> Result<()> {
+        let mut seats = Vec::new(self.instance.alloc);
         for clique in 0..self.members.count() {
-            let mut place = 0u32;
-            for activity in self.members.row(clique) {
-                let (activity, duration) = (*activity, self.instance.duration(*activity));
+            for (place, activity) in (0..u32::MAX).zip(self.members.row(clique)) {
                 let window = Window {
-                    duration,
-                    activity,
+                    duration: self.instance.durations[*activity],
+                    activity: *activity,
                     place,
                     ..Window::default()
                 };
-                self.windows.push(window)?;
-                self.turned.push(window)?;
-                place = place.wrapping_add(1);
+                self.windows.values.push(window)?;
+                self.turned.values.push(window)?;
+                if clique < self.short {
+                    seats.push((*activity, Seat { clique, place }))?;
+                }
             }
             self.windows.close()?;
             self.turned.close()?;
-        }
-        Ok(())
-    }
-
-    /// Finds the cliques of each activity. All are to be looked at.
-    fn seat_all(&mut self) -> Result<()> {
-        let mut seats = Vec::new(self.alloc);
-        for clique in 0..self.short {
-            let numbers = self.members.numbers(clique);
-            let first = numbers.start;
-            for number in numbers {
-                let place = number.wrapping_sub(first);
-                seats.push((self.members[number], Seat { clique, place }))?;
+            if clique < self.short {
+                self.note(clique, Set::MAX, 0, 0)?;
             }
-            self.news.push(News::default())?;
-            self.news[clique].moved = Set::MAX;
-            self.note(clique)?;
         }
-        self.seats = Rows::by_row(self.alloc, self.instance.count(), &seats, Seat::default())?;
+        self.seats = Rows::by_row(self.instance.alloc, seats, Seat::default())?;
         Ok(())
     }
 
     /// Finds how the members of each clique stand to each other: in an order by lags, or in one that a literal says.
     fn relate_all(&mut self, edges: &Edges) -> Result<()> {
-        let mut pairs = Vec::new(self.alloc);
+        let mut pairs = Vec::new(self.instance.alloc);
         for clique in 0..self.short {
             let count = narrow(self.members.row(clique).len()).max(1);
             for at in 0..count.wrapping_mul(count) {
@@ -174,17 +152,15 @@ impl<'a> Cliques<'a> {
                 let a = self.members[self.at(clique, one)];
                 let b = self.members[self.at(clique, other)];
                 match edges.precedence(a, b) {
-                    None => self.set_before(clique, one, other),
+                    None => self.turn(clique, one, other),
                     Some(literal) if a < b && literal != NEVER => {
-                        let pair = literal.variable().wrapping_sub(self.instance.count());
-                        pairs.push((pair, Seats { clique, one, other }))?;
+                        pairs.push((literal.variable(), Seats { clique, one, other }))?;
                     }
                     _ => {}
                 }
             }
         }
-        let count = narrow(edges.pairs().len());
-        self.pairs = Rows::by_row(self.alloc, count, &pairs, Seats::default())?;
+        self.pairs = Rows::by_row(self.instance.alloc, pairs, Seats::default())?;
         Ok(())
     }
 
@@ -193,24 +169,22 @@ impl<'a> Cliques<'a> {
         self.members.numbers(clique).start.wrapping_add(place)
     }
 
-    /// One member runs before another one.
-    fn set_before(&mut self, clique: u32, first: u32, second: u32) {
+    /// It gets known that one member runs before another one, or, where it was, unknown.
+    fn turn(&mut self, clique: u32, first: u32, second: u32) {
         let (from, to) = (self.at(clique, first), self.at(clique, second));
-        self.after[from] |= bit(second);
-        self.before[to] |= bit(first);
+        self.after[from] ^= bit(second);
+        self.before[to] ^= bit(first);
     }
 
-    /// It is not known any more that one member runs before another one.
-    fn clear_before(&mut self, clique: u32, first: u32, second: u32) {
-        let (from, to) = (self.at(clique, first), self.at(clique, second));
-        self.after[from] &= !bit(second);
-        self.before[to] &= !bit(first);
-    }
-
-    /// A clique is to be looked at.
+    /// Something changed in a clique, which is to be looked at.
     #[inline(always)]
-    fn note(&mut self, clique: u32) -> Result<()> {
-        if !mem::replace(&mut self.news[clique].is_noted, true) {
+    fn note(&mut self, clique: u32, moved: Set, least: Set, greatest: Set) -> Result<()> {
+        let news = &mut self.news[clique];
+        let is_first = news.moved | news.least | news.greatest == 0;
+        news.moved |= moved;
+        news.least |= least;
+        news.greatest |= greatest;
+        if is_first {
             self.todo.push(clique)?;
         }
         Ok(())
@@ -221,41 +195,29 @@ impl<'a> Cliques<'a> {
         for number in self.seats.numbers(activity) {
             let Seat { clique, place } = self.seats[number];
             let at = self.at(clique, place);
-            let (after, before) = (self.after[at], self.before[at]);
-            let news = &mut self.news[clique];
-            news.moved |= bit(place);
-            if is_least {
-                news.least |= after;
-            } else {
-                news.greatest |= before;
-            }
-            self.note(clique)?;
+            let least = if is_least { self.after[at] } else { 0 };
+            let greatest = if is_least { 0 } else { self.before[at] };
+            self.note(clique, bit(place), least, greatest)?;
         }
         Ok(())
     }
 
-    /// The cliques of a pair, with the places of the activity that is first by an order of it, and of the other one.
-    fn seats_of(&self, number: u32, is_first: bool) -> Seats {
-        let seats = self.pairs[number];
+    /// The clique of a pair, with the places of the activity that is first by an order of it, and of the other one.
+    fn seats_of(&self, number: u32, is_first: bool) -> (u32, u32, u32) {
+        let Seats { clique, one, other } = self.pairs[number];
         if is_first {
-            return seats;
-        }
-        Seats {
-            one: seats.other,
-            other: seats.one,
-            ..seats
+            (clique, one, other)
+        } else {
+            (clique, other, one)
         }
     }
 
     /// A pair got an order.
     fn notice_order(&mut self, pair: u32, is_first: bool) -> Result<()> {
         for number in self.pairs.numbers(pair) {
-            let Seats { clique, one, other } = self.seats_of(number, is_first);
-            self.set_before(clique, one, other);
-            let news = &mut self.news[clique];
-            news.least |= bit(other);
-            news.greatest |= bit(one);
-            self.note(clique)?;
+            let (clique, first, second) = self.seats_of(number, is_first);
+            self.turn(clique, first, second);
+            self.note(clique, 0, bit(second), bit(first))?;
         }
         Ok(())
     }
@@ -266,18 +228,15 @@ impl<'a> Cliques<'a> {
         if variable < self.instance.count() || trail.count() >= self.queue {
             return;
         }
-        for number in self
-            .pairs
-            .numbers(variable.wrapping_sub(self.instance.count()))
-        {
-            let Seats { clique, one, other } = self.seats_of(number, event.slot % 2 == 0);
-            self.clear_before(clique, one, other);
+        for number in self.pairs.numbers(variable) {
+            let (clique, first, second) = self.seats_of(number, event.slot % 2 == 0);
+            self.turn(clique, first, second);
         }
     }
 
     /// The trail went back to so many events. Nothing was left to look at then.
     pub fn go_back(&mut self, queue: u32) {
-        for clique in self.todo.all() {
+        for clique in &self.todo {
             self.news[*clique] = News::default();
         }
         self.todo.clear();
@@ -292,7 +251,7 @@ impl<'a> Cliques<'a> {
             if variable < self.instance.count() {
                 self.notice_bound(variable, is_lower)?;
             } else {
-                self.notice_order(variable.wrapping_sub(self.instance.count()), is_lower)?;
+                self.notice_order(variable, is_lower)?;
             }
             self.queue = number.wrapping_add(1);
         }
@@ -303,24 +262,13 @@ impl<'a> Cliques<'a> {
     pub fn run(&mut self, trail: &mut Trail) -> Result<(), Stop> {
         self.catch_up(trail)?;
         for _ in 0..u64::MAX {
-            let Some(clique) = self.todo.all().last().copied() else {
+            let Some(clique) = self.todo.pop() else {
                 break;
             };
-            self.look_at(trail, clique)?;
-            self.news[clique].is_noted = false;
-            self.todo.pop();
+            let news = mem::replace(&mut self.news[clique], News::default());
+            self.look_at(trail, clique, news)?;
         }
         Ok(())
-    }
-
-    /// How many members a clique has.
-    pub fn size(&self, clique: u32) -> u32 {
-        narrow(self.members.row(clique).len())
-    }
-
-    /// The member at a place of a clique.
-    pub fn member(&self, clique: u32, place: u32) -> u32 {
-        self.members[self.at(clique, place)]
     }
 
     /// A conflict where the windows of a clique are overloaded. Those of places that have not moved were looked at before.
@@ -342,15 +290,7 @@ impl<'a> Cliques<'a> {
     }
 
     /// Looks at what changed in a clique.
-    fn look_at(&mut self, trail: &mut Trail, clique: u32) -> Result<(), Stop> {
-        let is_noted = true;
-        let news = mem::replace(
-            &mut self.news[clique],
-            News {
-                is_noted,
-                ..News::default()
-            },
-        );
+    fn look_at(&mut self, trail: &mut Trail, clique: u32, news: News) -> Result<(), Stop> {
         self.find_overload(trail, clique, news.moved)?;
         self.push_all(trail, clique, news.least, true)?;
         if news.greatest != 0 {
@@ -362,17 +302,14 @@ impl<'a> Cliques<'a> {
 
     /// Looks at the bounds of some members.
     fn push_all(
-        &mut self,
+        &self,
         trail: &mut Trail,
         clique: u32,
-        places: Set,
+        all: Set,
         is_least: bool,
     ) -> Result<(), Stop> {
-        let mut left = places;
-        for _ in 0..64 {
-            if left == 0 {
-                break;
-            }
+        let mut left = all;
+        for _ in 0..all.count_ones() {
             let place = left.trailing_zeros();
             left = left & left.wrapping_sub(1);
             self.push(trail, Seat { clique, place }, is_least)?;
@@ -392,17 +329,12 @@ impl<'a> Cliques<'a> {
             let (reached, time) = reached(windows, self.before[at], trail.least(activity));
             return trail.force(Literal::at_least(activity, reached), reason(time));
         }
+        let duration = self.instance.durations[activity];
+        let end = trail.greatest(activity).wrapping_add(duration);
         let windows = self.turned.row(clique);
-        let duration = self.instance.duration(activity);
-        let bound = trail
-            .greatest(activity)
-            .wrapping_add(duration)
-            .wrapping_neg();
-        let (reached, time) = reached(windows, self.after[at], bound);
+        let (reached, time) = reached(windows, self.after[at], end.wrapping_neg());
         let latest = reached.wrapping_neg().wrapping_sub(duration);
-        trail.force(
-            Literal::at_most(activity, latest),
-            reason(time.wrapping_neg()),
-        )
+        let literal = Literal::at_most(activity, latest);
+        trail.force(literal, reason(time.wrapping_neg()))
     }
 }

@@ -22,20 +22,11 @@ impl Part {
 
     /// What a part has more than before: in front, and behind.
     pub(crate) fn more_than(self, old: Part) -> [Part; 2] {
+        let Part { from, to } = self;
         if old.is_empty() {
             return [self, NO_PART];
         }
-        let front = Part {
-            to: old.from,
-            ..self
-        };
-        [
-            front,
-            Part {
-                from: old.to,
-                ..self
-            },
-        ]
+        [Part { from, to: old.from }, Part { from: old.to, to }]
     }
 }
 
@@ -64,7 +55,7 @@ pub struct Profile {
     /// By row: bits of activities that run, in words.
     running: Table<u64>,
     /// Rows that are free.
-    spare: Table<u32>,
+    spare: Vec<u32>,
 }
 
 impl Profile {
@@ -72,21 +63,20 @@ impl Profile {
     pub fn new(alloc: Global, activities: u32, capacities: &[i32]) -> Result<Profile> {
         let words = activities.div_ceil(64).max(1);
         let (row, from) = (0, i32::MIN);
-        let mut room = Table::new(alloc, 0);
-        room.push_all(capacities)?;
+        let room = Table::of(Vec::from_slice(alloc, capacities)?, 0);
         Ok(Profile {
             resources: room.count(),
             words,
             segments: Table::filled(alloc, 1, Segment { from, row }, PAST)?,
             room,
             running: Table::filled(alloc, words as usize, 0, 0)?,
-            spare: Table::new(alloc, 0),
+            spare: Vec::new(alloc),
         })
     }
 
     /// The segment that has a time.
     pub(crate) fn find(&self, time: i32) -> u32 {
-        let segments = self.segments.all();
+        let segments = self.segments.items.as_slice();
         narrow(segments.partition_point(|segment: &Segment| segment.from <= time)).saturating_sub(1)
     }
 
@@ -111,10 +101,8 @@ impl Profile {
         if self.begin(found) == time {
             return Ok(found);
         }
-        let row = match self.spare.pop() {
-            Some(row) => row,
-            None => self.running.count() / self.words.max(1),
-        };
+        let new = self.running.count() / self.words.max(1);
+        let row = self.spare.pop().unwrap_or(new);
         let (room, bits) = (self.room_at(found), self.bits_at(found));
         let (resources, words) = (self.resources, self.words);
         self.room
@@ -214,42 +202,45 @@ impl Profile {
         None
     }
 
-    /// The last time of a part at which there is no room for an activity beside its own part, and the resource.
-    pub fn last_full(&self, demands: &[i32], part: Part, own: Part) -> Option<(i32, u32)> {
-        let mut end = part.to;
-        let mut segment = self.find(end.wrapping_sub(1));
+    /// The last time of a part at which there is no room for an activity beside its own part, or the first one; and the
+    /// resource.
+    pub fn full(
+        &self,
+        demands: &[i32],
+        part: Part,
+        own: Part,
+        is_last: bool,
+    ) -> Option<(i32, u32)> {
+        let near = if is_last {
+            part.to.wrapping_sub(1)
+        } else {
+            part.from
+        };
+        let mut segment = self.find(near);
         for _ in 0..u64::MAX {
-            if end <= part.from {
+            let next = segment.wrapping_add(1);
+            let (begin, end) = (
+                self.begin(segment).max(part.from),
+                self.begin(next).min(part.to),
+            );
+            if begin >= end {
                 break;
             }
             if let Some(resource) = self.lacks(segment, demands, own) {
-                return Some((end.wrapping_sub(1), resource));
-            }
-            end = self.begin(segment);
-            segment = segment.wrapping_sub(1);
-        }
-        None
-    }
-
-    /// The first time of a part at which there is no room for an activity beside its own part, and the resource.
-    pub fn first_full(&self, demands: &[i32], part: Part, own: Part) -> Option<(i32, u32)> {
-        let mut time = part.from;
-        let mut segment = self.find(time);
-        for _ in 0..u64::MAX {
-            if time >= part.to {
-                break;
-            }
-            if let Some(resource) = self.lacks(segment, demands, own) {
+                let time = if is_last { end.wrapping_sub(1) } else { begin };
                 return Some((time, resource));
             }
-            segment = segment.wrapping_add(1);
-            time = self.begin(segment);
+            segment = if is_last {
+                segment.wrapping_sub(1)
+            } else {
+                next
+            };
         }
         None
     }
 
     /// Lists the activities that run in a segment.
-    pub(crate) fn list_running(&self, segment: u32, list: &mut Table<u32>) -> Result<()> {
+    pub(crate) fn list_running(&self, segment: u32, list: &mut Vec<u32>) -> Result<()> {
         for word in 0..self.words {
             let mut bits = self.running[self.bits_at(segment).wrapping_add(word)];
             for _ in 0..bits.count_ones() {
@@ -258,13 +249,5 @@ impl Profile {
             }
         }
         Ok(())
-    }
-
-    /// How many bytes the profile takes.
-    pub(crate) fn bytes(&self) -> u64 {
-        let room = u64::from(self.room.count()).wrapping_mul(4);
-        let running = u64::from(self.running.count()).wrapping_mul(8);
-        let segments = u64::from(self.segments.count()).wrapping_mul(8);
-        room.wrapping_add(running).wrapping_add(segments)
     }
 }

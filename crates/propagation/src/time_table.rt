@@ -3,15 +3,14 @@
 use crate::profile::{NO_PART, Part, Profile};
 use instance::Instance;
 use literals::{Conflict, Literal, Reason, Stop, Trail};
-use std::alloc::Global;
 use std::ops::Range;
 use tables::{Result, Table, narrow};
 
-/// The slots of activities that are to be looked at.
+/// The slots of activities that are to be looked at, the last one first.
 #[derive(Drop)]
 struct Notes {
     is_noted: Table<bool>,
-    todo: Table<u32>,
+    todo: Vec<u32>,
 }
 
 impl Notes {
@@ -25,28 +24,9 @@ impl Notes {
         Ok(())
     }
 
-    /// The first, the second, or both slots of an activity are to be looked at.
-    fn add(&mut self, activity: u32, is_first: bool, is_second: bool) -> Result<()> {
-        let slot = activity.wrapping_mul(2);
-        if is_first {
-            self.note(slot)?;
-        }
-        if is_second {
-            self.note(slot.wrapping_add(1))?;
-        }
-        Ok(())
-    }
-
-    /// Takes a slot that was to be looked at last.
-    fn take(&mut self) -> Option<u32> {
-        let slot = self.todo.pop()?;
-        self.is_noted[slot] = false;
-        Some(slot)
-    }
-
     /// None is to be looked at.
     fn clear(&mut self) {
-        for slot in self.todo.all() {
+        for slot in &self.todo {
             self.is_noted[*slot] = false;
         }
         self.todo.clear();
@@ -74,36 +54,37 @@ pub struct TimeTable<'a> {
 
 impl<'a> TimeTable<'a> {
     /// The time table of some resources. There is room for all in the others.
-    pub fn new(alloc: Global, instance: &'a Instance, resources: &[u32]) -> Result<TimeTable<'a>> {
-        let count = instance.count() as usize;
-        let mut capacities = Table::filled(alloc, instance.capacities().len(), i32::MAX, 0)?;
+    pub fn new(instance: &'a Instance, resources: &[u32]) -> Result<TimeTable<'a>> {
+        let (alloc, count) = (instance.alloc, instance.count() as usize);
+        let kinds = instance.capacities.items.len();
+        let mut capacities = Table::filled(alloc, kinds, i32::MAX, 0)?;
         for resource in resources {
-            capacities[*resource] = instance.capacity(*resource);
+            capacities[*resource] = instance.capacities[*resource];
         }
         let mut table = TimeTable {
             instance,
             durations: Table::filled(alloc, count, 0, 0)?,
-            greatest_demands: Table::filled(alloc, instance.capacities().len(), 0, 0)?,
-            rooms: Table::filled(alloc, instance.capacities().len(), 0, 0)?,
-            profile: Profile::new(alloc, instance.count(), capacities.all())?,
+            greatest_demands: Table::filled(alloc, kinds, 0, 0)?,
+            rooms: Table::filled(alloc, kinds, 0, 0)?,
+            profile: Profile::new(alloc, instance.count(), &capacities.items)?,
             parts: Table::filled(alloc, count, NO_PART, NO_PART)?,
             changes: Table::new(alloc, (0, NO_PART)),
             notes: Notes {
                 is_noted: Table::filled(alloc, count.wrapping_mul(2), false, true)?,
-                todo: Table::new(alloc, 0),
+                todo: Vec::new(alloc),
             },
             queue: 0,
         };
         for resource in resources {
-            table.take_users(alloc, *resource)?;
+            table.take_users(*resource)?;
         }
         Ok(table)
     }
 
     /// Takes the users of a resource.
-    fn take_users(&mut self, alloc: Global, resource: u32) -> Result<()> {
-        for activity in self.instance.users(alloc, resource)?.iter() {
-            self.durations[*activity] = self.instance.duration(*activity);
+    fn take_users(&mut self, resource: u32) -> Result<()> {
+        for activity in self.instance.users(resource)?.iter() {
+            self.durations[*activity] = self.instance.durations[*activity];
             let demand = self.instance.demand(*activity, resource);
             let greatest = &mut self.greatest_demands[resource];
             *greatest = demand.max(*greatest);
@@ -116,23 +97,15 @@ impl<'a> TimeTable<'a> {
         self.changes.count()
     }
 
-    /// How many bytes it takes.
-    pub fn bytes(&self) -> u64 {
-        let changes = u64::from(self.changes.count()).wrapping_mul(12);
-        self.profile.bytes().wrapping_add(changes)
-    }
-
     /// Takes the last change back.
     fn undo(&mut self) -> Result<()> {
-        let Some((activity, old)) = self.changes.pop() else {
+        let Some((activity, old)) = self.changes.items.pop() else {
             return Ok(());
         };
         let (now, demands) = (self.parts[activity], self.instance.demands(activity));
         self.parts[activity] = old;
-        for part in now.more_than(old) {
-            if !part.is_empty() {
-                self.profile.clear(activity, demands, part)?;
-            }
+        for part in now.more_than(old).iter().filter(|part| !part.is_empty()) {
+            self.profile.clear(activity, demands, *part)?;
         }
         Ok(())
     }
@@ -149,15 +122,23 @@ impl<'a> TimeTable<'a> {
 
     /// Notes those that may be pushed by a part: they need more of a resource than it has left.
     fn note_pushed(&mut self, trail: &Trail, part: Part) -> Result<()> {
-        let windows = trail.values().chunks_exact(2).zip(self.durations.all());
+        let windows = trail
+            .values()
+            .items
+            .chunks_exact(2)
+            .zip(&self.durations.items);
         for (activity, (window, duration)) in (0..self.parts.count()).zip(windows) {
             let (least, greatest) = (window[0], window[1].wrapping_neg());
             let meets = |start: i32| start < part.to && start.wrapping_add(*duration) > part.from;
-            let (is_first, is_last) = (meets(least), meets(greatest));
-            if (is_first || is_last) && least < greatest && *duration > 0 {
-                let mut needs = self.rooms.all().iter().zip(self.instance.demands(activity));
+            if (meets(least) || meets(greatest)) && least < greatest && *duration > 0 {
+                let mut needs = self.rooms.items.iter().zip(self.instance.demands(activity));
                 if needs.any(|(room, demand)| demand > room) {
-                    self.notes.add(activity, is_first, is_last)?;
+                    let slot = activity.wrapping_mul(2);
+                    for (start, slot) in [(least, slot), (greatest, slot.wrapping_add(1))] {
+                        if meets(start) {
+                            self.notes.note(slot)?;
+                        }
+                    }
                 }
             }
         }
@@ -166,10 +147,11 @@ impl<'a> TimeTable<'a> {
 
     /// Finds what a part has left of what an activity takes of it, where that is not enough for all. Whether there is such.
     fn find_rooms(&mut self, demands: &[i32], segments: Range<u32>) -> bool {
-        self.profile.least_rooms(segments, self.rooms.all_mut());
+        self.profile
+            .least_rooms(segments, self.rooms.items.as_mut_slice());
         let mut is_short = false;
-        let greatest = self.greatest_demands.all().iter();
-        for ((room, demand), most) in self.rooms.all_mut().iter_mut().zip(demands).zip(greatest) {
+        let greatest = &self.greatest_demands.items;
+        for ((room, demand), most) in self.rooms.items.iter_mut().zip(demands).zip(greatest) {
             if *demand == 0 || *room >= *most {
                 *room = i32::MAX;
             } else {
@@ -187,7 +169,7 @@ impl<'a> TimeTable<'a> {
         if !self.find_rooms(demands, segments) {
             return Ok(None);
         }
-        let Some(resource) = self.rooms.all().iter().position(|room| *room < 0) else {
+        let Some(resource) = self.rooms.items.iter().position(|room| *room < 0) else {
             self.note_pushed(trail, part)?;
             return Ok(None);
         };
@@ -210,10 +192,8 @@ impl<'a> TimeTable<'a> {
         self.changes.push((activity, old))?;
         self.parts[activity] = new;
         let mut overload = None;
-        for part in new.more_than(old) {
-            if !part.is_empty() {
-                overload = overload.or(self.fill(trail, activity, part)?);
-            }
+        for part in new.more_than(old).iter().filter(|part| !part.is_empty()) {
+            overload = overload.or(self.fill(trail, activity, *part)?);
         }
         match overload {
             Some(conflict) => Err(Stop::Conflict(conflict)),
@@ -244,52 +224,41 @@ impl<'a> TimeTable<'a> {
             self.queue = number.wrapping_add(1);
             self.notice(trail, trail.event(number).slot)?;
         }
-        let Some(slot) = self.notes.take() else {
+        let Some(slot) = self.notes.todo.pop() else {
             return Ok(false);
         };
-        if slot % 2 == 0 {
-            self.push_least(trail, slot / 2)?;
-        } else {
-            self.push_greatest(trail, slot / 2)?;
-        }
+        self.notes.is_noted[slot] = false;
+        self.push(trail, slot / 2, slot % 2 == 0)?;
         Ok(true)
     }
 
-    /// Moves a least start to where the profile leaves room: past the last time without.
-    fn push_least(&mut self, trail: &mut Trail, activity: u32) -> Result<(), Stop> {
-        let (demands, own) = (self.instance.demands(activity), self.parts[activity]);
-        for _ in 0..u64::MAX {
-            let from = trail.least(activity);
-            let to = from.wrapping_add(self.durations[activity]);
-            let Some((time, resource)) = self.profile.last_full(demands, Part { from, to }, own)
-            else {
-                break;
-            };
-            let literal = Literal::at_least(activity, time.wrapping_add(1));
-            trail.force(literal, Reason::Full { resource, time })?;
-        }
-        Ok(())
-    }
-
-    /// Moves a greatest start to where the activity ends by the first time without room.
-    fn push_greatest(&mut self, trail: &mut Trail, activity: u32) -> Result<(), Stop> {
+    /// Moves a least start to where the profile leaves room, past the last time without; or a greatest one, to where the
+    /// activity ends by the first such time.
+    fn push(&self, trail: &mut Trail, activity: u32, is_least: bool) -> Result<(), Stop> {
         let (demands, own) = (self.instance.demands(activity), self.parts[activity]);
         let duration = self.durations[activity];
         for _ in 0..u64::MAX {
-            let from = trail.greatest(activity);
+            let from = if is_least {
+                trail.least(activity)
+            } else {
+                trail.greatest(activity)
+            };
             let to = from.wrapping_add(duration);
-            let Some((time, resource)) = self.profile.first_full(demands, Part { from, to }, own)
-            else {
+            let full = self.profile.full(demands, Part { from, to }, own, is_least);
+            let Some((time, resource)) = full else {
                 break;
             };
-            let literal = Literal::at_most(activity, time.wrapping_sub(duration));
+            let literal = match is_least {
+                true => Literal::at_least(activity, time.wrapping_add(1)),
+                false => Literal::at_most(activity, time.wrapping_sub(duration)),
+            };
             trail.force(literal, Reason::Full { resource, time })?;
         }
         Ok(())
     }
 
     /// Lists those that run at a time for sure, whatever they need.
-    pub fn list_running(&self, time: i32, list: &mut Table<u32>) -> Result<()> {
+    pub fn list_running(&self, time: i32, list: &mut Vec<u32>) -> Result<()> {
         list.clear();
         self.profile.list_running(self.profile.find(time), list)
     }

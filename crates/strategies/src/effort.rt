@@ -34,13 +34,6 @@ pub(crate) struct Effort {
     last: f64,
 }
 
-/// A count as a number with a fraction, nearly.
-fn float(count: u64) -> f64 {
-    let high = (count.wrapping_shr(32) & 0xffff_ffff) as u32;
-    let low = (count & 0xffff_ffff) as u32;
-    f64::from(high) * 4_294_967_296.0 + f64::from(low)
-}
-
 impl Effort {
     /// Nothing was done by so many strategies.
     pub(crate) fn new(alloc: Global, count: usize) -> Result<Effort> {
@@ -86,9 +79,9 @@ impl Effort {
 
     /// A turn of a strategy is over.
     pub(crate) fn pay(&mut self, strategy: u32, events: u64, gain: i32) {
-        let cost = float(events) + 1.0;
+        let cost = f64::from(events.min(0xffff_ffff) as u32) + 1.0;
         let gain = f64::from(gain);
-        for (costs, gains) in self.accounts.all_mut() {
+        for (costs, gains) in &mut self.accounts.items {
             *costs = *costs * FADE;
             *gains = *gains * FADE;
         }

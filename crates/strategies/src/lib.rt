@@ -5,11 +5,9 @@
 #![tactic(auto)]
 
 mod effort;
-mod sharing;
 mod solver;
 mod turns;
 
-pub use proof_events::Told;
-pub use proof_log::Slots;
+pub use proof_log::{Slots, Told};
 pub use solver::{Limits, Solver, State};
 pub use turns::Finder;

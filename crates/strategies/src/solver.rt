@@ -5,8 +5,7 @@ use engine::{Counts, Engine, Found, Options, Pace, Run};
 use instance::{Instance, Walks};
 use large_neighbourhoods::shortened;
 use network::Lag;
-use proof_events::{Told, tell};
-use proof_log::Slots;
+use proof_log::{Slots, Told};
 use std::alloc::Global;
 use std::mem;
 use tables::Result;
@@ -40,37 +39,21 @@ const DIVE: u64 = 5_000;
 /// How often a search forgets lemmas where it has no room, before it stops.
 const REDUCTIONS: u64 = 6;
 
-/// The search for a first schedule: a few conflicts at the root, below the horizon, and then dives below likely
-/// ceilings. A dive starts one activity after the other as early as it can.
-#[derive(Drop)]
-struct First<'a> {
-    engine: Engine<'a>,
-    run: Run,
-    pace: Pace,
-    /// The ceiling of the dive, none at the root.
-    dive: Option<i32>,
-}
-
-impl First<'_> {
-    fn search(&mut self, steps: u64) -> Result<Found> {
-        self.engine.search(&mut self.run, &mut self.pace, steps)
-    }
-}
-
 /// What a search does.
 #[derive(Drop)]
 enum Stage<'a> {
     /// Nothing: the project contradicts itself.
     Contradiction,
-    First(First<'a>),
+    /// It looks for a first schedule: with a few conflicts at the root, below the horizon, or in a dive below a ceiling.
+    /// A dive starts one activity after the other as early as it can.
+    First {
+        engine: Engine<'a>,
+        run: Run,
+        dive: Option<i32>,
+    },
     /// Strategies take turns from the next step on, with a first schedule or none.
     Ready(Option<Vec<i32>>),
     Turns(Turns<'a>),
-}
-
-/// What an engine has proved since its log was cleared.
-fn told(alloc: Global, instance: &Instance, engine: &Engine<'_>) -> Result<Vec<Told>> {
-    tell(alloc, instance, engine.pairs(), &engine.log)
 }
 
 /// The search of a project for a shortest schedule. Until a schedule is known it looks for a first one; from then on
@@ -79,13 +62,11 @@ fn told(alloc: Global, instance: &Instance, engine: &Engine<'_>) -> Result<Vec<T
 pub struct Solver<'a> {
     alloc: Global,
     instance: &'a Instance,
-    /// None where a closed walk has positive weight.
-    walks: Option<Walks>,
+    walks: Walks,
     stage: Stage<'a>,
     limits: Limits,
-    /// What engines that are gone have told.
+    /// What engines that are gone have told, and how much was done by them.
     told: Vec<Told>,
-    /// What was done by them.
     done: Counts,
     is_full: bool,
 }
@@ -96,91 +77,99 @@ impl<'a> Solver<'a> {
         let mut solver = Solver {
             alloc,
             instance,
-            walks: Walks::new(alloc, instance)?,
-            stage: Stage::Ready(None),
+            walks: Walks::new(instance)?,
+            stage: Stage::Contradiction,
             limits,
             told: Vec::new(alloc),
-            done: Counts::NOTHING,
+            done: Counts::default(),
             is_full: false,
         };
-        if solver.walks.is_none() || instance.asks_too_much() {
-            solver.stage = Stage::Contradiction;
-        } else {
+        if !solver.walks.has_loop() && !instance.asks_too_much() {
             solver.begin_first(None)?;
         }
         Ok(solver)
     }
 
-    /// An engine for schedules that end before a ceiling; none where no search may begin.
-    fn open(&self, ceiling: i32, has_log: bool, has_cliques: bool) -> Result<Option<Engine<'a>>> {
+    /// Schedules end before this, whatever is known.
+    fn last_ceiling(&self) -> i32 {
+        self.instance.horizon.wrapping_add(1)
+    }
+
+    /// An engine for schedules that end before a ceiling.
+    fn open(&self, ceiling: i32, has_log: bool, has_cliques: bool) -> Result<Engine<'a>> {
+        let Limits { seed, slots, .. } = self.limits;
         let options = Options {
+            most: ceiling.wrapping_sub(1),
             has_log,
             has_cliques,
-            seed: self.limits.seed,
-            slots: self.limits.slots,
+            seed,
+            slots,
+            done: self.done,
         };
-        let most = ceiling.wrapping_sub(1);
-        let Some(walks) = &self.walks else {
-            return Ok(None);
-        };
-        Engine::open(self.alloc, self.instance, walks, most, options).map(Some)
+        Engine::open(self.instance, &self.walks, options)
     }
 
     /// Begins the search at the root, which keeps a log, or a dive below a ceiling.
     fn begin_first(&mut self, dive: Option<i32>) -> Result<()> {
-        let last = self.instance.horizon.wrapping_add(1);
-        let dive = dive.map(|ceiling| ceiling.min(last));
-        if let Some(engine) = self.open(dive.unwrap_or(last), dive.is_none(), false)? {
-            let most = if dive.is_some() { DIVE } else { ROOT };
-            let run = Run::new(Vec::new(self.alloc), most);
-            let pace = Pace::NEW;
-            self.stage = Stage::First(First {
-                engine,
-                run,
-                pace,
-                dive,
-            });
-        }
+        let last = self.last_ceiling();
+        let mut engine = self.open(dive.unwrap_or(last).min(last), dive.is_none(), false)?;
+        let most = if dive.is_some() { DIVE } else { ROOT };
+        let run = engine.start(Vec::new(self.alloc), most, Pace::default())?;
+        self.stage = Stage::First { engine, run, dive };
         Ok(())
     }
 
     /// Strategies begin to take turns, with a first schedule or none.
     fn begin_turns(&mut self, start: Option<Vec<i32>>) -> Result<()> {
-        let last = self.instance.horizon.wrapping_add(1);
         let end = start.as_ref().and_then(|starts| starts.last().copied());
-        let ceiling = end.unwrap_or(last);
-        if let Some(engine) = self.open(ceiling, true, true)? {
-            let seed = self.limits.seed;
-            let mut turns = Turns::new(self.alloc, self.instance, engine, ceiling, seed)?;
-            if let Some(starts) = &start {
-                turns.take(starts, Finder::Dive)?;
-            }
-            self.stage = Stage::Turns(turns);
+        let ceiling = end.unwrap_or(self.last_ceiling());
+        let engine = self.open(ceiling, true, true)?;
+        let mut turns = Turns::new(self.instance, engine, ceiling, self.limits.seed)?;
+        if let Some(starts) = &start {
+            turns.take(starts, Finder::Dive)?;
         }
+        self.stage = Stage::Turns(turns);
         Ok(())
     }
 
     /// A first schedule is known, and put early. Strategies take turns from the next step on.
     fn begin_with(&mut self, starts: &[i32]) -> Result<()> {
-        let (early, _) = shortened(self.alloc, self.instance, starts)?;
+        let (early, _) = shortened(self.instance, starts)?;
         self.stage = Stage::Ready(Some(early));
         Ok(())
     }
 
     /// An engine goes, and its lemmas are forgotten.
     fn retire(&mut self, mut engine: Engine<'a>) -> Result<()> {
-        self.done = self.done.plus(engine.counts);
+        self.done = engine.counts;
         engine.log.forget_all()?;
-        let mut events = told(self.alloc, self.instance, &engine)?;
-        self.told.append(&mut events)?;
-        Ok(())
+        let mut events = engine.log.take();
+        self.told.append(&mut events)
+    }
+
+    /// The engine at work.
+    fn engine(&self) -> Option<&Engine<'a>> {
+        match &self.stage {
+            Stage::First { engine, .. } => Some(engine),
+            Stage::Turns(turns) => Some(&turns.engine),
+            _ => None,
+        }
+    }
+
+    /// The same engine, to be changed.
+    fn engine_mut(&mut self) -> Option<&mut Engine<'a>> {
+        match &mut self.stage {
+            Stage::First { engine, .. } => Some(engine),
+            Stage::Turns(turns) => Some(&mut turns.engine),
+            _ => None,
+        }
     }
 
     /// Where the search stands.
     pub fn state(&self) -> State {
         match &self.stage {
             Stage::Contradiction => State::Ended,
-            Stage::Turns(turns) if turns.is_over() => State::Ended,
+            Stage::Turns(turns) if turns.engine.is_refuted => State::Ended,
             _ if self.is_full => State::Full,
             _ => State::Going,
         }
@@ -188,30 +177,28 @@ impl<'a> Solver<'a> {
 
     /// Searches on for a first schedule.
     fn find_first(&mut self, steps: u64) -> Result<()> {
-        let mut first = match mem::replace(&mut self.stage, Stage::Ready(None)) {
-            Stage::First(first) => first,
+        let (mut engine, mut run, dive) = match mem::replace(&mut self.stage, Stage::Ready(None)) {
+            Stage::First { engine, run, dive } => (engine, run, dive),
             Stage::Ready(start) => return self.begin_turns(start),
             _ => return Ok(()),
         };
-        let found = first.search(steps)?;
+        let found = engine.search(&mut run, steps)?;
         if found == Found::Open {
-            self.stage = Stage::First(first);
+            self.stage = Stage::First { engine, run, dive };
             return Ok(());
         }
-        if found == Found::Refuted && first.dive.is_none() {
-            let (ceiling, seed) = (self.instance.horizon.wrapping_add(1), self.limits.seed);
-            let turns = Turns::new(self.alloc, self.instance, first.engine, ceiling, seed)?;
+        if found == Found::Refuted && dive.is_none() {
+            let ceiling = self.last_ceiling();
+            let turns = Turns::new(self.instance, engine, ceiling, self.limits.seed)?;
             self.stage = Stage::Turns(turns);
             return Ok(());
         }
-        let starts = first.engine.schedule()?;
-        let dive = first.dive;
-        self.retire(first.engine)?;
+        let starts = engine.schedule()?;
+        self.retire(engine)?;
         match (found, dive) {
             (Found::Schedule, _) => self.begin_with(&starts),
             (Found::Stopped, None) => {
-                let end = self.instance.end();
-                let walk = self.walks.as_ref().and_then(|walks| walks.longest(0, end));
+                let walk = self.walks.longest(0, self.instance.end());
                 let likely = self.instance.likely_end(walk.unwrap_or(0));
                 self.begin_first(Some(likely.saturating_add(1)))
             }
@@ -257,8 +244,8 @@ impl<'a> Solver<'a> {
         if matches!(self.stage, Stage::Contradiction) {
             return Ok(());
         }
-        if let Stage::First(first) = mem::replace(&mut self.stage, Stage::Ready(None)) {
-            self.retire(first.engine)?;
+        if let Stage::First { engine, .. } = mem::replace(&mut self.stage, Stage::Ready(None)) {
+            self.retire(engine)?;
         }
         self.begin_with(starts)
     }
@@ -266,7 +253,7 @@ impl<'a> Solver<'a> {
     /// The starts of the shortest schedule known, in periods.
     pub fn best(&self) -> Option<&[i32]> {
         match &self.stage {
-            Stage::Contradiction | Stage::First(_) => None,
+            Stage::Contradiction | Stage::First { .. } => None,
             Stage::Ready(start) => start.as_deref(),
             Stage::Turns(turns) => turns.best.as_deref(),
         }
@@ -282,37 +269,17 @@ impl<'a> Solver<'a> {
 
     /// How much was done.
     pub fn counts(&self) -> Counts {
-        match &self.stage {
-            Stage::Turns(turns) => self.done.plus(turns.engine.counts),
-            Stage::First(first) => self.done.plus(first.engine.counts),
-            _ => self.done,
-        }
-    }
-
-    /// What the engine at work has proved since it was asked last.
-    fn heard(&mut self) -> Result<Vec<Told>> {
-        let (alloc, instance) = (self.alloc, self.instance);
-        match &mut self.stage {
-            Stage::Turns(turns) => {
-                let events = told(alloc, instance, &turns.engine)?;
-                turns.engine.log.clear();
-                Ok(events)
-            }
-            Stage::First(first) => {
-                let events = told(alloc, instance, &first.engine)?;
-                first.engine.log.clear();
-                Ok(events)
-            }
-            _ => Ok(Vec::new(alloc)),
-        }
+        self.engine().map_or(self.done, |engine| engine.counts)
     }
 
     /// What the search has proved since it was asked last, in order. Each lemma holds below the shortest schedule that is
     /// known.
     pub fn events(&mut self) -> Result<Vec<Told>> {
-        let mut heard = self.heard()?;
         let mut events = mem::replace(&mut self.told, Vec::new(self.alloc));
-        events.append(&mut heard)?;
+        if let Some(engine) = self.engine_mut() {
+            let mut heard = engine.log.take();
+            events.append(&mut heard)?;
+        }
         Ok(events)
     }
 
@@ -324,26 +291,19 @@ impl<'a> Solver<'a> {
 
     /// Takes a lemma of another search, which stands in a slot of the record: not all of these arcs hold.
     pub fn import(&mut self, slot: u32, lbd: u32, arcs: &[Lag]) -> Result<()> {
-        match &mut self.stage {
-            Stage::Turns(turns) => turns.import(slot, lbd, arcs),
-            _ => Ok(()),
-        }
+        let engine = self.engine_mut();
+        engine.map_or(Ok(()), |engine| engine.import(slot, lbd, arcs))
     }
 
     /// Takes an arc that always holds.
     pub fn hold(&mut self, arc: Lag) -> Result<()> {
-        match &mut self.stage {
-            Stage::Turns(turns) => turns.hold(arc),
-            _ => Ok(()),
-        }
+        let engine = self.engine_mut();
+        engine.map_or(Ok(()), |engine| engine.hold(arc))
     }
 
     /// No search uses the lemma in a slot any more.
     pub fn release(&mut self, slot: u32) -> Result<()> {
-        match &mut self.stage {
-            Stage::Turns(turns) => turns.engine.log.release(slot),
-            Stage::First(first) => first.engine.log.release(slot),
-            _ => Ok(()),
-        }
+        let engine = self.engine_mut();
+        engine.map_or(Ok(()), |engine| engine.log.release(slot))
     }
 }

@@ -5,7 +5,6 @@ use engine::{Engine, Found, Pace, Run};
 use instance::Instance;
 use large_neighbourhoods::{Random, WAYS, first_decisions, shortened};
 use literals::Literal;
-use std::alloc::Global;
 use tables::{Result, Table};
 
 /// The most conflicts of a neighbourhood, of a longer step of the whole search, and of the first probes.
@@ -64,7 +63,6 @@ struct Turn {
 /// The search of a project below a ceiling.
 #[derive(Drop)]
 pub(crate) struct Turns<'a> {
-    pub(crate) alloc: Global,
     instance: &'a Instance,
     pub(crate) engine: Engine<'a>,
     /// The best schedule, and the same with starts as late as can be.
@@ -93,15 +91,13 @@ pub(crate) struct Turns<'a> {
 impl<'a> Turns<'a> {
     /// The turns of an engine for schedules below a ceiling.
     pub(crate) fn new(
-        alloc: Global,
         instance: &'a Instance,
         engine: Engine<'a>,
         ceiling: i32,
         seed: u64,
     ) -> Result<Turns<'a>> {
-        let strategies = WAYS.len().wrapping_add(FIRST_NEAR as usize);
+        let (alloc, strategies) = (instance.alloc, WAYS.len().wrapping_add(FIRST_NEAR as usize));
         Ok(Turns {
-            alloc,
             instance,
             engine,
             best: None,
@@ -111,7 +107,7 @@ impl<'a> Turns<'a> {
             bound: 0,
             effort: Effort::new(alloc, strategies)?,
             sizes: Table::filled(alloc, strategies, FIRST_FREE, FIRST_FREE)?,
-            paces: Table::filled(alloc, 2, Pace::NEW, Pace::NEW)?,
+            paces: Table::filled(alloc, 2, Pace::default(), Pace::default())?,
             above: 1,
             below: 1,
             slice: FIRST_SLICE,
@@ -119,11 +115,6 @@ impl<'a> Turns<'a> {
             random: Random::new(seed),
             turn: None,
         })
-    }
-
-    /// Whether no schedule is left below the ceiling.
-    pub(crate) fn is_over(&self) -> bool {
-        self.engine.is_refuted
     }
 
     /// The end that the whole search looks for, shorter than the best by a step, and how many conflicts it may meet.
@@ -148,29 +139,14 @@ impl<'a> Turns<'a> {
         (goal, if self.has_probed { later } else { FIRST_PROBES })
     }
 
-    /// The first decisions that keep most of the best schedule, but those that hold at the root anyway.
+    /// The first decisions that keep most of the best schedule.
     fn neighbourhood(&mut self, strategy: u32) -> Result<Vec<Literal>> {
-        let mut first = Vec::new(self.alloc);
         let place = strategy.wrapping_sub(FIRST_NEAR) as usize;
         let (Some(starts), Some(way)) = (&self.best, WAYS.get(place)) else {
-            return Ok(first);
+            return Ok(Vec::new(self.instance.alloc));
         };
-        let free = self.sizes[strategy] / 100;
-        let all = first_decisions(
-            self.alloc,
-            self.instance,
-            *way,
-            starts,
-            &self.late,
-            free as usize,
-            &mut self.random,
-        )?;
-        for literal in &all {
-            if !self.engine.holds_always(*literal)? {
-                first.push(*literal)?;
-            }
-        }
-        Ok(first)
+        let (instance, free) = (self.instance, (self.sizes[strategy] / 100) as usize);
+        first_decisions(instance, *way, starts, &self.late, free, &mut self.random)
     }
 
     /// The next turn, from the values of the best schedule.
@@ -186,7 +162,7 @@ impl<'a> Turns<'a> {
             PROBE => self.probe(),
             _ => (i32::MAX, NEAR),
         };
-        let mut first = Vec::new(self.alloc);
+        let mut first = Vec::new(self.instance.alloc);
         if strategy >= FIRST_NEAR {
             first = self.neighbourhood(strategy)?;
         } else if goal < ceiling.wrapping_sub(1) {
@@ -195,9 +171,11 @@ impl<'a> Turns<'a> {
         if let Some(starts) = &self.best {
             self.engine.prefer(starts);
         }
+        let pace = self.paces[u32::from(strategy >= FIRST_NEAR)];
+        let run = self.engine.start(first, most, pace)?;
         Ok(Turn {
             strategy,
-            run: Run::new(first, most),
+            run,
             events,
             ceiling,
         })
@@ -216,6 +194,7 @@ impl<'a> Turns<'a> {
 
     /// A turn is over.
     fn end_turn(&mut self, turn: Turn, found: Found) -> Result<()> {
+        self.paces[u32::from(turn.strategy >= FIRST_NEAR)] = turn.run.pace;
         let finder = match turn.strategy {
             WHOLE => Finder::Whole,
             PROBE => Finder::Probe,
@@ -244,14 +223,13 @@ impl<'a> Turns<'a> {
 
     /// Takes a feasible schedule that ends before the ceiling, put late and early.
     pub(crate) fn take(&mut self, starts: &[i32], finder: Finder) -> Result<()> {
-        let (early, late) = shortened(self.alloc, self.instance, starts)?;
+        let (early, late) = shortened(self.instance, starts)?;
         let Some(end) = early.last().copied() else {
             return Ok(());
         };
         self.ceiling = end;
         self.finder = finder;
         self.engine.end_by(end.wrapping_sub(1))?;
-        self.engine.follow_sequence(&early);
         self.best = Some(early);
         self.late = late;
         Ok(())
@@ -278,13 +256,9 @@ impl<'a> Turns<'a> {
             Some(turn) => turn,
             None => self.next_turn()?,
         };
-        let number = u32::from(turn.strategy >= FIRST_NEAR);
-        let mut pace = self.paces[number];
-        let found = self.engine.search(&mut turn.run, &mut pace, steps)?;
-        self.paces[number] = pace;
-        match found {
+        match self.engine.search(&mut turn.run, steps)? {
             Found::Open => self.turn = Some(turn),
-            _ => self.end_turn(turn, found)?,
+            found => self.end_turn(turn, found)?,
         }
         Ok(())
     }

@@ -2,13 +2,12 @@
 
 use crate::{Result, narrow};
 use std::alloc::{AllocError, Global};
-use std::mem;
 use std::ops::{Index, IndexMut};
 
 /// A list that answers at each place: past its end it holds `rest`, and what is written there is lost.
 #[derive(Drop)]
 pub struct Table<T: Copy> {
-    items: Vec<T>,
+    pub items: Vec<T>,
     rest: T,
     lost: T,
 }
@@ -38,11 +37,15 @@ impl<T: Copy> IndexMut<u32> for Table<T> {
 }
 
 impl<T: Copy> Table<T> {
-    /// An empty table.
-    pub fn new(alloc: Global, rest: T) -> Table<T> {
-        let items = Vec::new(alloc);
+    /// A table of these places.
+    pub fn of(items: Vec<T>, rest: T) -> Table<T> {
         let lost = rest;
         Table { items, rest, lost }
+    }
+
+    /// An empty table.
+    pub fn new(alloc: Global, rest: T) -> Table<T> {
+        Table::of(Vec::new(alloc), rest)
     }
 
     /// So many places, all of one value.
@@ -51,8 +54,7 @@ impl<T: Copy> Table<T> {
         for _ in 0..count {
             items.push(value)?;
         }
-        let lost = rest;
-        Ok(Table { items, rest, lost })
+        Ok(Table::of(items, rest))
     }
 
     /// How many places there are.
@@ -60,20 +62,10 @@ impl<T: Copy> Table<T> {
         narrow(self.items.len())
     }
 
-    /// Whether there are none.
-    pub fn is_empty(&self) -> bool {
-        self.items.is_empty()
-    }
-
     /// One more place.
     pub fn push(&mut self, value: T) -> Result<()> {
         self.items.push(value)?;
         Ok(())
-    }
-
-    /// More places, with these values.
-    pub fn push_all(&mut self, values: &[T]) -> Result<()> {
-        self.items.extend_from_slice(values)
     }
 
     /// Copies so many places from one on to another one on, which may be the end.
@@ -104,24 +96,9 @@ impl<T: Copy> Table<T> {
         }
     }
 
-    /// Takes the last place away.
-    pub fn pop(&mut self) -> Option<T> {
-        self.items.pop()
-    }
-
     /// Leaves the first places.
     pub fn truncate(&mut self, count: u32) {
         self.items.truncate(count as usize);
-    }
-
-    /// No place is left.
-    pub fn clear(&mut self) {
-        self.items.clear();
-    }
-
-    /// Takes all places out of the table, which is empty then.
-    pub fn take(&mut self, alloc: Global) -> Vec<T> {
-        mem::replace(&mut self.items, Vec::new(alloc))
     }
 
     /// Two places change what they hold.
@@ -151,15 +128,5 @@ impl<T: Copy> Table<T> {
         } else {
             &mut items[..0]
         }
-    }
-
-    /// All places.
-    pub fn all(&self) -> &[T] {
-        self.items.as_slice()
-    }
-
-    /// All places, to be changed.
-    pub fn all_mut(&mut self) -> &mut [T] {
-        self.items.as_mut_slice()
     }
 }
