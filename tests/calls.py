@@ -1,4 +1,6 @@
 """Calls of psmax and of psprove on the smallest projects that reach each of their paths, and what they have to answer."""
+import json
+import re
 from collections.abc import Callable
 
 import judges
@@ -48,6 +50,14 @@ def shortest_of_three(out: bytes, record: bytes) -> bool:
     return not record or judges.by_script(judge, record) == (0, b"proved optimal 4\n", b"")
 
 
+REPORT = re.compile(rb"(?:\d+ s: (?:schedule|bound) .*|\{\"seconds\":.*\})\n")
+
+
+def without_reports(fault: bytes) -> bytes:
+    """What stands on standard error beside whole reports of --progress."""
+    return b"".join(line for line in fault.splitlines(keepends=True) if not REPORT.fullmatch(line))
+
+
 class Call:
     """One call: its words and texts, and the usual status, output and fault, and record."""
 
@@ -58,6 +68,8 @@ class Call:
         self.record, self.answer, self.name = record, answer, " ".join(words)
 
     def is_usual(self, ended: Ended, record: bytes) -> bool:
+        if "--progress" in self.words:
+            ended = *ended[:2], without_reports(ended[2])
         if self.answer:
             return (ended[0], ended[2]) == (0, b"") and self.answer(ended[1], record)
         return ended == self.usual and record == self.record
@@ -65,6 +77,7 @@ class Call:
     def is_want(self, ended: Ended, record: bytes) -> bool:
         """Whether a call ended for want of memory, or of a thread where it has workers or jobs."""
         status, out, fault = ended
+        fault = without_reports(fault) if "--progress" in self.words else fault
         wants = [b"psmax: out of memory\n", b"psprove: out of memory\n"]
         if {"--workers", "--start", "--record"} & set(self.words):
             wants.append(b"psmax: cannot start a thread\n")
@@ -114,6 +127,35 @@ CALLS = [
     Call(VERIFY, LAGS_RECORD.replace(b"cut\n", b""), LAGS, exit=2, fault=b"psmax: line 6: short\n"),
 ]
 
+
+def solved(text: bytes, makespan: int | None) -> Callable[[bytes, bytes], bool]:
+    """Whether an answer of psprove, in lines or as JSON, has a shortest schedule of a project, or says that there is none,
+    and a log, if there is one, proves it."""
+    judge = verify.Project(text)
+    says = "no schedule" if makespan is None else f"optimal {makespan}"
+
+    def parts(out: bytes) -> tuple[str, list[int]]:
+        if out.startswith(b"{"):
+            found = json.loads(out)
+            is_none = found["starts"] is None
+            return found["status"] if is_none else f"{found['status']} {found['makespan']}", found["starts"] or []
+        first, *lines = out.decode().splitlines()
+        return first, [int(line.split()[1]) for line in lines]
+
+    def is_right(out: bytes, record: bytes) -> bool:
+        said, starts = parts(out)
+        if said != says or out[-1:] != b"\n":
+            return False
+        if makespan is not None and not (judge.is_feasible(starts) and starts[-1] == makespan):
+            return False
+        return not record or judges.by_script_of_logs(judge, record) == (0, f"proved {says}\n".encode(), b"")
+
+    return is_right
+
+
+JSON = ["--json"]
+JOBS = ["--jobs", "4"]
+REPORTS = ["--progress", "json"]
 WORKED, WORKED_LOG = of_logs("worked.sch"), of_logs("worked.log")
 PROOFS = [
     Call(VERIFY, WORKED_LOG, WORKED, out=b"proved optimal 8\n"),
@@ -130,4 +172,16 @@ PROOFS = [
     Call(START, TWO, OVERLOADED, exit=4, out=b"overload 2 0 2\n"),
     Call([*START, "--jobs", "2"], TWO, STARTS, out=b"optimal 7\n" + STARTS),
     Call([*SOLVE, "--jobs", "3"], DEAD, out=b"no schedule\n"),
+]
+# Searches of which each answer and record that is right will do. With one job the same ones come again.
+SEARCHES = [
+    Call([*SOLVE, "--progress"], TWO, answer=solved(TWO, 7)),
+    Call([*SOLVE, *JSON, *REPORTS], LAGS, answer=solved(LAGS, 5)),
+    Call(RECORD, FORCED, answer=solved(FORCED, 9)),
+    Call([*RECORD, *JSON], THREE, answer=solved(THREE, 4)),
+    Call(RECORD, DEAD, answer=solved(DEAD, None)),
+    Call([*RECORD, "--start", "second", *REPORTS], TWO, STARTS, answer=solved(TWO, 7)),
+    Call([*SOLVE, *JOBS], FORCED, answer=solved(FORCED, 9)),
+    Call([*RECORD, *JOBS, *JSON, *REPORTS], THREE, answer=solved(THREE, 4)),
+    Call([*RECORD, *JOBS, "--start", "second"], TWO, STARTS, answer=solved(TWO, 7)),
 ]

@@ -29,8 +29,10 @@ import documents
 import events
 import growths
 import harness
+import hostile
 import logs
 import records
+import resumes
 import run
 import searches
 import test_growths
@@ -95,19 +97,23 @@ def scripts(folder: pathlib.Path, with_tests: bool) -> Iterator[Script]:
     yield "workers", workers.verdicts, [psmax, "--runs", "100"]
     yield "records", records.verdicts, [psmax, "--seeded", "20", "--damaged", "1000"]
     yield "logs", logs.verdicts, [psprove, "--logs", "2000"]
+    yield "hostile logs", hostile.verdicts, [psprove, "--bytes", "160000", "--seconds", "5"]
+    yield "resumes", resumes.verdicts, [psprove]
     yield "searches", searches.verdicts, [psmax, psprove, "--seeded", "200", "--large", "10"]
     yield "books", books.verdicts, [book_events]
     if shutil.which(os.environ.get("CC", "cc")):
         yield "events", events.verdicts, [book_events]
         yield "refused growths", growths.verdicts, [psmax]
-        yield "those of psprove", growths.verdicts, [psprove, "--proofs"]
+        yield "refused growths of psprove", growths.verdicts, [psprove, "--proofs"]
         yield "threads", threads.verdicts, [psmax]
+        yield "threads of psprove", threads.verdicts, [psprove, "--proofs"]
         if with_tests:
             yield "growths of tests", test_growths.verdicts, []
     else:
         print("left out, for want of a C compiler: refused growths, threads, and growths of lists of events")
         yield "events", events.verdicts, [book_events, "--refused", "0"]
     yield "devices", devices.verdicts, [psmax]
+    yield "devices of psprove", devices.verdicts, [psprove, "--proofs"]
     yield "plan", planner_tests.verdicts, []
     yield "package", planner_tests.verdicts, [str(TOP / "python" / "tests")]
     yield "documents", documents.verdicts, [str(folder)]

@@ -12,7 +12,7 @@ import pathlib
 from collections.abc import Iterator, Sequence
 
 import harness
-from calls import CALLS, PROOFS, Call
+from calls import CALLS, PROOFS, SEARCHES, Call
 from harness import Verdict, Verdicts
 from refusing import Refusing, all_from, library, one, two
 
@@ -44,7 +44,7 @@ def verdicts(words: Sequence[str]) -> Verdicts:
     parser.add_argument("--proofs", action="store_true")
     parser.add_argument("--only", default="")
     o = parser.parse_args(words)
-    calls = [call for call in (PROOFS if o.proofs else CALLS) if o.only in call.name]
+    calls = [call for call in (PROOFS + SEARCHES if o.proofs else CALLS) if o.only in call.name]
     ends: Ends = collections.Counter()
     with harness.new_folder() as folder:
         judge = functools.partial(runs_of, library(folder), o.program, ends)

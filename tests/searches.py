@@ -2,11 +2,11 @@
 """tests/searches.py PSMAX PSPROVE [--seeded N] [--large N]
 
 Has both programs solve N small seeded projects (2,000 by default), every fifth with two jobs of psprove, and wants one
-verdict of both. The starts of psprove have to pass `psmax check`, and its record has to prove the verdict, by `psprove verify`
-and, below 100,000 bytes, by tests/verify_log.py. Then psprove alone solves N projects of 62 to 250 activities (40 by
-default), every second with four jobs, of which psmax can prove few. Ten projects are solved twice by the same words, which have to give the same bytes.
-Three projects, of which one has no schedule, are solved with all times multiplied by 997. The last line counts the
-projects."""
+verdict of both. The starts of psprove have to pass `psmax check`, and its record has to prove the verdict, by `psprove
+verify` and, below 100,000 bytes, by tests/verify_log.py. Then psprove alone solves N projects of 62 to 250 activities
+(40 by default), every second with four jobs, of which psmax can prove few. Ten projects are solved twice by the same
+words, which have to give the same bytes. Three projects, of which one has no schedule, are solved with all times
+multiplied by 997. The last line counts the projects."""
 import functools
 import pathlib
 from collections.abc import Sequence

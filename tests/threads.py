@@ -1,13 +1,16 @@
 #!/usr/bin/env python3
-"""tests/threads.py PROGRAM
+"""tests/threads.py PROGRAM [--proofs]
 
-Counts the threads of searches by workers, and refuses them.
+Counts the threads of searches by workers, or with --proofs of those of psprove with several jobs, and refuses them.
 
 - While `solve --workers N` runs, whatever options stand beside that, the process has one thread more than N.
 - Where the Kth thread and all after it are refused, the search ends at once with `cannot start a thread`, status 1 and empty
   outputs. The thread that drops the nodes left is not needed.
 - Growths of memory are refused one by one. `cannot start a thread` comes for those of the starts of threads: as many for each
   of N workers as for one, one after another. For every other growth `out of memory` comes, or the usual answer.
+- While `psprove solve --jobs N` runs, whatever options stand beside that, the process has N threads.
+- Where the Kth thread that psprove starts and all after it are refused, the search ends at once in the same way, and the record
+  is empty. The first job needs no new thread.
 
 The last line counts the runs."""
 import itertools
@@ -19,6 +22,7 @@ import time
 from collections.abc import Iterator, Sequence
 
 import harness
+import projects
 from calls import STARTS, TWO, TWO_SOLVED
 from harness import TOP, Ended, Verdicts
 from refusing import Refusing, library, one
@@ -93,12 +97,50 @@ def told_apart(program: str, made: pathlib.Path, folder: pathlib.Path) -> Tried:
         yield f"growths of {workers} workers", bool(well), ends
 
 
+def by_jobs(program: str, folder: pathlib.Path) -> Tried:
+    """How many threads psprove has, on a project that takes it a minute."""
+    project = folder / "long.sch"
+    project.write_bytes(projects.project(60, 1, reach=60).text())
+    _, starts, _ = harness.ended([program, "solve", "--conflicts", "100"], project.read_bytes(), SECONDS)
+    (folder / "long.starts").write_bytes(starts)
+    start, record = ["--start", "long.starts"], ["--record", "record"]
+    asked: list[tuple[int, list[str]]] = [
+        (1, record), (2, [*start, *record]), (5, ["--json", "--progress", "json"]), (64, [])]
+    for jobs, more in asked:
+        words = [program, "solve", "--seconds", "1000", "--jobs", str(jobs), *more]
+        with open(project, "rb") as text:
+            ran = subprocess.Popen(words, stdin=text, stdout=subprocess.PIPE, stderr=subprocess.PIPE, cwd=folder)
+        most = most_threads(ran, jobs)
+        time.sleep(0.05)
+        later = threads_of(ran)
+        ran.kill()
+        ran.communicate()
+        yield f"{jobs} jobs {more}", most == later == jobs, f"{most} and then {later} threads"
+
+
+def jobs_refused(program: str, made: pathlib.Path, folder: pathlib.Path) -> Tried:
+    """Each thread of psprove's, on a project that takes it a minute."""
+    text = (folder / "long.sch").read_bytes()
+    words = [program, "solve", "--record", "record", "--start", "long.starts"]
+    for jobs, first in [(2, 1), (4, 1), (4, 2), (4, 3), (64, 63)]:
+        got = Refusing(made, [*words, "--jobs", jobs], text, folder).ended({"REFUSE_THREADS": str(first)}, SECONDS)
+        well = got == (1, b"", b"psprove: cannot start a thread\n") and not any(folder.glob("record*"))
+        yield f"{jobs} jobs, thread {first} refused", well, got
+    for jobs in (1, 4):
+        refusing = Refusing(made, [program, "solve", "--jobs", jobs], TWO, folder)
+        got = refusing.ended({"REFUSE_THREADS": str(jobs)}, SECONDS)
+        yield f"{jobs} jobs, no thread refused", (got[0], got[1][:10], got[2]) == (0, b"optimal 7\n", b""), got
+
+
 def verdicts(words: Sequence[str]) -> Verdicts:
-    program = harness.Words(__doc__, "program").parse_args(words).program
+    parser = harness.Words(__doc__, "program")
+    parser.add_argument("--proofs", action="store_true")
+    o = parser.parse_args(words)
     with harness.new_folder() as folder:
-        made = library(folder)
-        tried = numbered(program, folder), refused(program, made, folder), told_apart(program, made, folder)
-        for name, well, told in itertools.chain(*tried):
+        made, program = library(folder), o.program
+        of_psprove = by_jobs(program, folder), jobs_refused(program, made, folder)
+        of_psmax = numbered(program, folder), refused(program, made, folder), told_apart(program, made, folder)
+        for name, well, told in itertools.chain(*(of_psprove if o.proofs else of_psmax)):
             yield name, None if well else str(told)
 
 

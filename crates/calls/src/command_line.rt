@@ -40,19 +40,52 @@ impl From<AllocError> for WordsFault {
     }
 }
 
+/// What comes on standard input of a command.
+fn input_of(command: &str) -> &'static str {
+    match command {
+        "check" => "starts come",
+        "verify" => "a record comes",
+        _ => "a project comes",
+    }
+}
+
+/// Adds a hint to the text of an error, where a word is left over that may be the name of a file.
+fn put_hint(
+    text: &mut String,
+    error: &clap::Error,
+    program: &str,
+    words: &[String],
+) -> Result<(), AllocError> {
+    let is_option = text.starts_with("error: unexpected argument '-");
+    if error.kind() != ErrorKind::UnknownArgument || is_option {
+        return Ok(());
+    }
+    if let Some(command) = words.get(1) {
+        let input = input_of(command);
+        write!(
+            text,
+            "\nhint: {input} on standard input: {program} {command} < FILE\n"
+        )?;
+    }
+    Ok(())
+}
+
 /// The fault of an error of `clap`.
-fn words_fault(alloc: Global, error: &clap::Error) -> WordsFault {
+fn words_fault(
+    alloc: Global,
+    error: &clap::Error,
+    program: &str,
+    words: &[String],
+) -> Result<WordsFault, AllocError> {
     if error.kind() == ErrorKind::OutOfMemory {
-        return WordsFault::Memory;
+        return Err(AllocError);
     }
-    let Ok(text) = error.to_string(alloc) else {
-        return WordsFault::Memory;
-    };
+    let mut text = error.to_string(alloc)?;
     if error.exit_code() == 0 {
-        WordsFault::Help { text }
-    } else {
-        WordsFault::Bad { text }
+        return Ok(WordsFault::Help { text });
     }
+    put_hint(&mut text, error, program, words)?;
+    Ok(WordsFault::Bad { text })
 }
 
 /// What a program finds in words; the first word is its name.
@@ -61,9 +94,10 @@ pub fn matches_of<'a>(
     program: Command<'a>,
     words: &'a [String],
 ) -> Result<ArgMatches<'a>, WordsFault> {
+    let name = program.get_name();
     match program.try_get_matches_from(words) {
         Ok(matches) => Ok(matches),
-        Err(error) => Err(words_fault(alloc, &error)),
+        Err(error) => Err(words_fault(alloc, &error, name, words)?),
     }
 }
 

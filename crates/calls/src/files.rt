@@ -84,8 +84,16 @@ impl<'a, R: Files> Opener<'a, R> {
         }
     }
 
-    /// The fault of a call whose record would empty a file that it reads.
-    fn check_losses(&self, call: &Call, name: &str) -> Result<(), FileFault> {
+    /// Whether two names are those of one file.
+    pub fn is_one_file(&self, one: &str, other: &str) -> bool {
+        match fs::metadata(self.files, one) {
+            Ok(file) => self.is_name_of(&file, other),
+            Err(_) => false,
+        }
+    }
+
+    /// The fault of a call whose record, in a file of this name, would empty a file that the call reads.
+    pub fn check_losses(&self, call: &Call, name: &str) -> Result<(), FileFault> {
         let file = match fs::metadata(self.files, name) {
             Ok(file) => file,
             Err(error) if error.kind() == ErrorKind::NotFound => return Ok(()),

@@ -2,8 +2,8 @@
 
 use crate::help;
 use calls::{
-    Call, WordsFault, file, file_name, flag, matches_of, number, program_command,
-    project_subcommand, subcommand, words,
+    WordsFault, file, file_name, flag, matches_of, number, program_command, project_subcommand,
+    subcommand, words,
 };
 use clap::{Arg, ArgMatches, Command};
 use solve_runs::{Asked, MAX_JOBS, Progress};
@@ -31,16 +31,22 @@ const FORMS: &[&str] = &["lines", "json"];
 #[derive(Debug, Drop)]
 pub(crate) enum Work {
     /// To check a log against the project in a file; whether it may be cut off.
-    Verify {
-        project: String,
-        partial: bool,
-    },
-    /// To search, with the files of starts and of the record, and perhaps until there is a file.
-    Solve {
-        asked: Asked,
-        call: Call,
-        until: Option<String>,
-    },
+    Verify { project: String, partial: bool },
+    Solve(Search),
+}
+
+/// A search, and the names of its files.
+#[derive(Debug, Drop)]
+pub(crate) struct Search {
+    pub(crate) asked: Asked,
+    /// The starts that it begins with.
+    pub(crate) start: Option<String>,
+    /// The log that it goes on from.
+    pub(crate) resume: Option<String>,
+    /// Its own log.
+    pub(crate) record: Option<String>,
+    /// A file that ends it.
+    pub(crate) until: Option<String>,
 }
 
 /// The options that say how far a search goes.
@@ -76,9 +82,11 @@ fn solve_command<'a>(alloc: Global) -> Result<Command<'a>, AllocError> {
     let start = "Start from the feasible schedule in FILE";
     let json = "Print the answer as one line of JSON";
     let record = "Write the log that proves the answer into FILE";
+    let resume = "Go on from the log in FILE";
     let command = subcommand(alloc, help::HEADING, "solve", about, help::SOLVE);
     with_limits(alloc, command)?
         .arg(file(alloc, "start", start))?
+        .arg(file(alloc, "resume", resume))?
         .arg(flag(alloc, "json", json))?
         .arg(file(alloc, "record", record))?
         .arg(progress(alloc))
@@ -125,24 +133,23 @@ fn asked(matches: &ArgMatches<'_>, start: bool, progress: Progress) -> Asked {
     }
 }
 
-/// A search, and the files that it uses.
-fn solve_work(alloc: Global, matches: &ArgMatches<'_>) -> Result<Work, AllocError> {
-    let second = file_name(alloc, matches, "start")?;
-    let record_file = file_name(alloc, matches, "record")?;
-    let asked = asked(matches, second.is_some(), form(alloc, matches)?);
-    let call = Call {
-        job: asked.job(),
-        second,
-        record_file,
-    };
-    let until = file_name(alloc, matches, "until")?;
-    Ok(Work::Solve { asked, call, until })
+/// A search, and the names of its files.
+fn search_of(alloc: Global, matches: &ArgMatches<'_>) -> Result<Search, AllocError> {
+    let start = file_name(alloc, matches, "start")?;
+    let progress = form(alloc, matches)?;
+    Ok(Search {
+        asked: asked(matches, start.is_some(), progress),
+        start,
+        resume: file_name(alloc, matches, "resume")?,
+        record: file_name(alloc, matches, "record")?,
+        until: file_name(alloc, matches, "until")?,
+    })
 }
 
 /// What the matches ask for. None if words ask for nothing, which `clap` doesn't let pass.
 fn found_work(alloc: Global, matches: &ArgMatches<'_>) -> Result<Option<Work>, AllocError> {
     match matches.subcommand() {
-        Some(("solve", found)) => Ok(Some(solve_work(alloc, found)?)),
+        Some(("solve", found)) => Ok(Some(Work::Solve(search_of(alloc, found)?))),
         Some(("verify", found)) => match file_name(alloc, found, "project")? {
             Some(project) => Ok(Some(Work::Verify {
                 project,

@@ -10,7 +10,7 @@ with an example. Faults go to standard error.
 
 Exit status:
   0  answered or proved
-  1  memory, a thread or a device failed, or the book refused the end of a search
+  1  memory, a thread or a device failed, or the book refused a log or the end of a search
   2  the words of the command or a text have a fault
   3  the search stopped at a limit
   4  the starts are not a feasible schedule, or the log is wrong";
@@ -36,18 +36,22 @@ their violations as 'psmax check' does, and does not search.
 --progress reports on standard error what the book holds, once it holds something new. With json
 each report is a line with the seconds, the bound, and the makespan and the starts of the best
 schedule.
---record empties FILE first. After the answer it writes the log into FILE, even if the search
-stopped at a limit. 'psprove verify' checks it.
+--record writes the log into FILE, even if the search stopped at a limit. 'psprove verify' checks it.
+While the search goes on the log grows in FILE.part, which takes the name FILE in the end. If
+psprove is killed, FILE.part proves what was found: 'psprove verify --partial' prints it.
+--resume goes on from a log of the project, whole or cut off, with its schedule, its root and its
+lemmas. The new log begins with the events of the old one.
 
 Examples:
   psprove solve < project.sch
   psprove solve --seconds 600 --progress --record project.log < project.sch
   psprove solve --conflicts 10000 --json --start plan.starts < project.sch
   psprove solve --jobs 4 --seconds 600 < project.sch
+  psprove solve --resume project.log --record project.log < project.sch
 
 Exit status:
   0  answered
-  1  memory, a thread or a device failed, or the book refused the end of a search
+  1  memory, a thread or a device failed, or the book refused a log or the end of a search
   2  the words of the command or a text have a fault
   3  the search stopped at a limit
   4  the starts of --start are not a feasible schedule";
@@ -64,6 +68,7 @@ prove:
 Otherwise the first event N that is wrong goes to standard error. Events count from 1, and the title
 is event 0:
   event N: form       the bytes are no event, or not the title
+  event N: long       the lemma has more than 1,024 arcs
   event N: short      the log ends before this event, or within it
   event N: trailing   the event before this one is the claim, which is the last
   event N: lemma      its lines do not refute its arcs, or its slot is not empty

@@ -1,19 +1,23 @@
-//! `psprove`: solves projects with resources and time lags by an untrusted search before a proved checker, and checks
-//! what others claim of them.
+//! `psprove`: solves projects with resources and time lags by an untrusted search beside a proved book of lemmas, and
+//! checks what others claim of them.
 #![tactic(auto)]
 
 mod command_line;
 mod help;
+mod host;
+mod record_file;
 
 use answers::Fault;
-use calls::{Call, FOLDER, Opener, refuse, refuse_file, refuse_files, report};
-use command_line::{Work, work_of};
+use calls::{Call, FOLDER, FileFault, Opener, refuse, refuse_file, refuse_files, report};
+use command_line::{Search, Work, work_of};
+use host::FilesBeside;
 use log_runs::{LogEnded, run};
+use record_file::RecordFile;
 use runs::{Ended, Reader, Writer};
-use solve_runs::{Asked, Until, solve};
-use std::alloc::Global;
+use solve_runs::{Asked, solve};
+use std::alloc::{AllocError, Global};
 use std::fs::Files;
-use std::io::ErrorKind;
+use std::io::{ErrorKind, IsTerminal, Read};
 use std::process::ExitCode;
 use std::rt::Runtime;
 use std::sync::Wait;
@@ -21,7 +25,7 @@ use std::thread::Threads;
 use std::{fs, io};
 
 /// The program's name in what it prints.
-const PROGRAM: &str = "psprove";
+pub(crate) const PROGRAM: &str = "psprove";
 
 /// Prints how a run over a log ended, where it proves nothing.
 fn report_log<R: Eprint>(rt: &R, ended: &LogEnded) -> ExitCode {
@@ -46,60 +50,164 @@ fn verify<R: Runtime>(rt: &R, alloc: Global, name: &String, partial: bool) -> Ex
     report_log(rt, &ended)
 }
 
-/// A file that ends a search once it is there, if it has a name.
-#[derive(Drop)]
-struct FileThere<'a, R: Files> {
-    rt: &'a R,
-    name: Option<&'a str>,
-}
-
-impl<R: Files> Until for FileThere<'_, R> {
-    fn is_now(&self) -> bool {
-        self.name.is_some_and(|name| self.rt.metadata(name).is_ok())
+/// The bytes of the log that a search goes on from, if it has a name.
+fn read_log<R: Files>(rt: &R, alloc: Global, name: Option<&str>) -> io::Result<Vec<u8>> {
+    let mut bytes = Vec::new(alloc);
+    if let Some(name) = name {
+        fs::open(rt, name)?.read_to_end(&mut bytes)?;
     }
+    Ok(bytes)
 }
 
-/// Opens the files that the call names, and searches for the project on standard input.
+/// The call of a search whose record is in this file.
+fn call_of(
+    alloc: Global,
+    asked: Asked,
+    start: Option<String>,
+    record: Option<&RecordFile>,
+) -> Result<Call, AllocError> {
+    let record_file = match record {
+        Some(record) => Some(String::from_str(alloc, record.first_name())?),
+        None => None,
+    };
+    Ok(Call {
+        job: asked.job(),
+        second: start,
+        record_file,
+    })
+}
+
+/// Opens the files of a call, and searches for the project on standard input.
 fn search<R: Runtime + Threads + Wait + Sync>(
     rt: &R,
     alloc: Global,
     asked: Asked,
     call: &Call,
     until: Option<&str>,
-) -> ExitCode {
-    let mut files = match Opener::new(rt).open(call) {
-        Ok(files) => files,
-        Err(fault) => return refuse_files(rt, PROGRAM, call, fault),
-    };
+    part: Option<&str>,
+    resumed: Vec<u8>,
+) -> Result<Ended, FileFault> {
+    let mut files = Opener::new(rt).open(call)?;
     let mut input = Reader::new(rt.reader());
     let mut out = Writer::new(io::writer(rt));
-    let ended = solve(
+    let host = FilesBeside {
+        rt,
+        until,
+        part,
+        resumed,
+    };
+    Ok(solve(
         rt,
         alloc,
         asked,
-        &FileThere { rt, name: until },
+        &host,
         &mut input,
         &mut files.second,
         &mut out,
         &mut files.record_file,
-    );
-    report(rt, PROGRAM, &ended)
+    ))
+}
+
+/// Whether the record of a call is in a file that it reads: then that is told.
+fn refuse_losses<R: Runtime>(
+    rt: &R,
+    record: Option<&RecordFile>,
+    call: &Call,
+    resume: Option<&str>,
+) -> Option<ExitCode> {
+    let record = record?;
+    if let Err(fault) = record.check(rt, call) {
+        return Some(refuse_files(rt, PROGRAM, call, fault));
+    }
+    if record.empties(rt, resume?) {
+        let _ = eprintln!(rt; "error: --resume and --record name the same file");
+        return Some(ExitCode::from(2));
+    }
+    None
+}
+
+/// Says what a search waits for, where standard input is a terminal.
+fn tell_wait(rt: &HostRuntime, work: &Work) {
+    if matches!(work, Work::Solve(_)) && rt.reader().is_terminal() {
+        let _ = eprintln!(rt; "{PROGRAM}: waits for a project on standard input");
+    }
+}
+
+/// Tells why the files of a call are not open; of the record's file by the name that was given.
+fn refuse_open<R: Runtime>(
+    rt: &R,
+    call: &Call,
+    record: Option<&RecordFile>,
+    fault: FileFault,
+) -> ExitCode {
+    match record {
+        Some(record) if fault == FileFault::Record => record.refuse(rt),
+        _ => refuse_files(rt, PROGRAM, call, fault),
+    }
+}
+
+/// Does what a search is asked for.
+fn begin<R: Runtime + Threads + Wait + Sync>(
+    rt: &R,
+    alloc: Global,
+    work: Search,
+) -> Result<ExitCode, AllocError> {
+    let Search {
+        asked,
+        start,
+        resume,
+        record,
+        until,
+    } = work;
+    let record = match record {
+        Some(name) => Some(RecordFile::of(rt, alloc, name)?),
+        None => None,
+    };
+    let call = call_of(alloc, asked, start, record.as_ref())?;
+    if let Some(status) = refuse_losses(rt, record.as_ref(), &call, resume.as_deref()) {
+        return Ok(status);
+    }
+    let resumed = match read_log(rt, alloc, resume.as_deref()) {
+        Ok(bytes) => bytes,
+        Err(error) if error.kind() == ErrorKind::OutOfMemory => return Err(AllocError),
+        Err(_) => return Ok(refuse_file(rt, PROGRAM, resume.as_ref())),
+    };
+    let until = until.as_deref();
+    let part = match &record {
+        Some(record) => record.part(),
+        None => None,
+    };
+    let ended = match search(rt, alloc, asked, &call, until, part, resumed) {
+        Ok(ended) => ended,
+        Err(fault) => return Ok(refuse_open(rt, &call, record.as_ref(), fault)),
+    };
+    let status = report(rt, PROGRAM, &ended);
+    Ok(match &record {
+        Some(record) => record.settle(rt, &ended),
+        None => status,
+    })
 }
 
 /// Does the work.
-fn perform<R: Runtime + Threads + Wait + Sync>(rt: &R, alloc: Global, work: &Work) -> ExitCode {
+fn perform<R: Runtime + Threads + Wait + Sync>(rt: &R, alloc: Global, work: Work) -> ExitCode {
     let _input = fs::open(rt, FOLDER);
     let _output = fs::open(rt, FOLDER);
     let _faults = fs::open(rt, FOLDER);
     match work {
-        Work::Verify { project, partial } => verify(rt, alloc, project, *partial),
-        Work::Solve { asked, call, until } => search(rt, alloc, *asked, call, until.as_deref()),
+        Work::Verify { project, partial } => verify(rt, alloc, &project, partial),
+        Work::Solve(work) => match begin(rt, alloc, work) {
+            Ok(status) => status,
+            Err(_) => report(rt, PROGRAM, &Ended::with(Fault::Memory)),
+        },
     }
 }
 
 fn main(rt: HostRuntime) -> ExitCode {
     match work_of(&rt) {
-        Ok(work) => perform(&rt, rt.alloc(), &work),
+        Ok(work) => {
+            tell_wait(&rt, &work);
+            perform(&rt, rt.alloc(), work)
+        }
         Err(fault) => refuse(&rt, PROGRAM, &fault),
     }
 }

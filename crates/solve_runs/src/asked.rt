@@ -55,14 +55,15 @@ impl Asked {
         }
     }
 
-    /// How far a job's search goes, and from where it breaks ties.
-    pub(crate) fn limits(self, job: u64) -> Limits {
+    /// How far a job's search goes, and from where it breaks ties, where so many slots were used before.
+    pub(crate) fn limits(self, job: u64, slots: usize) -> Limits {
         Limits {
             memory: self.memory,
             seed: self.seed.wrapping_add(job),
             slots: Slots {
                 job: narrow(job as usize),
                 jobs: narrow(self.jobs as usize),
+                taken: narrow(slots),
             },
         }
     }

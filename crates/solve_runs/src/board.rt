@@ -4,12 +4,13 @@ use crate::asked::Progress;
 use crate::progress::{Report, Reporter, Watch};
 use crate::shelf::{Fact, Shelf};
 use lemma_log::Event;
-use lemma_record::Book;
+use lemma_proof::Lags;
+use lemma_record::{Book, Desk};
 use network::Project;
 use record_text::Starts;
 use std::alloc::{AllocError, Global};
 use std::time::Clock;
-use strategies::{Finder, Solver, State, Told};
+use strategies::{Finder, Solver, State};
 use tables::narrow;
 
 /// Other jobs hear of lemmas of so many arcs at most.
@@ -18,10 +19,11 @@ const LONG: usize = 40;
 /// What the searches know together. It lies under a lock.
 #[derive(Drop)]
 pub(crate) struct Board<'a> {
+    alloc: Global,
     /// What is proved, whoever offered it.
     pub(crate) book: Book<'a>,
     /// Who uses its lemmas.
-    shelf: Shelf,
+    pub(crate) shelf: Shelf,
     finder: Finder,
     reporter: Reporter,
     /// Whether the searches stop: one of them has ended, or ran out of memory.
@@ -49,14 +51,14 @@ fn narrowed(alloc: Global, starts: &[i64]) -> Result<Vec<i32>, AllocError> {
     starts.collect(alloc)
 }
 
-/// The slot that a lemma fills, and how many arcs it has.
-fn shelved(event: &Event) -> Option<(usize, usize)> {
-    match event {
-        Event::Lemma { slot, arcs, .. } if arcs.as_slice().len() > 1 => {
-            Some((*slot, arcs.as_slice().len()))
-        }
-        _ => None,
-    }
+/// A lemma that waits on a desk.
+#[derive(Clone, Copy)]
+pub(crate) struct Waiting {
+    pub(crate) slot: usize,
+    /// How many arcs it has.
+    pub(crate) arcs: usize,
+    /// Of how many levels its literals are.
+    pub(crate) lbd: u32,
 }
 
 impl<'a> Board<'a> {
@@ -73,6 +75,7 @@ impl<'a> Board<'a> {
             book.offer(Event::Schedule { starts })?;
         }
         Ok(Board {
+            alloc,
             book,
             shelf: Shelf::new(alloc, jobs)?,
             finder: Finder::Other,
@@ -91,87 +94,112 @@ impl<'a> Board<'a> {
     }
 
     /// A search and the book tell each other the best schedule.
-    pub(crate) fn exchange(
-        &mut self,
-        alloc: Global,
-        solver: &mut Solver<'_>,
-    ) -> Result<(), AllocError> {
+    pub(crate) fn exchange(&mut self, solver: &mut Solver<'_>) -> Result<(), AllocError> {
         let mine = self.makespan().unwrap_or(i64::MAX);
         let found = solver.best();
         let theirs = found.and_then(|starts| starts.last().copied());
         let theirs = theirs.map_or(i64::MAX, i64::from);
         if let (Some(starts), true) = (found, theirs < mine) {
-            let starts = widened(alloc, starts)?;
+            let starts = widened(self.alloc, starts)?;
             self.finder = solver.finder();
             self.book.offer(Event::Schedule { starts })?;
         } else if let (Some(starts), true) = (self.book.ledger().best(), mine < theirs) {
-            solver.take(&narrowed(alloc, starts)?)?;
+            solver.take(&narrowed(self.alloc, starts)?)?;
         }
         Ok(())
     }
 
-    /// Takes what a search has proved. Other jobs hear of root arcs, and of lemmas if the search shares them.
-    pub(crate) fn hand_in(
+    /// Takes what a search has proved at its desk. Other jobs hear of lemmas of few arcs if the search shares them.
+    pub(crate) fn accept_all(
         &mut self,
         job: usize,
-        told: Told,
+        desk: &mut Desk<'_>,
+        lemmas: &[Waiting],
         shares: bool,
     ) -> Result<(), AllocError> {
-        let Told { event, lbd } = told;
+        for lemma in lemmas {
+            if self.book.accept(desk)? != Some(true) {
+                continue;
+            }
+            let (slot, lbd) = (lemma.slot, lemma.lbd);
+            self.shelf.put(slot, 1)?;
+            if shares && lemma.arcs <= LONG {
+                self.shelf.announce(job, Fact::Lemma { slot, lbd })?;
+            }
+        }
+        Ok(())
+    }
+
+    /// Takes another event of a search. A lemma goes if no other job uses it. Other jobs hear of arcs of the root.
+    pub(crate) fn offer(&mut self, job: usize, event: Event) -> Result<(), AllocError> {
         if let Event::Drop { slot } = &event {
             if !self.shelf.let_go(*slot)? {
                 return Ok(());
             }
         }
-        let kept = shelved(&event);
         let roots = self.book.ledger().roots().len();
-        if !self.book.offer(event)? {
-            return Ok(());
-        }
+        self.book.offer(event)?;
         for place in roots..self.book.ledger().roots().len() {
             self.shelf.announce(job, Fact::Root { place })?;
-        }
-        let Some((slot, arcs)) = kept else {
-            return Ok(());
-        };
-        self.shelf.put(slot)?;
-        if shares && arcs <= LONG {
-            self.shelf.announce(job, Fact::Lemma { slot, lbd })?;
         }
         Ok(())
     }
 
-    /// Tells a search what others have proved, and which of its slots are free again.
-    pub(crate) fn hear(&mut self, job: usize, solver: &mut Solver<'_>) -> Result<(), AllocError> {
+    /// The bytes of the log after so many.
+    pub(crate) fn log_after(&self, count: usize) -> Result<Vec<u8>, AllocError> {
+        let rest = self.book.log().get(count..).unwrap_or_default();
+        Vec::from_slice(self.alloc, rest)
+    }
+
+    /// Tells a search and its desk what others have proved, and which of its slots are free again.
+    pub(crate) fn hear(
+        &mut self,
+        job: usize,
+        solver: &mut Solver<'_>,
+        desk: &mut Desk<'_>,
+    ) -> Result<(), AllocError> {
         for slot in &self.shelf.free_slots(job) {
             solver.release(narrow(*slot))?;
         }
         if solver.shares() {
-            self.pass_all_on(job, solver)?;
+            self.pass_all_on(job, solver, desk)?;
             self.shelf.tidy();
         }
         Ok(())
     }
 
-    /// Tells a search all news.
-    fn pass_all_on(&mut self, job: usize, solver: &mut Solver<'_>) -> Result<(), AllocError> {
+    /// Tells all news.
+    fn pass_all_on(
+        &mut self,
+        job: usize,
+        solver: &mut Solver<'_>,
+        desk: &mut Desk<'_>,
+    ) -> Result<(), AllocError> {
         for _ in 0..u64::MAX {
             let Some(fact) = self.shelf.next(job) else {
                 break;
             };
-            self.pass_on(fact, solver)?;
+            self.pass_on(fact, solver, desk)?;
         }
         Ok(())
     }
 
-    /// Tells a search a fact.
-    fn pass_on(&self, fact: Fact, solver: &mut Solver<'_>) -> Result<(), AllocError> {
+    /// Tells a fact.
+    fn pass_on(
+        &self,
+        fact: Fact,
+        solver: &mut Solver<'_>,
+        desk: &mut Desk<'_>,
+    ) -> Result<(), AllocError> {
         let ledger = self.book.ledger();
         match fact {
-            Fact::Lemma { slot, lbd } => match ledger.lemma_in(slot) {
-                Some(arcs) => solver.import(narrow(slot), lbd, arcs),
-                None => Ok(()),
-            },
+            Fact::Lemma { slot, lbd } => {
+                let Some(arcs) = ledger.lemma_in(slot) else {
+                    return Ok(());
+                };
+                desk.copy(slot, Lags::new(Vec::from_slice(self.alloc, arcs)?))?;
+                solver.import(narrow(slot), lbd, arcs)
+            }
             Fact::Root { place } => match ledger.roots().get(place) {
                 Some(arc) => solver.hold(*arc),
                 None => Ok(()),
@@ -183,7 +211,6 @@ impl<'a> Board<'a> {
     pub(crate) fn tell<R: Clock + Eprint>(
         &mut self,
         rt: &R,
-        alloc: Global,
         watch: Watch,
         form: Progress,
     ) -> Result<(), AllocError> {
@@ -200,7 +227,7 @@ impl<'a> Board<'a> {
                 self.reporter.tell(rt, &report);
                 Ok(())
             }
-            Progress::Json => self.reporter.tell_json(rt, alloc, &report),
+            Progress::Json => self.reporter.tell_json(rt, self.alloc, &report),
         }
     }
 

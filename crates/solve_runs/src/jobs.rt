@@ -5,9 +5,10 @@ ghost use Rattle.solve_runs.specs.Story.{IsProof};
 
 use crate::asked::Asked;
 use crate::board::Board;
+use crate::host::{Host, Nobody};
 use crate::progress::Watch;
+use crate::resuming::ResumeFault;
 use crate::searching::{Run, search_beside};
-use crate::until::{Never, Until};
 use lemma_record::{Book, Shown};
 use network::Project;
 use record_text::Proved;
@@ -36,7 +37,7 @@ pub(crate) enum SearchFault {
     Memory,
     /// A thread could not be started.
     Thread,
-    /// The book did not follow a search to its end, or it is of another project.
+    /// The book did not follow a search to its end, or the log that it was to go on from, or it is of another project.
     Refused,
 }
 
@@ -47,11 +48,11 @@ impl From<AllocError> for SearchFault {
 }
 
 /// Has all jobs search, the first in this thread, which sees when they are to end, and waits for them. Where a thread can't be started, all stop.
-fn search_all<R: Clock + Eprint + Threads + Wait + Sync, U: Until>(
+fn search_all<R: Clock + Eprint + Threads + Wait + Sync, H: Host>(
     rt: &R,
     alloc: Global,
     run: Run<'_, '_>,
-    until: &U,
+    host: &H,
 ) -> Result<(), SearchFault> {
     thread::scope(
         thread::scope_env(),
@@ -59,7 +60,7 @@ fn search_all<R: Clock + Eprint + Threads + Wait + Sync, U: Until>(
         move |scope| -> Result<(), SearchFault> {
             let mut running: Vec<JoinHandle<()>> = Vec::new(alloc);
             for job in 1..run.asked.jobs {
-                let beside = move || search_beside(rt, alloc, run, job, &Never);
+                let beside = move || search_beside(rt, alloc, run, job, &Nobody);
                 let Ok(handle) = scope.spawn(beside) else {
                     run.board.lock(rt).is_over = true;
                     return Err(SearchFault::Thread);
@@ -69,7 +70,7 @@ fn search_all<R: Clock + Eprint + Threads + Wait + Sync, U: Until>(
                     return Err(SearchFault::Memory);
                 }
             }
-            search_beside(rt, alloc, run, 0, until);
+            search_beside(rt, alloc, run, 0, host);
             for handle in running {
                 handle.join(rt);
             }
@@ -96,26 +97,46 @@ fn shown(book: Book<'_>, project: &Project) -> Result<Shown, SearchFault>
     Ok(book.close()?)
 }
 
+/// The searches go on from a log. How many slots it uses.
+fn resume<R: Eprint>(
+    rt: &R,
+    alloc: Global,
+    board: &mut Board<'_>,
+    log: &[u8],
+) -> Result<usize, SearchFault> {
+    match board.resume(alloc, log) {
+        Ok(slots) => Ok(slots),
+        Err(ResumeFault::Memory) => Err(SearchFault::Memory),
+        Err(ResumeFault::Event(number)) => {
+            let _ = eprintln!(rt; "psprove: the log to resume: event {number} is wrong");
+            Err(SearchFault::Refused)
+        }
+    }
+}
+
 /// What searches within limits find together, perhaps from a schedule of the project.
-pub(crate) fn searched<R: Clock + Eprint + Threads + Wait + Sync, U: Until>(
+pub(crate) fn searched<R: Clock + Eprint + Threads + Wait + Sync, H: Host>(
     rt: &R,
     alloc: Global,
     asked: Asked,
-    until: &U,
+    host: &H,
     project: &Project,
     start: Option<&[i64]>,
 ) -> Result<Found, SearchFault>
     ensures { IfOk result (λ found. IsProof project.now found.shown) }
 {
     let watch = Watch::start(rt);
-    let board = Mutex::new(Board::new(alloc, project, asked.jobs, start)?);
+    let mut board = Board::new(alloc, project, asked.jobs, start)?;
+    let slots = resume(rt, alloc, &mut board, host.resumed())?;
+    let board = Mutex::new(board);
     let run = Run {
         asked,
+        slots,
         watch,
         project,
         board: &board,
     };
-    search_all(rt, alloc, run, until)?;
+    search_all(rt, alloc, run, host)?;
     let board = board.into_inner();
     let state = board.state()?;
     tell_stop(rt, state);

@@ -8,15 +8,16 @@
 mod asked;
 mod board;
 mod figures;
+mod host;
 mod jobs;
 mod judging;
 mod progress;
+mod resuming;
 mod running;
 mod searching;
 mod shelf;
 mod solving;
-mod until;
 
 pub use asked::{Asked, MAX_JOBS, Progress};
+pub use host::Host;
 pub use running::solve;
-pub use until::Until;

@@ -8,8 +8,8 @@ ghost use Rattle.runs.specs.Outcome.{IfTextsTold};
 ghost use Rattle.solve_runs.specs.Story.{job_of, IsReply, Replies};
 
 use crate::asked::Asked;
+use crate::host::Host;
 use crate::solving::{solved, solved_from};
-use crate::until::Until;
 use answers::Fault;
 use runs::{Ended, Input, Output, Reply, read_project, read_text, write_reply};
 use std::alloc::Global;
@@ -20,11 +20,11 @@ use words::MAX_TEXT_BYTES;
 
 /// The reply of a search to what its inputs hold. The project is read and judged before the starts, and these before
 /// anything is searched.
-fn solve_reply<I: Input, S: Input, R: Clock + Eprint + Threads + Wait + Sync, U: Until>(
+fn solve_reply<I: Input, S: Input, R: Clock + Eprint + Threads + Wait + Sync, H: Host>(
     rt: &R,
     alloc: Global,
     asked: Asked,
-    until: &U,
+    host: &H,
     input: &mut I,
     second: &mut S,
 ) -> Result<Reply, Fault>
@@ -40,10 +40,10 @@ fn solve_reply<I: Input, S: Input, R: Clock + Eprint + Threads + Wait + Sync, U:
     let project = read_project(alloc, input)?;
     if !asked.start {
         let project = Arc::new(alloc, project)?;
-        return solved(rt, alloc, asked, until, &project, None);
+        return solved(rt, alloc, asked, host, &project, None);
     }
     let starts = read_text(alloc, MAX_TEXT_BYTES, second)?;
-    solved_from(rt, alloc, asked, until, project, &starts)
+    solved_from(rt, alloc, asked, host, project, &starts)
 }
 
 /// Searches for a shortest schedule of the project on the first input. The search starts from the starts on the second
@@ -51,22 +51,23 @@ fn solve_reply<I: Input, S: Input, R: Clock + Eprint + Threads + Wait + Sync, U:
 /// over a missing device for a second input that isn't asked for, and for a record that nobody wants. After a failure a
 /// device isn't called again.
 ///
-/// With exit status 0 the answer is `optimal C` with starts, or `no schedule`. If a limit or `until` stopped the search, it is
+/// With exit status 0 the answer is `optimal C` with starts, or `no schedule`. If a limit or the host stopped the search, it is
 /// `feasible C bound B` with starts or `unknown bound B`, exit status 3. For starts that are not a feasible schedule it
 /// is all that they violate, exit status 4, without a record. The record is the log of the book that judged all that the
-/// search found. [`Fault::Refused`] comes where the book did not follow a search to its end.
+/// search found. [`Fault::Refused`] comes where the book did not follow a search to its end, or
+/// the log that it was to go on from.
 pub fn solve<
     I: Input,
     S: Input,
     O: Output,
     D: Output,
     R: Clock + Eprint + Threads + Wait + Sync,
-    U: Until,
+    H: Host,
 >(
     rt: &R,
     alloc: Global,
     asked: Asked,
-    until: &U,
+    host: &H,
     input: &mut I,
     second: &mut S,
     out: &mut O,
@@ -99,7 +100,7 @@ pub fn solve<
     ensures failed { OneFailedWhere (result.fault ≡ Some faults.WriteFailed)
         (span O.held O.failed out.old out.new) (span D.held D.failed record_out.old record_out.new) }
 {
-    match solve_reply(rt, alloc, asked, until, input, second) {
+    match solve_reply(rt, alloc, asked, host, input, second) {
         Ok(reply) => write_reply(out, record_out, &reply),
         Err(fault) => Ended::with(fault),
     }

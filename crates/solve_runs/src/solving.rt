@@ -9,9 +9,9 @@ ghost use Rattle.solve_runs.specs.Story.{IsProof, IsShownReply, IsStartedReply};
 
 use crate::asked::Asked;
 use crate::figures::{Figures, answer_of};
+use crate::host::Host;
 use crate::jobs::{Found, SearchFault, searched};
 use crate::judging::outcome_of;
-use crate::until::Until;
 use answers::Fault;
 use network::{Project, Schedule};
 use runs::{Judged, Reply, judged_starts};
@@ -63,11 +63,11 @@ fn shown_reply(
 }
 
 /// What a search has found of a project, perhaps from a schedule of it, as its record shows.
-pub(crate) fn solved<R: Clock + Eprint + Threads + Wait + Sync, U: Until>(
+pub(crate) fn solved<R: Clock + Eprint + Threads + Wait + Sync, H: Host>(
     rt: &R,
     alloc: Global,
     asked: Asked,
-    until: &U,
+    host: &H,
     project: &Arc<Project>,
     start: Option<&Schedule>,
 ) -> Result<Reply, Fault>
@@ -79,7 +79,7 @@ pub(crate) fn solved<R: Clock + Eprint + Threads + Wait + Sync, U: Until>(
         Some(start) => Some(start.starts()),
         None => None,
     };
-    match searched(rt, alloc, asked, until, project, start) {
+    match searched(rt, alloc, asked, host, project, start) {
         Ok(found) => shown_reply(alloc, project, asked.json, found),
         Err(fault) => Err(search_fault(fault)),
     }
@@ -87,11 +87,11 @@ pub(crate) fn solved<R: Clock + Eprint + Threads + Wait + Sync, U: Until>(
 
 /// If the starts in a text are not a feasible schedule of the project, what they violate, without a search. Otherwise
 /// what a search has found from them.
-pub(crate) fn solved_from<R: Clock + Eprint + Threads + Wait + Sync, U: Until>(
+pub(crate) fn solved_from<R: Clock + Eprint + Threads + Wait + Sync, H: Host>(
     rt: &R,
     alloc: Global,
     asked: Asked,
-    until: &U,
+    host: &H,
     project: Project,
     text: &[u8],
 ) -> Result<Reply, Fault>
@@ -102,7 +102,7 @@ pub(crate) fn solved_from<R: Clock + Eprint + Threads + Wait + Sync, U: Until>(
 {
     let project = Arc::new(alloc, project)?;
     match judged_starts(alloc, &project, text)? {
-        Judged::Feasible(start) => solved(rt, alloc, asked, until, &project, Some(&start)),
+        Judged::Feasible(start) => solved(rt, alloc, asked, host, &project, Some(&start)),
         Judged::Refused(answer) => Ok(Reply::new(answer, None)),
     }
 }
