@@ -1,11 +1,11 @@
 #!/usr/bin/env python3
-"""tests/devices.py PROGRAM [--only WORD]
+"""tests/devices.py PROGRAM [--proofs] [--only WORD]
 
-Runs the program on devices of the system that go in pieces or fail: pipes that give few bytes at once; standard input that
-fails after each number of bytes, that is a folder, or that is closed; a second input that is a folder; files that may
-have no more than each number of bytes, for the answer and for the record; a full device; closed output; and readers
-that have gone. Where a device fails the program has to say so, with status 1, and what it wrote has to be a beginning
-of what it was to write.
+Runs psmax, or with --proofs psprove, on devices of the system that go in pieces or fail: pipes that give few bytes at
+once; standard input that fails after each number of bytes, that is a folder, or that is closed; a second input that is a
+folder; files that may have no more than each number of bytes, for the answer and for the record; a full device; closed
+output; and readers that have gone. Standard error fails, too, in searches that report on it. Where a device fails the
+program has to say so, with status 1, and what it wrote has to be a beginning of what it was to write.
 
 The last line counts the runs."""
 import os
@@ -19,14 +19,12 @@ from types import TracebackType
 from typing import Any
 
 import harness
-from calls import CALLS, Call
+from calls import CALLS, PROOFS, SEARCHES, Call, without_reports
 from channels import given, limit_files
 from harness import TIMEOUT, Ended, Verdicts
 
-READ, WRITE = b"psmax: cannot read\n", b"psmax: cannot write\n"
-EXACT = [call for call in CALLS if not call.answer]
-ANSWERED = [call for call in EXACT if call.usual[1]]
 Tried = Iterator[tuple[Call, str, bool, Ended]]  # a call, a device, whether it went as it has to, and how it ended
+WAITS = b"psprove: waits for a project on standard input\n"  # at a terminal
 
 
 class Run:
@@ -36,7 +34,12 @@ class Run:
         self.program, self.call = program, call
 
     def ended(self, **how: Any) -> Ended:
-        return harness.ended([self.program, *self.call.words], self.call.text, cwd=self.folder, **how)
+        """How it ends."""
+        return self.told(*harness.ended([self.program, *self.call.words], self.call.text, cwd=self.folder, **how))
+
+    def told(self, status: int | None, out: bytes, fault: bytes) -> Ended:
+        """The same without reports."""
+        return status, out, without_reports(fault) if "--progress" in self.call.words else fault
 
     def __enter__(self) -> "Run":
         self.holder = tempfile.TemporaryDirectory()
@@ -51,12 +54,61 @@ class Run:
         file = self.folder / "record"
         return file.read_bytes() if file.is_file() else b""
 
+    def part(self) -> bytes:
+        """What is left of a record that was not written whole."""
+        file = self.folder / "record.part"
+        return file.read_bytes() if file.is_file() else b""
 
-def in_pieces(program: str) -> Tried:
+
+class Calls:
+    """The program, and its calls that have one answer and one record."""
+
+    def __init__(self, program: str, is_psprove: bool) -> None:
+        self.program, self.name = program, "psprove" if is_psprove else "psmax"
+        calls = [*PROOFS, *map(self.settled, SEARCHES)] if is_psprove else CALLS
+        self.exact = [call for call in calls if not call.answer]
+        self.answered = [call for call in self.exact if call.usual[1]]
+        self.open = [call for call in calls if call.answer]
+
+    def settled(self, call: Call) -> Call:
+        """The call with the answer and the record that it has here, where the same ones come again."""
+        if "--jobs" in call.words:
+            return call
+        with Run(self.program, call) as run:
+            (status, out, fault), record = run.ended(), run.record()
+        if status is None or not call.is_usual((status, out, fault), record):
+            return call
+        return Call(call.words, call.text, call.second, status, out, fault, record)
+
+    def each_kind(self) -> list[Call]:
+        """A call of each command, with one job and with several."""
+        return list({(call.words[0], "--jobs" in call.words): call for call in self.open + self.answered}.values())
+
+    def reads_input(self, call: Call) -> bool:
+        """Whether standard input is read. psprove judges the project first, which is the second input of verify."""
+        return not (self.name == "psprove" and call.words[0] == "verify" and call.usual[0] == 2)
+
+    def fault(self, what: str) -> bytes:
+        return f"{self.name}: {what}\n".encode()
+
+    def is_fault(self, ended: Ended, run: Run, what: str) -> bool:
+        """Whether a run ended with the fault alone, and nothing was written."""
+        return ended == (1, b"", self.fault(what)) and run.record() == b""
+
+
+def usual(calls: Calls) -> Tried:
+    """Nothing fails."""
+    for call in calls.exact + calls.open:
+        with Run(calls.program, call) as run:
+            ended = run.ended()
+            yield call, "devices that do not fail", call.is_usual(ended, run.record()), ended
+
+
+def in_pieces(calls: Calls) -> Tried:
     """Standard input and the second input by pipes that give few bytes at once."""
-    for call in EXACT:
+    for call in calls.exact:
         for most in (1, 7):
-            with Run(program, call) as run:
+            with Run(calls.program, call) as run:
                 (run.folder / "second").unlink()
                 reads, giver = given(call.text, most)
                 second, second_giver = given(call.second, most)
@@ -69,106 +121,150 @@ def in_pieces(program: str) -> Tried:
                 yield call, f"pieces of {most}", call.is_usual(ended, run.record()), ended
 
 
-def failing_input(program: str) -> Tried:
+def failing_input(calls: Calls) -> Tried:
     """Standard input that fails after so many bytes: a terminal whose other side has gone."""
-    for call in {call.words[0]: call for call in ANSWERED}.values():
+    for call in calls.each_kind():
         for room in range(len(call.text) + 1):
-            with Run(program, call) as run:
+            with Run(calls.program, call) as run:
                 master, slave = pty.openpty()
                 tty.setraw(slave)
                 os.write(slave, call.text[:room])
                 os.close(slave)
-                ended = run.ended(stdin=master)
+                status, out, faults = run.ended(stdin=master)
+                ended = status, out, faults.removeprefix(WAITS)
                 os.close(master)
-                yield call, f"{room} bytes and a failure", ended == (1, b"", READ) and run.record() == b"", ended
+                yield call, f"{room} bytes and a failure", calls.is_fault(ended, run, "cannot read"), ended
 
 
-def no_input(program: str) -> Tried:
+def no_input(calls: Calls) -> Tried:
     """A folder, and nothing at all, in place of standard input; and a folder in place of the second input."""
-    for call in EXACT:
-        with Run(program, call) as run:
+    for call in filter(calls.reads_input, calls.exact + calls.open):
+        with Run(calls.program, call) as run:
             stdin = os.open(run.folder, os.O_RDONLY)
             ended = run.ended(stdin=stdin)
             os.close(stdin)
-            yield call, "a folder", ended == (1, b"", READ) and run.record() == b"", ended
-        with Run(program, call) as run:
+            yield call, "a folder", calls.is_fault(ended, run, "cannot read"), ended
+        with Run(calls.program, call) as run:
             ended = run.ended(stdin=None, preexec_fn=lambda: os.close(0))
-            yield call, "closed input", ended == (1, b"", READ) and run.record() == b"", ended
+            yield call, "closed input", calls.is_fault(ended, run, "cannot read"), ended
         if "second" in call.words and call.usual[0] != 2:
-            with Run(program, call) as run:
+            with Run(calls.program, call) as run:
                 (run.folder / "second").unlink()
                 (run.folder / "second").mkdir()
                 ended = run.ended()
-                yield call, "a folder as second input", ended == (1, b"", READ) and run.record() == b"", ended
+                yield call, "a folder as second input", calls.is_fault(ended, run, "cannot read"), ended
 
 
-def limited_files(program: str) -> Tried:
+def limited_files(calls: Calls) -> Tried:
     """The answer and the record in files that may have no more than so many bytes."""
-    for call in ANSWERED:
+    for call in calls.answered:
         status, out, fault = call.usual
         for room in range(max(len(out), len(call.record)) + 1):
-            with Run(program, call) as run:
+            with Run(calls.program, call) as run:
                 with open(run.folder / "out", "wb") as stdout:
                     code, _, told = run.ended(stdout=stdout, preexec_fn=lambda: limit_files(room))
                 ended: Ended = code, (run.folder / "out").read_bytes(), told
                 wanted: Ended
                 if len(out) > room:
-                    wanted, record = (1, out[:room], WRITE), b""
+                    wanted, record = (1, out[:room], calls.fault("cannot write")), b""
                 elif len(call.record) > room:
-                    wanted, record = (1, out, WRITE), call.record[:room]
+                    wanted, record = (1, out, calls.fault("cannot write")), call.record[:room]
                 else:
                     wanted, record = call.usual, call.record
-                yield call, f"files of {room} bytes", ended == wanted and run.record() == record, ended
+                is_whole = calls.name == "psmax" or record == call.record
+                is_left = run.record() == record if is_whole else run.record() == b"" and call.record.startswith(run.part())
+                yield call, f"files of {room} bytes", ended == wanted and is_left, ended
 
 
-def failing_output(program: str) -> Tried:
+def limited_files_of_several(calls: Calls) -> Tried:
+    """The same for searches that don't end twice alike: the usual answer and record, or a fault and no record."""
+    for call in (call for call in calls.open if "--record" in call.words):
+        for room in range(65):
+            with Run(calls.program, call) as run:
+                with open(run.folder / "out", "wb") as stdout:
+                    code, _, told = run.ended(stdout=stdout, preexec_fn=lambda: limit_files(room))
+                ended: Ended = code, (run.folder / "out").read_bytes(), told
+                is_refused = (code, told) == (1, calls.fault("cannot write")) and len(ended[1]) <= room
+                is_left = calls.name == "psmax" or run.record() == b"" and len(run.part()) <= room
+                well = is_refused and is_left or call.is_usual(ended, run.record())
+                yield call, f"files of {room} bytes", well, ended
+
+
+def failing_output(calls: Calls) -> Tried:
     """A full device, closed output, and a reader that has gone, in place of the output."""
-    for call in ANSWERED:
-        with Run(program, call) as run, open("/dev/full", "wb") as full:
+    for call in calls.answered + calls.open:
+        with Run(calls.program, call) as run, open("/dev/full", "wb") as full:
             ended = run.ended(stdout=full)
-            yield call, "a full device", ended == (1, b"", WRITE) and run.record() == b"", ended
-        with Run(program, call) as run:
+            yield call, "a full device", calls.is_fault(ended, run, "cannot write"), ended
+        with Run(calls.program, call) as run:
             ended = run.ended(stdout=None, preexec_fn=lambda: os.close(1))
-            yield call, "closed output", ended == (1, b"", WRITE) and run.record() == b"", ended
-        with Run(program, call) as run:
+            yield call, "closed output", calls.is_fault(ended, run, "cannot write"), ended
+        with Run(calls.program, call) as run:
             reads, writes = os.pipe()
             os.close(reads)
             ended = run.ended(stdout=writes)
             os.close(writes)
-            yield call, "a reader that has gone", ended == (1, b"", WRITE) and run.record() == b"", ended
-        with Run(program, call) as run:
+            yield call, "a reader that has gone", calls.is_fault(ended, run, "cannot write"), ended
+        with Run(calls.program, call) as run:
             ended = run.ended(stderr=None, preexec_fn=lambda: os.close(2))
-            yield call, "closed faults", ended[:2] == call.usual[:2] and run.record() == call.record, ended
+            yield call, "closed faults", call.is_usual((*ended[:2], call.usual[2]), run.record()), ended
 
 
-def failing_record(program: str) -> Tried:
+def failing_record(calls: Calls) -> Tried:
     """A full device, and a reader that has gone, in place of the record."""
-    for call in (call for call in ANSWERED if call.record):
-        wanted: Ended = 1, call.usual[1], WRITE
-        with Run(program, call) as run:
+    def is_told(call: Call, ended: Ended) -> bool:
+        is_right = call.answer(ended[1], b"") if call.answer else ended[1] == call.usual[1]
+        return is_right and (ended[0], ended[2]) == (1, calls.fault("cannot write"))
+
+    for call in (call for call in calls.answered + calls.open if call.record or call.answer and "--record" in call.words):
+        with Run(calls.program, call) as run:
             os.symlink("/dev/full", run.folder / "record")
             ended = run.ended()
-            yield call, "a record on a full device", ended == wanted, ended
-        with Run(program, call) as run:
+            yield call, "a record on a full device", is_told(call, ended), ended
+        with Run(calls.program, call) as run:
             os.mkfifo(run.folder / "record")
-            started = subprocess.Popen([program, *call.words], stdin=subprocess.PIPE, stdout=subprocess.PIPE,
+            started = subprocess.Popen([calls.program, *call.words], stdin=subprocess.PIPE, stdout=subprocess.PIPE,
                                        stderr=subprocess.PIPE, cwd=run.folder)
             os.close(os.open(run.folder / "record", os.O_RDONLY))  # the program has opened it by then
             out, fault = started.communicate(call.text, timeout=TIMEOUT)
-            ended = (started.returncode, out, fault)
-            yield call, "a record whose reader has gone", ended == wanted, ended
+            ended = run.told(started.returncode, out, fault)
+            yield call, "a record whose reader has gone", is_told(call, ended), ended
 
 
-PARTS = (in_pieces, failing_input, no_input, limited_files, failing_output, failing_record)
+def failing_reports(calls: Calls) -> Tried:
+    """A full device, a reader that has gone, and files of few bytes, in place of standard error. A report that cannot be
+    written is lost, and the answer is the usual one."""
+    def is_usual(run: Run, ended: Ended) -> bool:
+        return run.call.is_usual((*ended[:2], b""), run.record())
+
+    for call in (call for call in calls.exact + calls.open if "--progress" in call.words):
+        with Run(calls.program, call) as run, open("/dev/full", "wb") as full:
+            ended = run.ended(stderr=full)
+            yield call, "reports on a full device", is_usual(run, ended), ended
+        with Run(calls.program, call) as run:
+            reads, writes = os.pipe()
+            os.close(reads)
+            ended = run.ended(stderr=writes)
+            os.close(writes)
+            yield call, "reports whose reader has gone", is_usual(run, ended), ended
+        with Run(calls.program, call) as run:
+            ended = run.ended(stderr=None, preexec_fn=lambda: os.close(2))
+            yield call, "reports to nobody", is_usual(run, ended), ended
+
+
+PARTS = (usual, in_pieces, failing_input, no_input, limited_files, limited_files_of_several, failing_output, failing_record,
+         failing_reports)
 
 
 def verdicts(words: Sequence[str]) -> Verdicts:
     parser = harness.Words(__doc__, "program")
+    parser.add_argument("--proofs", action="store_true")
     parser.add_argument("--only", default="")
     o = parser.parse_args(words)
+    calls = Calls(o.program, o.proofs)
     for part in PARTS:
         if o.only in part.__name__:
-            for call, device, well, ended in part(o.program):
+            for call, device, well, ended in part(calls):
                 yield f"{call.name}, {device}", None if well else str(ended)
 
 
