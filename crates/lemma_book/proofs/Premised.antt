@@ -90,9 +90,9 @@ given rules roots rest arcs e c =
 
 -- what lines refute beside some premises, they refute beside those that cover them
 pub covered_refuted : (x other : PremisesOf) (arcs : List Lag) (lines : List Line) → Covers x other lines → IsRefuted other.project other.lemmas (root_arcs other) arcs lines → IsRefuted x.project x.lemmas (root_arcs x) arcs lines
-covered_refuted x other arcs lines covers is = rw (covers.project, covers.roots.1) (record {
+covered_refuted x other arcs lines covers is = rw (covers.ahead.project, covers.ahead.roots.1) (record {
   are_arcs = is.are_arcs;
-  refuted = refuted_given other.project other.lemmas x.lemmas (root_arcs other ++ arcs) ((rules other.project ++ (other.roots ++ covers.roots.0)) ++ arcs) lines covers.lemmas (given (rules other.project) other.roots covers.roots.0 arcs) is.refuted;
+  refuted = refuted_given other.project other.lemmas x.lemmas (root_arcs other ++ arcs) ((rules other.project ++ (other.roots ++ covers.ahead.roots.0)) ++ arcs) lines covers.lemmas (given (rules other.project) other.roots covers.ahead.roots.0 arcs) is.refuted;
 })
 
 -- ---- arcs that are the same

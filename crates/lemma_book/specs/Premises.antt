@@ -53,9 +53,12 @@ abbrev pub Follows : PremisesOf → PremisesOf → Bool → PremisesOf → Type 
 Follows old other true new = (old.project ≡ other.project) × (new ≡ with_roots old (drop (length old.roots) other.roots))
 Follows old other false new = (¬ (old.project ≡ other.project)) × (new ≡ old)
 
--- the premises have what lines rest on beside others: the project, the others' root at the beginning of theirs, and each
--- lemma that the lines use
-pub record Covers (x other : PremisesOf) (lines : List Line) : Type 0 where
+-- they are of the project of others, whose root is at the beginning of theirs
+pub record AreAhead (x other : PremisesOf) : Type 0 where
   pub project : x.project ≡ other.project
   pub roots : (rest : List Lag) × (x.roots ≡ other.roots ++ rest)
+
+-- the premises have what lines rest on beside others: they are ahead of them, and have each lemma that the lines use
+pub record Covers (x other : PremisesOf) (lines : List Line) : Type 0 where
+  pub ahead : AreAhead x other
   pub lemmas : HaveUsed x.lemmas other.lemmas lines

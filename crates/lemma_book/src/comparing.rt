@@ -3,7 +3,7 @@
 ghost use Rattle.std.specs.Prelude.{◌≡◌, ◌↔◌, ◌++◌, List, IsTrue};
 ghost use Rattle.network.specs.declared.parts.Lag.{Lag};
 ghost use Rattle.lemma_proof.specs.Lines.{HasUsed, HaveUsed, IsIn};
-ghost use Rattle.lemma_book.specs.Premises.{Covers};
+ghost use Rattle.lemma_book.specs.Premises.{AreAhead};
 
 use crate::premises::Premises;
 use lemma_proof::Line;
@@ -39,26 +39,24 @@ fn has_used(premises: &Premises<'_>, other: &Premises<'_>, line: &Line) -> bool
     }
 }
 
-/// Whether each lemma that lines use beside others is here, too.
-fn have_used(premises: &Premises<'_>, other: &Premises<'_>, lines: &[Line]) -> bool
-    ensures { IsTrue result ↔ HaveUsed premises.now.lemmas other.now.lemmas lines.now }
-{
-    for line in lines {
-        if !has_used(premises, other, line) {
-            return false;
-        }
-    }
-    true
-}
-
 impl<'a> Premises<'a> {
-    /// Whether these are of the project of others, their root begins with that of the others, and each lemma that lines
-    /// use there is here, too. Then the lines refute here what they refute beside the others.
-    pub fn covers(&self, other: &Premises<'_>, lines: &[Line]) -> bool
-        ensures { IsTrue result ↔ Covers self.now other.now lines.now }
+    /// Whether these are of the project of others, and their root begins with that of the others. If each lemma that
+    /// lines use there is here, too, the lines refute here what they refute beside the others.
+    pub fn are_ahead(&self, other: &Premises<'_>) -> bool
+        ensures { IsTrue result ↔ AreAhead self.now other.now }
     {
-        self.project().is_same(other.project())
-            && begin_with(self.roots(), other.roots())
-            && have_used(self, other, lines)
+        self.project().is_same(other.project()) && begin_with(self.roots(), other.roots())
+    }
+
+    /// Whether each lemma that lines use beside others is here, too.
+    pub fn have_used(&self, other: &Premises<'_>, lines: &[Line]) -> bool
+        ensures { IsTrue result ↔ HaveUsed self.now.lemmas other.now.lemmas lines.now }
+    {
+        for line in lines {
+            if !has_used(self, other, line) {
+                return false;
+            }
+        }
+        true
     }
 }

@@ -3,10 +3,11 @@ use Rattle.std.proofs.Common.{Bool, true, false, ◌≡◌, refl, sym, subst, �
 use Rattle.std.proofs.lemmas.Bool.{false≢true}
 use Rattle.std.proofs.lemmas.List.{append-nil}
 use Rattle.network.specs.declared.parts.Lag.{Lag}
-use Rattle.lemma_proof.specs.Lines.{IsIn, Slots}
+use Rattle.lemma_proof.specs.declared.line.Line.{Line}
+use Rattle.lemma_proof.specs.Lines.{HaveUsed, IsIn, Slots}
 use Rattle.lemma_proof.proofs.Staying.{have_used}
 use Rattle.lemma_book.specs.Ledger.{HasRoom, IsFilled, IsFree, LedgerOf, MayTake}
-use Rattle.lemma_book.specs.Premises.{Covers, Follows, PremisesOf, premises_in, with_roots}
+use Rattle.lemma_book.specs.Premises.{AreAhead, Covers, Follows, PremisesOf, premises_in, with_roots}
 use Rattle.lemma_book.proofs.Premised.{covered_refuted}
 use Rattle.lemma_book.proofs.Slotted.{shelved_there}
 use Rattle.lemma_record.specs.declared.desk.Lemma.{Lemma}
@@ -27,7 +28,7 @@ covered_shown x other lemma covers is = record { several = is.several; refuted =
 pub desk_stays : (x : PremisesOf) (more : List Lag) (lemmas : Slots) (proved : List Lemma) → ((slot : ℕ) (lemma : List Lag) → IsIn x.lemmas slot lemma → IsIn lemmas slot lemma) → IsDesk x proved → IsDesk (record { project = x.project; roots = x.roots ++ more; lemmas = lemmas }) proved
 desk_stays x more lemmas [] have is = record {}
 desk_stays x more lemmas (lemma ∷ proved) have is = (
-  covered_shown (record { project = x.project; roots = x.roots ++ more; lemmas = lemmas }) x lemma (record { project = refl; roots = (more, refl); lemmas = have_used lemmas x.lemmas have lemma.lines }) is.0,
+  covered_shown (record { project = x.project; roots = x.roots ++ more; lemmas = lemmas }) x lemma (record { ahead = record { project = refl; roots = (more, refl) }; lemmas = have_used lemmas x.lemmas have lemma.lines }) is.0,
   desk_stays x more lemmas proved have is.1,
 )
 
@@ -60,8 +61,11 @@ copied d slot arcs may is = by_case may.unused
 
 -- ---- a book may take it
 
-pub may_take : (l : LedgerOf) (x : PremisesOf) (lemma : Lemma) → Covers (premises_in l) x lemma.lines → HasRoom l.lemmas lemma.slot lemma.arcs → IsShown x lemma → MayTake l lemma.slot lemma.arcs lemma.lines
-may_take l x lemma covers room shown = record { room = room; refuted = covered_refuted (premises_in l) x lemma.arcs lemma.lines covers shown.refuted }
+pub covers_of : (l : LedgerOf) (x : PremisesOf) (lines : List Line) → AreAhead (premises_in l) x → HaveUsed l.lemmas x.lemmas lines → Covers (premises_in l) x lines
+covers_of l x lines ahead used = record { ahead = ahead; lemmas = used }
+
+pub may_take : (l : LedgerOf) (x : PremisesOf) (lemma : Lemma) → AreAhead (premises_in l) x → HaveUsed l.lemmas x.lemmas lemma.lines → HasRoom l.lemmas lemma.slot lemma.arcs → IsShown x lemma → MayTake l lemma.slot lemma.arcs lemma.lines
+may_take l x lemma ahead used room shown = record { room = room; refuted = covered_refuted (premises_in l) x lemma.arcs lemma.lines (covers_of l x lemma.lines ahead used) shown.refuted }
 
 -- ---- a slot that is empty
 

@@ -6,3 +6,4 @@ pub mod Booked
 pub mod Stepping
 pub mod Titles
 pub mod Desks
+pub mod Accepted

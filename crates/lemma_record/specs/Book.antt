@@ -2,12 +2,16 @@
 use Rattle.std.specs.Prelude.{◌≡◌, ◌⊎◌, Bool, true, false, ℕ, ℤ, List, Vec, Option, None, Some, IfSome, IsSome, IsNone}
 use Rattle.std.specs.List.{AllByRecursion}
 use Rattle.std.specs.declared.alloc.Global.{Global}
+use Rattle.record_text.specs.FirstWrong.{IsFactOf}
+use Rattle.lemma_log.specs.declared.event.Claim.{Claim}
 use Rattle.lemma_log.specs.declared.event.Event.{Event}
 use Rattle.network.specs.Problem.{Problem}
 use Rattle.lemma_log.specs.Text.{IsWritable, IsWritableBody, title_text}
 use Rattle.lemma_log.specs.Logs.{log_text}
 use Rattle.lemma_book.specs.Ledger.{LedgerOf, first_ledger}
-use Rattle.lemma_record.specs.Right.{IsStep, Takes, TakesAll}
+use Rattle.lemma_record.specs.declared.book.Shown.{Shown}
+use Rattle.lemma_record.specs.Faults.{IsRightText}
+use Rattle.lemma_record.specs.Right.{IsStep, Takes, TakesAll, proved_of}
 
 -- a ledger, and the text of the log so far; none once memory ran out for it
 pub record BookOf : Type 0 where
@@ -45,6 +49,15 @@ Offers old e false new = (¬ MayOffer old.ledger e) × (new ≡ old)
 -- memory ran out: nothing changes; or the event is taken, and no log is left
 abbrev pub IsCutShort : BookOf → Event → BookOf → Type 0
 IsCutShort old e new = (new ≡ old) ⊎ (Takes old.ledger e new.ledger × IsNone new.log)
+
+-- ---- What a book shows in the end.
+
+-- the log claims what is proved, and is right for the project, of which that is true
+pub record IsProof (p : Problem) (shown : Shown) : Type 0 where
+  pub claim : Claim
+  pub right : IsRightText p shown.log.items claim
+  pub says : shown.proved ≡ proved_of claim
+  pub fact : IsFactOf p shown.proved
 
 -- the starts are those of the best schedule, if there is one
 abbrev pub IsBest : LedgerOf → Option (Vec ℤ Global) → Type 0

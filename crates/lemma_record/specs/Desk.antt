@@ -1,5 +1,5 @@
 -- What a job proves at a desk, beside premises of its own, and what a book accepts of it.
-use Rattle.std.specs.Prelude.{Bool, true, false, ◌≡◌, ◌⊎◌, ◌<◌, ◌++◌, ◌∷◌, [], ℕ, List, length, slice_set, Option, None, Some, IsSome}
+use Rattle.std.specs.Prelude.{Bool, true, false, ◌≡◌, ◌⊎◌, ◌<◌, ◌++◌, ◌∷◌, [], ℕ, List, length, slice_set, Some, IsSome}
 use Rattle.std.specs.List.{All, AllByRecursion}
 use Rattle.network.specs.declared.parts.Lag.{Lag}
 use Rattle.network.specs.Problem.{Problem}
@@ -12,7 +12,7 @@ use Rattle.lemma_book.specs.declared.ledger.TheConstants.{MAX_SLOTS}
 use Rattle.lemma_book.specs.Ledger.{HasRoom, IsFilled, LedgerOf, with_slot}
 use Rattle.lemma_book.specs.Premises.{Covers, Empties, Follows, PremisesOf, first_premises, premises_in, root_arcs}
 use Rattle.lemma_record.specs.declared.desk.Lemma.{Lemma}
-use Rattle.lemma_record.specs.Book.{BookOf}
+use Rattle.lemma_record.specs.Book.{BookOf, IsCutShort}
 use Rattle.lemma_record.specs.Right.{Takes}
 
 -- ---- A desk.
@@ -76,9 +76,9 @@ LetsGoOf old slot false new = (¬ ((old.proved ≡ []) × IsFilled old.premises.
 abbrev pub FollowsLedger : DeskOf → LedgerOf → Bool → DeskOf → Type 0
 FollowsLedger old l same new = Follows old.premises (premises_in l) same new.premises × (new.proved ≡ old.proved)
 
--- the oldest lemma leaves
-abbrev pub IsOldest : DeskOf → Lemma → DeskOf → Type 0
-IsOldest old lemma new = old ≡ record new { proved = lemma ∷ new.proved }
+-- no lemma waits
+abbrev pub emptied : DeskOf → DeskOf
+emptied d = record d { proved = [] }
 
 -- ---- What a book accepts.
 
@@ -98,8 +98,25 @@ abbrev pub Accepts : BookOf → PremisesOf → Lemma → Bool → BookOf → Typ
 Accepts old x lemma true new = MayAccept old.ledger x lemma × Takes old.ledger (event_of lemma) new.ledger × IsSome new.log
 Accepts old x lemma false new = (¬ MayAccept old.ledger x lemma) × (new ≡ old)
 
--- the oldest lemma leaves the desk, and is accepted or not; or none waits, and nothing changes
-abbrev pub AcceptsNext : BookOf → DeskOf → Option Bool → BookOf → DeskOf → Type 0
-AcceptsNext old desk None new rest = (desk.proved ≡ []) × (new ≡ old) × (rest ≡ desk)
-AcceptsNext old desk (Some taken) new rest =
-    (lemma : Lemma) × IsOldest desk lemma rest × Accepts old desk.premises lemma taken new
+-- each lemma, one after another, is accepted or not
+abbrev pub AcceptsEach : PremisesOf → BookOf → List Lemma → List Bool → BookOf → Type 0
+AcceptsEach x old [] [] new = new ≡ old
+AcceptsEach x old (lemma ∷ lemmas) (is ∷ taken) new =
+    (next : BookOf) × Accepts old x lemma is next × AcceptsEach x next lemmas taken new
+AcceptsEach x old [] (is ∷ taken) new = ⊥
+AcceptsEach x old (lemma ∷ lemmas) [] new = ⊥
+
+-- memory ran out for the first of these, if there is one
+abbrev pub IsCutShortAt : BookOf → List Lemma → BookOf → Type 0
+IsCutShortAt old [] new = new ≡ old
+IsCutShortAt old (lemma ∷ lemmas) new = IsCutShort old (event_of lemma) new
+
+-- the first lemmas were accepted or not, and then memory ran out
+pub record AcceptsSome (x : PremisesOf) (old : BookOf) (lemmas : List Lemma) (new : BookOf) : Type 0 where
+  pub first : List Lemma
+  pub rest : List Lemma
+  pub are : lemmas ≡ first ++ rest
+  pub taken : List Bool
+  pub next : BookOf
+  pub accepted : AcceptsEach x old first taken next
+  pub cut_short : IsCutShortAt next rest new

@@ -2,10 +2,11 @@
 
 ghost use Rattle.std.specs.Prelude.{◌≡◌, ◌↔◌, IsTrue, IfOk, OnErr};
 ghost use Rattle.lemma_book.specs.Ledger.{HasRoom};
-ghost use Rattle.lemma_book.specs.Premises.{Covers, premises_in};
+ghost use Rattle.lemma_book.specs.Premises.{AreAhead, premises_in};
+ghost use Rattle.lemma_proof.specs.Lines.{HaveUsed};
 ghost use Rattle.lemma_record.specs.declared.desk.Lemma.{Lemma};
 ghost use Rattle.lemma_record.specs.Book.{IsCutShort};
-ghost use Rattle.lemma_record.specs.Desk.{Accepts, AcceptsNext, IsOldest, IsShown, event_of};
+ghost use Rattle.lemma_record.specs.Desk.{Accepts, AcceptsEach, AcceptsSome, IsShown, emptied, event_of};
 
 use crate::book::Book;
 use crate::desk::{Desk, Lemma};
@@ -14,13 +15,14 @@ use lemma_log::{Event, is_writable, put_event};
 use lemma_proof::Lags;
 use std::alloc::AllocError;
 
-/// Whether a ledger has what the lines of a lemma rest on, and an empty slot for it.
+/// Whether a ledger has each lemma that the lines of one use, and an empty slot for it.
 fn has_all(ledger: &Ledger<'_>, premises: &Premises<'_>, lemma: &Lemma) -> bool
-    ensures { IsTrue result ↔ (Covers (premises_in ledger.now) premises.now lemma.now.lines
+    ensures { IsTrue result ↔ (HaveUsed ledger.now.lemmas premises.now.lemmas lemma.now.lines
         × HasRoom ledger.now.lemmas lemma.now.slot lemma.now.arcs) }
 {
     let own = ledger.premises();
-    own.covers(premises, lemma.lines.as_slice()) && own.has_room(lemma.slot, lemma.arcs.as_slice())
+    own.have_used(premises, lemma.lines.as_slice())
+        && own.has_room(lemma.slot, lemma.arcs.as_slice())
 }
 
 /// A lemma as an event.
@@ -32,12 +34,22 @@ fn event_of(lemma: Lemma) -> Event
 }
 
 impl<'a> Book<'a> {
-    /// Takes and logs a lemma that lines show beside some premises, if the ledger has what the lines rest on.
-    fn accept_beside(&mut self, premises: &Premises<'_>, lemma: Lemma) -> Result<bool, AllocError>
-        requires { IsShown premises.now lemma }
+    /// Takes and logs a lemma that lines show beside some premises, if the ledger is ahead of these and has what the lines
+    /// rest on.
+    fn accept_beside(
+        &mut self,
+        premises: &Premises<'_>,
+        is_ahead: bool,
+        lemma: Lemma,
+    ) -> Result<bool, AllocError>
+        requires ahead { IsTrue is_ahead ↔ AreAhead (premises_in self.old.ledger) premises.now }
+        requires shown { IsShown premises.now lemma }
         ensures accepted { IfOk result (λ taken. Accepts self.old premises.now lemma taken self.new) }
         ensures cut_short { OnErr result (IsCutShort self.old (event_of lemma) self.new) }
     {
+        if !is_ahead {
+            return Ok(false);
+        }
         if !has_all(&self.ledger, premises, &lemma) {
             return Ok(false);
         }
@@ -58,19 +70,23 @@ impl<'a> Book<'a> {
         Ok(true)
     }
 
-    /// Takes the oldest lemma off a desk, and logs it, if the desk is of the same project, its root is how the book's
-    /// begins, each lemma that the lines use there is here, too, its slot is empty and its numbers are within the limits
-    /// of a log. Its lines are not checked again. None if no lemma waits. Once memory runs out for the log, nothing is
-    /// taken any more.
-    pub fn accept(&mut self, desk: &mut Desk<'_>) -> Result<Option<bool>, AllocError>
-        ensures accepted { IfOk result (λ found. AcceptsNext self.old desk.old found self.new desk.new) }
-        ensures cut_short { OnErr result ((lemma : Lemma) × IsOldest desk.old lemma desk.new
-            × IsCutShort self.old (event_of lemma) self.new) }
+    /// Takes all lemmas off a desk, the oldest first, and logs each of them, if the desk is of the same project, its root
+    /// is how the book's begins, each lemma that the lines use there is here, too, its slot is empty and its numbers are
+    /// within the limits of a log. Its lines are not checked again. Says of each whether it was taken. Once memory runs out
+    /// for the log, nothing is taken any more.
+    pub fn accept(&mut self, desk: &mut Desk<'_>) -> Result<Vec<bool>, AllocError>
+        ensures accepted { IfOk result
+            (λ taken. AcceptsEach desk.old.premises self.old desk.old.proved taken.items self.new) }
+        ensures some { OnErr result (AcceptsSome desk.old.premises self.old desk.old.proved self.new) }
+        ensures emptied { desk.new ≡ emptied desk.old }
     {
-        let Some(lemma) = desk.next() else {
-            return Ok(None);
-        };
-        let taken = self.accept_beside(desk.premises(), lemma)?;
-        Ok(Some(taken))
+        let is_ahead = self.ledger.premises().are_ahead(desk.premises());
+        let lemmas = desk.take_proved();
+        let mut accepted = Vec::with_capacity(self.alloc, lemmas.len())?;
+        for lemma in lemmas {
+            let taken = self.accept_beside(desk.premises(), is_ahead, lemma)?;
+            accepted.push_reserved(taken);
+        }
+        Ok(accepted)
     }
 }

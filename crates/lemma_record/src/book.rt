@@ -2,12 +2,9 @@
 
 ghost use Rattle.std.specs.Prelude.{◌≡◌, ◌↔◌, [], None, IfOk, OnErr, MatchOption, IsSomeAnd, IsTrue};
 ghost use Rattle.lemma_book.specs.Ledger.{IsSmall};
-ghost use Rattle.lemma_record.specs.Book.{IsBest, IsCutShort, Offers, first_book};
-ghost use Rattle.lemma_record.specs.Faults.{IsRightText};
+ghost use Rattle.lemma_record.specs.Book.{IsBest, IsCutShort, IsProof, Offers, first_book};
 ghost use Rattle.lemma_record.specs.Right.{IsStep, proved_of};
-ghost use Rattle.lemma_log.specs.declared.event.Claim.{Claim};
 ghost use Rattle.lemma_log.specs.Text.{IsWritableClaim};
-ghost use Rattle.record_text.specs.FirstWrong.{IsFactOf};
 
 use crate::taking::take;
 use lemma_book::Ledger;
@@ -137,9 +134,7 @@ impl<'a> Book<'a> {
     /// What is proved in the end: the claim that the book makes, which is true of its project, and the log of all that it
     /// took, which proves it.
     pub fn close(self) -> Result<Shown, AllocError>
-        ensures right { IfOk result (λ shown. (c : Claim) × IsRightText self.entry.ledger.project shown.log.items c
-            × (shown.proved ≡ proved_of c)) }
-        ensures law { IfOk result (λ shown. IsFactOf self.entry.ledger.project shown.proved) }
+        ensures proof { IfOk result (IsProof self.entry.ledger.project) }
         ensures best { IfOk result (λ shown. IsBest self.entry.ledger shown.best) }
     {
         let Book { alloc, ledger, log } = self;

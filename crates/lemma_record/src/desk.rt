@@ -1,9 +1,9 @@
 //! Where a job proves lemmas, outside a book's lock.
 
-ghost use Rattle.std.specs.Prelude.{◌≡◌, ◌↔◌, ◌⊎◌, [], ℕ, length, drop, take, IsTrue, IfOk, IfSome, OnErr, MatchOption};
+ghost use Rattle.std.specs.Prelude.{◌≡◌, ◌↔◌, ◌⊎◌, [], ℕ, length, drop, take, IsTrue, IfOk, OnErr};
 ghost use Rattle.lemma_book.specs.Ledger.{IsFilled};
 ghost use Rattle.lemma_book.specs.Premises.{with_roots};
-ghost use Rattle.lemma_record.specs.Desk.{Copies, FollowsLedger, IsOldest, IsShown, LetsGoOf, MayCopy, Proves, first_desk, lemma_of};
+ghost use Rattle.lemma_record.specs.Desk.{Copies, FollowsLedger, IsDesk, LetsGoOf, MayCopy, Proves, emptied, first_desk, lemma_of};
 
 use crate::copies::picked;
 use lemma_book::{Ledger, MAX_SLOTS, Premises};
@@ -11,8 +11,8 @@ use lemma_log::Lines;
 use lemma_proof::{Lags, Line, are_arcs};
 use network::{Lag, Project};
 use std::alloc::{AllocError, Global};
-use std::collections::VecDeque;
 use std::marker::Model;
+use std::mem;
 
 /// A lemma of two arcs or more, and lines that refute its arcs.
 #[derive(Drop)]
@@ -31,7 +31,7 @@ pub struct Desk<'a> {
     alloc: Global,
     premises: Premises<'a>,
     /// The lemmas that wait, the oldest first.
-    proved: VecDeque<Lemma>,
+    proved: Vec<Lemma>,
 }
 
 impl<'a> Model for Desk<'a> {
@@ -52,7 +52,7 @@ impl<'a> Desk<'a> {
         Ok(Desk {
             alloc,
             premises: Premises::new(alloc, project)?,
-            proved: VecDeque::new(alloc),
+            proved: Vec::new(alloc),
         })
     }
 
@@ -79,7 +79,7 @@ impl<'a> Desk<'a> {
         let copy = Lags::new(arcs.as_slice().to_vec(self.alloc)?);
         self.proved.reserve(1)?;
         self.premises.shelve(slot, copy)?;
-        self.proved.push_back_reserved(Lemma { slot, arcs, lines });
+        self.proved.push_reserved(Lemma { slot, arcs, lines });
         Ok(true)
     }
 
@@ -128,12 +128,12 @@ impl<'a> Desk<'a> {
         self.proved.is_empty() && self.premises.let_go(slot)
     }
 
-    /// The oldest lemma that waits, which leaves the desk.
-    pub(crate) fn next(&mut self) -> Option<Lemma>
-        ensures next { MatchOption result ((self.old.proved ≡ []) × (self.new ≡ self.old))
-            (λ lemma. IsOldest self.old lemma self.new) }
-        ensures shown { IfSome result (IsShown self.new.premises) }
+    /// The lemmas that wait, the oldest first. They leave the desk.
+    pub(crate) fn take_proved(&mut self) -> Vec<Lemma>
+        ensures taken { result.items ≡ self.old.proved }
+        ensures shown { IsDesk self.old.premises result.items }
+        ensures emptied { self.new ≡ emptied self.old }
     {
-        self.proved.pop_front()
+        mem::replace(&mut self.proved, Vec::new(self.alloc))
     }
 }

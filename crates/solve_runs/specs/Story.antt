@@ -12,12 +12,9 @@ use Rattle.network.specs.Problem.{Problem}
 use Rattle.network.specs.Schedule.{makespan, IsFeasible}
 use Rattle.plain_search.specs.declared.search.Outcome.TheVariants.{Optimal, NoSchedule, Stopped}
 use Rattle.plain_search.specs.Verdicts.{IsTrueOf}
-use Rattle.record_text.specs.FirstWrong.{IsFactOf}
 use Rattle.lemma_log.specs.declared.event.Claim.{Claim}
 use Rattle.lemma_log.specs.declared.event.Claim.TheVariants as claims
-use Rattle.lemma_record.specs.declared.book.Shown.{Shown}
 use Rattle.lemma_record.specs.Faults.{IsRightText}
-use Rattle.lemma_record.specs.Right.{proved_of}
 use Rattle.answers.specs.Answers.{IsViolationsText}
 use Rattle.runs.specs.Outcome.{GivesStarts, IfTextsTold, SpellsOne}
 use Rattle.runs.specs.Runs.{ReplyOf}
@@ -54,13 +51,6 @@ Says false f outcome exit written = SaysOutcome outcome false exit written
 Says true f outcome exit written = SaysFigures f outcome exit written
 
 -- ---- An outcome that a log of lemmas shows.
-
--- the log claims what is proved, and is right for the project, of which that is true
-pub record IsProof (p : Problem) (shown : Shown) : Type 0 where
-  pub claim : Claim
-  pub right : IsRightText p shown.log.items claim
-  pub says : shown.proved ≡ proved_of claim
-  pub fact : IsFactOf p shown.proved
 
 -- the claim of a log that shows the outcome
 abbrev pub claim_of : Outcome → Claim

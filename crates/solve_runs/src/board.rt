@@ -117,8 +117,9 @@ impl<'a> Board<'a> {
         lemmas: &[Waiting],
         shares: bool,
     ) -> Result<(), AllocError> {
-        for lemma in lemmas {
-            if self.book.accept(desk)? != Some(true) {
+        let accepted = self.book.accept(desk)?;
+        for (lemma, taken) in lemmas.iter().zip(&accepted) {
+            if !*taken {
                 continue;
             }
             let (slot, lbd) = (lemma.slot, lemma.lbd);

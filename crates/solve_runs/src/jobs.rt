@@ -1,7 +1,7 @@
 //! Searches side by side, and what they found together.
 
 ghost use Rattle.std.specs.Prelude.{IfOk};
-ghost use Rattle.solve_runs.specs.Story.{IsProof};
+ghost use Rattle.lemma_record.specs.Book.{IsProof};
 
 use crate::asked::Asked;
 use crate::board::Board;

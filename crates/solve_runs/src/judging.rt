@@ -7,7 +7,8 @@ ghost use Rattle.network.specs.Schedule.{IsFeasible};
 ghost use Rattle.branching.specs.Fair.{IsScheduleFor};
 ghost use Rattle.network.specs.Schedule.{makespan as makespan_of};
 ghost use Rattle.answers.specs.Faults.{exit_of, IsNoDeviceFault};
-ghost use Rattle.solve_runs.specs.Story.{IsProof, IsShown};
+ghost use Rattle.lemma_record.specs.Book.{IsProof};
+ghost use Rattle.solve_runs.specs.Story.{IsShown};
 
 use answers::Fault;
 use lemma_record::Shown;

@@ -5,7 +5,8 @@ ghost use Rattle.std.specs.Arc.{arc_value};
 ghost use Rattle.network.specs.Schedule.{IsFeasible};
 ghost use Rattle.answers.specs.Faults.{exit_of, IsNoDeviceFault, IsSearchFault};
 ghost use Rattle.runs.specs.Outcome.{GivesStarts, IsFirstStartsFault};
-ghost use Rattle.solve_runs.specs.Story.{IsProof, IsShownReply, IsStartedReply};
+ghost use Rattle.lemma_record.specs.Book.{IsProof};
+ghost use Rattle.solve_runs.specs.Story.{IsShownReply, IsStartedReply};
 
 use crate::asked::Asked;
 use crate::figures::{Figures, answer_of};

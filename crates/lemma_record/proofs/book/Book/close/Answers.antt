@@ -6,18 +6,18 @@ use Rattle.lemma_record.specs.Right.{proved_of}
 use Rattle.lemma_record.proofs.Booked.{best_shown, closed}
 use Rattle.lemma_record.proofs.book.Book.close.Goals as goal
 
-pub returns-clause-right : goal.returns-clause-right
-returns-clause-right c =
+pub returns-clause-proof : goal.returns-clause-proof
+returns-clause-proof c =
     let log : IsLogOf c.self.inside.ledger c.in-Some.log.items = rw c.in-Some.is at c.self.invariant in
     let view = ap (λ (x : BookOf). x.ledger) c.self.view_is in
     let claims : Claims c.self.inside.ledger (proved_of c.claim_of.result) = rw (c.claim_of.ensures.claim) c.claim-proved.ensures.claims in
     let fits : IsWritableClaim c.claim_of.result = c.claim_of.ensures.writable c.claim-proved.ensures.small in
-    (c.claim_of.result, rw (sym view) (closed c.self.inside.ledger c.claim_of.result c.in-Some.log.items c.put_event.new.bytes.items log claims fits (search rules) (search rules)), sym c.claim_of.ensures.claim)
-
-pub returns-clause-law : goal.returns-clause-law
-returns-clause-law c =
-    let view = ap (λ (x : BookOf). x.ledger) c.self.view_is in
-    rw (sym view) c.claim-proved.ensures.law
+    record {
+      claim = c.claim_of.result;
+      right = rw (sym view) (closed c.self.inside.ledger c.claim_of.result c.in-Some.log.items c.put_event.new.bytes.items log claims fits (search rules) (search rules));
+      says = sym c.claim_of.ensures.claim;
+      fact = rw (sym view) c.claim-proved.ensures.law;
+    }
 
 pub returns-clause-best : goal.returns-clause-best
 returns-clause-best c =

@@ -1,5 +1,4 @@
-use Rattle.std.proofs.Common.{◌≡◌, true, sym, ap, ◌∙◌, ℕ, [], length, ⊎_elim, inr, ◌==◌}
-use Rattle.std.specs.VecDeque.{deque_len}
+use Rattle.std.proofs.Common.{◌≡◌, true, sym, ap, ◌∙◌, ℕ, [], length, vec_len, rules, ⊎_elim, inr, ◌==◌}
 use Rattle.std.proofs.lemmas.Bool.{false≢true}
 use Rattle.lemma_book.specs.Ledger.{IsFilled}
 use Rattle.lemma_record.proofs.Desks.{none_tells}
@@ -12,7 +11,8 @@ returns-else-is_empty c =
       (λ yes. inr (tells.0 yes)),
       (λ either. ⊎_elim
           (λ (none : c.self.inside.proved.items ≡ []).
-          let long : deque_len c.self.inside.proved ≡ 0 = c.self.inside.proved.ok.0 ∙ ap length none in
+          let items : vec_len c.self.inside.proved ≡ length c.self.inside.proved.items = search rules in
+          let long : vec_len c.self.inside.proved ≡ 0 = items ∙ ap length none in
           let empty : c.is_empty.result ≡ true = c.is_empty.ensures ∙ ap (λ (n : ℕ). n == 0) long in
           absurd (false≢true (sym c.if-is_empty.false ∙ empty)))
           (λ (free : ¬ IsFilled c.self.inside.premises.lemmas c.args.slot). tells.1 free)
