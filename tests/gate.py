@@ -31,6 +31,7 @@ import growths
 import harness
 import hostile
 import logs
+import options
 import records
 import resumes
 import run
@@ -99,6 +100,7 @@ def scripts(folder: pathlib.Path, with_tests: bool) -> Iterator[Script]:
     yield "logs", logs.verdicts, [psprove, "--logs", "2000"]
     yield "hostile logs", hostile.verdicts, [psprove, "--bytes", "160000", "--seconds", "5"]
     yield "resumes", resumes.verdicts, [psprove]
+    yield "options", options.verdicts, [psprove]
     yield "searches", searches.verdicts, [psmax, psprove, "--seeded", "200", "--large", "10"]
     yield "books", books.verdicts, [book_events]
     if shutil.which(os.environ.get("CC", "cc")):

@@ -1,0 +1,129 @@
+#!/usr/bin/env python3
+"""tests/options.py PSPROVE
+
+Looks at what each option of `psprove solve` does to a search that no contract tells: how many jobs there are and that each
+searches, that each limit ends a search, that a seed changes it and that lemmas may take what --memory says; that the figures
+are those of the search; that a search goes on from the starts that it is given, and that what it has found is told at a
+limit. The last line counts what was looked at."""
+import json
+import pathlib
+import subprocess
+import time
+from collections.abc import Callable, Iterator, Sequence
+from typing import Any
+
+import harness
+import networks
+import shutdown
+from harness import Verdicts
+
+HARD = networks.project(100, 1, 0).text()  # takes some thousand conflicts
+LONG = shutdown.project(300, 1).text()  # has long lemmas
+CONFLICTS = 400
+JOBS = 3
+PROGRESS = "--progress", "json"
+
+Answer = dict[str, Any]
+Looked = Iterator[tuple[str, bool, object]]  # what is wanted, whether it is so, and what is there
+
+
+class Search:
+    """Runs of the program on a project."""
+
+    def __init__(self, program: str, folder: pathlib.Path, text: bytes = HARD) -> None:
+        self.program, self.folder, self.text = program, folder, text
+
+    def ended(self, *words: object) -> harness.Ended:
+        return harness.ended([self.program, "solve", "--json", *words], self.text, cwd=self.folder)
+
+    def answer(self, *words: object) -> Answer:
+        found: Answer = json.loads(self.ended(*words)[1])
+        return found
+
+    def record(self, *words: object) -> bytes:
+        self.ended(*words, "--record", "record")
+        return (self.folder / "record").read_bytes()
+
+    def threads(self, jobs: int) -> int:
+        """How many threads a search has while it runs."""
+        words = [self.program, "solve", "--jobs", str(jobs), "--seconds", "30"]
+        with subprocess.Popen(words, stdin=subprocess.PIPE, stdout=subprocess.DEVNULL) as run:
+            assert run.stdin is not None
+            run.stdin.write(self.text)
+            run.stdin.close()
+            most = 0
+            while run.poll() is None and most < jobs:
+                most = max(most, len(list(pathlib.Path(f"/proc/{run.pid}/task").glob("*"))))
+                time.sleep(0.001)
+            run.kill()
+        return most
+
+
+def each_job_searches(search: Search) -> Looked:
+    for jobs in (1, 2, JOBS, 9):
+        found = search.threads(jobs)
+        yield f"{jobs} threads", found == jobs, found
+    one = search.answer("--conflicts", CONFLICTS)
+    several = search.answer("--conflicts", CONFLICTS, "--jobs", JOBS)
+    yield "the limit of conflicts ends the search", one["conflicts"] == CONFLICTS, one["conflicts"]
+    yield "each job makes as many conflicts", several["conflicts"] == JOBS * CONFLICTS, several["conflicts"]
+    yield "the decisions are those of all jobs", several["decisions"] > one["decisions"] > 0, several["decisions"]
+
+
+def seeds_differ(search: Search) -> Looked:
+    records = {search.record("--conflicts", CONFLICTS, "--seed", seed) for seed in range(4)}
+    yield "each of four seeds gives another log", len(records) == 4, len(records)
+    told = search.answer("--conflicts", CONFLICTS, "--record", "record")["record_bytes"]
+    is_so = (search.folder / "record").stat().st_size
+    yield "the bytes of the log are told", told == is_so, (told, is_so)
+
+
+def limits_end(search: Search) -> Looked:
+    before = time.monotonic()
+    found = search.answer("--seconds", 0)
+    yield "no second", found["status"] != "optimal" and found["conflicts"] < CONFLICTS, found["conflicts"]
+    passed = time.monotonic() - before
+    yield "the seconds are not over", passed < 50, passed
+
+
+def lemmas_fit_the_memory(search: Search) -> Looked:
+    """One MiB is less than the lemmas of so many conflicts take, so some are dropped earlier."""
+    long = Search(search.program, search.folder, LONG)
+    records = [long.record("--conflicts", 20 * CONFLICTS, "--memory", memory) for memory in (1, 256, 512)]
+    yield "one MiB is less than the lemmas take", records[0] != records[1], len(records[0])
+    yield "256 MiB are enough", records[1] == records[2], len(records[1])
+
+
+def what_is_found_is_told(search: Search) -> Looked:
+    _, out, reports = search.ended("--conflicts", CONFLICTS, *PROGRESS)
+    found, told = json.loads(out), [json.loads(line) for line in reports.splitlines()]
+    for what in ("makespan", "starts"):
+        last = [report[what] for report in told if report.get(what)][-1]
+        yield f"the answer has the last {what}", found[what] == last, (found[what], last)
+    bound = max(report["bound"] for report in told)
+    yield "the answer has the greatest bound", found["bound"] == bound > 0, (found["bound"], bound)
+
+
+def starts_are_gone_on_from(search: Search) -> Looked:
+    known = search.answer("--conflicts", 10 * CONFLICTS)
+    (search.folder / "start").write_text("".join(f"{i} {start}\n" for i, start in enumerate(known["starts"])))
+    anew, after = search.answer("--conflicts", 1), search.answer("--conflicts", 1, "--start", "start")
+    yield "one conflict finds no schedule as short", (anew["makespan"] or 10**6) > known["makespan"], anew["makespan"]
+    yield "a search from it has it", after["makespan"] <= known["makespan"], (after["makespan"], known["makespan"])
+
+
+LOOKS: Sequence[Callable[[Search], Looked]] = (
+    each_job_searches, seeds_differ, limits_end, lemmas_fit_the_memory, what_is_found_is_told, starts_are_gone_on_from,
+)
+
+
+def verdicts(words: Sequence[str]) -> Verdicts:
+    o = harness.Words(__doc__, "program").parse_args(words)
+    with harness.new_folder() as folder:
+        for look in LOOKS:
+            for wanted, is_so, found in look(Search(o.program, folder)):
+                yield wanted, None if is_so else f"not so: {found}"
+
+
+if __name__ == "__main__":
+    harness.run(verdicts)
