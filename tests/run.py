@@ -11,7 +11,7 @@ A case is one line of JSON with a name, args and exit, and with those of the fol
   stdout        the whole of standard output
   stdout_first  its first line alone
   stdout_json   members of the line of JSON that it is
-  stdout_to     a device in place of a pipe
+  stdout_to     a device, or a file of the folder, in place of a pipe
   stdout_limit  standard output is a file that may have so many bytes
   stderr        the whole of standard error
   out_files     files as they are after the run
@@ -129,10 +129,10 @@ def standard_input(case: Spec, folder: Path, inputs: Path) -> Iterator[int]:
 
 def ended(program: str, case: Spec, folder: Path, inputs: Path) -> harness.Ended:
     words, limit = [program, *case["args"]], case.get("stdout_limit")
-    to = case.get("stdout_to") if limit is None else folder / ".stdout"
+    to = folder / (".stdout" if limit is not None else case.get("stdout_to", ""))
     limited: dict[str, Any] = {} if limit is None else {"preexec_fn": functools.partial(limit_files, limit)}
     with standard_input(case, folder, inputs) as stdin:
-        if not to:
+        if to == folder:
             return harness.ended(words, stdin=stdin, cwd=folder)
         with open(to, "wb") as stdout:
             status, out, fault = harness.ended(words, stdin=stdin, stdout=stdout, cwd=folder, **limited)

@@ -9,8 +9,10 @@ use std::fs::{self, Files, Metadata};
 use std::io::{self, ErrorKind};
 use std::os::unix::fs::MetadataExt;
 
-/// The path of standard input.
+/// The paths of standard input and output.
 const STANDARD_INPUT: &str = "/dev/stdin";
+
+const STANDARD_OUTPUT: &str = "/dev/stdout";
 
 /// Why the files of a call are not open.
 #[derive(Clone, Copy, Debug, PartialEq, Eq)]
@@ -19,6 +21,8 @@ pub enum FileFault {
     LosesProject,
     /// The record's file is that of the starts.
     LosesStarts,
+    /// The record's file is that of the answer on standard output. Each would be written over the other.
+    LosesAnswer,
     /// The second input can't be opened.
     Second,
     /// The program can't look at the record's file, or can't make it.
@@ -92,7 +96,8 @@ impl<'a, R: Files> Opener<'a, R> {
         }
     }
 
-    /// The fault of a call whose record, in a file of this name, would empty a file that the call reads.
+    /// The fault of a call whose record, in a file of this name, would empty a file that the call reads, or the file that
+    /// its answer goes into.
     pub fn check_losses(&self, call: &Call, name: &str) -> Result<(), FileFault> {
         let file = match fs::metadata(self.files, name) {
             Ok(file) => file,
@@ -101,6 +106,9 @@ impl<'a, R: Files> Opener<'a, R> {
         };
         if self.is_name_of(&file, STANDARD_INPUT) {
             return Err(FileFault::LosesProject);
+        }
+        if self.is_name_of(&file, STANDARD_OUTPUT) {
+            return Err(FileFault::LosesAnswer);
         }
         match &call.second {
             Some(second) if self.is_name_of(&file, second) => Err(FileFault::LosesStarts),
@@ -143,7 +151,7 @@ impl<'a, R: Files> Opener<'a, R> {
     }
 
     /// Opens the files that a call names: its second input, and last the file of its record. Where that is a file which
-    /// the call reads, by whatever name, nothing is opened.
+    /// the call reads, or that of its answer, by whatever name, nothing is opened.
     pub fn open(&mut self, call: &Call) -> Result<Opened<R::File>, FileFault>
         ensures second { IfOk result (λ files. is_some files.second ≡ is_some call.now.second) }
         ensures record_file { IfOk result (λ files. is_some files.record_file ≡ is_some call.now.record_file) }

@@ -60,6 +60,7 @@ pub fn refuse_files<R: Eprint>(rt: &R, program: &str, call: &Call, fault: FileFa
     match fault {
         FileFault::LosesProject => refuse_loss(rt, "standard input"),
         FileFault::LosesStarts => refuse_loss(rt, "--start"),
+        FileFault::LosesAnswer => refuse_loss(rt, "standard output"),
         FileFault::Second => refuse_file(rt, program, call.second.as_ref()),
         FileFault::Record => refuse_file(rt, program, call.record_file.as_ref()),
         FileFault::Memory => report(rt, program, &Ended::with(Fault::Memory)),
