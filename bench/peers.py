@@ -17,6 +17,7 @@ Each schedule is checked. The last lines count what is proved, and name each pro
 the same."""
 import argparse
 import contextlib
+import csv
 import re
 import shutil
 import sys
@@ -33,6 +34,7 @@ import shops
 import watching
 from projects import Project
 
+SHOPS = "ft06", "ft10", "ft20", "ta01", "ta02", "ta03", "ta04", "ta05"
 SIZES = 20, 30, 45, 60, 80
 STRENGTHS = 0, 0.1, 0.25, 0.5
 CEILINGS = 1.15, 1.6, 2.4  # times the longest walk
@@ -133,12 +135,18 @@ class Clasp:
 
 
 def chosen_projects() -> Iterator[tuple[str, Project]]:
-    for name in shops.OPTIMA:
+    for name in SHOPS:
         yield name, shops.project(shops.named(name))
     yield "open shop 6x6", shops.project(shops.named("6x6"), is_open=True)
     for n in SIZES:
         for strength in STRENGTHS:
             yield f"network {n}, strength {strength}", networks.project(n, 1, strength)
+
+
+def published() -> dict[str, int]:
+    """The makespans of shortest schedules, by the names of their shops."""
+    with open(measuring.TOP / "reference" / "published.csv", encoding="utf-8", newline="") as file:
+        return {row["project"]: int(row["upper"]) for row in csv.DictReader(file)}
 
 
 class Row:
@@ -166,7 +174,7 @@ class Row:
         """Whether one program says that there is no schedule which another has."""
         known = [answer.makespan() for answer in self.answers()]
         best = min((makespan for makespan in known if makespan is not None), default=None)
-        best = min(best or sys.maxsize, shops.OPTIMA.get(self.name, sys.maxsize))
+        best = min(best or sys.maxsize, published().get(self.name, sys.maxsize))
         return best < sys.maxsize and any(answer.none or answer.bound > best for answer in self.answers())
 
 
