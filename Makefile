@@ -6,6 +6,8 @@
 # make wheel    a package for pip in build/, with the released programs inside
 # make deb      a Debian package in build/, the same way
 # make lint     mypy and flake8, where they are there
+# make reference  write the projects of reference/values.csv into build/reference, and check their digests
+# make reference-values  compute the rows of that table anew that are of another psprove, and its page; make reference-page: that
 # make bench    measure the program, and with OTHER=PROGRAM that program in turn with it
 PREFIX ?= /usr/local
 JOBS ?= $(shell nproc)
@@ -42,6 +44,15 @@ bench: build/psmax
 	python3 bench/record_speed.py build/psmax
 	python3 bench/book.py build/book_bench
 
+reference:
+	python3 -m reference.make
+
+reference-values:
+	python3 -m reference.compute --jobs $(JOBS)
+
+reference-page:
+	python3 -m reference.page
+
 # The programs at hand are installed as they are: that needs no toolchain.
 install:
 	install -d $(DESTDIR)$(PREFIX)/bin
@@ -76,4 +87,4 @@ lint:
 clean:
 	rm -rf build crates/*/out
 
-.PHONY: all test prove gate release bench install uninstall wheel deb lint clean
+.PHONY: all test prove gate release bench reference reference-values reference-page install uninstall wheel deb lint clean

@@ -1,5 +1,5 @@
 #!/usr/bin/env python3
-"""bench/progen.py N SEED [--order S] [--redundancy R] [--cycles C] [--slack W] [--factor F] [--strength S] > PROJECT.sch
+"""bench/progen.py N SEED [--order O] [--redundancy R] [--cycles C] [--slack W] [--factor F] [--strength S] > PROJECT.sch
 
 Writes a project of N activities after ProGen/max (Schwindt 1998), the same for the same words. All numbers are whole;
 shares are in hundredths. Lehmer's generator (bench/lehmer.py) draws all of it, in this order, from a seed that the SHA-256
@@ -8,11 +8,11 @@ of "progen", N, SEED and the options in the order above gives. To draw from A to
 Durations. One from 1 to 10 for each activity.
 
 Arcs. The order strength is the share of the pairs of activities of which a path leads from one to the other. Two
-activities are drawn, each from 1 to N, until S hundredths of the pairs are in an order, or at most one of 200 pairs
-fewer. An arc leads from the lesser to the greater, if no path does, and if no more pairs than wanted come to be in an
-order. Then an arc goes if another path leads from its tail to its head. Last come redundant arcs, so that at least R
-hundredths of the arcs are redundant: two activities are drawn, each from 1 to N, until a path and no arc leads from the
-lesser to the greater, or 100 N pairs have been drawn.
+activities are drawn, each from 1 to N, until O hundredths of the pairs, rounded down, are in an order, or fewer by at
+most one of 200 pairs. An arc leads from the lesser to the greater, if no path does, and if no more pairs than wanted
+come to be in an order. Then an arc goes if another path leads from its tail to its head. Last come redundant arcs, so
+that at least R hundredths of the arcs are redundant: two activities are drawn, each from 1 to N, until a path and no
+arc leads from the lesser to the greater, or 100 N pairs have been drawn.
 
 Minimum lags. One for each arc in the order of tails and heads, from half of the tail's duration, rounded up, to one and a
 half, rounded down.
@@ -201,6 +201,9 @@ def words_of(line: Sequence[str] | None = None) -> Words:
     for option, usual in (("order", 50), ("redundancy", 10), ("cycles", -1), ("slack", 50), ("factor", 75), ("strength", 25)):
         parser.add_argument(f"--{option}", type=int, default=usual)
     words = Words(**vars(parser.parse_args(line)))
+    shares = words.order, words.redundancy + 1, words.factor, words.strength
+    if words.n < 1 or words.slack < 0 or not all(0 <= share <= 100 for share in shares):
+        parser.error("a share is from 0 to 100, the redundancy below 100, and there is an activity at least")
     return words if words.cycles >= 0 else words._replace(cycles=words.n // 10)
 
 

@@ -85,6 +85,8 @@ def main() -> None:
     parser.add_argument("--open", action="store_true")
     parser.add_argument("--wait", type=int)
     o = parser.parse_args()
+    if o.wait is not None and (o.wait < 0 or o.open):
+        parser.error("a wait is 0 or more, and an open shop has none")
     sys.stdout.buffer.write(project(named(o.name, (o.seeds[0], o.seeds[1])), o.open, o.wait).text())
 
 

@@ -44,7 +44,10 @@ def main() -> None:
     parser.add_argument("file", type=pathlib.Path)
     parser.add_argument("share", type=int, nargs="?")
     o = parser.parse_args()
-    sys.stdout.buffer.write(project(o.file.read_bytes(), o.share).text())
+    try:
+        sys.stdout.buffer.write(project(o.file.read_bytes(), o.share).text())
+    except (OSError, ValueError, IndexError) as fault:
+        sys.exit(f"{o.file}: no project text that can be read: {fault}")
 
 
 if __name__ == "__main__":

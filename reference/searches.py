@@ -1,0 +1,121 @@
+"""A project of the table: its text, its search by psprove, and what both checkers say of the record."""
+import functools
+import hashlib
+import json
+import pathlib
+import shlex
+import subprocess
+import tempfile
+from dataclasses import dataclass
+
+import judges
+import measuring
+import verify
+from psmax.errors import BadInput, Failed
+from psmax.planner.published import Published, contradictions
+from psmax.project import parse
+
+from . import TOP, measures
+from .families import Listed
+from .values import Row, claim
+
+PROGRAM = TOP / "release" / "psprove"
+EVER = 1_000_000_000  # seconds: conflicts end a search, so that it is the same on any machine
+SMALL = 20_000  # bytes; below that a record stands in the repository
+
+
+def digest(data: bytes) -> str:
+    return hashlib.sha256(data).hexdigest()
+
+
+def version_of(program: pathlib.Path) -> str:
+    """The program's own version, and the beginning of the SHA-256 of its bytes. Two programs alike search alike."""
+    try:
+        told = subprocess.run([program, "--version"], capture_output=True, text=True, check=True).stdout.split()
+        return f"{told[1]} {digest(program.read_bytes())[:12]}"
+    except (OSError, subprocess.CalledProcessError, IndexError) as fault:
+        raise Failed(f"{program} is no psprove that can be run: {fault}") from None
+
+
+@functools.cache
+def text_of(words: str) -> bytes:
+    """What a command of the repository's top folder writes."""
+    ran = subprocess.run(shlex.split(words), cwd=TOP, capture_output=True)
+    if ran.returncode or not ran.stdout:
+        raise Failed(f"{words}: exit status {ran.returncode}: {ran.stderr.decode(errors='replace').strip()}")
+    return ran.stdout
+
+
+def project_text(row: Row) -> bytes:
+    """The text that a row's words write; it has the row's SHA-256."""
+    text = text_of(row["words"])
+    if digest(text) != row["project"]:
+        raise BadInput(f"{row['name']}: `{row['words']}` writes a text with the SHA-256 {digest(text)}, not {row['project']}")
+    return text
+
+
+@dataclass(frozen=True)
+class Search:
+    """What came out of a search within so many conflicts."""
+
+    answer: dict[str, object]
+    record: bytes
+    seconds: float  # of a processor
+
+    def columns(self) -> dict[str, str]:
+        known = {name: "" if self.answer[name] is None else f"{self.answer[name]}"
+                 for name in ("status", "makespan", "bound", "conflicts")}
+        return known | {"seconds": f"{self.seconds:.2f}", "bytes": f"{len(self.record)}", "record": digest(self.record)}
+
+
+def search(program: pathlib.Path, text: bytes, limit: int) -> Search:
+    with tempfile.TemporaryDirectory() as folder:
+        record = pathlib.Path(folder) / "record"
+        words = [program, "solve", "--json", "--conflicts", limit, "--seconds", EVER, "--record", record]
+        ran = measuring.run(words, text)
+        if ran.status not in (0, 3) or not record.exists():
+            raise Failed(f"{program} solve: exit status {ran.status}")
+        return Search(json.loads(ran.out), record.read_bytes(), ran.processor)
+
+
+def told(ended: tuple[int | None, bytes, bytes]) -> str:
+    """What a checker prints, or its fault."""
+    return (ended[1] or ended[2]).decode(errors="replace").strip()
+
+
+def by_program(program: pathlib.Path, text: bytes, record: bytes) -> str:
+    with tempfile.NamedTemporaryFile(suffix=".sch") as project:
+        project.write(text)
+        project.flush()
+        return told(judges.by_program(str(program), pathlib.Path(project.name), record))
+
+
+def by_script(text: bytes, record: bytes) -> str:
+    return told(judges.by_script_of_logs(verify.Project(text), record))
+
+
+def must_prove(row: Row, said: str, by: str) -> None:
+    if said != claim(row):
+        raise BadInput(f"{row['name']}: {by} says of the record: {said}, not {claim(row)}")
+
+
+def computed(program: pathlib.Path, version: str, listed: Listed, published: dict[str, Published],
+             source: str) -> tuple[Row, bytes | None]:
+    """The row of a project, whose record `psprove verify` has accepted; the record too if it is small, which the other checker
+    has accepted as well."""
+    text = text_of(listed.words)
+    found = search(program, text, listed.limit)
+    known = published.get(listed.name)
+    row = {
+        "name": listed.name, "family": listed.family, "words": listed.words, "limit": str(listed.limit),
+        "published": str(known.upper) if known else "", "source": source, "project": digest(text),
+        "version": version, **measures.measured(parse(text)), **found.columns(),
+    }
+    wrong = contradictions({**row, "project": listed.name}, published)
+    if wrong:
+        raise BadInput("; ".join(wrong))
+    must_prove(row, by_program(program, text, found.record), "psprove verify")
+    if len(found.record) >= SMALL:
+        return row, None
+    must_prove(row, by_script(text, found.record), "verify_log.py")
+    return row, found.record
