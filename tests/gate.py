@@ -33,6 +33,7 @@ import hostile
 import logs
 import options
 import records
+import reference_values
 import resumes
 import run
 import searches
@@ -102,6 +103,8 @@ def scripts(folder: pathlib.Path, with_tests: bool) -> Iterator[Script]:
     yield "resumes", resumes.verdicts, [psprove]
     yield "options", options.verdicts, [psprove]
     yield "searches", searches.verdicts, [psmax, psprove, "--seeded", "200", "--large", "10"]
+    drawn = ["--drawn", "50", "--seconds", "60"] if with_tests else []
+    yield "reference values", reference_values.verdicts, [psprove, *drawn]
     yield "books", books.verdicts, [book_events]
     if shutil.which(os.environ.get("CC", "cc")):
         yield "events", events.verdicts, [book_events]
