@@ -47,13 +47,13 @@ def contradictions(one: Row, other: Row) -> list[str]:
 
 
 def check(name: str, program: pathlib.Path, out: str | None) -> None:
-    row = values.row_of(name)
+    row, version = values.row_of(name), searches.version_of(program)
     if out is not None:
         must_be_writable(out)
     text = searches.project_text(row)
     print(f"{name}: `{row['words']}` writes the text that the table has", flush=True)
     record = record_of(program, row, text)
-    print(told(row, record, searches.version_of(program)), flush=True)
+    print(told(row, record, version), flush=True)
     if out is not None:
         write_whole(out, record)
     for by, said in (("psprove verify", searches.by_program(program, text, record)),

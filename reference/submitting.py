@@ -49,6 +49,7 @@ def must_have_room(name: str, record: bytes) -> None:
 
 
 def submit(file: pathlib.Path, program: pathlib.Path) -> Row:
+    searches.version_of(program)
     old = values.row_of(file.stem)
     record = read_bytes(str(file), None)
     must_have_room(file.stem, record)
