@@ -17,7 +17,7 @@ from typing import Any
 TOP = pathlib.Path(__file__).resolve().parent.parent
 TAG = "py3-none-manylinux_2_34_x86_64"  # the programs need glibc 2.34
 PROGRAMS = ("psmax", "psprove")  # of release/
-KINDS = (".py", ".html", ".json", ".typed")  # of files that are part of the package
+KINDS = (".py", ".html", ".css", ".js", ".json", ".typed")  # of files that are part of the package
 SOURCES = ("pyproject.toml", "README.md", "python/packing.py", "release/psmax", "release/psprove")
 WHEEL = f"Wheel-Version: 1.0\nGenerator: psmax\nRoot-Is-Purelib: false\nTag: {TAG}\n"
 BEGINNING = (1980, 1, 1, 0, 0, 0)  # of time in an archive, so that the same sources give the same bytes

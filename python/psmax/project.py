@@ -1,5 +1,5 @@
 """A project as numbers: activities and resources, what of these is away when, and what is minimized."""
-from collections.abc import Collection, Mapping
+from collections.abc import Collection, Mapping, Sequence
 from dataclasses import dataclass, field, replace
 from enum import Enum
 from itertools import combinations
@@ -88,6 +88,11 @@ class Project:
     def rules(self) -> list[Arc]:
         """The given arcs, and those that every project has: each activity after the start and before the end."""
         return [*self.arcs, *(Arc(0, i, 0) for i in range(1, self.end)), *self.goal_arcs()]
+
+    def users(self, resource: int, starts: Sequence[int], time: int) -> list[int]:
+        """The activities that use a resource at a time."""
+        return [i for i in range(1, self.end) if self.demands[i][resource]
+                and starts[i] <= time < starts[i] + self.durations[i]]
 
     def away(self, resource: int, time: int) -> int:
         """How many units of a resource are away at a time."""

@@ -1,5 +1,6 @@
 """`plan compare`: what has moved from one schedule of a project to another."""
 from collections.abc import Callable
+from dataclasses import dataclass
 
 from ..errors import BadInput
 from ..letters import short
@@ -11,10 +12,12 @@ from .opened import ProjectFile
 
 class Side:
     """One schedule, by the numbers that its activities have in its answer. Ends follow from the starts: by how long the answer
-    says that an activity took, else by how long it takes today."""
+    says that an activity took, else by how long it takes today. Dates are those of the project before it was changed, where it
+    had the same periods."""
 
-    def __init__(self, given: Given, opened: ProjectFile) -> None:
+    def __init__(self, given: Given, opened: ProjectFile, before: ProjectFile | None = None) -> None:
         self.opened = opened
+        self.before = before if before is not None and before.names.unit == opened.names.unit else None
         given = counted(opened, given.must_have_starts())
         tied: Tied = tie(opened, given)
         self.now = {was: now for was, now in tied.pairs.items() if was in given.starts}
@@ -44,6 +47,8 @@ class Side:
 
     def when(self, was: int) -> str:
         """When an activity starts."""
+        if self.before is not None:
+            return self.before.times(was, self.starts[was])[0]
         if was in self.now:
             return self.opened.times(self.now[was], self.starts[was])[0]
         calendar = self.opened.calendar
@@ -67,31 +72,53 @@ def same_activities(was: Side, now: Side) -> dict[int, int]:
     return {i: i for i in was.starts if i in now.starts}
 
 
-def differences(was: Side, now: Side) -> list[str]:
+@dataclass(frozen=True)
+class Move:
+    """What became of an activity: it is later, earlier, new or gone."""
+
+    kind: str
+    name: str
+    text: str
+
+
+def moves(was: Side, now: Side) -> list[Move]:
     """What moved, what is new and what is gone, each in the order of the starts."""
-    pairs = same_activities(was, now)
-    moved = [(i, j) for i, j in pairs.items() if was.starts[i] != now.starts[j]]
-    new = [i for i in now.starts if i not in pairs.values()]
-    gone = [i for i in was.starts if i not in pairs]
-    wide = max([len(now.called(i)) for i in [*new, *(j for _, j in moved)]] + [len(was.called(i)) for i in gone] + [0])
+    pairs, found = same_activities(was, now), []
+    for i, j in sorted(pairs.items(), key=lambda pair: (now.starts[pair[1]], pair[1])):
+        before, after, periods = was.when(i), now.when(j), now.starts[j] - was.starts[i]
+        if periods or before != after:
+            kind = "later" if periods > 0 or not periods and after > before else "earlier"
+            found.append(Move(kind, now.called(j), f"{before} -> {after}{late(periods, now.opened.length)}"))
+    for side, others, kind, says in ((now, pairs.values(), "new", "new, at"), (was, pairs, "gone", "gone, was at")):
+        for i in sorted(side.starts.keys() - {*others}, key=lambda i: (side.starts[i], i)):
+            found.append(Move(kind, side.called(i), f"{says} {side.when(i)}"))
+    return found
+
+
+def totals(was: Side, now: Side) -> list[str]:
+    """What became of the makespan, and of the lateness where something is due."""
     length = now.opened.length
     told = [f"makespan {change(was.makespan, now.makespan, length)}{ends(was, now)}"]
-    told += [f"lateness {change(was.lateness, now.lateness, length)}"] if now.opened.project.due else []
-    for i, j in sorted(moved, key=lambda pair: (now.starts[pair[1]], pair[1])):
-        told.append(f"  {now.called(j):{wide}}  {was.when(i)} -> {now.when(j)}{late(now.starts[j] - was.starts[i], length)}")
-    for side, numbers, says in ((now, new, "new, at"), (was, gone, "gone, was at")):
-        for i in sorted(numbers, key=side.starts.__getitem__):
-            told.append(f"  {side.called(i):{wide}}  {says} {side.when(i)}")
-    return [*told, f"{len(pairs) - len(moved)} of {len(now.starts)} start as before"]
+    return told + ([f"lateness {change(was.lateness, now.lateness, length)}"] if now.opened.project.due else [])
+
+
+def differences(was: Side, now: Side) -> list[str]:
+    found = moves(was, now)
+    wide = max([0, *(len(one.name) for one in found)])
+    return [*totals(was, now), *(f"  {one.name:{wide}}  {one.text}" for one in found), as_before(found, now)]
+
+
+def as_before(found: list[Move], now: Side) -> str:
+    changed = sum(one.kind != "gone" for one in found)
+    return f"{len(now.starts) - changed} of {len(now.starts)} start as before"
 
 
 def ends(was: Side, now: Side) -> str:
     """The dates of both ends."""
-    calendar = now.opened.calendar
-    if calendar is None:
-        return ""
-    before, after = (calendar.times(side.makespan, side.makespan)[1] for side in (was, now))
-    return f" ({before} -> {after})"
+    calendars = [(side.before or side.opened).calendar for side in (was, now)]
+    dates = [calendar.times(side.makespan, side.makespan)[1] for side, calendar in zip((was, now), calendars)
+             if calendar is not None]
+    return f" ({dates[0]} -> {dates[1]})" if len(dates) == 2 else ""
 
 
 def change(was: int, now: int, length: Callable[[int], str]) -> str:

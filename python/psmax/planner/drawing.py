@@ -1,6 +1,6 @@
 """What a chart shows, whether as text or as SVG: a bar for each activity, the use of each resource over time."""
 from collections.abc import Callable, Collection, Mapping
-from dataclasses import dataclass
+from dataclasses import dataclass, field
 
 from ..calendars import Calendar
 from .opened import ProjectFile
@@ -20,6 +20,8 @@ class Bar:
     window: Window | None = None  # in which it may start while the others stay
     is_critical: bool = False
     due: int | None = None
+    has_started: bool = False
+    was: tuple[int, int] | None = None  # when it began and ended in the plan before
 
     @property
     def label(self) -> str:
@@ -42,6 +44,7 @@ class Drawing:
     ends: int
     bars: tuple[Bar, ...]
     loads: tuple[Load, ...]
+    is_plan: bool = True  # and not the starts of a plan before, where there is no schedule
     calendar: Calendar | None = None
     length: Callable[[int], str] = str  # of so many periods, as the table writes lengths
     after: Callable[[int], str] = str  # a time, where there is no calendar
@@ -58,21 +61,32 @@ class Drawing:
         return self.calendar.times(time, time + 1)[0] if is_first else self.calendar.mark(time)
 
 
-def make(opened: ProjectFile, starts: tuple[int, ...], title: str, notes: tuple[str, ...] = (),
-         windows: Mapping[int, Window] | None = None, critical: Collection[int] = ()) -> Drawing:
+@dataclass(frozen=True)
+class Known:
+    """What is known of the activities of a schedule, besides their starts."""
+
+    windows: Mapping[int, Window] = field(default_factory=dict)
+    critical: Collection[int] = ()
+    started: Collection[int] = ()
+    was: Mapping[int, tuple[int, int]] = field(default_factory=dict)  # when each began and ended in the plan before
+
+
+def make(opened: ProjectFile, starts: tuple[int, ...], title: str, notes: tuple[str, ...] = (), known: Known = Known(),
+         is_plan: bool = True) -> Drawing:
     project = opened.project
     begins = min(0, *starts[:-1])
     due = [time for time in project.due.values() if time > 0]
-    ends = max([begins + 1, starts[-1], *project.ends(starts), *due])
+    ends = max([begins + 1, starts[-1], *project.ends(starts), *due, *(ends for _, ends in known.was.values())])
     bars: list[Bar] = []
     for i in range(1, project.end):
         bars += [bracket(opened, starts, group.name, group.activities) for group in opened.groups
                  if group.activities.start == i and len(group.activities)]
         bars.append(Bar(i, opened.names.activities.get(i, ""), starts[i], starts[i] + project.durations[i],
-                        *opened.times(i, starts[i]), (windows or {}).get(i), i in critical, project.due.get(i)))
+                        *opened.times(i, starts[i]), known.windows.get(i), i in known.critical, project.due.get(i),
+                        i in known.started, known.was.get(i)))
     loads = tuple(Load(opened.names.resource(k), units, stretches(project, starts, k), cut(away(project, k, ends), ends))
                   for k, units in enumerate(project.capacities))
-    return Drawing(title, notes, begins, ends, tuple(bars), loads, opened.calendar, opened.length, opened.after)
+    return Drawing(title, notes, begins, ends, tuple(bars), loads, is_plan, opened.calendar, opened.length, opened.after)
 
 
 def bracket(opened: ProjectFile, starts: tuple[int, ...], name: str, activities: range) -> Bar:

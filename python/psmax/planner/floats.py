@@ -96,7 +96,7 @@ def floats(opened: ProjectFile, given: str | None, sheet: Sheet, chart: Chart, w
         sheet.put(table(opened, known, found, total), opened)
     if chart.is_wanted:
         critical = total.critical() if total is not None else ()
-        chart.show(drawing.make(opened, known.starts, known.title(), (), found, critical))
+        chart.show(drawing.make(opened, known.starts, known.title(), (), drawing.Known(found, critical)))
     elif sheet.out is None or total is not None:
         print(text(opened, known, found, total), end="")
     return 3 if total is not None and total.open() else 0

@@ -57,11 +57,17 @@ def begin_with(opened: ProjectFile, start: Start) -> Beginning:
     if start.frozen is None and progress.now is None:
         known = feasible(opened, given, Psmax(Clock(), opened.path))
         return Beginning(opened.project, [(known.starts, given.called)])
+    return begin_near(opened, given, start.frozen)
+
+
+def begin_near(opened: ProjectFile, given: Given, day: str | None) -> Beginning:
+    """The schedules near to one of the project before it was changed. What starts in that before the day stays, or what the
+    status date says has started."""
     given = counted(opened, given)
     tied = tie(opened, given)
-    if start.frozen is None:
-        return from_old(opened, given, tied, progress, opened.settings.status or "")
-    return from_old(opened, given, tied, frozen(opened, tied, start.frozen), start.frozen)
+    if day is None:
+        return from_old(opened, given, tied, opened.progress, opened.settings.status or "")
+    return from_old(opened, given, tied, frozen(opened, tied, day), day)
 
 
 def frozen(opened: ProjectFile, tied: Tied, day: str) -> Progress:
@@ -79,7 +85,7 @@ def from_old(opened: ProjectFile, given: Given, tied: Tied, progress: Progress, 
         raise BadInput(f"--frozen: the project has {len(project.arcs):,} lags, which leaves too few of {MOST_ARCS:,}")
     old = {i: start for i, start in tied.starts.items() if 0 < i < project.end and i not in progress.started}
     where = given.called if opened.progress.now is None else opened.path
-    told = [f"{len(progress.started)} of {project.end - 1} activities start before {day} in {where}, and stay"]
+    told = [f"{len(progress.started)} of {project.end - 1} activities start before {day} in {where}, and stay"] if day else []
     told += [f"{words.names.activity(i)} is new" for i in tied.new]
     told += [f"{name} is no activity any more" + (", and had started" if (given.starts[i].period or 0) < now else "")
              for i, name in tied.gone.items()]

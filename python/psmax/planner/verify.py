@@ -46,12 +46,17 @@ class Verdict:
 
 def verdict(opened: ProjectFile, path: str, start: Start) -> Verdict:
     """The verdict on a record of the project, or of it with what has started kept."""
+    keeps = "" if start.frozen is None else f" that keeps what {start.answer} starts before {start.frozen}"
     record = Record(read_bytes(path, None), Spelled(begin_with(opened, start).project))
+    return judged(record, path, f"{opened.path}{keeps}")
+
+
+def judged(record: Record, path: str, which: str) -> Verdict:
+    """The verdict on a record in a file, of this project."""
     program = record.judge(path)
     told, is_wrong = record.told(program)
     script = "verify.py" if program.name == Psmax.name else "verify_log.py"
-    keeps = "" if start.frozen is None else f" that keeps what {start.answer} starts before {start.frozen}"
-    return Verdict(path, record, f"{opened.path}{keeps}", program.name, script, told, is_wrong)
+    return Verdict(path, record, which, program.name, script, told, is_wrong)
 
 
 def verify(opened: ProjectFile, record: str, start: Start) -> int:

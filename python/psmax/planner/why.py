@@ -1,8 +1,10 @@
 """`plan why`: why a project has no schedule, or none that ends in time. psprove proves each cause."""
+from collections.abc import Callable
+
 from ..clock import Clock, tell
 from ..errors import BadInput, TimeUp
 from ..files import must_be_empty
-from ..project import MOST_UNITS, Goal, Kind, Part, Project, too_needy, with_lag, within, without
+from ..project import MOST_UNITS, Arc, Goal, Kind, Part, Project, too_needy, with_lag, within, without
 from ..psmax import Psmax
 from ..psprove import Limits, Psprove
 from ..solved import Solved
@@ -17,7 +19,11 @@ CONFLICTS = 10_000  # of a search of the project without one of its lags, or wit
 
 
 class Causes:
-    def __init__(self, opened: ProjectFile, project: Project, clock: Clock, jobs: int, deadline: int | None) -> None:
+    """What there is to say goes to `say`, line by line; `arcs` are the lags that it is about."""
+
+    def __init__(self, opened: ProjectFile, project: Project, clock: Clock, jobs: int, deadline: int | None,
+                 say: Callable[[str], object] = print) -> None:
+        self.say, self.arcs = say, list[Arc]()
         self.psmax, self.psprove, self.jobs = Psmax(clock, opened.path), Psprove(clock, opened.path), jobs
         self.words = Words(opened)
         limited = project if deadline is None else within(project, deadline)
@@ -35,12 +41,12 @@ class Causes:
         if not answer.none and answer.starts is None:
             answer = self.psprove.solve(self.project, self.limits(None))
         if answer.starts is not None:
-            print(f"There is a schedule{self.late}: psprove has found one of {answer.goal.words(answer.value)}.")
+            self.say(f"There is a schedule{self.late}: psprove has found one of {answer.goal.words(answer.value)}.")
             return 0
         if not answer.none:
-            print(f"Not known: psprove found neither a schedule{self.late} nor that there is none.")
+            self.say(f"Not known: psprove found neither a schedule{self.late} nor that there is none.")
             return 3
-        print(f"There is no schedule{self.late}.")
+        self.say(f"There is no schedule{self.late}.")
         found = Core(self.project, self.fixed, answer.record)
         found.shrink(self.psprove, answer.conflicts)
         self.tell_core(found)
@@ -48,9 +54,11 @@ class Causes:
             found.write(out)
         needy = too_needy(self.project)
         for activity in needy:
-            print(f"Activity {self.words.needs(activity)}.")
+            self.say(f"Activity {self.words.needs(activity)}.")
         for circle in circles(self.project, self.psmax):
-            print(*in_words(circle, self.words), sep="\n")
+            self.arcs += circle
+            for line in in_words(circle, self.words):
+                self.say(line)
         if not needy:
             self.lags_that_open([part.number for part in found.parts() if part.kind is Kind.LAG])
         return 0
@@ -61,13 +69,14 @@ class Causes:
     def tell_core(self, found: Core) -> None:
         """What contradicts each other; one alone does so with the minimum lags and what is fixed."""
         if not found.parts():
-            print("The minimum lags alone contradict each other, by a proof of psprove.")
+            self.say("The minimum lags alone contradict each other, by a proof of psprove.")
             return
+        self.arcs += [self.project.arcs[part.number] for part in found.parts() if part.kind is Kind.LAG]
         lead = "These together are impossible" if len(found.parts()) > 1 else "This is impossible"
         which = "any one of them" if len(found.parts()) > 1 else "it"
-        print(f"{lead}, by a proof of psprove; without {which} there is a schedule:")
+        self.say(f"{lead}, by a proof of psprove; without {which} there is a schedule:")
         for part in found.parts():
-            print(f"  {self.part(part)}" + ("" if part in found.schedules else " (not known whether it is needed)"))
+            self.say(f"  {self.part(part)}" + ("" if part in found.schedules else " (not known whether it is needed)"))
 
     def part(self, part: Part) -> str:
         if part.kind is Kind.LAG:
@@ -82,20 +91,20 @@ class Causes:
         answers = [self.without_lag(place) for place in places]
         unknown = sum(answer.status() == "unknown" for answer in answers)
         if unknown:
-            print(f"For {unknown} maximum lags it is not known whether that opens a schedule.")
+            self.say(f"For {unknown} maximum lags it is not known whether that opens a schedule.")
         elif all(answer.none for answer in answers):
-            print("No maximum lag, taken out alone, opens a schedule.")
+            self.say("No maximum lag, taken out alone, opens a schedule.")
 
     def without_lag(self, place: int) -> Solved:
         arc = self.project.arcs[place]
         answer = self.ask(without(self.project, {Part(Kind.LAG, place)}))
         if answer.starts is not None:
             value = answer.goal.words(answer.value)
-            print(f"Without this lag there is a schedule of {value}: {self.words.greatest(arc)}.")
+            self.say(f"Without this lag there is a schedule of {value}: {self.words.greatest(arc)}.")
             least, is_least = self.least_enough(place, answer.starts)
             also = "less is not" if is_least else "whether less is, is not known"
             enough = self.words.greatest(arc._replace(lag=-least))
-            print(f"  This is enough in its place, and {also}: {enough}.")
+            self.say(f"  This is enough in its place, and {also}: {enough}.")
         return answer
 
     def ask(self, project: Project) -> Solved:

@@ -126,8 +126,7 @@ class Words:
 
     def overload(self, time: int, resource: int, starts: Sequence[int]) -> str:
         project = self.project
-        running = [i for i in range(1, project.end) if project.demands[i][resource]
-                   and starts[i] <= time < starts[i] + project.durations[i]]
+        running = project.users(resource, starts, time)
         used, away = sum(project.demands[i][resource] for i in running), project.away(resource, time)
         there = project.capacities[resource] - away
         left = f"of which there {are(there)}" + (f" while {away} {'is' if away == 1 else 'are'} away" if away else "")

@@ -1,0 +1,209 @@
+"""What a page shows of a schedule: each of its parts by the name of its place in `page.html`."""
+from collections.abc import Iterable, Mapping
+from dataclasses import dataclass, field
+from html import escape
+from xml.etree.ElementTree import Element
+
+from .. import __version__
+from ..project import Arc, Goal
+from ..total import TotalFloat
+from . import drawing
+from .chart import LOAD, ROW, RULER, Chart, definitions, mark, markup
+from .drawing import Bar, Drawing
+from .held import held
+from .opened import ProjectFile
+from .window import Window
+from .wording import Words
+
+WIDTH = {"A4": 760, "A3": 1230}  # pixels of the time, so that it fits the paper on its side beside the names
+WIDEST = 36  # pixels of a period at most
+Rows = list[tuple[str, str]]  # rows of a table, each with what it is known by
+
+
+@dataclass(frozen=True)
+class View:
+    """A schedule, and what is known of it."""
+
+    opened: ProjectFile
+    starts: tuple[int, ...]
+    proof: str  # what is proved, and by whom
+    is_shortest: bool = False
+    windows: Mapping[int, Window] = field(default_factory=dict)
+    total: TotalFloat | None = None
+    was: Mapping[int, tuple[int, int]] = field(default_factory=dict)  # when each began and ended in the plan before
+    circle: tuple[Arc, ...] = ()  # of lags that contradict each other
+    is_plan: bool = True  # and not the starts of a plan before, where there is no schedule
+
+
+class Page:
+    def __init__(self, view: View, paper: str = "A4", zoom: float = 1.0) -> None:
+        self.view, self.opened, self.project = view, view.opened, view.opened.project
+        self.words, self.paper = Words(view.opened), paper
+        critical = view.total.critical() if view.total is not None else set()
+        started = view.total.started if view.total is not None else view.opened.progress.started
+        self.shown: Drawing = drawing.make(view.opened, view.starts, "", (), drawing.Known(
+            view.windows, critical, started, view.was), view.is_plan)
+        self.chart = Chart(self.shown, zoom * min(WIDEST, WIDTH[paper] / (self.shown.ends - self.shown.begins)))
+        self.activities = sorted((bar for bar in self.shown.bars if bar.activity is not None),
+                                 key=lambda bar: (bar.begins, bar.activity))
+        self.lags = self.said_of_lags()
+
+    def parts(self) -> dict[str, str]:
+        """Markup by the place where it stands."""
+        grid = mark("g", id="grid")
+        grid.extend(self.chart.grid(LOAD))
+        chart, starts = self.chart, self.view.starts
+        arrows = chart.circle(self.view.circle, self.words) if not self.view.is_plan else chart.arrows(
+            self.project.arcs, starts, self.words)
+        return {
+            "made": escape(self.made()), "facts": markup(*self.facts()), "proof": markup(*in_code(self.view.proof)),
+            "definitions": markup(definitions(), grid), "ruler": markup(picture(chart.width, RULER, chart.ruler())),
+            "arrows": markup(picture(chart.width, chart.height, arrows)), "heads": markup(*self.heads()),
+            "total": escape(self.said_of_total()),
+        }
+
+    def tables(self) -> dict[str, Rows]:
+        """The rows of the chart, of the activities and of the resources."""
+        chart = self.chart
+        lines = [(key_of(bar) if bar.activity is not None else f"group {number}",
+                  markup(self.line(bar.label, ROW, chart.bar(bar), chart.said(bar), bar.activity)))
+                 for number, bar in enumerate(self.shown.bars)]
+        lines += [(f"load {number}", markup(self.line(f"{load.name}, {load.capacity}", LOAD, chart.load(load), "", None)))
+                  for number, load in enumerate(self.shown.loads)]
+        rows = [(key_of(bar), markup(self.row(bar))) for bar in self.activities]
+        uses = [(f"{number}", markup(row)) for number, row in enumerate(self.uses())]
+        return {"lines": lines, "rows": rows, "uses": uses}
+
+    def line(self, label: str, height: int, parts: list[Element], said: str, activity: int | None) -> Element:
+        """A row of the chart, which paper keeps together."""
+        kind = "load" if height == LOAD else "line" if activity is not None else "line group"
+        line = mark("tr", kind) if activity is None else mark("tr", kind, data_a=activity)
+        cell = mark("td")
+        cell.append(picture(self.chart.width, height, [mark("use", href="#grid"), *parts], said))
+        line.extend([mark("th", "", label, scope="row", title=label), cell])
+        return line
+
+    def row(self, bar: Bar) -> Element:
+        """The cells of an activity, each with what it is sorted by."""
+        assert bar.activity is not None
+        length, needs = self.opened.length, self.needs(bar.activity)
+        cells: list[tuple[str, object]] = [
+            (f"{bar.activity}", bar.activity), (bar.name, bar.name), self.total_float(bar.activity),
+            ("", -1) if bar.window is None else (length(bar.window.float), bar.window.float),
+            (bar.first, bar.begins), (bar.last, bar.ends), (length(bar.ends - bar.begins), bar.ends - bar.begins)]
+        if self.project.due:
+            late = 0 if bar.due is None else bar.ends - bar.due
+            cells += [("", ""), ("", 0)] if bar.due is None else [(self.words.by(bar.due), bar.due), (length(late), late)]
+        row = mark("tr", "activity", data_a=bar.activity)
+        row.extend([mark("td", "", text, data_key=key) for text, key in [*cells, (needs, needs)]])
+        return row
+
+    def needs(self, activity: int) -> str:
+        demands = enumerate(self.project.demands[activity])
+        return ", ".join(f"{self.words.names.resource(k)} {units}" for k, units in demands if units)
+
+    def total_float(self, activity: int) -> tuple[str, int]:
+        if self.view.total is None:
+            return "", -1
+        latest = self.view.total.found[activity]
+        return "critical" if latest.is_critical else latest.text(self.opened.length), latest.least - latest.start
+
+    def heads(self) -> list[Element]:
+        dated = self.shown.calendar.heads if self.shown.calendar else ("start", "end")
+        found = []
+        for name in ["No.", "Activity", "total float", "free float", *dated, "takes",
+                     *(["due", "late"] if self.project.due else []), "needs"]:
+            found.append(mark("th"))
+            found[-1].append(mark("span", "", name, role="button", tabindex=0))
+        return found
+
+    def uses(self) -> Iterable[Element]:
+        """The use of each resource, and what of it is away, as a table."""
+        for load in self.shown.loads if self.view.is_plan else ():
+            told = [(one.begins, one.ends, one.units, 0) for one in load.stretches]
+            told += [(one.begins, one.ends, 0, one.units) for one in load.away]
+            for begins, ends, used, away in sorted(told):
+                row = mark("tr")
+                texts = [load.name, self.words.time(begins), self.words.by(ends), used or "", away or "", load.capacity]
+                row.extend([mark("td", "", f"{text}") for text in texts])
+                yield row
+
+    def told(self) -> dict[int, dict[str, object]]:
+        """What is shown of an activity that is chosen, or that a pointer is on."""
+        return {bar.activity: {"name": bar.label, "card": self.card(bar), "lags": self.lags.get(bar.activity, [])}
+                for bar in self.activities if bar.activity is not None}
+
+    def card(self, bar: Bar) -> list[str]:
+        """Its dates, its floats, what it needs, and what holds it."""
+        assert bar.activity is not None
+        if not self.view.is_plan:
+            return [f"before: {bar.first} to {bar.last}"]
+        total, _ = self.total_float(bar.activity)
+        floats = [f"total float: {total}"] if total else []
+        floats += [f"free float: {self.opened.length(bar.window.float)}"] if bar.window is not None else []
+        before = [] if bar.was is None else [f"before: {self.shown.span(*bar.was)}"]
+        return [f"{bar.first} to {bar.last}", *floats, f"needs: {self.needs(bar.activity) or 'nothing'}", *before,
+                *(f"held: {text}" for text in held(self.words, self.view.starts, bar.activity))]
+
+    def said_of_lags(self) -> dict[int, list[str]]:
+        """The lags of each activity in words, with how much they leave."""
+        found: dict[int, list[str]] = {}
+        for arc in self.project.arcs:
+            left = self.view.starts[arc.head] - self.view.starts[arc.tail] - arc.lag
+            spare = "" if not self.view.is_plan else f": {self.opened.length(left)} to spare" if left else ": tight"
+            for activity in dict.fromkeys((arc.tail, arc.head)):
+                found.setdefault(activity, []).append(self.words.lag(arc) + spare)
+        return found
+
+    def made(self) -> str:
+        ends = max([0, *self.project.ends(self.view.starts)])
+        return f"From {self.words.time(0)} to {self.words.by(ends)}. Made by plan {__version__} from {self.opened.path}."
+
+    def facts(self) -> list[Element]:
+        ends, project, opened = max([0, *self.project.ends(self.view.starts)]), self.project, self.opened
+        whole = count(ends, opened.names.unit or "periods") if opened.is_own() else fact(opened.length(ends), "of work")
+        found = [whole, count(len(self.activities), "activities")]
+        found += [] if self.view.total is None else [count(len(self.view.total.critical()), "critical")]
+        found += [count(len(self.shown.loads), "resources"), count(opened.changeable(), "lags")]
+        found += [count(len(project.absences), "absences")] if project.absences else []
+        found += [fact(opened.length(self.view.starts[-1]), "lateness")] if project.goal is Goal.LATENESS else []
+        return found
+
+    def said_of_total(self) -> str:
+        text = ("Total float is how much later an activity can start in some schedule that is no longer than this one: psprove "
+                "has found that schedule, and proved that there is none with a later start. Free float is how much later it "
+                "can start while the others stay.")
+        left = 0 if self.view.total is None else len(self.view.total.open())
+        if left:
+            text += f" For {left} activities the time did not settle the total float: it is an interval."
+        return text
+
+
+def key_of(bar: Bar) -> str:
+    """By what an activity is known in one plan and the next: its name, where it has one."""
+    return f"activity {bar.name or bar.activity}"
+
+
+def picture(width: int, height: int, parts: Iterable[Element], said: str = "") -> Element:
+    made = mark("svg", width=width, height=height, **(dict(role="img", aria_label=said) if said else {}))
+    made.extend([*parts])
+    return made
+
+
+def in_code(text: str) -> list[Element]:
+    """A text in which what stands between ` is code."""
+    return [mark("code" if place % 2 else "span", "", part) for place, part in enumerate(text.split("`"))]
+
+
+def count(number: int, what: str) -> Element:
+    """A figure with its name, of which there may be one."""
+    singular = {"activities": "activity", "resources": "resource", "lags": "lag", "absences": "absence", "days": "day",
+                "hours": "hour", "weeks": "week", "minutes": "minute", "periods": "period"}
+    return fact(f"{number}", singular.get(what, what) if number == 1 else what)
+
+
+def fact(figure: str, what: str) -> Element:
+    made = mark("span")
+    made.append(mark("b", "", figure))
+    made[0].tail = what
+    return made
