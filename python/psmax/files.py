@@ -119,6 +119,27 @@ def write_whole(path: str, data: bytes) -> None:
             beside.unlink(missing_ok=True)
 
 
+def write_new(files: Mapping[str, bytes]) -> bool:
+    """Writes each file whole where none of them is there, and otherwise nothing. Whether it did."""
+    made: list[str] = []
+    try:
+        for path in files:
+            os.close(os.open(path, os.O_CREAT | os.O_EXCL, 0o666))
+            made.append(path)
+        for path, data in files.items():
+            write_whole(path, data)
+        return True
+    except FileExistsError:
+        pass
+    except OSError as fault:
+        raise Failed(f"cannot write {fault.filename}: {reason(fault)}") from None
+    finally:
+        for path in made:
+            if os.path.getsize(path) == 0:
+                os.unlink(path)
+    return False
+
+
 def mask() -> int:
     """The permissions that new files do not get."""
     now = os.umask(0)

@@ -5,10 +5,9 @@ import sys
 from collections.abc import Sequence
 from typing import NoReturn
 
-from ..calendars import BEYOND
 from ..clock import end_at_once, interrupt_once
-from ..errors import BadInput, Failed, TimeUp
 from ..letters import printable
+from .explained import explained
 from .options import parsed
 
 INTERRUPTED = 130
@@ -38,33 +37,16 @@ def answered(words: Sequence[str]) -> int:
         if isinstance(stream, io.TextIOWrapper):
             stream.reconfigure(errors="replace")
     try:
-        status = run_command(words)
+        options = parsed(words)
+        status: int = options.run(options)
         sys.stdout.flush()
         return status
-    except BadInput as fault:
-        return failed(2, *map(str, fault.args))
-    except Failed as fault:
-        return failed(1, str(fault))
-    except TimeUp:
-        return failed(1, "psmax took too long")
     except BrokenPipeError:
         os.dup2(os.open(os.devnull, os.O_WRONLY), sys.stdout.fileno())
         return 1
-    except MemoryError:
-        return failed(1, "out of memory")
-    except OSError as fault:
-        return failed(1, f"{fault.strerror or fault}" + (f": {fault.filename}" if fault.filename else ""))
     except Exception as fault:
-        return failed(1, f"a fault of plan itself: {type(fault).__name__}: {fault}")
-
-
-def run_command(words: Sequence[str]) -> int:
-    options = parsed(words)
-    try:
-        status: int = options.run(options)
-    except OverflowError:  # of dates
-        raise BadInput(BEYOND) from None
-    return status
+        status, texts = explained(fault)
+        return failed(status, *texts)
 
 
 def failed(status: int, *texts: str) -> int:

@@ -11,7 +11,8 @@ from ..dates import ORDERS
 from ..errors import BadInput
 from ..formats import FORMATS
 from ..project import MOST_UNITS
-from . import batch, batch_table, check, compare, floats, gantt, read, report, solve, verify, whatif, where, why, write
+from . import (batch, batch_table, check, compare, floats, gantt, read, report, solve, verify, watch, whatif, where, why,
+               write)
 from .csv_text import SEPARATORS
 from .opened import ProjectFile, open_project
 from .replan import Start
@@ -214,6 +215,18 @@ def add_report(one: argparse.ArgumentParser) -> None:
         o.record, o.out, o.paper, o.seconds, o.jobs)))
 
 
+def add_watch(one: argparse.ArgumentParser) -> None:
+    one.add_argument("table", metavar="TABLE", help="a table of activities in CSV")
+    add_settings(one)
+    add_limits(one)
+    add_start(one)
+    one.add_argument("--record", metavar="FILE", help="write the record of each search into FILE")
+    one.add_argument("--port", type=number(0, 65_535), default=0, metavar="P", help="serve on this port (default: a free one)")
+    one.add_argument("--open", action="store_true", help="open the page in a browser")
+    one.set_defaults(run=lambda o: watch.watch(o.table, settings(o), start(o), watch.Options(
+        o.seconds, o.jobs, o.record, o.port, o.open)))
+
+
 def add_check(one: argparse.ArgumentParser) -> None:
     add_schedule(one)
     one.set_defaults(run=lambda o: check.check(opened(o), o.answer))
@@ -317,6 +330,9 @@ is no longer, proved.""", "site.csv plan.csv --total"),
     ("report", add_report, "write a schedule as a page of HTML, with what is proved",
      """Reads a project and an answer. Writes one page with a chart, lags, resources and
 floats, which prints on paper.""", "site.csv plan.csv --record plan.rec --out site.html"),
+    ("watch", add_watch, "show the plan in a browser, and plan again whenever the table is saved",
+     """Follows a table. Prints the address of a page on this machine, which shows the plan,
+what moved, and what is wrong with the table. Ctrl-C ends it, and keeps the plan.""", "site.csv --open"),
     ("check", add_check, "check a schedule, and list its violations",
      "Reads a project and an answer. Prints 'feasible C', or each violation by name.", "site.csv plan.csv"),
     ("why", add_why, "explain why a project has no schedule",

@@ -13,11 +13,15 @@ function lines(kind, texts) {
   return list;
 }
 
-function choose(activity) {
+function highlight(activity) {
   page.chosen = activity;
   each(".chosen", (one) => one.classList.remove("chosen"));
   each(`[data-a="${activity}"]`, (one) => one.classList.add("chosen"));
   each(".lag", (one) => one.classList.toggle("shown", one.dataset.ends.split(" ").includes(activity)));
+}
+
+function choose(activity) {
+  highlight(activity);
   const told = page.told[activity], head = document.createElement("p");
   head.textContent = `${told.name}:` + (told.lags.length ? "" : " no lags of its own.");
   byId("lags").replaceChildren(head, lines("div", told.card), lines("ul", told.lags));
@@ -27,6 +31,7 @@ function pick(row) {
   each("[data-a][tabindex='0']", (one) => one.tabIndex = -1);
   each(`[data-a="${row.dataset.a}"]`, (one) => one.tabIndex = 0);
   choose(row.dataset.a);
+  document.dispatchEvent(new CustomEvent("chosen", { detail: row.dataset.a }));
 }
 
 function reachable() {

@@ -1,0 +1,107 @@
+"""A search for a plan in a thread of its own. What it knows is on the screen as soon as psprove's book holds it."""
+import os
+import threading
+from dataclasses import dataclass
+
+from ..clock import Clock
+from ..files import write_whole
+from ..known import Known
+from ..project import Arc
+from ..psmax import Psmax
+from ..psprove import Psprove
+from ..search import search
+from ..total import TotalFloat
+from .circles import circles, in_words
+from .explained import explained
+from .opened import ProjectFile
+from .replan import Beginning
+from .screen import Screen
+from .why import Causes
+from .window import windows
+from .wording import Words
+
+
+@dataclass(frozen=True)
+class Limits:
+    """Of each search, and where its record goes."""
+
+    seconds: float
+    jobs: int
+    record: str | None
+
+
+class Planning(threading.Thread):
+    def __init__(self, screen: Screen, number: int, beginning: Beginning, limits: Limits, folder: str) -> None:
+        super().__init__(daemon=True)
+        self.screen, self.number, self.beginning, self.limits, self.folder = screen, number, beginning, limits, folder
+        self.opened: ProjectFile = screen.plans[number].opened
+        self.is_ended = False
+        self.clock = self.new_clock()
+
+    def new_clock(self) -> Clock:
+        """For the next step, unless it was asked to end."""
+        self.clock = Clock(self.limits.seconds, lambda seconds, text: None)
+        if self.is_ended:
+            self.clock.stop()
+        return self.clock
+
+    def end(self) -> None:
+        """Ends it, with what is known by then."""
+        self.is_ended = True
+        self.clock.stop()
+        self.join()
+
+    def learn(self, **news: object) -> None:
+        self.screen.learn(self.number, **news)
+
+    def run(self) -> None:
+        try:
+            known = self.search()
+            if known.none:
+                self.explain()
+            elif known.starts is not None and not self.is_ended:
+                self.float(known.starts)
+        except Exception as fault:
+            if not self.is_ended:
+                self.learn(notes=explained(fault)[1])
+        finally:
+            self.learn(stage="")
+
+    def search(self) -> Known:
+        known = Known(self.clock, self.beginning.project)
+        known.listener = lambda news: self.learn(value=news.value, bound=news.bound, starts=news.starts)
+        for starts, called in self.beginning.schedules:
+            known.offer(starts, called)
+        psprove = Psprove(self.clock, self.opened.path)
+        search(self.beginning.project, psprove, known, self.limits.jobs, self.beginning.repairs)
+        if known.record:
+            path = os.path.join(self.folder, f"{self.number}.record")
+            for place in (path, self.limits.record):
+                if place is not None:
+                    write_whole(place, known.record)
+            self.learn(record=path)
+        return known
+
+    def explain(self) -> None:
+        """Why there is no schedule: by a circle of lags where there is one."""
+        clock, words = self.new_clock(), Words(self.opened)
+        circle = next(circles(self.beginning.project, Psmax(clock, self.opened.path)), list[Arc]())
+        if circle:
+            lead, *lags, together, change = in_words(circle, words)
+            text = f"{lead} {'; '.join(map(str.strip, lags))}. {together.strip()} {change.strip()}"
+            return self.learn(circle=(*circle,), why=(text,))
+        lines: list[str] = []
+        causes = Causes(self.opened, self.beginning.project, clock, self.limits.jobs, None, lines.append)
+        causes.tell_all(None)
+        self.learn(circle=(*causes.arcs,), why=(*lines,))
+
+    def float(self, starts: tuple[int, ...]) -> None:
+        """The free floats, by psmax, and then the total floats, which take longer. Their proofs aren't kept."""
+        self.learn(stage="floats", windows=windows(self.opened.project, starts, Psmax(self.clock, self.opened.path)))
+        psprove = Psprove(self.new_clock(), self.opened.path)
+        total = TotalFloat(self.beginning.project, starts, self.beginning.started, psprove)
+        total.run(self.limits.jobs)
+        for latest in total.found.values():
+            latest.record = b""
+        if not self.is_ended:
+            self.learn(total=total)

@@ -1,0 +1,89 @@
+"""The plans of a day: tables as they were read, each with what is known of a plan for it."""
+from collections.abc import Mapping
+from dataclasses import dataclass, field
+
+from ..project import Arc, Goal, Project
+from ..solved import Claim
+from ..total import TotalFloat
+from .compare import Move, Side, as_before, moves, totals
+from .given import Begin, Given
+from .opened import ProjectFile
+from .page import View
+from .window import Window
+
+
+@dataclass(frozen=True)
+class Schedule:
+    """Starts of a table's activities."""
+
+    opened: ProjectFile
+    starts: tuple[int, ...]
+
+    def told(self) -> list[tuple[str, tuple[str, str]]]:
+        """The name and the dates of each activity."""
+        opened = self.opened
+        return [(opened.names.activities.get(i, ""), opened.times(i, self.starts[i])) for i in range(1, opened.project.end)]
+
+    def given(self) -> Given:
+        """The same as an answer with names, which a table that has changed since can take."""
+        opened, inner = self.opened, range(1, self.opened.project.end)
+        return Given("the plan before", {i: Begin(self.starts[i], "") for i in inner},
+                     {i: opened.names.activities.get(i, "") for i in inner}, {i: opened.project.durations[i] for i in inner},
+                     opened.names.unit, is_table=True)
+
+
+@dataclass(frozen=True, eq=False)
+class Plan(Claim):
+    """A table, the plan that was on the screen when it was read, and what is known by now."""
+
+    opened: ProjectFile
+    project: Project  # that is searched: the table's, and perhaps what stays
+    at: str  # when it was read
+    before: Schedule | None
+    shadow: tuple[int, ...]  # the starts of the plan before, as far as there are any
+    goal: Goal
+    value: int | None
+    bound: int | None
+    stage: str = "searching"
+    starts: tuple[int, ...] | None = None
+    record: str | None = None  # the file that proves the bound
+    windows: Mapping[int, Window] = field(default_factory=dict)
+    total: TotalFloat | None = None
+    circle: tuple[Arc, ...] = ()  # of lags that contradict each other
+    why: tuple[str, ...] = ()  # there is no schedule
+    notes: tuple[str, ...] = ()  # what else there is to say
+
+    @property
+    def schedule(self) -> Schedule | None:
+        return None if self.starts is None else Schedule(self.opened, self.starts)
+
+    def is_known(self) -> bool:
+        """Whether there is something to show."""
+        return self.starts is not None or self.none
+
+    def proof(self) -> str:
+        """What is proved, and by whom."""
+        if self.none:
+            return "psprove has proved that there is no schedule. What is drawn is where the activities were before."
+        told = f"A schedule of {self.goal.words(self.value)} is known, and psprove's proved book says that none is "
+        return told + ("shorter." if self.settled else f"shorter than {self.goal.words(self.bound)}.")
+
+    def side(self) -> Side | None:
+        """The plan before, beside this table."""
+        return None if self.before is None else Side(self.before.given(), self.opened, self.before.opened)
+
+    def view(self) -> View:
+        if self.starts is None:
+            return View(self.opened, self.shadow, self.proof(), circle=self.circle, is_plan=False)
+        side = self.side()
+        was = {} if side is None else {now: (side.starts[i], side.ends[i]) for i, now in side.now.items()}
+        return View(self.opened, self.starts, self.proof(), self.settled, self.windows, self.total, was)
+
+    def moved(self) -> tuple[list[str], list[Move]]:
+        """What became of the makespan and of the activities since the plan before."""
+        side, schedule = self.side(), self.schedule
+        if side is None or schedule is None:
+            return [], []
+        now = Side(schedule.given(), self.opened)
+        found = moves(side, now)
+        return [*totals(side, now), as_before(found, now)], found

@@ -1,0 +1,115 @@
+"""The server of `plan watch`: the page and its data, for a browser of this machine alone. Whoever doesn't know the token, names
+another host, or comes from another page, gets nothing."""
+import hmac
+import json
+import re
+import secrets
+import socket
+import sys
+from collections.abc import Callable
+from http.server import BaseHTTPRequestHandler, ThreadingHTTPServer
+from typing import Any
+from urllib.parse import parse_qs, urlsplit
+
+from ..errors import BadInput, Failed
+from .feed import state
+from .screen import Screen
+
+HOST = "127.0.0.1"
+LONGEST = 1_000  # bytes of a request's body
+PATIENCE = 20.0  # seconds that a browser waits for a change
+ZOOMS = (0.25, 16.0)
+HEADS = {
+    "Cache-Control": "no-store", "Content-Security-Policy": "frame-ancestors 'none'", "Referrer-Policy": "no-referrer",
+    "X-Content-Type-Options": "nosniff", "Cross-Origin-Resource-Policy": "same-origin",
+    "Cross-Origin-Opener-Policy": "same-origin",
+}
+Order = Callable[[str, int], str]  # what is done at a word and a number, and what is said of it
+
+
+class Server(ThreadingHTTPServer):
+    daemon_threads, block_on_close = True, False
+
+    def __init__(self, port: int, screen: Screen, page: bytes, order: Order) -> None:
+        super().__init__((HOST, port), Handler)
+        self.screen, self.page, self.order = screen, page, order
+        self.token = secrets.token_urlsafe(24)
+        self.host = f"{HOST}:{self.server_address[1]}"
+        self.address = f"http://{self.host}/{self.token}/"
+
+    def server_bind(self) -> None:
+        """Without a look-up of the machine's name, which may take long."""
+        self.allow_reuse_address = False
+        self.socket.setsockopt(socket.SOL_SOCKET, socket.SO_REUSEADDR, 1)
+        self.socket.bind(self.server_address)
+        self.server_address = self.socket.getsockname()
+
+    def handle_error(self, request: object, client_address: object) -> None:
+        """A browser that goes away is no fault."""
+        if not isinstance(sys.exception(), OSError):
+            super().handle_error(request, client_address)  # type: ignore[arg-type]
+
+
+class Handler(BaseHTTPRequestHandler):
+    protocol_version, timeout = "HTTP/1.1", 60
+    server: Server
+
+    def do_GET(self) -> None:
+        name, words = self.asked()
+        if name == "" and not words:
+            self.reply(200, self.server.page, "text/html; charset=utf-8")
+        elif name == "state":
+            self.follow(words)
+        else:
+            self.refuse()
+
+    def do_POST(self) -> None:
+        name, _ = self.asked()
+        length = self.headers.get("Content-Length", "")
+        if name not in ("keep", "stop", "back") or "Origin" not in self.headers or not re.fullmatch("[0-9]{1,4}", length):
+            return self.refuse()
+        told = self.rfile.read(min(int(length), LONGEST))
+        try:
+            number = int(json.loads(told or b"0"))
+            self.reply(200, self.server.order(name, number).encode())
+        except (ValueError, TypeError):
+            self.refuse()
+        except (BadInput, Failed) as fault:
+            self.reply(409, f"{fault}".encode())
+
+    def asked(self) -> tuple[str | None, dict[str, str]]:
+        """The name behind the token, and the words behind that; none for who may not ask."""
+        told = urlsplit(self.path)
+        _, token, name = [*told.path.split("/", 2), "", ""][:3]
+        origin = self.headers.get("Origin", f"http://{self.server.host}")
+        is_known = hmac.compare_digest(token.encode("utf-8", "replace"), self.server.token.encode())
+        if not is_known or self.headers.get_all("Host") != [self.server.host] or origin != f"http://{self.server.host}":
+            return None, {}
+        return name, {word: texts[-1] for word, texts in parse_qs(told.query).items()}
+
+    def follow(self, words: dict[str, str]) -> None:
+        """The screen, once it has changed; nothing where it doesn't for a while."""
+        try:
+            after, zoom = int(words.get("after", "0")), float(words.get("zoom", "1"))
+        except ValueError:
+            return self.refuse()
+        if not self.server.screen.wait(after, PATIENCE):
+            return self.reply(204, b"")
+        self.reply(200, state(self.server.screen, min(max(zoom, ZOOMS[0]), ZOOMS[1])), "application/json")
+
+    def refuse(self) -> None:
+        self.close_connection = True
+        self.reply(403, b"refused")
+
+    def reply(self, status: int, data: bytes, kind: str = "text/plain; charset=utf-8") -> None:
+        self.send_response(status)
+        for name, text in {**HEADS, "Content-Type": kind, "Content-Length": f"{len(data)}"}.items():
+            self.send_header(name, text)
+        self.end_headers()
+        self.wfile.write(data)
+
+    def version_string(self) -> str:
+        return "plan"
+
+    def log_message(self, *_: Any) -> None:
+        """Nobody reads it."""

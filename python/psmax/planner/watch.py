@@ -1,0 +1,226 @@
+"""`plan watch`: the plan of a table in a browser, made anew whenever the table is saved."""
+import datetime
+import hashlib
+import os
+import pathlib
+import queue
+import socket
+import tempfile
+import threading
+import webbrowser
+from collections.abc import Iterator
+from concurrent.futures import Future
+from contextlib import contextmanager, suppress
+from dataclasses import dataclass
+
+from ..clock import Clock
+from ..errors import BadInput, Failed, Fault
+from ..files import DASH, guard, must_be_like, read_bytes, read_text
+from ..spelled import Spelled
+from .answer import tie
+from .columns import is_head
+from .csv_text import read_sheet
+from .explained import explained
+from .given import Given, read_answer
+from .keeping import keep
+from .opened import ProjectFile, open_project
+from .planning import Limits, Planning
+from .plans import Plan, Schedule
+from .replan import Beginning, Start, begin_near, must_be_possible
+from .saves import Saves
+from .screen import Screen
+from .server import Server
+from .settings import Settings
+from .table import settings_above
+from .template import More, file, html
+from .verify import RECORD
+
+GLANCE = 0.1  # seconds from one look at the files to the next
+ANSWERS = 120.0  # seconds that an order may take
+
+
+@dataclass(frozen=True)
+class Options:
+    seconds: float
+    jobs: int
+    record: str | None
+    port: int
+    is_opened: bool  # in a browser
+
+
+class Watch:
+    """All that changes the plan is done by one thread, in turn: saves that are seen, and orders of the page."""
+
+    def __init__(self, path: str, settings: Settings, start: Start, options: Options, folder: str) -> None:
+        self.path, self.settings, self.frozen, self.options, self.folder = path, settings, start.frozen, options, folder
+        self.screen, self.saves, self.clock = Screen(), Saves(), Clock()
+        self.orders: queue.SimpleQueue[tuple[str, int, Future[str]]] = queue.SimpleQueue()
+        self.planning: Planning | None = None
+        self.first = None if start.answer is None else read_answer(start.answer).must_have_starts()
+        self.sources: set[str] = set()  # of the table as it was read last
+        self.kept = 0  # the number of the plan that was kept last
+
+    def run(self) -> None:
+        """Until what ends a run stops the clock."""
+        while not self.clock.stopped:
+            self.obey(GLANCE)
+            if self.saves.look({*self.files(), *self.sources}):
+                self.read()
+
+    def files(self) -> list[str]:
+        """The table, and the files that it names as it stands, even where it has a fault."""
+        with suppress(Fault):
+            sheet = read_sheet(self.path, read_text(self.path), is_head)
+            words = self.settings.over(settings_above(self.path, sheet, os.path.dirname(self.path)))
+            return [self.path, *words.files().values()]
+        return [self.path]
+
+    def read(self) -> None:
+        """The table as it stands. With a fault the last plan stays, and so does its search."""
+        try:
+            opened = open_project(self.path, self.settings)
+            if opened.table is None:
+                raise BadInput(f"{self.path}: this is no table of activities")
+            self.sources = {*opened.inputs().values()}
+            schedule = self.screen.schedule()
+            given = self.first if schedule is None else schedule.given()
+            beginning = self.begin(opened, given)
+            self.plan(opened, beginning, schedule, given)
+        except Exception as fault:
+            self.screen.tell(explained(fault)[1])
+
+    def begin(self, opened: ProjectFile, given: Given | None) -> Beginning:
+        """Near to the plan on the screen, or anew where nothing of that can be taken over."""
+        must_be_possible(opened, opened.path, opened.progress.started)
+        if self.frozen is not None and opened.progress.now is not None:
+            raise BadInput("--frozen is for tables without a status date: this one says itself what has started")
+        anew = Beginning(opened.project, started=frozenset(opened.progress.started))
+        if given is None:
+            return anew
+        try:
+            return begin_near(opened, given, self.frozen)
+        except BadInput as fault:
+            if self.frozen is not None:
+                raise
+            anew.told.extend([f"{fault}", "the plan before is not taken over"])
+            return anew
+
+    def plan(self, opened: ProjectFile, beginning: Beginning, schedule: Schedule | None, given: Given | None) -> None:
+        """Where the project is the same, the plan and its search stay, perhaps with other names or dates."""
+        now, notes = self.screen.plans.get(self.screen.latest), (*opened.notes, *beginning.told)
+        if now is not None and now.project == beginning.project and now.opened.project == opened.project:
+            is_told_so = schedule is None or schedule.told() == Schedule(opened, schedule.starts).told()
+            self.screen.learn(self.screen.latest, opened=opened, before=now.before if is_told_so else schedule)
+            return self.screen.tell(())
+        self.stop()
+        number = self.screen.add(Plan(
+            opened, beginning.project, f"{datetime.datetime.now():%H:%M:%S}", schedule, shadow(opened, given),
+            opened.project.goal, None, Spelled(beginning.project).value(0), notes=notes))
+        limits = Limits(self.options.seconds, self.options.jobs, self.options.record)
+        self.planning = Planning(self.screen, number, beginning, limits, self.folder)
+        self.planning.start()
+
+    def obey(self, seconds: float) -> None:
+        """Does what the page asks for, if it does so within this time."""
+        with suppress(queue.Empty):
+            name, number, reply = self.orders.get(timeout=seconds)
+            try:
+                reply.set_result(self.back(number) if name == "back" else self.keep() if name == "keep" else self.stop())
+            except Exception as fault:
+                reply.set_exception(BadInput(*explained(fault)[1]))
+
+    def order(self, name: str, number: int) -> str:
+        """Asks the thread that changes the plan, and waits for what it says."""
+        reply: Future[str] = Future()
+        self.orders.put((name, number, reply))
+        return reply.result(ANSWERS)
+
+    def stop(self) -> str:
+        """Ends the search, whose record is whole then."""
+        if self.planning is not None:
+            self.planning.end()
+            self.planning = None
+        return "Nothing is searched any more."
+
+    def keep(self) -> str:
+        self.stop()
+        names = keep(self.screen.plan())
+        self.kept = self.screen.shown
+        return f"Kept: {', '.join(names)}"
+
+    def back(self, number: int) -> str:
+        self.stop()
+        if not self.screen.show(number):
+            raise BadInput("that plan is not there any more")
+        return "This is the plan of the table as it was then. The next save is planned from it."
+
+    def close(self) -> Iterator[str]:
+        """Ends the search, and keeps what was found, unless it is kept already."""
+        self.stop()
+        plan = self.screen.plan()
+        if plan is not None and plan.starts is not None and self.kept != self.screen.shown:
+            yield self.keep()
+
+
+def shadow(opened: ProjectFile, given: Given | None) -> tuple[int, ...]:
+    """Where a table's activities were in the plan before; at 0 what was not there."""
+    found: dict[int, int] = {}
+    if given is not None:
+        with suppress(BadInput):
+            found = tie(opened, given).starts
+    return tuple(found.get(i, 0) for i in range(opened.project.end + 1))
+
+
+@contextmanager
+def alone(path: str) -> Iterator[None]:
+    """The only watch of a table. The system forgets the name when the process ends, however it does."""
+    name = hashlib.sha256(os.path.realpath(path).encode("utf-8", "surrogateescape")).hexdigest()
+    with socket.socket(socket.AF_UNIX) as held:
+        try:
+            held.bind(f"\0plan-watch-{os.getuid()}-{name}")
+        except OSError:
+            raise BadInput(f"{path} is watched already, by another plan watch") from None
+        yield
+
+
+def watch(path: str, settings: Settings, start: Start, options: Options) -> int:
+    if path == DASH:
+        raise BadInput("plan watch follows a file, and not standard input")
+    if start.frozen is not None and start.answer is None:
+        raise BadInput("--frozen needs --start, the schedule of which a part has started")
+    guard([options.record], {"the table": path} | settings.files() | start.inputs())
+    must_be_like(options.record, RECORD, "record")
+    read_bytes(path)
+    with alone(path), tempfile.TemporaryDirectory(prefix="plan-") as folder:
+        watching = Watch(path, settings, start, options, folder)
+        watching.clock.listen()
+        serve(watching)
+    return 0
+
+
+def serve(watching: Watch) -> None:
+    try:
+        server = Server(watching.options.port, watching.screen, page(watching.path), watching.order)
+    except OSError as fault:
+        raise Failed(f"port {watching.options.port}: {fault.strerror}") from None
+    thread = threading.Thread(target=server.serve_forever, args=(GLANCE,), daemon=True)
+    thread.start()
+    print(server.address, flush=True)
+    if watching.options.is_opened:
+        webbrowser.open(server.address)
+    try:
+        watching.run()
+        for line in watching.close():
+            print(line, flush=True)
+    finally:
+        watching.stop()
+        watching.screen.close()
+        server.shutdown()
+        server.server_close()
+
+
+def page(path: str) -> bytes:
+    """The page, which asks for all that it shows."""
+    policy = "; connect-src 'self'; base-uri 'none'; form-action 'none'"
+    more = More(file("watch.html"), file("watch.css"), file("watch.js"), policy)
+    return html(pathlib.Path(path).stem, "A4", {}, {}, more=more).encode("utf-8", "replace")
