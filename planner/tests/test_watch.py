@@ -5,6 +5,7 @@ import pathlib
 import re
 import signal
 import subprocess
+from unittest import mock
 from urllib.parse import urlsplit
 
 from .helpers import EXAMPLES, INPUTS, LONG, TELLS, InFolder, plan
@@ -245,9 +246,8 @@ class Ends(Watches):
         table = self.file("hard.csv", hard())
         kept = self.folder / "tmp"
         kept.mkdir()
-        os.environ["TMPDIR"] = str(kept)
-        self.addCleanup(os.environ.pop, "TMPDIR")
-        watch = Watching(table)
+        with mock.patch.dict(os.environ, {"TMPDIR": str(kept)}):
+            watch = Watching(table)
         watch.until(lambda state: state["shown"])
         watch.end()
         self.assertEqual([*kept.iterdir()], [])

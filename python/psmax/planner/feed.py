@@ -22,7 +22,10 @@ def state(screen: Screen, zoom: float) -> bytes:
     told["busy"] = latest is not None and latest.stage != ""
     told["notes"] = [] if latest is None else latest.notes
     told["why"] = [] if plan is None else plan.why
-    return json.dumps(told if plan is None else told | drawn(plan, zoom)).encode()
+    if plan is not None:
+        told |= drawn(plan, zoom)
+        told["line"] = " ".join([told["line"], *told["heads"][:1]])
+    return json.dumps(told).encode()
 
 
 def said(plan: Plan | None, latest: Plan | None) -> str:

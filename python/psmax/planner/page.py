@@ -157,16 +157,18 @@ class Page:
 
     def made(self) -> str:
         ends = max([0, *self.project.ends(self.view.starts)])
-        return f"From {self.words.time(0)} to {self.words.by(ends)}. Made by plan {__version__} from {self.opened.path}."
+        spans = f"From {self.words.time(0)} to {self.words.by(ends)}. " if self.view.is_plan else ""
+        return f"{spans}Made by plan {__version__} from {self.opened.path}."
 
     def facts(self) -> list[Element]:
         ends, project, opened = max([0, *self.project.ends(self.view.starts)]), self.project, self.opened
         whole = count(ends, opened.names.unit or "periods") if opened.is_own() else fact(opened.length(ends), "of work")
-        found = [whole, count(len(self.activities), "activities")]
+        found = [*([whole] if self.view.is_plan else []), count(len(self.activities), "activities")]
         found += [] if self.view.total is None else [count(len(self.view.total.critical()), "critical")]
         found += [count(len(self.shown.loads), "resources"), count(opened.changeable(), "lags")]
         found += [count(len(project.absences), "absences")] if project.absences else []
-        found += [fact(opened.length(self.view.starts[-1]), "lateness")] if project.goal is Goal.LATENESS else []
+        is_late = project.goal is Goal.LATENESS and self.view.is_plan
+        found += [fact(opened.length(self.view.starts[-1]), "lateness")] if is_late else []
         return found
 
     def said_of_total(self) -> str:

@@ -4,10 +4,10 @@ import hmac
 import json
 import re
 import secrets
-import socket
 import sys
 from collections.abc import Callable
 from http.server import BaseHTTPRequestHandler, ThreadingHTTPServer
+from socketserver import TCPServer
 from typing import Any
 from urllib.parse import parse_qs, urlsplit
 
@@ -39,10 +39,7 @@ class Server(ThreadingHTTPServer):
 
     def server_bind(self) -> None:
         """Without a look-up of the machine's name, which may take long."""
-        self.allow_reuse_address = False
-        self.socket.setsockopt(socket.SOL_SOCKET, socket.SO_REUSEADDR, 1)
-        self.socket.bind(self.server_address)
-        self.server_address = self.socket.getsockname()
+        TCPServer.server_bind(self)
 
     def handle_error(self, request: object, client_address: object) -> None:
         """A browser that goes away is no fault."""
@@ -103,7 +100,8 @@ class Handler(BaseHTTPRequestHandler):
 
     def reply(self, status: int, data: bytes, kind: str = "text/plain; charset=utf-8") -> None:
         self.send_response(status)
-        for name, text in {**HEADS, "Content-Type": kind, "Content-Length": f"{len(data)}"}.items():
+        about = {"Content-Type": kind, "Content-Length": f"{len(data)}"} if status != 204 else {}
+        for name, text in {**HEADS, **about}.items():
             self.send_header(name, text)
         self.end_headers()
         self.wfile.write(data)

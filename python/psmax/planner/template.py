@@ -16,9 +16,11 @@ PLACES = ("made", "facts", "proof", "definitions", "ruler", "arrows", "heads", "
 
 @dataclass(frozen=True)
 class More:
-    """What a page has that follows a table: markup above the schedule, style, script, and whom it may ask."""
+    """What a page has that follows a table: markup above the schedule and below its chart, style, script, and whom it may
+    ask."""
 
     above: str = ""
+    below: str = ""
     style: str = ""
     script: str = ""
     policy: str = ""
@@ -32,7 +34,8 @@ def html(title: str, paper: str, parts: Mapping[str, str], told: object, is_shor
     policy = f"style-src {digest(style)}; script-src {digest(script)}{more.policy}"
     return filled(file("page.html"), {
         **dict.fromkeys(PLACES, ""), **parts, "title": title, "policy": policy, "style": style, "script": script,
-        "above": more.above, "state": "" if is_shortest else "open", "told": json.dumps(told).replace("<", "\\u003c")}, escape)
+        "above": more.above, "below": more.below,
+        "state": "" if is_shortest else "open", "told": json.dumps(told).replace("<", "\\u003c")}, escape)
 
 
 def file(name: str) -> str:

@@ -89,8 +89,9 @@ function show(state) {
     draw(state);
     moved(state);
   }
-  document.body.dataset.version = state.version;
-  requestAnimationFrame(() => { document.body.dataset.milliseconds = Math.round(performance.now() - begun); });
+  requestAnimationFrame(() => Object.assign(document.body.dataset, {
+    version: state.version, shown: state.shown, milliseconds: Math.round(performance.now() - begun),
+  }));
   return state.open;
 }
 

@@ -37,6 +37,7 @@ from .verify import RECORD
 
 GLANCE = 0.1  # seconds from one look at the files to the next
 ANSWERS = 120.0  # seconds that an order may take
+MOVED = '<details id="moved" open hidden><summary></summary><div></div></details>'  # where the page says what moved
 
 
 @dataclass(frozen=True)
@@ -57,27 +58,20 @@ class Watch:
         self.orders: queue.SimpleQueue[tuple[str, int, Future[str]]] = queue.SimpleQueue()
         self.planning: Planning | None = None
         self.first = None if start.answer is None else read_answer(start.answer).must_have_starts()
-        self.sources: set[str] = set()  # of the table as it was read last
+        self.sources = {path}  # the table, and what it names
         self.kept = 0  # the number of the plan that was kept last
 
     def run(self) -> None:
         """Until what ends a run stops the clock."""
         while not self.clock.stopped:
             self.obey(GLANCE)
-            if self.saves.look({*self.files(), *self.sources}):
+            if self.saves.look(self.sources):
                 self.read()
-
-    def files(self) -> list[str]:
-        """The table, and the files that it names as it stands, even where it has a fault."""
-        with suppress(Fault):
-            sheet = read_sheet(self.path, read_text(self.path), is_head)
-            words = self.settings.over(settings_above(self.path, sheet, os.path.dirname(self.path)))
-            return [self.path, *words.files().values()]
-        return [self.path]
 
     def read(self) -> None:
         """The table as it stands. With a fault the last plan stays, and so does its search."""
         try:
+            self.sources |= named_in(self.path, self.settings)
             opened = open_project(self.path, self.settings)
             if opened.table is None:
                 raise BadInput(f"{self.path}: this is no table of activities")
@@ -162,6 +156,14 @@ class Watch:
             yield self.keep()
 
 
+def named_in(path: str, settings: Settings) -> set[str]:
+    """The files that a table names, even where it has a fault."""
+    with suppress(Fault):
+        above = settings_above(path, read_sheet(path, read_text(path), is_head), os.path.dirname(path))
+        return {*settings.over(above).files().values()}
+    return set()
+
+
 def shadow(opened: ProjectFile, given: Given | None) -> tuple[int, ...]:
     """Where a table's activities were in the plan before; at 0 what was not there."""
     found: dict[int, int] = {}
@@ -222,5 +224,5 @@ def serve(watching: Watch) -> None:
 def page(path: str) -> bytes:
     """The page, which asks for all that it shows."""
     policy = "; connect-src 'self'; base-uri 'none'; form-action 'none'"
-    more = More(file("watch.html"), file("watch.css"), file("watch.js"), policy)
+    more = More(file("watch.html"), MOVED, file("watch.css"), file("watch.js"), policy)
     return html(pathlib.Path(path).stem, "A4", {}, {}, more=more).encode("utf-8", "replace")
