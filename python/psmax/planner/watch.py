@@ -55,7 +55,8 @@ class Watch:
     def __init__(self, path: str, settings: Settings, start: Start, options: Options, folder: str) -> None:
         self.path, self.settings, self.frozen, self.options, self.folder = path, settings, start.frozen, options, folder
         self.screen, self.saves, self.clock = Screen(), Saves(), Clock()
-        self.orders: queue.SimpleQueue[tuple[str, int, Future[str]]] = queue.SimpleQueue()
+        # And no SimpleQueue: a signal that comes while that waits may make it wait for ever (Python 3.11).
+        self.orders: queue.Queue[tuple[str, int, Future[str]]] = queue.Queue()
         self.planning: Planning | None = None
         self.first = None if start.answer is None else read_answer(start.answer).must_have_starts()
         self.sources = {path}  # the table, and what it names
