@@ -1,9 +1,9 @@
 #!/usr/bin/env python3
 """bench/watch.py [--saves N]
 
-Prints how long `plan watch` takes from a save (20 by default) to the first schedule on the screen of Chromium, and to its
-proof: for the turnaround of 74 activities, of which a duration changes, and for 300 activities. Needs Debian's chromium,
-chromium-driver and python3-selenium."""
+Prints how long `plan watch` takes from a save (20 by default) to the first schedule on the screen of Chromium, and until its
+search has ended, and how long it takes to draw all anew: for the turnaround of 74 activities, of which a duration changes,
+and for 300 activities, which get 2 seconds. Needs Debian's chromium, chromium-driver and python3-selenium."""
 import argparse
 import os
 import pathlib
@@ -24,8 +24,12 @@ from planner.tests.watching import Watching, done  # noqa: E402
 
 PROJECTS = TOP / "planner" / "projects"
 WAIT = """const [known, done] = arguments;
-const look = () => document.body.dataset.shown > known ? done([Date.now(), Number(document.body.dataset.milliseconds)])
-  : requestAnimationFrame(look);
+const look = () => document.body.dataset.shown > known ? done(Date.now()) : requestAnimationFrame(look);
+look();"""
+ANEW = """const done = arguments[0], begun = performance.now(), was = document.querySelector("#ruler svg");
+zoomed(1 + Math.random());
+const look = () => document.querySelector("#ruler svg") === was ? requestAnimationFrame(look)
+  : done((performance.now() - begun) / 1000);
 look();"""
 
 
@@ -44,13 +48,15 @@ TABLES = {"turnaround": (74, turnaround), "300 jobs": (300, large)}
 
 
 def measured(driver: Any, watch: Watching, text: str) -> tuple[float, float, float]:
-    """The seconds from a save to the first schedule on the screen, of these in the page's script, and to the proof."""
+    """The seconds from a save to the first schedule on the screen, and to the end of the search; and to draw all anew."""
     known = driver.execute_script("return document.body.dataset.shown")
     begun = time.time()
     watch.table.write_text(text)
-    shown, milliseconds = driver.execute_async_script(WAIT, known)
-    watch.until(lambda state: not state["line"].partition(".")[2].startswith(" The search"))
-    return shown / 1000 - begun, milliseconds / 1000, time.time() - begun
+    shown = driver.execute_async_script(WAIT, known)
+    watch.until(lambda state: "The search goes on" not in state["line"])
+    ended = time.time()
+    watch.until(done())
+    return shown / 1000 - begun, ended - begun, driver.execute_async_script(ANEW)
 
 
 def main() -> None:
@@ -60,8 +66,8 @@ def main() -> None:
     if not browser.is_here():
         sys.exit(browser.MISSING)
     load = os.getloadavg()[0]
-    measuring.heads("Table", "Activities", "on the screen: median s", "most s", "of these in the page: median s",
-                    "proved: median s")
+    measuring.heads("Table", "Activities", "on the screen: median s", "most s", "search ended: median s",
+                    "drawn anew: median s", "most s")
     with tempfile.TemporaryDirectory(ignore_cleanup_errors=True) as kept:
         driver = browser.chromium(f"{kept}/browser")
         for name, (count, made) in TABLES.items():
@@ -72,9 +78,9 @@ def main() -> None:
                 driver.get(watch.address)
                 watch.until(done())
                 found = [measured(driver, watch, made(number)) for number in range(1, saves + 1)]
-            shown, page, proved = zip(*found)
-            median = statistics.median
-            measuring.row(name, count, *(f"{one:.2f}" for one in (median(shown), max(shown), median(page), median(proved))))
+            shown, ended, drawn = zip(*found)
+            told = [statistics.median(shown), max(shown), statistics.median(ended), statistics.median(drawn), max(drawn)]
+            measuring.row(name, count, *(f"{one:.2f}" for one in told))
         driver.quit()
     print(f"\nLoad before and after: {load:.1f}, {os.getloadavg()[0]:.1f}.")
 

@@ -107,6 +107,14 @@ class Following(Watches):
         state = watch.saved(TWO.replace("b,4", "b,6"), done("optimal 9"))
         self.assertEqual([name for name, _ in state["tables"]["rows"]], ["activity a", "activity b"])
 
+    def test_a_search_that_dies(self) -> None:
+        """What it told stays, beside what went wrong; the next save is planned all the same."""
+        watch = self.watching(TWO, psprove=self.stand_in(tells=TELLS, then="dies"))
+        for shown, text in enumerate((TWO.replace("crane (1)", "crane (2)"), TWO), 1):
+            state = watch.until(lambda state: state["shown"] == shown and done("feasible 9 bound 6")(state))
+            self.assertEqual(state["faults"], ["psprove solve was ended by signal 9"])
+            watch.table.write_text(text)
+
     def test_names_alone(self) -> None:
         """Another name is no other project, so its plan stays, and so does a search."""
         watch = self.watching(TWO, psprove=self.stand_in(tells=TELLS, then="waits"))

@@ -84,8 +84,8 @@ def make(opened: ProjectFile, starts: tuple[int, ...], title: str, notes: tuple[
         bars.append(Bar(i, opened.names.activities.get(i, ""), starts[i], starts[i] + project.durations[i],
                         *opened.times(i, starts[i]), known.windows.get(i), i in known.critical, project.due.get(i),
                         i in known.started, known.was.get(i)))
-    loads = tuple(Load(opened.names.resource(k), units, stretches(project, starts, k), cut(away(project, k, ends), ends))
-                  for k, units in enumerate(project.capacities))
+    loads = tuple(Load(opened.names.resource(k), units, joined(stretches(project, starts, k)),
+                       cut(away(project, k, ends), ends)) for k, units in enumerate(project.capacities))
     return Drawing(title, notes, begins, ends, tuple(bars), loads, is_plan, opened.calendar, opened.length, opened.after)
 
 
@@ -95,6 +95,15 @@ def bracket(opened: ProjectFile, starts: tuple[int, ...], name: str, activities:
     last = max(activities, key=lambda i: starts[i] + opened.project.durations[i])
     ends = starts[last] + opened.project.durations[last]
     return Bar(None, name, starts[first], ends, opened.times(first, starts[first])[0], opened.times(last, starts[last])[1])
+
+
+def joined(found: tuple[Stretch, ...]) -> tuple[Stretch, ...]:
+    """The same, with one stretch for those that meet in a time at which as many units go as come."""
+    whole: list[Stretch] = []
+    for one in found:
+        meets = whole and whole[-1].ends == one.begins and whole[-1].units == one.units
+        whole.append(Stretch(whole.pop().begins if meets else one.begins, one.ends, one.units))
+    return tuple(whole)
 
 
 def cut(found: tuple[Stretch, ...], ends: int) -> tuple[Stretch, ...]:

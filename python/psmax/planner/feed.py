@@ -13,15 +13,13 @@ KINDS = ("later", "earlier", "new", "gone")
 def state(screen: Screen, zoom: float) -> bytes:
     """All that the page shows, as it is now."""
     with screen.changed:
-        plan, latest = screen.plans.get(screen.shown), screen.plans.get(screen.latest)
-        told: dict[str, Any] = {
-            "version": screen.version, "open": screen.is_open, "faults": screen.faults, "shown": screen.shown}
+        plan, latest, faults = screen.plans.get(screen.shown), screen.plans.get(screen.latest), screen.faults
+        told: dict[str, Any] = {"version": screen.version, "open": screen.is_open, "shown": screen.shown}
         plans = [[number, f"{one.at}  {one.first_line()}"] for number, one in screen.plans.items() if one.is_known()]
-    told["plans"] = plans[::-1]
-    told["line"] = said(plan, latest)
-    told["busy"] = latest is not None and latest.stage != ""
-    told["notes"] = [] if latest is None else latest.notes
-    told["why"] = [] if plan is None else plan.why
+    told |= {
+        "plans": plans[::-1], "line": said(plan, latest), "busy": latest is not None and latest.stage != "",
+        "faults": [*faults, *(() if latest is None else latest.trouble)],
+        "notes": () if latest is None else latest.notes, "why": () if plan is None else plan.why}
     if plan is not None:
         told |= drawn(plan, zoom)
         told["line"] = " ".join([told["line"], *told["heads"][:1]])

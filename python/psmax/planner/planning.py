@@ -8,7 +8,7 @@ from ..files import write_whole
 from ..known import Known
 from ..project import Arc
 from ..psmax import Psmax
-from ..psprove import Psprove
+from ..psprove import STOPPED, Psprove
 from ..search import search
 from ..total import TotalFloat
 from .circles import circles, in_words
@@ -40,10 +40,15 @@ class Planning(threading.Thread):
 
     def new_clock(self) -> Clock:
         """For the next step, unless it was asked to end."""
-        self.clock = Clock(self.limits.seconds, lambda seconds, text: None)
+        self.clock = Clock(self.limits.seconds, self.hear)
         if self.is_ended:
             self.clock.stop()
         return self.clock
+
+    def hear(self, _: float, text: str) -> None:
+        """Of what a search tells, only why it has stopped is not on the screen."""
+        if text.startswith(STOPPED):
+            self.learn(trouble=(text,))
 
     def end(self) -> None:
         """Ends it, with what is known by then."""
@@ -63,7 +68,7 @@ class Planning(threading.Thread):
                 self.float(known.starts)
         except Exception as fault:
             if not self.is_ended:
-                self.learn(notes=explained(fault)[1])
+                self.learn(trouble=explained(fault)[1])
         finally:
             self.learn(stage="")
 

@@ -52,6 +52,7 @@ class Plan(Claim):
     circle: tuple[Arc, ...] = ()  # of lags that contradict each other
     why: tuple[str, ...] = ()  # there is no schedule
     notes: tuple[str, ...] = ()  # what else there is to say
+    trouble: tuple[str, ...] = ()  # of its search
 
     @property
     def schedule(self) -> Schedule | None:
