@@ -24,7 +24,7 @@ from planner.tests.watching import Watching, done  # noqa: E402
 
 PROJECTS = TOP / "planner" / "projects"
 WAIT = """const [known, done] = arguments;
-const look = () => document.body.dataset.shown > known ? done(Date.now()) : requestAnimationFrame(look);
+const look = () => Number(document.body.dataset.shown) > Number(known) ? done(Date.now()) : requestAnimationFrame(look);
 look();"""
 ANEW = """const done = arguments[0], begun = performance.now(), was = document.querySelector("#ruler svg");
 zoomed(1 + Math.random());

@@ -184,6 +184,6 @@ class InBrowser(Watches):
         for days in range(11, 16):
             known = self.run_script("return document.body.dataset.shown")
             watch.table.write_text(text.replace("job 7,1,", f"job 7,{days},"))
-            self.until(lambda: self.run_script("return document.body.dataset.shown") > known)
+            self.until(lambda: self.run_script("return document.body.dataset.shown") != known)
             took.append(int(self.run_script("return document.body.dataset.milliseconds")))
         self.assertLess(min(took), 200, json.dumps(took))
