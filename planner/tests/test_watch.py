@@ -107,6 +107,14 @@ class Following(Watches):
         state = watch.saved(TWO.replace("b,4", "b,6"), done("optimal 9"))
         self.assertEqual([name for name, _ in state["tables"]["rows"]], ["activity a", "activity b"])
 
+    def test_other_periods(self) -> None:
+        """By hand: 12, 4 and 4 hours on one crane take 20; a start after 4 or 12 of them can't be told in days. 2 + 4 are 6."""
+        watch = self.watching("activity,days,crane (1)\na,1.5,1\nb,4 h,1\nc,0.5,1\n")
+        watch.until(done("optimal 20."))
+        state = watch.saved(TWO.replace("a,3", "a,2"), done("optimal 6."))
+        self.assertIn("the plan before is not taken over", state["notes"])
+        self.assertEqual((state["heads"], state["faults"]), ([], []))
+
     def test_a_search_that_dies(self) -> None:
         """What it told stays, beside what went wrong; the next save is planned all the same."""
         watch = self.watching(TWO, psprove=self.stand_in(tells=TELLS, then="dies"))
@@ -191,10 +199,10 @@ class Safe(Watches):
         watch = self.watching(TWO)
         place = urlsplit(watch.address)
         other = place.path[:-2] + ("A" if place.path[-2] != "A" else "B") + "/"
-        for path in ("/", "/state", "//", other, f"{other}state", f"{place.path}other", f"{place.path}../p.csv",
-                     f"{place.path}?x=1", "/" + "é" * 9 + "/state".replace("é", "%C3%A9")):
+        for path in ("/", "/state", "//", "//[", "*", other, f"{other}state", f"{place.path}other", f"{place.path}../p.csv",
+                     f"{place.path}?x=1", "/%C3%A9/state", f"{place.path}state?after=x"):
             with self.subTest(path):
-                self.assertEqual(watch.ask("GET", path.encode("ascii", "ignore").decode())[0], 403)
+                self.assertEqual(watch.ask("GET", path)[0], 403)
         for heads in ({"Host": "localhost:1"}, {"Host": "evil.example"}, {"Host": ""}, {"Host": f"localhost:{place.port}"},
                       {"Origin": "http://evil.example"}, {"Origin": "null"}, {"Origin": f"https://{place.netloc}"}):
             with self.subTest(heads):
@@ -206,6 +214,7 @@ class Safe(Watches):
             self.assertIn(watch.ask("POST", f"{place.path}back", body)[0], (403, 409))
         self.assertEqual(watch.ask("GET", place.path)[0], 200)
         self.assertEqual(self.names(), ["p.csv"])
+        self.assertEqual(watch.end()[2], "")
 
     def test_where_it_listens(self) -> None:
         """On 127.0.0.1 alone."""

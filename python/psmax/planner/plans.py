@@ -2,6 +2,7 @@
 from collections.abc import Mapping
 from dataclasses import dataclass, field
 
+from ..errors import BadInput
 from ..project import Arc, Goal, Project
 from ..solved import Claim
 from ..total import TotalFloat
@@ -70,8 +71,11 @@ class Plan(Claim):
         return told + ("shorter." if self.settled else f"shorter than {self.goal.words(self.bound)}.")
 
     def side(self) -> Side | None:
-        """The plan before, beside this table."""
-        return None if self.before is None else Side(self.before.given(), self.opened, self.before.opened)
+        """The plan before, beside this table; none where its times are none of this table's periods."""
+        try:
+            return None if self.before is None else Side(self.before.given(), self.opened, self.before.opened)
+        except BadInput:
+            return None
 
     def view(self) -> View:
         if self.starts is None:

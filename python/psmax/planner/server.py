@@ -9,9 +9,10 @@ from collections.abc import Callable
 from http.server import BaseHTTPRequestHandler, ThreadingHTTPServer
 from socketserver import TCPServer
 from typing import Any
-from urllib.parse import parse_qs, urlsplit
+from urllib.parse import parse_qs
 
 from ..errors import BadInput, Failed
+from .explained import explained
 from .feed import state
 from .screen import Screen
 
@@ -76,13 +77,13 @@ class Handler(BaseHTTPRequestHandler):
 
     def asked(self) -> tuple[str | None, dict[str, str]]:
         """The name behind the token, and the words behind that; none for who may not ask."""
-        told = urlsplit(self.path)
-        _, token, name = [*told.path.split("/", 2), "", ""][:3]
+        path, _, query = self.path.partition("?")
+        _, token, name = [*path.split("/", 2), "", ""][:3]
         origin = self.headers.get("Origin", f"http://{self.server.host}")
         is_known = hmac.compare_digest(token.encode("utf-8", "replace"), self.server.token.encode())
         if not is_known or self.headers.get_all("Host") != [self.server.host] or origin != f"http://{self.server.host}":
             return None, {}
-        return name, {word: texts[-1] for word, texts in parse_qs(told.query).items()}
+        return name, {word: texts[-1] for word, texts in parse_qs(query).items()}
 
     def follow(self, words: dict[str, str]) -> None:
         """The screen, once it has changed; nothing where it doesn't for a while."""
@@ -92,7 +93,12 @@ class Handler(BaseHTTPRequestHandler):
             return self.refuse()
         if not self.server.screen.wait(after, PATIENCE):
             return self.reply(204, b"")
-        self.reply(200, state(self.server.screen, min(max(zoom, ZOOMS[0]), ZOOMS[1])), "application/json")
+        try:
+            self.reply(200, state(self.server.screen, min(max(zoom, ZOOMS[0]), ZOOMS[1])), "application/json")
+        except OSError:
+            raise
+        except Exception as fault:
+            self.reply(500, "; ".join(explained(fault)[1]).encode())
 
     def refuse(self) -> None:
         self.close_connection = True

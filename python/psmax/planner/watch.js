@@ -100,10 +100,11 @@ async function follow() {
     watch.asking = new AbortController();
     try {
       const answer = await fetch(`state?after=${watch.version}&zoom=${watch.zoom}`, { signal: watch.asking.signal });
+      if (!answer.ok) throw new Error(await answer.text());
       if (answer.status === 200 && !show(await answer.json())) return;
     } catch (fault) {
       if (fault.name === "AbortError") continue;
-      byId("line").textContent = "plan watch does not answer. The plan stays on this page.";
+      byId("line").textContent = `plan watch does not answer (${fault.message}). The plan stays on this page.`;
       await new Promise((then) => setTimeout(then, 1000));
     }
   }
