@@ -9,7 +9,7 @@ use Rattle.network.specs.Problem.{Problem}
 use Rattle.lemma_log.specs.Text.{IsWritable, IsWritableBody, title_text}
 use Rattle.lemma_log.specs.Logs.{log_text}
 use Rattle.lemma_book.specs.Ledger.{LedgerOf, first_ledger}
-use Rattle.lemma_record.specs.declared.book.Shown.{Shown}
+use Rattle.record_text.specs.declared.proved.Proved.{Proved}
 use Rattle.lemma_record.specs.Faults.{IsRightText}
 use Rattle.lemma_record.specs.Right.{IsStep, Takes, TakesAll, proved_of}
 
@@ -53,11 +53,11 @@ IsCutShort old e new = (new ≡ old) ⊎ (Takes old.ledger e new.ledger × IsNon
 -- ---- What a book shows in the end.
 
 -- the log claims what is proved, and is right for the project, of which that is true
-pub record IsProof (p : Problem) (shown : Shown) : Type 0 where
+pub record IsProof (p : Problem) (log : List ℕ) (what : Proved) : Type 0 where
   pub claim : Claim
-  pub right : IsRightText p shown.log.items claim
-  pub says : shown.proved ≡ proved_of claim
-  pub fact : IsFactOf p shown.proved
+  pub right : IsRightText p log claim
+  pub says : what ≡ proved_of claim
+  pub fact : IsFactOf p what
 
 -- the starts are those of the best schedule, if there is one
 abbrev pub IsBest : LedgerOf → Option (Vec ℤ Global) → Type 0

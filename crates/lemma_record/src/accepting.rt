@@ -10,8 +10,10 @@ ghost use Rattle.lemma_record.specs.Desk.{Accepts, AcceptsEach, AcceptsSome, IsS
 
 use crate::book::Book;
 use crate::desk::{Desk, Lemma};
+use crate::logging::log_event;
+use growing_text::Naming;
 use lemma_book::{Ledger, Premises};
-use lemma_log::{Event, is_writable, put_event};
+use lemma_log::{Event, is_writable};
 use lemma_proof::Lags;
 use std::alloc::AllocError;
 
@@ -33,7 +35,7 @@ fn event_of(lemma: Lemma) -> Event
     Event::Lemma { slot, arcs, lines }
 }
 
-impl<'a> Book<'a> {
+impl<'a, J: Naming> Book<'a, J> {
     /// Takes and logs a lemma that lines show beside some premises, if the ledger is ahead of these and has what the lines
     /// rest on.
     fn accept_beside(
@@ -63,7 +65,7 @@ impl<'a> Book<'a> {
             return Ok(false);
         }
         self.ledger.keep(slot, arcs)?;
-        if put_event(log, &event).is_err() {
+        if log_event(self.alloc, log, &event).is_err() {
             self.log = None;
             return Err(AllocError);
         }

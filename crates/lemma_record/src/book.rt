@@ -1,12 +1,14 @@
 //! A ledger, and the log of all that it took.
 
-ghost use Rattle.std.specs.Prelude.{◌≡◌, ◌↔◌, [], None, IfOk, OnErr, MatchOption, IsSomeAnd, IsTrue};
+ghost use Rattle.std.specs.Prelude.{◌≡◌, ◌↔◌, ◌++◌, [], None, Some, IfOk, IfSome, IfNone, OnErr, MatchOption, IsSomeAnd, IsTrue};
 ghost use Rattle.lemma_book.specs.Ledger.{IsSmall};
-ghost use Rattle.lemma_record.specs.Book.{IsBest, IsCutShort, IsProof, Offers, first_book};
+ghost use Rattle.lemma_record.specs.Book.{IsBest, IsCutShort, IsLogOf, IsProof, Offers, first_book};
 ghost use Rattle.lemma_record.specs.Right.{IsStep, proved_of};
 ghost use Rattle.lemma_log.specs.Text.{IsWritableClaim};
 
+use crate::logging::log_event;
 use crate::taking::take;
+use growing_text::{Blank, Growing, Naming, Taken};
 use lemma_book::Ledger;
 use lemma_log::{Claim, Event, is_writable, put_event, put_title};
 use network::Project;
@@ -17,24 +19,26 @@ use std::marker::Model;
 /// What is proved of a project, and the log that proves it.
 ///
 /// Jobs share a book under a lock. Whenever the lock is free, the ledger is what the events of the log made of the first
-/// one. So all that the book claims is true of its project, whoever offered what.
+/// one. So all that the book claims is true of its project, whoever offered what. The log leaves the book piece by piece:
+/// what was taken of it is no longer kept.
 #[derive(Drop)]
-pub struct Book<'a> {
+pub struct Book<'a, J: Naming> {
     pub(crate) alloc: Global,
     pub(crate) ledger: Ledger<'a>,
     /// None once memory ran out for it.
-    pub(crate) log: Option<Vec<u8>>,
+    pub(crate) log: Option<Growing<J>>,
 }
 
-impl<'a> Model for Book<'a> {
+impl<'a, J: Naming> Model for Book<'a, J> {
     ghost use Rattle.std.specs.Prelude.{option_map};
+    ghost use Rattle.growing_text.specs.Texts.{whole};
     ghost use Rattle.lemma_record.specs.Book.{BookOf, IsBook};
 
     ghost Value = { BookOf };
 
-    ghost view = { λ s. record { ledger = s.ledger; log = option_map (λ log. log.items) s.log } };
+    ghost view = { λ s. record { ledger = s.ledger; log = option_map whole s.log } };
 
-    ghost invariant = { λ s. IsBook s.ledger (option_map (λ log. log.items) s.log) };
+    ghost invariant = { λ s. IsBook s.ledger (option_map whole s.log) };
 }
 
 /// Whether an event is no claim.
@@ -63,8 +67,8 @@ pub struct Shown {
     pub proved: Proved,
     /// The starts of the best schedule by activity, in periods.
     pub best: Option<Vec<i64>>,
-    /// The text of the log, which claims what is proved.
-    pub log: Vec<u8>,
+    /// The bytes that end the log: the claim of what is proved.
+    pub end: Vec<u8>,
 }
 
 /// A copy of starts, if there are any.
@@ -77,14 +81,20 @@ fn starts_of(alloc: Global, best: Option<&[i64]>) -> Result<Option<Vec<i64>>, Al
     }
 }
 
-impl<'a> Book<'a> {
-    /// A book that took nothing.
-    pub fn new(alloc: Global, project: &'a Project) -> Result<Book<'a>, AllocError>
+impl<'a, J: Naming> Book<'a, J> {
+    /// A book that took nothing, with a text for its log.
+    pub fn new(
+        alloc: Global,
+        project: &'a Project,
+        log: Blank<J>,
+    ) -> Result<Book<'a, J>, AllocError>
         ensures { IfOk result (λ x. x ≡ first_book project.now) }
     {
         let ledger = Ledger::new(alloc, project)?;
-        let mut log = Vec::new(alloc);
-        put_title(&mut log)?;
+        let mut title = Vec::new(alloc);
+        put_title(&mut title)?;
+        let mut log = log.text();
+        log.push(&title)?;
         Ok(Book {
             alloc,
             ledger,
@@ -99,13 +109,17 @@ impl<'a> Book<'a> {
         &self.ledger
     }
 
-    /// The text of the log so far; nothing once memory ran out for it.
-    pub fn log(&self) -> &[u8]
-        ensures { MatchOption self.now.log (result.now ≡ []) (λ text. result.now ≡ text) }
+    /// What the log has beyond that which was taken, for whoever took this. None for others, and once memory ran out for
+    /// the log. All that was taken is then the log so far.
+    pub fn take_log(&mut self, mine: &mut Taken<J>) -> Option<Vec<u8>>
+        ensures same { self.new ≡ self.old }
+        ensures taken { IfSome result (λ piece. (mine.new ≡ mine.old ++ piece.items) × (self.new.log ≡ Some mine.new)) }
+        ensures log { IfSome result (λ _. IsLogOf self.new.ledger mine.new) }
+        ensures none { IfNone result (mine.new ≡ mine.old) }
     {
-        match &self.log {
-            Some(log) => log.as_slice(),
-            None => &[],
+        match &mut self.log {
+            Some(log) => log.take(mine),
+            None => None,
         }
     }
 
@@ -124,26 +138,28 @@ impl<'a> Book<'a> {
         let Some(logged) = take(self.alloc, &mut self.ledger, event)? else {
             return Ok(false);
         };
-        if put_event(log, &logged).is_err() {
+        if log_event(self.alloc, log, &logged).is_err() {
             self.log = None;
             return Err(AllocError);
         }
         Ok(true)
     }
 
-    /// What is proved in the end: the claim that the book makes, which is true of its project, and the log of all that it
-    /// took, which proves it.
+    /// What is proved in the end: the claim that the book makes, which is true of its project, and ends the log of all
+    /// that it took, which proves it.
     pub fn close(self) -> Result<Shown, AllocError>
-        ensures proof { IfOk result (IsProof self.entry.ledger.project) }
+        ensures proof { IfOk result (λ shown. IsSomeAnd self.entry.log (λ log.
+            IsProof self.entry.ledger.project (log ++ shown.end.items) shown.proved)) }
         ensures best { IfOk result (λ shown. IsBest self.entry.ledger shown.best) }
     {
         let Book { alloc, ledger, log } = self;
-        let Some(mut log) = log else {
+        let Some(_log) = log else {
             return Err(AllocError);
         };
         let proved = ledger.claim();
-        put_event(&mut log, &Event::Claim(claim_of(proved)))?;
+        let mut end = Vec::new(alloc);
+        put_event(&mut end, &Event::Claim(claim_of(proved)))?;
         let best = starts_of(alloc, ledger.best())?;
-        Ok(Shown { proved, best, log })
+        Ok(Shown { proved, best, end })
     }
 }

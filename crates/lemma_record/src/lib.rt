@@ -2,7 +2,7 @@
 //!
 //! [`take`] is what an event makes of a ledger. A [`Checker`] is fed a log piece by piece: it takes event after event,
 //! and tells the first fault or what the log proves. A [`Book`] is a ledger that logs what it takes, and accepts what was
-//! proved at a [`Desk`].
+//! proved at a [`Desk`]. Its log leaves it piece by piece.
 #![tactic(auto)]
 
 mod accepting;
@@ -12,6 +12,7 @@ mod copies;
 mod desk;
 mod fault;
 mod law;
+mod logging;
 mod next;
 mod taking;
 #[cfg(test)]

@@ -7,7 +7,7 @@ use Rattle.lemma_record.proofs.Accepted.{accepts_more, none_accepted, one_of, so
 use Rattle.lemma_record.proofs.book.Book.accept.Goals as goal
 
 pub returns-in_err-taken-clause-some : goal.returns-in_err-taken-clause-some
-returns-in_err-taken-clause-some c =
+returns-in_err-taken-clause-some g c =
     let inv = c.loop-lemma.invariant in
     let some : AcceptsSome c.args.desk.now.premises c.args.self.now c.args.desk.now.proved c.accept_beside.new.self =
     some_accepted c.args.desk.now.premises c.args.self.now c.loop-lemma.self c.accept_beside.new.self c.args.desk.now.proved c.loop-lemma.yielded c.next.new.self.rest.items c.in-Some.lemma c.loop-lemma.accepted.items
@@ -15,11 +15,11 @@ returns-in_err-taken-clause-some c =
     on_err c.from_residual-in_err-taken.result some
 
 pub returns-in_err-accepted-clause-some : goal.returns-in_err-accepted-clause-some
-returns-in_err-accepted-clause-some c =
+returns-in_err-accepted-clause-some g c =
     on_err c.from_residual.result (none_accepted c.args.desk.now.premises c.args.self.now c.args.desk.now.proved)
 
 pub loop-lemma-preserved : goal.loop-lemma-preserved
-loop-lemma-preserved c =
+loop-lemma-preserved g c =
     let inv = c.loop-lemma.invariant in
     let x : PremisesOf = c.args.desk.now.premises in
     let same : c.premises-in-loop-lemma.result.now ≡ x = search rules in

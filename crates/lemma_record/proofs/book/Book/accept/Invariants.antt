@@ -4,7 +4,7 @@ use Rattle.lemma_record.specs.Desk.{AcceptsEach, emptied}
 use Rattle.lemma_record.proofs.book.Book.accept.Given as goal
 
 abbrev pub invariant-loop-lemma : goal.invariant-loop-lemma
-invariant-loop-lemma l =
+invariant-loop-lemma g l =
     record {
       each : AcceptsEach l.fn.desk.premises l.fn.self l.yielded l.accepted.items l.self;
       waits : l.fn.desk.proved ≡ l.yielded ++ l.lemma-iterator.rest.items;

@@ -1,4 +1,5 @@
-use Rattle.std.proofs.Common.{ap, sym, rules}
+use Rattle.std.proofs.Common.{ap, sym, rules, ◌++◌, List, ℕ}
+use Rattle.growing_text.specs.Texts.{whole}
 use Rattle.lemma_book.specs.Ledger.{Claims}
 use Rattle.lemma_log.specs.Text.{IsWritableClaim}
 use Rattle.lemma_record.specs.Book.{BookOf, IsLogOf}
@@ -7,19 +8,19 @@ use Rattle.lemma_record.proofs.Booked.{best_shown, closed}
 use Rattle.lemma_record.proofs.book.Book.close.Goals as goal
 
 pub returns-clause-proof : goal.returns-clause-proof
-returns-clause-proof c =
-    let log : IsLogOf c.self.inside.ledger c.in-Some.log.items = rw c.in-Some.is at c.self.invariant in
-    let view = ap (λ (x : BookOf). x.ledger) c.self.view_is in
+returns-clause-proof g c =
+    let text : List ℕ = whole c.in-Some._log in
+    let log : IsLogOf c.self.inside.ledger text = rw c.in-Some.is at c.self.invariant in
     let claims : Claims c.self.inside.ledger (proved_of c.claim_of.result) = rw (c.claim_of.ensures.claim) c.claim-proved.ensures.claims in
     let fits : IsWritableClaim c.claim_of.result = c.claim_of.ensures.writable c.claim-proved.ensures.small in
-    record {
+    rw (sym c.self.view_is, c.in-Some.is) (record {
       claim = c.claim_of.result;
-      right = rw (sym view) (closed c.self.inside.ledger c.claim_of.result c.in-Some.log.items c.put_event.new.bytes.items log claims fits (search rules) (search rules));
+      right = closed c.self.inside.ledger c.claim_of.result text (text ++ c.put_event.new.bytes.items) log claims fits (search rules) (search rules);
       says = sym c.claim_of.ensures.claim;
-      fact = rw (sym view) c.claim-proved.ensures.law;
-    }
+      fact = c.claim-proved.ensures.law;
+    })
 
 pub returns-clause-best : goal.returns-clause-best
-returns-clause-best c =
+returns-clause-best g c =
     let view = ap (λ (x : BookOf). x.ledger) c.self.view_is in
     rw (sym view) (best_shown c.self.inside.ledger c.best.result c.in_ok-best.best c.best.ensures.best c.in_ok-best.ensures)
