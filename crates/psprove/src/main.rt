@@ -84,19 +84,13 @@ fn search<R: Runtime + Threads + Wait + Sync>(
     asked: Asked,
     call: &Call,
     until: Option<&str>,
-    part: Option<&str>,
     resumed: Vec<u8>,
 ) -> Result<Ended, FileFault> {
     let mut files = Opener::new(rt).open(call)?;
     let mut input = Reader::new(rt.reader());
     let mut out = Writer::new(io::writer(rt));
-    let host = FilesBeside {
-        rt,
-        until,
-        part,
-        resumed,
-    };
-    Ok(solve(
+    let host = FilesBeside { rt, until, resumed };
+    let (ended, _record_file) = solve(
         rt,
         alloc,
         asked,
@@ -104,8 +98,9 @@ fn search<R: Runtime + Threads + Wait + Sync>(
         &mut input,
         &mut files.second,
         &mut out,
-        &mut files.record_file,
-    ))
+        files.record_file,
+    );
+    Ok(ended)
 }
 
 /// Whether the record of a call is in a file that it reads: then that is told.
@@ -172,12 +167,7 @@ fn begin<R: Runtime + Threads + Wait + Sync>(
         Err(error) if error.kind() == ErrorKind::OutOfMemory => return Err(AllocError),
         Err(_) => return Ok(refuse_file(rt, PROGRAM, resume.as_ref())),
     };
-    let until = until.as_deref();
-    let part = match &record {
-        Some(record) => record.part(),
-        None => None,
-    };
-    let ended = match search(rt, alloc, asked, &call, until, part, resumed) {
+    let ended = match search(rt, alloc, asked, &call, until.as_deref(), resumed) {
         Ok(ended) => ended,
         Err(fault) => return Ok(refuse_open(rt, &call, record.as_ref(), fault)),
     };

@@ -1,1 +1,3 @@
+mod Endings
+mod Recorded
 mod StoryLaws

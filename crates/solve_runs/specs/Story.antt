@@ -1,5 +1,5 @@
 -- The story of a run: what it replies to the texts that its inputs tell.
-use Rattle.std.specs.Prelude.{Some, true, ◌≡◌, ℕ, List, ◌++◌, Bool, false, codes, drop, ◌⊎◌, ℤ, length, Option, None}
+use Rattle.std.specs.Prelude.{Some, true, ◌≡◌, ◌≢◌, IfNone, IfSome, ℕ, List, ◌++◌, Bool, false, codes, drop, ◌⊎◌, ℤ, Option, None, MatchOption, option_map}
 use Rattle.runs.specs.declared.job.Job.{Job}
 use Rattle.runs.specs.declared.job.Job.TheVariants as jobs
 use Rattle.runs.specs.declared.job.TheConstants.{ONE_WORKER}
@@ -17,7 +17,11 @@ use Rattle.lemma_log.specs.declared.event.Claim.TheVariants as claims
 use Rattle.lemma_record.specs.Faults.{IsRightText}
 use Rattle.answers.specs.Answers.{IsViolationsText}
 use Rattle.runs.specs.Outcome.{GivesStarts, IfTextsTold, SpellsOne}
-use Rattle.runs.specs.Runs.{ReplyOf}
+use Rattle.runs.specs.declared.one_thread.Ended.{Ended}
+use Rattle.runs.specs.Runs.{HasRead, IsNoReply, IsUntouched, IsWritten, OneFailedWhere, ReplyOf, Span, TookFront}
+use Rattle.answers.specs.declared.fault.Fault.TheVariants as faults
+use Rattle.answers.specs.Faults.{exit_of}
+use Rattle.solve_runs.specs.Recording.{TookSome, bytes_of}
 
 -- ---- What a run of `solve` reads and writes.
 
@@ -71,7 +75,7 @@ pub record IsShownReply (p : Problem) (json : Bool) (reply : ReplyOf) : Type 0 w
   pub is_shown : IsShown p outcome text
   pub said : Says json figures outcome reply.exit reply.text
   pub recorded : reply.recorded ≡ Some text
-  pub bytes : figures.record_bytes ≡ length text
+  pub bytes : figures.record_bytes ≡ bytes_of text
 
 -- all that starts violate, and no record
 pub record IsRefusedStart (p : Problem) (starts : List ℤ) (reply : ReplyOf) : Type 0 where
@@ -90,8 +94,40 @@ ReplyTo true json reply text more = SpellsOne text (λ p. GivesStarts p more (Is
 abbrev pub IsReply : Asked → ReplyOf → List ℕ → List ℕ → Type 0
 IsReply asked reply text more = ReplyTo asked.start asked.json reply text more
 
+-- a reply whose record goes on from this text
+abbrev pub continued : List ℕ → ReplyOf → ReplyOf
+continued text reply = record reply { recorded = option_map (λ rest. text ++ rest) reply.recorded }
+
 -- the run replies to what its inputs tell, and this is done with the reply
 pub record Replies (asked : Asked) (first second : Option (List ℕ)) (Done : ReplyOf → Type 0) : Type 0 where
   pub reply : ReplyOf
   pub right : IfTextsTold (job_of asked) first second (IsReply asked reply)
   pub done : Done reply
+
+-- an output failed: the outputs hold a beginning of the answer, and of the record, if there is one
+pub record IsCutOff {O D : Type 0} (reply : ReplyOf) (out : Span O) (record_out : Span D) : Type 0 where
+  pub answer : TookFront out reply.text
+  pub recorded : MatchOption reply.recorded (IsUntouched record_out) (TookFront record_out)
+
+-- nothing of an answer was written, and of a record a beginning of a log
+pub record IsUnanswered {O D : Type 0} (out : Span O) (record_out : Span D) : Type 0 where
+  pub answer : IsUntouched out
+  pub recorded : TookSome record_out
+
+-- How a run of `solve` ends, with what it reads of its inputs and what it writes.
+pub record Solves {I S O D : Type 0}
+    (asked : Asked) (input : Span I) (second : Span S) (out : Span O) (record_out : Span D) (ended : Ended) : Type 0 where
+  -- no fault: the reply was written whole, the answer and the record that shows it
+  pub replied : IfNone ended.fault (Replies asked input.told second.told
+      (λ reply. (ended.exit ≡ reply.exit) × IsWritten reply out record_out))
+  -- an output failed: the outputs hold a beginning of the reply; or the record's failed before there was one
+  pub cut_off : ended.fault ≡ Some faults.WriteFailed →
+      Replies asked input.told second.told (λ reply. IsCutOff reply out record_out) ⊎ IsUnanswered out record_out
+  -- any other fault: there is no reply, and if a text has the fault, nothing was written
+  pub refused : IfSome ended.fault (IsNoReply (job_of asked) input.told second.told)
+  pub silent : IfSome ended.fault (λ fault. fault ≢ faults.WriteFailed → IsUnanswered out record_out)
+  pub unsearched : IfSome ended.fault (λ fault. exit_of fault ≢ 1 → IsUntouched record_out)
+  pub status : IfSome ended.fault (λ fault. ended.exit ≡ exit_of fault)
+  -- what was read, and the failures of devices
+  pub read : HasRead (job_of asked) (ended.fault ≡ Some faults.ReadFailed) input second
+  pub failed : OneFailedWhere (ended.fault ≡ Some faults.WriteFailed) out record_out

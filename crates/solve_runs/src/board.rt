@@ -3,25 +3,24 @@
 use crate::asked::Progress;
 use crate::progress::{Report, Reporter, Watch};
 use crate::shelf::{Fact, Shelf};
+use growing_text::{Blank, Naming};
 use lemma_log::Event;
-use lemma_proof::Lags;
 use lemma_record::{Book, Desk};
-use network::Project;
+use network::{Lag, Project};
 use record_text::Starts;
 use std::alloc::{AllocError, Global};
 use std::time::Clock;
 use strategies::{Finder, Solver, State};
-use tables::narrow;
 
 /// Other jobs hear of lemmas of so many arcs at most.
 const LONG: usize = 40;
 
 /// What the searches know together. It lies under a lock.
 #[derive(Drop)]
-pub(crate) struct Board<'a> {
+pub(crate) struct Board<'a, J: Naming> {
     alloc: Global,
     /// What is proved, whoever offered it.
-    pub(crate) book: Book<'a>,
+    pub(crate) book: Book<'a, J>,
     /// Who uses its lemmas.
     pub(crate) shelf: Shelf,
     finder: Finder,
@@ -61,15 +60,29 @@ pub(crate) struct Waiting {
     pub(crate) lbd: u32,
 }
 
-impl<'a> Board<'a> {
+/// What others have proved.
+#[derive(Drop)]
+pub(crate) enum News {
+    /// A lemma, in a slot, whose literals are of so many levels.
+    Lemma {
+        slot: usize,
+        lbd: u32,
+        arcs: Vec<Lag>,
+    },
+    /// An arc of the root.
+    Root(Lag),
+}
+
+impl<'a, J: Naming> Board<'a, J> {
     /// A board that may know the starts of a schedule.
     pub(crate) fn new(
         alloc: Global,
         project: &'a Project,
         jobs: u64,
         start: Option<&[i64]>,
-    ) -> Result<Board<'a>, AllocError> {
-        let mut book = Book::new(alloc, project)?;
+        log: Blank<J>,
+    ) -> Result<Board<'a, J>, AllocError> {
+        let mut book = Book::new(alloc, project, log)?;
         if let Some(start) = start {
             let starts = Starts::new(Vec::from_slice(alloc, start)?);
             book.offer(Event::Schedule { starts })?;
@@ -146,65 +159,38 @@ impl<'a> Board<'a> {
         Ok(())
     }
 
-    /// The bytes of the log after so many.
-    pub(crate) fn log_after(&self, count: usize) -> Result<Vec<u8>, AllocError> {
-        let rest = self.book.log().get(count..).unwrap_or_default();
-        Vec::from_slice(self.alloc, rest)
+    /// The slots of a job that are free again since it asked last.
+    pub(crate) fn free_slots(&mut self, job: usize) -> Vec<usize> {
+        self.shelf.free_slots(job)
     }
 
-    /// Tells a search and its desk what others have proved, and which of its slots are free again.
-    pub(crate) fn hear(
-        &mut self,
-        job: usize,
-        solver: &mut Solver<'_>,
-        desk: &mut Desk<'_>,
-    ) -> Result<(), AllocError> {
-        for slot in &self.shelf.free_slots(job) {
-            solver.release(narrow(*slot))?;
-        }
-        if solver.shares() {
-            self.pass_all_on(job, solver, desk)?;
-            self.shelf.tidy();
-        }
-        Ok(())
-    }
-
-    /// Tells all news.
-    fn pass_all_on(
-        &mut self,
-        job: usize,
-        solver: &mut Solver<'_>,
-        desk: &mut Desk<'_>,
-    ) -> Result<(), AllocError> {
+    /// What others have proved since a job asked last.
+    pub(crate) fn news(&mut self, job: usize) -> Result<Vec<News>, AllocError> {
+        let mut news = Vec::new(self.alloc);
         for _ in 0..u64::MAX {
             let Some(fact) = self.shelf.next(job) else {
                 break;
             };
-            self.pass_on(fact, solver, desk)?;
+            if let Some(item) = self.item(fact)? {
+                news.push(item)?;
+            }
         }
-        Ok(())
+        self.shelf.tidy();
+        Ok(news)
     }
 
-    /// Tells a fact.
-    fn pass_on(
-        &self,
-        fact: Fact,
-        solver: &mut Solver<'_>,
-        desk: &mut Desk<'_>,
-    ) -> Result<(), AllocError> {
+    /// A fact as the book has it.
+    fn item(&self, fact: Fact) -> Result<Option<News>, AllocError> {
         let ledger = self.book.ledger();
         match fact {
-            Fact::Lemma { slot, lbd } => {
-                let Some(arcs) = ledger.lemma_in(slot) else {
-                    return Ok(());
-                };
-                desk.copy(slot, Lags::new(Vec::from_slice(self.alloc, arcs)?))?;
-                solver.import(narrow(slot), lbd, arcs)
-            }
-            Fact::Root { place } => match ledger.roots().get(place) {
-                Some(arc) => solver.hold(*arc),
-                None => Ok(()),
+            Fact::Lemma { slot, lbd } => match ledger.lemma_in(slot) {
+                Some(arcs) => {
+                    let arcs = Vec::from_slice(self.alloc, arcs)?;
+                    Ok(Some(News::Lemma { slot, lbd, arcs }))
+                }
+                None => Ok(None),
             },
+            Fact::Root { place } => Ok(ledger.roots().get(place).copied().map(News::Root)),
         }
     }
 

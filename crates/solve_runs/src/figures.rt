@@ -12,8 +12,8 @@ use std::alloc::{AllocError, Global};
 pub(crate) struct Figures {
     pub(crate) conflicts: u64,
     pub(crate) decisions: u64,
-    /// The bytes of the record's text.
-    pub(crate) record_bytes: usize,
+    /// How many bytes the record has.
+    pub(crate) record_bytes: u64,
     /// Whole seconds by the clock, from the start of the search to its end.
     pub(crate) seconds: u64,
 }

@@ -1,17 +1,21 @@
 //! Searches side by side, and what they found together.
 
-ghost use Rattle.std.specs.Prelude.{IfOk};
+ghost use Rattle.std.specs.Prelude.{◌++◌, IfOk};
 ghost use Rattle.lemma_record.specs.Book.{IsProof};
 
 use crate::asked::Asked;
 use crate::board::Board;
-use crate::host::{Host, Nobody};
+use crate::host::Host;
+use crate::pause::Nothing;
 use crate::progress::Watch;
+use crate::recorder::{Before, Recorder};
 use crate::resuming::ResumeFault;
 use crate::searching::{Run, search_beside};
+use growing_text::{Blank, Naming};
 use lemma_record::{Book, Shown};
 use network::Project;
 use record_text::Proved;
+use runs::Output;
 use std::alloc::{AllocError, Global};
 use std::sync::{Mutex, Wait};
 use std::thread;
@@ -22,7 +26,7 @@ use strategies::State;
 /// What searches found.
 #[derive(Drop)]
 pub(crate) struct Found {
-    /// What is proved, the best schedule, and the log.
+    /// What is proved, the best schedule, and the end of the log.
     pub(crate) shown: Shown,
     /// How many conflicts and decisions all searches made.
     pub(crate) conflicts: u64,
@@ -47,12 +51,18 @@ impl From<AllocError> for SearchFault {
     }
 }
 
-/// Has all jobs search, the first in this thread, which sees when they are to end, and waits for them. Where a thread can't be started, all stop.
-fn search_all<R: Clock + Eprint + Threads + Wait + Sync, H: Host>(
+/// Has all jobs search, the first in this thread, which has the log recorded and sees when they are to end, and waits for
+/// them. Where a thread can't be started, all stop.
+fn search_all<
+    R: Clock + Eprint + Threads + Wait + Sync,
+    H: Host,
+    D: Output,
+    J: Naming + Before + Send + Sync,
+>(
     rt: &R,
     alloc: Global,
-    run: Run<'_, '_>,
-    host: &H,
+    run: &Run<'_, '_, J>,
+    recorder: &mut Recorder<'_, H, D, J>,
 ) -> Result<(), SearchFault> {
     thread::scope(
         thread::scope_env(),
@@ -60,7 +70,7 @@ fn search_all<R: Clock + Eprint + Threads + Wait + Sync, H: Host>(
         move |scope| -> Result<(), SearchFault> {
             let mut running: Vec<JoinHandle<()>> = Vec::new(alloc);
             for job in 1..run.asked.jobs {
-                let beside = move || search_beside(rt, alloc, run, job, &Nobody);
+                let beside = move || search_beside(rt, alloc, run, job, &mut Nothing);
                 let Ok(handle) = scope.spawn(beside) else {
                     run.board.lock(rt).is_over = true;
                     return Err(SearchFault::Thread);
@@ -70,7 +80,7 @@ fn search_all<R: Clock + Eprint + Threads + Wait + Sync, H: Host>(
                     return Err(SearchFault::Memory);
                 }
             }
-            search_beside(rt, alloc, run, 0, host);
+            search_beside(rt, alloc, run, 0, recorder);
             for handle in running {
                 handle.join(rt);
             }
@@ -87,21 +97,28 @@ fn tell_stop<R: Eprint>(rt: &R, state: State) {
     }
 }
 
-/// What the book shows that searches left.
-fn shown(book: Book<'_>, project: &Project) -> Result<Shown, SearchFault>
-    ensures { IfOk result (IsProof project.now) }
+/// What the book shows that searches left. The rest of its log is recorded.
+fn shown<H: Host, D: Output, J: Naming + Before>(
+    mut book: Book<'_, J>,
+    project: &Project,
+    recorder: &mut Recorder<'_, H, D, J>,
+) -> Result<Shown, SearchFault>
+    ensures { IfOk result (λ shown. IsProof project.now (recorder.new.taken ++ shown.end.items) shown.proved) }
 {
     if !book.ledger().project().is_same(project) {
         return Err(SearchFault::Refused);
+    }
+    if !recorder.record(&mut book) {
+        return Err(SearchFault::Memory);
     }
     Ok(book.close()?)
 }
 
 /// The searches go on from a log. How many slots it uses.
-fn resume<R: Eprint>(
+fn resume<R: Eprint, J: Naming>(
     rt: &R,
     alloc: Global,
-    board: &mut Board<'_>,
+    board: &mut Board<'_, J>,
     log: &[u8],
 ) -> Result<usize, SearchFault> {
     match board.resume(alloc, log) {
@@ -115,19 +132,26 @@ fn resume<R: Eprint>(
 }
 
 /// What searches within limits find together, perhaps from a schedule of the project.
-pub(crate) fn searched<R: Clock + Eprint + Threads + Wait + Sync, H: Host>(
+pub(crate) fn searched<
+    R: Clock + Eprint + Threads + Wait + Sync,
+    H: Host,
+    D: Output,
+    J: Naming + Before + Send + Sync,
+>(
     rt: &R,
     alloc: Global,
     asked: Asked,
-    host: &H,
     project: &Project,
     start: Option<&[i64]>,
+    log: Blank<J>,
+    recorder: &mut Recorder<'_, H, D, J>,
 ) -> Result<Found, SearchFault>
-    ensures { IfOk result (λ found. IsProof project.now found.shown) }
+    ensures { IfOk result (λ found.
+        IsProof project.now (recorder.new.taken ++ found.shown.end.items) found.shown.proved) }
 {
     let watch = Watch::start(rt);
-    let mut board = Board::new(alloc, project, asked.jobs, start)?;
-    let slots = resume(rt, alloc, &mut board, host.resumed())?;
+    let mut board = Board::new(alloc, project, asked.jobs, start, log)?;
+    let slots = resume(rt, alloc, &mut board, recorder.resumed())?;
     let board = Mutex::new(board);
     let run = Run {
         asked,
@@ -136,7 +160,7 @@ pub(crate) fn searched<R: Clock + Eprint + Threads + Wait + Sync, H: Host>(
         project,
         board: &board,
     };
-    search_all(rt, alloc, run, host)?;
+    search_all(rt, alloc, &run, recorder)?;
     let board = board.into_inner();
     let state = board.state()?;
     tell_stop(rt, state);
@@ -146,7 +170,7 @@ pub(crate) fn searched<R: Clock + Eprint + Threads + Wait + Sync, H: Host>(
         decisions,
         ..
     } = board;
-    let shown = shown(book, project)?;
+    let shown = shown(book, project, recorder)?;
     if state == State::Ended && matches!(shown.proved, Proved::Bound { .. }) {
         return Err(SearchFault::Refused);
     }

@@ -7,8 +7,10 @@ ghost use Rattle.network.specs.Schedule.{IsFeasible};
 ghost use Rattle.branching.specs.Fair.{IsScheduleFor};
 ghost use Rattle.network.specs.Schedule.{makespan as makespan_of};
 ghost use Rattle.answers.specs.Faults.{exit_of, IsNoDeviceFault};
-ghost use Rattle.lemma_record.specs.Book.{IsProof};
-ghost use Rattle.solve_runs.specs.Story.{IsShown};
+ghost use Rattle.record_text.specs.FirstWrong.{IsFactOf};
+ghost use Rattle.plain_search.specs.Verdicts.{IsTrueOf};
+ghost use Rattle.lemma_record.specs.Right.{proved_of};
+ghost use Rattle.solve_runs.specs.Story.{claim_of};
 
 use answers::Fault;
 use lemma_record::Shown;
@@ -81,8 +83,9 @@ pub(crate) fn outcome_of(
     project: &Arc<Project>,
     shown: &Shown,
 ) -> Result<Outcome, Fault>
-    requires { IsProof (arc_value project.now) shown.now }
-    ensures shown { IfOk result (λ outcome. IsShown (arc_value project.now) outcome shown.now.log.items) }
+    requires { IsFactOf (arc_value project.now) shown.now.proved }
+    ensures claims { IfOk result (λ outcome. shown.now.proved ≡ proved_of (claim_of outcome)) }
+    ensures true_of { IfOk result (IsTrueOf (arc_value project.now)) }
     ensures status { IfErr result (λ fault. exit_of fault ≡ 1) }
     ensures cause { IfErr result IsNoDeviceFault }
 {

@@ -2,7 +2,7 @@
 //!
 //! [`solve`] reads a project, and perhaps starts. It searches within limits, with as many searches side by side as are
 //! asked for. They share a book under a lock, which judges and logs each lemma and each schedule that one of them finds.
-//! What the book claims in the end is the answer, and its log is the record.
+//! What the book claims in the end is the answer, and its log is the record, which is written while the searches go on.
 #![tactic(auto)]
 
 mod asked;
@@ -11,7 +11,9 @@ mod figures;
 mod host;
 mod jobs;
 mod judging;
+mod pause;
 mod progress;
+mod recorder;
 mod resuming;
 mod running;
 mod searching;

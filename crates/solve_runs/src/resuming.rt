@@ -2,6 +2,7 @@
 
 use crate::board::Board;
 use crate::shelf::Fact;
+use growing_text::Naming;
 use lemma_log::{Event, LogFault, read_event, read_title};
 use std::alloc::{AllocError, Global};
 use tables::narrow;
@@ -42,7 +43,7 @@ fn slots_of(event: &Event) -> usize {
     }
 }
 
-impl Board<'_> {
+impl<J: Naming> Board<'_, J> {
     /// Takes the events of a log, up to its claim or to where it is cut off. How many slots they use.
     fn replay(&mut self, alloc: Global, log: &[u8]) -> Result<usize, ResumeFault> {
         let mut left = match read_title(log) {

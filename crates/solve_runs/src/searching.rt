@@ -1,28 +1,31 @@
 //! A search within limits. Nothing is promised of it: what it says is for its desk and the book to judge.
 
 use crate::asked::Asked;
-use crate::board::{Board, Waiting};
-use crate::host::Host;
+use crate::board::{Board, News, Waiting};
+use crate::pause::Pause;
 use crate::progress::Watch;
+use growing_text::Naming;
 use instance::Instance;
 use lemma_log::Event;
-use lemma_proof::{Lags, Line};
+use lemma_proof::Lags;
 use lemma_record::Desk;
 use network::Project;
 use std::alloc::{AllocError, Global};
+use std::mem;
 use std::sync::{Mutex, Wait};
 use std::time::Clock;
-use strategies::{Solver, State, Told};
+use strategies::{Solver, State};
+use tables::narrow;
 
 /// What the searches of a run have in common.
-#[derive(Clone, Copy)]
-pub(crate) struct Run<'r, 'p> {
+#[derive(Drop)]
+pub(crate) struct Run<'r, 'p, J: Naming> {
     pub(crate) asked: Asked,
     /// How many slots of the book were used before.
     pub(crate) slots: usize,
     pub(crate) watch: Watch,
     pub(crate) project: &'p Project,
-    pub(crate) board: &'r Mutex<Board<'p>>,
+    pub(crate) board: &'r Mutex<Board<'p, J>>,
 }
 
 /// How many steps a search makes between two looks at the clock and the board: conflicts and decisions.
@@ -36,11 +39,14 @@ fn is_for_desk(event: &Event) -> bool {
 /// A search, and the desk where its lemmas are proved.
 #[derive(Drop)]
 struct Searcher<'i, 'p> {
+    alloc: Global,
     job: usize,
     solver: Solver<'i>,
     desk: Desk<'p>,
     /// The lemmas that wait on the desk.
     waiting: Vec<Waiting>,
+    /// What waits for the book besides, and comes after them: arcs of the root, the end, and drops.
+    steps: Vec<Event>,
 }
 
 impl Searcher<'_, '_> {
@@ -57,93 +63,118 @@ impl Searcher<'_, '_> {
         Ok(())
     }
 
-    /// Gives the book what waits on the desk.
-    fn deliver(&mut self, board: &mut Board<'_>) -> Result<(), AllocError> {
-        let shares = self.solver.shares();
-        board.accept_all(self.job, &mut self.desk, &self.waiting, shares)?;
-        self.waiting.clear();
-        Ok(())
-    }
-
-    /// Offers the book what is no lemma for the desk: an arc of the root, the end, or a drop.
-    fn offer(&mut self, board: &mut Board<'_>, event: Event) -> Result<(), AllocError> {
-        self.deliver(board)?;
+    /// Offers the book what is no lemma for the desk.
+    fn offer<J: Naming>(
+        &mut self,
+        board: &mut Board<'_, J>,
+        event: Event,
+    ) -> Result<(), AllocError> {
         if let Event::Drop { slot } = &event {
             self.desk.let_go(*slot);
         }
-        board.offer(self.job, event)?;
+        board.offer(self.job, event)
+    }
+
+    /// Gives the book all that waits. The desk gets the book's root.
+    fn deliver<J: Naming>(&mut self, board: &mut Board<'_, J>) -> Result<(), AllocError> {
+        let shares = self.solver.shares();
+        board.accept_all(self.job, &mut self.desk, &self.waiting, shares)?;
+        self.waiting.clear();
+        for event in mem::replace(&mut self.steps, Vec::new(self.alloc)) {
+            self.offer(board, event)?;
+        }
         self.desk.follow(board.book.ledger())?;
         Ok(())
     }
 
+    /// Proves a lemma at the desk, once the book has the steps before it; or another event waits for the book.
+    fn hand_in<R: Wait, J: Naming>(
+        &mut self,
+        rt: &R,
+        run: &Run<'_, '_, J>,
+        event: Event,
+        lbd: u32,
+    ) -> Result<(), AllocError> {
+        if !is_for_desk(&event) {
+            self.steps.push(event)?;
+            return Ok(());
+        }
+        if !self.steps.is_empty() {
+            let mut board = run.board.lock(rt);
+            self.deliver(&mut board)?;
+        }
+        self.prove(event, lbd)
+    }
+
+    /// Takes what others have proved.
+    fn learn(&mut self, news: Vec<News>) -> Result<(), AllocError> {
+        for item in news {
+            match item {
+                News::Lemma { slot, lbd, arcs } => {
+                    self.solver.import(narrow(slot), lbd, &arcs)?;
+                    self.desk.copy(slot, Lags::new(arcs))?;
+                }
+                News::Root(arc) => self.solver.hold(arc)?,
+            }
+        }
+        Ok(())
+    }
+
     /// The search and the book tell each other the best schedule, and the desk gets the book's root.
-    fn meet(&mut self, board: &mut Board<'_>) -> Result<(), AllocError> {
+    fn meet<J: Naming>(&mut self, board: &mut Board<'_, J>) -> Result<(), AllocError> {
         board.exchange(&mut self.solver)?;
         self.desk.follow(board.book.ledger())?;
         Ok(())
     }
 
-    /// Proves a lemma at the desk, or offers the book what is none for the desk.
-    fn hand_in<R: Wait>(
+    /// Tells the book the best schedule and all that the search has proved.
+    fn hand_in_all<R: Wait, J: Naming>(
         &mut self,
         rt: &R,
-        run: Run<'_, '_>,
-        event: Event,
-        lbd: u32,
-    ) -> Result<(), AllocError> {
-        if is_for_desk(&event) {
-            return self.prove(event, lbd);
-        }
-        let mut board = run.board.lock(rt);
-        self.offer(&mut board, event)
-    }
-
-    /// Hands in all that the search has proved.
-    fn hand_in_all<R: Wait>(&mut self, rt: &R, run: Run<'_, '_>) -> Result<(), AllocError> {
-        let events = self.solver.events()?;
-        for told in events {
-            let Told { event, lbd } = told;
-            self.hand_in(rt, run, event, lbd)?;
-        }
-        Ok(())
-    }
-
-    /// Tells the book and the search the best schedule, hands in what the search has proved, hears what others have
-    /// proved, and tells what is new.
-    fn report<R: Clock + Eprint + Wait>(
-        &mut self,
-        rt: &R,
-        run: Run<'_, '_>,
+        run: &Run<'_, '_, J>,
     ) -> Result<(), AllocError> {
         {
             let mut board = run.board.lock(rt);
             self.meet(&mut board)?;
         }
+        for told in self.solver.events()? {
+            self.hand_in(rt, run, told.event, told.lbd)?;
+        }
+        Ok(())
+    }
+
+    /// Hands in what the search has found, takes what others have proved, and tells what is new. Whether the searches go
+    /// on.
+    fn report<R: Clock + Eprint + Wait, J: Naming>(
+        &mut self,
+        rt: &R,
+        run: &Run<'_, '_, J>,
+    ) -> Result<bool, AllocError> {
         self.hand_in_all(rt, run)?;
         let mut board = run.board.lock(rt);
         self.deliver(&mut board)?;
-        board.hear(self.job, &mut self.solver, &mut self.desk)?;
-        board.tell(rt, run.watch, run.asked.progress)
+        board.tell(rt, run.watch, run.asked.progress)?;
+        if self.solver.state() == State::Ended {
+            board.is_over = true;
+        }
+        let goes_on = !board.is_over;
+        let free = board.free_slots(self.job);
+        let news = if self.solver.shares() {
+            board.news(self.job)?
+        } else {
+            Vec::new(self.alloc)
+        };
+        drop(board);
+        for slot in free {
+            self.solver.release(narrow(slot))?;
+        }
+        self.learn(news)?;
+        Ok(goes_on)
     }
-}
-
-/// Gives the host what the log has more than so many bytes. How many it has now.
-fn pass_log<R: Wait, H: Host>(
-    rt: &R,
-    run: Run<'_, '_>,
-    host: &H,
-    passed: usize,
-) -> Result<usize, AllocError> {
-    if !host.takes_log() {
-        return Ok(0);
-    }
-    let piece = run.board.lock(rt).log_after(passed)?;
-    host.take_log(&piece);
-    Ok(passed.saturating_add(piece.len()))
 }
 
 /// How many steps a search may make until the next look: none where it has ended, or is at a limit.
-fn steps_left<R: Clock>(rt: &R, run: Run<'_, '_>, solver: &Solver<'_>) -> u64 {
+fn steps_left<R: Clock, J: Naming>(rt: &R, run: &Run<'_, '_, J>, solver: &Solver<'_>) -> u64 {
     let seconds = run.watch.seconds(rt).unwrap_or(u64::MAX);
     if seconds >= run.asked.seconds || solver.state() != State::Going {
         return 0;
@@ -153,15 +184,14 @@ fn steps_left<R: Clock>(rt: &R, run: Run<'_, '_>, solver: &Solver<'_>) -> u64 {
 }
 
 /// Searches until the search ends, or another has ended, or as far as the limits let it.
-fn search_within<R: Clock + Eprint + Wait, H: Host>(
+fn search_within<R: Clock + Eprint + Wait, J: Naming, P: Pause<J>>(
     rt: &R,
-    run: Run<'_, '_>,
-    host: &H,
+    run: &Run<'_, '_, J>,
+    pause: &mut P,
     searcher: &mut Searcher<'_, '_>,
 ) -> Result<(), AllocError> {
-    let mut passed = 0;
     for _ in 0..u64::MAX {
-        if host.wants_end() {
+        if !pause.goes_on(rt, run) {
             run.board.lock(rt).is_over = true;
             break;
         }
@@ -170,13 +200,7 @@ fn search_within<R: Clock + Eprint + Wait, H: Host>(
             break;
         }
         searcher.solver.advance(steps)?;
-        searcher.report(rt, run)?;
-        passed = pass_log(rt, run, host, passed)?;
-        let mut board = run.board.lock(rt);
-        if searcher.solver.state() == State::Ended {
-            board.is_over = true;
-        }
-        if board.is_over {
+        if !searcher.report(rt, run)? {
             break;
         }
     }
@@ -184,39 +208,41 @@ fn search_within<R: Clock + Eprint + Wait, H: Host>(
 }
 
 /// A search within limits, from the schedule that the board knows.
-fn search<R: Clock + Eprint + Wait, H: Host>(
+fn search<R: Clock + Eprint + Wait, J: Naming, P: Pause<J>>(
     rt: &R,
     alloc: Global,
-    run: Run<'_, '_>,
+    run: &Run<'_, '_, J>,
     job: u64,
-    host: &H,
+    pause: &mut P,
 ) -> Result<(), AllocError> {
     let instance = Instance::new(alloc, run.project)?;
     let mut searcher = Searcher {
+        alloc,
         job: job as usize,
         solver: Solver::new(alloc, &instance, run.asked.limits(job, run.slots))?,
         desk: Desk::new(alloc, run.project)?,
         waiting: Vec::new(alloc),
+        steps: Vec::new(alloc),
     };
     {
         let mut board = run.board.lock(rt);
         searcher.meet(&mut board)?;
     }
-    search_within(rt, run, host, &mut searcher)?;
+    search_within(rt, run, pause, &mut searcher)?;
     searcher.report(rt, run)?;
     run.board.lock(rt).leave(&searcher.solver);
     Ok(())
 }
 
 /// A search within limits, one of several side by side. All end once they are asked to.
-pub(crate) fn search_beside<R: Clock + Eprint + Wait, H: Host>(
+pub(crate) fn search_beside<R: Clock + Eprint + Wait, J: Naming, P: Pause<J>>(
     rt: &R,
     alloc: Global,
-    run: Run<'_, '_>,
+    run: &Run<'_, '_, J>,
     job: u64,
-    host: &H,
+    pause: &mut P,
 ) {
-    if search(rt, alloc, run, job, host).is_err() {
+    if search(rt, alloc, run, job, pause).is_err() {
         run.board.lock(rt).give_up();
     }
 }

@@ -4,7 +4,7 @@ use Rattle.std.proofs.lemmas.Result.{MatchResult-weaker}
 use Rattle.network.specs.Schedule.{IsFeasible}
 use Rattle.runs.proofs.CallLaws.{refuses_start}
 use Rattle.runs.proofs.TextLaws.{starts_whole, starts_fault_whole}
-use Rattle.solve_runs.specs.Story.{job_of, IsStartedReply}
+use Rattle.solve_runs.specs.Story.{continued, job_of, IsStartedReply}
 use Rattle.solve_runs.proofs.StoryLaws.{err_both, no_failed_read, reads_alone, replies_alone, replies_started}
 use Rattle.solve_runs.proofs.running.solve_reply.Goals as goal
 
@@ -14,11 +14,11 @@ returns-clause-said g c =
     let of_project = c.in_ok-project.ensures.project in
     let on : c.args.asked.start ≡ true = search rules in
     MatchResult-weaker c.solved_from.result c.solved_from.ensures.said
-    (λ reply found text more told told_more. replies_started c.args.asked.start c.args.asked.json reply text more on (record {
+    (λ reply found text more told told_more. replies_started c.args.asked.start c.args.asked.json (continued c.solved_from.new.recorder.taken reply) text more on (record {
       project = p;
       is_project = of_project.0;
       spells = of_project.1 text told;
-      has = starts_whole p c.deref.result.now more (IsStartedReply p c.args.asked.json reply) (c.deref.ensures.value ∙ c.in_ok-starts.ensures.told more (told_more on)) found;
+      has = starts_whole p c.deref.result.now more (IsStartedReply p c.args.asked.json (continued c.solved_from.new.recorder.taken reply)) (c.deref.ensures.value ∙ c.in_ok-starts.ensures.told more (told_more on)) found;
     }))
     (λ _ _. tt)
 
@@ -51,7 +51,7 @@ returns-then-not-asked-clause-said g c =
     let off : c.args.asked.start ≡ false = search rules in
     let shown = rw c.in_ok-project-2.ensures.ok at c.solved.ensures.shown in
     MatchResult-weaker c.solved.result shown
-    (λ reply found text more told told_more. replies_alone c.args.asked.start c.args.asked.json reply text more off (record {
+    (λ reply found text more told told_more. replies_alone c.args.asked.start c.args.asked.json (continued c.solved.new.recorder.taken reply) text more off (record {
       project = p;
       is_project = of_project.0;
       spells = of_project.1 text told;
@@ -64,3 +64,10 @@ returns-then-not-asked-clause-read g c =
     let alone : c.args.asked.start ≡ false = search rules in
     let never : ¬ (c.read_project.result ≡ Err faults.ReadFailed) = search rules in
     reads_alone (Some 1) 1 c.args.asked.start c.args.asked.json true _ _ alone c.read_project.ensures.within (c.read_project.ensures.failed.elsewhere never) refl refl refl (no_failed_read c.solved.result c.solved.ensures.cause)
+
+pub returns-in_err-project-2-clause-read : goal.returns-in_err-project-2-clause-read
+returns-in_err-project-2-clause-read g c =
+    let alone : c.args.asked.start ≡ false = search rules in
+    let never : ¬ (c.read_project.result ≡ Err faults.ReadFailed) = search rules in
+    let other : ¬ (c.from_residual-in_err-project-2.result ≡ Err faults.ReadFailed) = search rules in
+    reads_alone (Some 1) 1 c.args.asked.start c.args.asked.json true _ _ alone c.read_project.ensures.within (c.read_project.ensures.failed.elsewhere never) refl refl refl other
