@@ -53,6 +53,24 @@ def cut_off(rng: random.Random, lines: list[bytes]) -> None:
     lines[:] = text[:rng.randrange(len(text))].split(b"\n")
 
 
+def spliced(rng: random.Random, record: bytes, other: bytes) -> bytes:
+    """The record with some of the lines of another one, in place of some of its own or beside them."""
+    lines, others = record.split(b"\n"), other.split(b"\n")
+    at, begin = rng.randrange(1, len(lines)), rng.randrange(1, len(others))
+    lines[at:at + rng.randrange(4)] = others[begin:begin + rng.randint(1, 4)]
+    return b"\n".join(lines)
+
+
+def claimed_later(record: bytes) -> bytes:
+    """The record with a makespan that is greater by one, in its claim and in its starts."""
+    lines = record.split(b"\n")
+    if lines[1] != b"no schedule":
+        for place in (1, 2):
+            before, _, last = lines[place].rpartition(b" ")
+            lines[place] = b"%s %d" % (before, int(last) + 1)
+    return b"\n".join(lines)
+
+
 DAMAGES = (without_line, line_twice, lines_swapped, other_leaf, other_number, other_claim, other_byte, cut_off)
 
 

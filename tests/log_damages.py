@@ -37,11 +37,26 @@ def drop_more(rng: random.Random, bodies: Bodies) -> None:
     bodies.insert(place_of(rng, bodies), body_of(of_event(Drop(rng.randrange(6)))))
 
 
+def spliced(rng: random.Random, log: bytes, other: bytes) -> bytes:
+    """The log with some of the events of another one, in place of some of its own or beside them."""
+    bodies, others = list(bodies_of(log)), bodies_of(other)
+    at, begin = rng.randrange(len(bodies)), rng.randrange(len(others))
+    bodies[at:at + rng.randrange(3)] = others[begin:begin + rng.randint(1, 4)]
+    return log_of(bodies)
+
+
 def other_claim(rng: random.Random, bodies: Bodies) -> None:
     """Another claim at the end; one that is near where there is a number."""
     *_, value = [0, *numbers_of(bodies[-1])]
     kind, by = rng.randrange(4), rng.choice([-4, -2, 2, 4])
     bodies[-1] = body_of([4 * kind + 3, *([max(0, value + by * rng.randrange(3))] if kind < 2 else [])])
+
+
+def claimed_otherwise(rng: random.Random, log: bytes) -> bytes:
+    """The log with another claim alone."""
+    bodies = list(bodies_of(log))
+    other_claim(rng, bodies)
+    return log_of(bodies)
 
 
 # ---- numbers
