@@ -42,6 +42,7 @@ from verify_log import Event, Ledger
 EACH = 40  # records of a project, of which half are logs
 MOST = 1_200  # feasible schedules of a project
 PLACE = re.compile(rb"ps\w+: (line|event) (\d+): (\w+)\n")
+FALSE = "it is false: "
 Made = tuple[str, bytes]  # what was done to a record, and the record
 
 
@@ -153,8 +154,9 @@ class Judge(NamedTuple):
         by_script = self.checkers.said(name, known.drawn.text(), record, partial)
         by_program = judges.by_program(program, file, record, partial)
         found = [] if by_program == by_script else [f"the program says {by_program}, the script {by_script}"]
-        for said in {by_program, by_script}:
-            found += [falsehood] if (falsehood := falsehood_of(known.schedules, record, is_log, said)) else []
+        for said in sorted({by_program, by_script}, key=str):
+            false = falsehood_of(known.schedules, record, is_log, said)
+            found += [f"{FALSE}{false}"] if false else []
         return by_program, "; ".join(found) or None
 
 
@@ -179,6 +181,11 @@ def end_of(said: Ended) -> str:
     """The first fault without its place, or what is proved without its number."""
     place = PLACE.fullmatch(said[2])
     return place[3].decode() if place else " ".join(said[1].decode().split()[:2])
+
+
+def tells_falsehood(wrong: str) -> bool:
+    """Whether what is wrong is not only that both say something else."""
+    return FALSE in wrong
 
 
 class Fuzzer(NamedTuple):

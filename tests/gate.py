@@ -27,11 +27,13 @@ import books
 import devices
 import documents
 import events
+import fuzz
 import growths
 import harness
 import hostile
 import logs
 import options
+import planted
 import records
 import reference_values
 import resumes
@@ -99,6 +101,8 @@ def scripts(folder: pathlib.Path, with_tests: bool) -> Iterator[Script]:
     yield "workers", workers.verdicts, [psmax, "--runs", "100"]
     yield "records", records.verdicts, [psmax, "--seeded", "20", "--damaged", "1000"]
     yield "logs", logs.verdicts, [psprove, "--logs", "2000"]
+    yield "records of both kinds", fuzz.verdicts, [psmax, psprove, "--records", "5000"]
+    yield "planted bugs", planted.verdicts, [psmax, psprove, "--first", "4"]
     yield "hostile logs", hostile.verdicts, [psprove, "--bytes", "160000", "--seconds", "5"]
     yield "resumes", resumes.verdicts, [psprove]
     yield "options", options.verdicts, [psprove]
