@@ -2,11 +2,13 @@
 import json
 import re
 from collections.abc import Callable
+from pathlib import Path
 
 import judges
 import verify
 from harness import INPUTS, TOP, Ended
-from verify_log import TITLE
+from log_bytes import text_of
+from verify_log import TITLE, Claim, Clique, Event, Lemma, Push, Schedule
 
 
 def project(name: str) -> bytes:
@@ -36,6 +38,8 @@ EMPTY_TIDY = b"0\t0\t0\t0\n0\t1\t0\n1\t1\t0\n0\t1\t0\n1\t1\t0\n"
 SOLVE = ["solve"]
 RECORD = ["solve", "--record", "record"]
 START = ["solve", "--start", "second"]
+RESUME = ["solve", "--resume", "more"]
+UNTIL = ["--until", "more"]
 CHECK = ["check", "--project", "second"]
 VERIFY = ["verify", "--project", "second"]
 
@@ -59,11 +63,12 @@ def without_reports(fault: bytes) -> bytes:
 
 
 class Call:
-    """One call: its words and texts, and the usual status, output and fault, and record."""
+    """One call: its words, and the texts of standard input and of the files `second` and `more`; and the usual status, output
+    and fault, and record."""
 
     def __init__(self, words: list[str], text: bytes, second: bytes = b"", exit: int = 0, out: bytes = b"", fault: bytes = b"",
-                 record: bytes = b"", answer: Callable[[bytes, bytes], bool] | None = None) -> None:
-        self.words, self.text, self.second = words, text, second
+                 record: bytes = b"", answer: Callable[[bytes, bytes], bool] | None = None, more: bytes = b"") -> None:
+        self.words, self.text, self.second, self.more = words, text, second, more
         self.usual: Ended = exit, out, fault
         self.record, self.answer, self.name = record, answer, " ".join(words)
 
@@ -71,8 +76,22 @@ class Call:
         if "--progress" in self.words:
             ended = *ended[:2], without_reports(ended[2])
         if self.answer:
-            return (ended[0], ended[2]) == (0, b"") and self.answer(ended[1], record)
+            return (ended[0], ended[2]) == (self.usual[0], b"") and self.answer(ended[1], record)
         return ended == self.usual and record == self.record
+
+    def settled(self, ended: Ended, record: bytes) -> "Call":
+        """The call with the answer and the record that it has here."""
+        return Call(self.words, self.text, self.second, ended[0] or 0, *ended[1:], record, more=self.more)
+
+    def files(self, *options: str) -> list[str]:
+        """The names of its files after these options."""
+        return [name for option, name in zip(self.words, self.words[1:]) if option in options]
+
+    def put_files(self, folder: Path) -> None:
+        """Writes its files."""
+        (folder / "second").write_bytes(self.second)
+        if "more" in self.words:
+            (folder / "more").write_bytes(self.more)
 
     def is_want(self, ended: Ended, record: bytes) -> bool:
         """Whether a call ended for want of memory, or of a thread where it has workers or jobs."""
@@ -128,19 +147,38 @@ CALLS = [
 ]
 
 
+def parts(out: bytes) -> tuple[str, list[int]]:
+    """The verdict and the starts of an answer of psprove, in lines or as JSON."""
+    if out.startswith(b"{"):
+        found = json.loads(out)
+        is_none = found["starts"] is None
+        return found["status"] if is_none else f"{found['status']} {found['makespan']}", found["starts"] or []
+    first, *lines = out.decode().splitlines()
+    return first, [int(line.split()[1]) for line in lines]
+
+
+def stopped(text: bytes, makespan: int) -> Callable[[bytes, bytes], bool]:
+    """Whether an answer of a search that was stopped is true of a project whose shortest schedule is so long: a feasible one,
+    if any, and a bound, which a log proves, if there is one."""
+    judge = verify.Project(text)
+
+    def is_right(out: bytes, record: bytes) -> bool:
+        said, starts = parts(out)
+        kind, *numbers = [word for word in said.split() if word != "bound"]
+        bound = int(numbers[-1])
+        is_schedule = judge.is_feasible(starts) and starts[-1] == int(numbers[0]) if kind == "feasible" else kind == "unknown"
+        if not is_schedule or bound > makespan:
+            return False
+        return not record or judges.by_script_of_logs(judge, record) == (0, b"proved bound %d\n" % bound, b"")
+
+    return is_right
+
+
 def solved(text: bytes, makespan: int | None) -> Callable[[bytes, bytes], bool]:
     """Whether an answer of psprove, in lines or as JSON, has a shortest schedule of a project, or says that there is none,
     and a log, if there is one, proves it."""
     judge = verify.Project(text)
     says = "no schedule" if makespan is None else f"optimal {makespan}"
-
-    def parts(out: bytes) -> tuple[str, list[int]]:
-        if out.startswith(b"{"):
-            found = json.loads(out)
-            is_none = found["starts"] is None
-            return found["status"] if is_none else f"{found['status']} {found['makespan']}", found["starts"] or []
-        first, *lines = out.decode().splitlines()
-        return first, [int(line.split()[1]) for line in lines]
 
     def is_right(out: bytes, record: bytes) -> bool:
         said, starts = parts(out)
@@ -157,6 +195,10 @@ JSON = ["--json"]
 JOBS = ["--jobs", "4"]
 REPORTS = ["--progress", "json"]
 WORKED, WORKED_LOG = of_logs("worked.sch"), of_logs("worked.log")
+# After the schedule of 7 periods both jobs are to run within 6, and take 7.
+TWO_EVENTS: list[Event] = [Schedule([0, 0, 3, 7]), Lemma(0, [], [Push(Clique(0, 6, [1, 2]), None)]), Claim("optimal 7")]
+TWO_LOG, TWO_CUT = text_of(TWO_EVENTS), text_of(TWO_EVENTS[:1])
+WRONG_LOG = b"psprove: the log to resume: event %d is wrong\npsprove: search refused\n"
 PROOFS = [
     Call(VERIFY, WORKED_LOG, WORKED, out=b"proved optimal 8\n"),
     Call(VERIFY, log("0900010d0c15000c0102 02070e"), WORKED, out=b"proved bound 7\n"),
@@ -172,6 +214,11 @@ PROOFS = [
     Call(START, TWO, OVERLOADED, exit=4, out=b"overload 2 0 2\n"),
     Call([*START, "--jobs", "2"], TWO, STARTS, out=b"optimal 7\n" + STARTS),
     Call([*SOLVE, "--jobs", "3"], DEAD, out=b"no schedule\n"),
+    Call([*RECORD, "--start", "second"], TWO, OVERLOADED, exit=4, out=b"overload 2 0 2\n"),
+    Call(RESUME, TWO, more=TWO_LOG, out=b"optimal 7\n" + STARTS),
+    Call([*RESUME, "--record", "record"], TWO, more=text_of([Schedule([0, 0, 2, 6])]), exit=1, fault=WRONG_LOG % 1),
+    Call(RESUME, TWO, more=b"record 1\n", exit=1, fault=WRONG_LOG % 0),
+    Call([*RESUME, "--jobs", "2"], TWO, more=text_of([*TWO_EVENTS[:1], Lemma(0, [], [])]), exit=1, fault=WRONG_LOG % 2),
 ]
 # Searches of which each answer and record that is right will do. With one job the same ones come again.
 SEARCHES = [
@@ -184,4 +231,9 @@ SEARCHES = [
     Call([*SOLVE, *JOBS], FORCED, answer=solved(FORCED, 9)),
     Call([*RECORD, *JOBS, *JSON, *REPORTS], THREE, answer=solved(THREE, 4)),
     Call([*RECORD, *JOBS, "--start", "second"], TWO, STARTS, answer=solved(TWO, 7)),
+    Call([*RESUME, "--record", "record"], TWO, more=TWO_LOG, answer=solved(TWO, 7)),
+    Call([*RESUME, "--record", "record"], TWO, more=TWO_CUT, answer=solved(TWO, 7)),
+    Call([*RESUME, "--jobs", "2", *JSON, "--record", "record"], TWO, more=TWO_LOG[:-1], answer=solved(TWO, 7)),
+    Call([*RECORD, *UNTIL], WORKED, exit=3, answer=stopped(WORKED, 8)),
+    Call([*RECORD, "--jobs", "2", "--conflicts", "0", *REPORTS], WORKED, exit=3, answer=stopped(WORKED, 8)),
 ]

@@ -2,28 +2,35 @@
 """tests/devices.py PROGRAM [--proofs] [--only WORD]
 
 Runs psmax, or with --proofs psprove, on devices of the system that go in pieces or fail: pipes that give few bytes at
-once; standard input that fails after each number of bytes, that is a folder, or that is closed; a second input that is a
-folder; files that may have no more than each number of bytes, for the answer and for the record; a full device; closed
-output; and readers that have gone. Standard error fails, too, in searches that report on it. Where a device fails the
-program has to say so, with status 1, and what it wrote has to be a beginning of what it was to write.
+once; standard input that fails after each number of bytes, that is a folder, that is closed, or that never ends; other
+inputs and records whose names are of folders, of sockets, of links to themselves, or of nothing; files that may have no
+more than each number of bytes, for the answer and for the record; a full device; closed output; and readers that have gone.
+Standard error fails, too, in searches that report on it. Where a device fails the program has to say so, with status 1, and
+what it wrote has to be a beginning of what it was to write.
 
 The last line counts the runs."""
 import os
 import pty
+import resource
+import socket
 import subprocess
 import tempfile
 import tty
-from collections.abc import Iterator, Sequence
+from collections.abc import Callable, Iterator, Sequence
 from pathlib import Path
 from types import TracebackType
 from typing import Any
 
 import harness
+import judges
+import verify
 from calls import CALLS, PROOFS, SEARCHES, Call, without_reports
 from channels import given, limit_files
 from harness import TIMEOUT, Ended, Verdicts
 
 Tried = Iterator[tuple[Call, str, bool, Ended]]  # a call, a device, whether it went as it has to, and how it ended
+INPUTS = "--project", "--start", "--resume"
+MOST_MEMORY = 100 << 20  # bytes that a run on endless input may take
 WAITS = b"psprove: waits for a project on standard input\n"  # at a terminal
 
 
@@ -44,20 +51,28 @@ class Run:
     def __enter__(self) -> "Run":
         self.holder = tempfile.TemporaryDirectory()
         self.folder = Path(self.holder.name)
-        (self.folder / "second").write_bytes(self.call.second)
+        self.call.put_files(self.folder)
         return self
 
     def __exit__(self, kind: type[BaseException] | None, fault: BaseException | None, trace: TracebackType | None) -> None:
         self.holder.cleanup()
 
     def record(self) -> bytes:
-        file = self.folder / "record"
-        return file.read_bytes() if file.is_file() else b""
+        return self.bytes_of("record")
 
     def part(self) -> bytes:
         """What is left of a record that was not written whole."""
-        file = self.folder / "record.part"
-        return file.read_bytes() if file.is_file() else b""
+        return self.bytes_of("record.part")
+
+    def is_part_right(self) -> bool:
+        """Whether that is none, or a log that is cut off, and right so far."""
+        part = self.part()
+        return not part or judges.by_script_of_logs(verify.Project(self.call.text), part, True)[0] == 0
+
+    def bytes_of(self, name: str) -> bytes:
+        """The bytes of a file, none where the name is none of a file."""
+        file = self.folder / name
+        return file.read_bytes() if os.path.isfile(file) else b""
 
 
 class Calls:
@@ -78,11 +93,19 @@ class Calls:
             (status, out, fault), record = run.ended(), run.record()
         if status is None or not call.is_usual((status, out, fault), record):
             return call
-        return Call(call.words, call.text, call.second, status, out, fault, record)
+        return call.settled((status, out, fault), record)
 
     def each_kind(self) -> list[Call]:
         """A call of each command, with one job and with several."""
         return list({(call.words[0], "--jobs" in call.words): call for call in self.open + self.answered}.values())
+
+    def each_options(self) -> list[Call]:
+        """A call of each command with the same options."""
+        def options(call: Call) -> frozenset[str]:
+            return frozenset(word for word in call.words if word.startswith("--"))
+
+        calls = self.open + self.answered
+        return list({(call.words[0], options(call)): call for call in calls if call.usual[0] in (0, 3)}.values())
 
     def reads_input(self, call: Call) -> bool:
         """Whether standard input is read. psprove judges the project first, which is the second input of verify."""
@@ -91,9 +114,26 @@ class Calls:
     def fault(self, what: str) -> bytes:
         return f"{self.name}: {what}\n".encode()
 
-    def is_fault(self, ended: Ended, run: Run, what: str) -> bool:
-        """Whether a run ended with the fault alone, and nothing was written."""
-        return ended == (1, b"", self.fault(what)) and run.record() == b""
+    def is_fault(self, ended: Ended, run: Run, what: str, status: int = 1) -> bool:
+        """Whether a run ended with the fault alone, and no record was written. A beginning of one may be left beside it."""
+        return ended == (status, b"", self.fault(what)) and run.record() == b"" and run.is_part_right()
+
+
+def put_socket(file: Path) -> None:
+    with socket.socket(socket.AF_UNIX) as made:
+        made.bind(str(file))
+
+
+# What stands under a name and is no file that can be read or written.
+UNREADABLE: dict[str, Callable[[Path], object]] = {
+    "nothing": lambda file: None,
+    "a folder": Path.mkdir,
+    "a link to itself": lambda file: file.symlink_to(file.name),
+    "a path through a file": lambda file: file.symlink_to("/dev/null/file"),
+    "a name that is too long": lambda file: file.symlink_to("x" * 300),
+    "a socket": put_socket,
+    "what cannot be read": lambda file: file.symlink_to("/proc/self/mem"),
+}
 
 
 def usual(calls: Calls) -> Tried:
@@ -109,15 +149,15 @@ def in_pieces(calls: Calls) -> Tried:
     for call in calls.exact:
         for most in (1, 7):
             with Run(calls.program, call) as run:
-                (run.folder / "second").unlink()
-                reads, giver = given(call.text, most)
-                second, second_giver = given(call.second, most)
-                os.symlink(f"/dev/fd/{second}", run.folder / "second")
-                ended = run.ended(stdin=reads, pass_fds=(second,))
-                os.close(reads)
-                os.close(second)
-                giver.join()
-                second_giver.join()
+                pipes = [given(text, most) for text in (call.text, call.second, call.more)]
+                (reads, _), (second, _), (more, _) = pipes
+                for name, pipe in (("second", second), ("more", more)):
+                    (run.folder / name).unlink(missing_ok=True)
+                    os.symlink(f"/dev/fd/{pipe}", run.folder / name)
+                ended = run.ended(stdin=reads, pass_fds=(second, more))
+                for pipe, giver in pipes:
+                    os.close(pipe)
+                    giver.join()
                 yield call, f"pieces of {most}", call.is_usual(ended, run.record()), ended
 
 
@@ -153,6 +193,44 @@ def no_input(calls: Calls) -> Tried:
                 (run.folder / "second").mkdir()
                 ended = run.ended()
                 yield call, "a folder as second input", calls.is_fault(ended, run, "cannot read"), ended
+
+
+def no_files(calls: Calls) -> Tried:
+    """Names of what cannot be opened or read, for each file of a call. Nothing is written then."""
+    for call in calls.each_options():
+        for name in call.files(*INPUTS, "--record"):
+            for what, put in UNREADABLE.items():
+                if name == "record" and what in ("nothing", "what cannot be read"):
+                    continue
+                with Run(calls.program, call) as run:
+                    file = run.folder / name
+                    file.unlink(missing_ok=True)
+                    put(file)
+                    ended = run.ended()
+                    told = "cannot read", f"cannot open {name}", f"cannot open {name}.part"
+                    yield call, f"{what} as {name}", any(calls.is_fault(ended, run, one) for one in told), ended
+
+
+def endless_input(calls: Calls) -> Tried:
+    """A device that always has more bytes. No more is read than a text may have, as far as there is memory. Of a log of lemmas
+    one event is read, and all bytes of one to go on from."""
+    def limit() -> None:
+        resource.setrlimit(resource.RLIMIT_AS, (MOST_MEMORY, MOST_MEMORY))
+
+    for call in calls.each_options():
+        with Run(calls.program, call) as run, open("/dev/zero", "rb") as zeros:
+            ended = run.ended(stdin=zeros, preexec_fn=limit)
+            is_log = calls.name == "psprove" and call.words[0] == "verify"
+            is_record = calls.name == "psmax" and call.words[0] == "verify"
+            said, status = ("out of memory", 1) if is_record else ("event 0: form", 4) if is_log else ("too long", 2)
+            yield call, "endless input", calls.is_fault(ended, run, said, status), ended
+        for name in call.files(*INPUTS):
+            with Run(calls.program, call) as run:
+                (run.folder / name).unlink()
+                (run.folder / name).symlink_to("/dev/zero")
+                ended = run.ended(preexec_fn=limit)
+                status, said = (1, "out of memory") if name == "more" else (2, "too long")
+                yield call, f"endless {name}", calls.is_fault(ended, run, said, status), ended
 
 
 def limited_files(calls: Calls) -> Tried:
@@ -252,8 +330,8 @@ def failing_reports(calls: Calls) -> Tried:
             yield call, "reports to nobody", is_usual(run, ended), ended
 
 
-PARTS = (usual, in_pieces, failing_input, no_input, limited_files, limited_files_of_several, failing_output, failing_record,
-         failing_reports)
+PARTS = (usual, in_pieces, failing_input, no_input, no_files, endless_input, limited_files, limited_files_of_several,
+         failing_output, failing_record, failing_reports)
 
 
 def verdicts(words: Sequence[str]) -> Verdicts:

@@ -57,10 +57,19 @@ def with_deadline(project: projects.Project, makespan: int) -> projects.Project:
     return project._replace(arcs=sorted([*project.arcs, (len(project.durations) - 1, 0, -makespan)]))
 
 
+def with_idle_demands(project: projects.Project) -> projects.Project:
+    """The project, in which activities that take no time ask for more than there is, which is no matter."""
+    more = [capacity + 1 for capacity in project.capacities]
+    rows = [more if 0 < i and p == 0 else row for i, (p, row) in enumerate(zip(project.durations, project.demands))]
+    return project._replace(demands=[*rows[:-1], project.demands[-1]])
+
+
 def known(rng: random.Random) -> Known:
     """A small project that has few schedules; a deadline leaves some of more."""
     while True:
         drawn = small_projects.small_project(rng)
+        if rng.random() < 0.2:
+            drawn = with_idle_demands(drawn)
         project = verify.Project(drawn.text())
         shortest = small_projects.shortest(project)
         if shortest is None and rng.random() < 0.8:
@@ -123,6 +132,8 @@ def with_false_lemma(rng: random.Random, known: Known, events: list[Event]) -> b
 
 def logs(rng: random.Random, known: Known) -> Iterator[Made]:
     def made() -> list[Event]:
+        if rng.random() < 0.25:  # its claim is mostly a bound
+            return small_prover.proved(known.project, rng, rng.randint(2, 9))
         return max((small_prover.proved(known.project, rng) for _ in range(2)), key=len)
 
     events = made()

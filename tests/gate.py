@@ -32,6 +32,7 @@ import growths
 import harness
 import hostile
 import logs
+import long_records
 import options
 import planted
 import records
@@ -123,6 +124,7 @@ def scripts(folder: pathlib.Path, with_tests: bool) -> Iterator[Script]:
         yield "events", events.verdicts, [book_events, "--refused", "0"]
     yield "devices", devices.verdicts, [psmax]
     yield "devices of psprove", devices.verdicts, [psprove, "--proofs"]
+    yield "long records that fail", long_records.verdicts, [psprove]
     yield "plan", planner_tests.verdicts, []
     yield "package", planner_tests.verdicts, [str(TOP / "python" / "tests")]
     yield "documents", documents.verdicts, [str(folder)]

@@ -28,7 +28,7 @@ def runs_of(made: pathlib.Path, program: str, ends: Ends, call: Call) -> Iterato
             growth, without = 0, 0
             while without < AFTER:
                 growth += 1
-                (folder / "second").write_bytes(call.second)
+                call.put_files(folder)
                 (folder / "record").write_bytes(b"")
                 ended, refused = refusing.run(refuse(growth))
                 record = (folder / "record").read_bytes()

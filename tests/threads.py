@@ -10,7 +10,9 @@ Counts the threads of searches by workers, or with --proofs of those of psprove 
   of N workers as for one, one after another. For every other growth `out of memory` comes, or the usual answer.
 - While `psprove solve --jobs N` runs, whatever options stand beside that, the process has N threads.
 - Where the Kth thread that psprove starts and all after it are refused, the search ends at once in the same way, and the record
-  is empty. The first job needs no new thread.
+  is not there. The first job needs no new thread.
+- Growths of memory are refused one by one with one job and with two. `cannot start a thread` comes for those of the start of
+  the second job's thread alone.
 
 The last line counts the runs."""
 import itertools
@@ -22,14 +24,17 @@ import time
 from collections.abc import Iterator, Sequence
 
 import harness
+import judges
 import projects
-from calls import STARTS, TWO, TWO_SOLVED
+import verify
+from calls import STARTS, TWO, TWO_SOLVED, without_reports
 from harness import TOP, Ended, Verdicts
 from refusing import Refusing, library, one
 
 LONG = TOP / "planner" / "projects" / "vaccine-lots.sch"  # psmax doesn't solve it in minutes
 NODES = ["--nodes", "1000000000"]
 SECONDS = 20
+NO_THREAD = b"psprove: cannot start a thread\n"
 THREAD, MEMORY = b"psmax: cannot start a thread\n", b"psmax: out of memory\n"
 Tried = Iterator[tuple[str, bool, object]]  # what was tried, whether it went as it has to, and how it went
 
@@ -104,8 +109,9 @@ def by_jobs(program: str, folder: pathlib.Path) -> Tried:
     _, starts, _ = harness.ended([program, "solve", "--conflicts", "100"], project.read_bytes(), SECONDS)
     (folder / "long.starts").write_bytes(starts)
     start, record = ["--start", "long.starts"], ["--record", "record"]
+    harness.ended([program, "solve", "--conflicts", "100", "--record", "old"], project.read_bytes(), SECONDS, cwd=folder)
     asked: list[tuple[int, list[str]]] = [
-        (1, record), (2, [*start, *record]), (5, ["--json", "--progress", "json"]), (64, [])]
+        (1, record), (2, [*start, *record]), (5, ["--json", "--progress", "json"]), (3, ["--resume", "old", *record]), (64, [])]
     for jobs, more in asked:
         words = [program, "solve", "--seconds", "1000", "--jobs", str(jobs), *more]
         with open(project, "rb") as text:
@@ -118,14 +124,40 @@ def by_jobs(program: str, folder: pathlib.Path) -> Tried:
         yield f"{jobs} jobs {more}", most == later == jobs, f"{most} and then {later} threads"
 
 
+def is_part_right(folder: pathlib.Path, is_resumed: bool) -> bool:
+    """Whether nothing is left of a record, or of one that goes on from an older one what is right so far."""
+    part, project = folder / "record.part", verify.Project((folder / "long.sch").read_bytes())
+    return not part.exists() or is_resumed and judges.by_script_of_logs(project, part.read_bytes(), True)[0] == 0
+
+
+def jobs_grown(program: str, made: pathlib.Path, folder: pathlib.Path) -> Tried:
+    """Which growths of psprove are those of a thread: none of one job, and the same ones each time of two."""
+    (folder / "second").write_bytes(STARTS)
+    ends: dict[Ended, str] = {
+        (1, b"", NO_THREAD): "T", (1, b"", b"psprove: out of memory\n"): "M", (0, b"optimal 7\n" + STARTS, b""): "u"}
+    for jobs in (1, 2):
+        refusing = Refusing(made, [program, "solve", "--start", "second", "--jobs", jobs], TWO, folder)
+        runs = (refusing.run(one(growth)) for growth in itertools.count(1))
+        letters = "".join(ends.get(ended, "?") for ended, _ in itertools.takewhile(lambda run: run[1], runs))
+        well = re.fullmatch("[Mu]*M[Mu]*" if jobs == 1 else "[Mu]*M[Mu]*T+[Mu]*", letters)
+        yield f"growths of {jobs} jobs", bool(well), letters
+
+
 def jobs_refused(program: str, made: pathlib.Path, folder: pathlib.Path) -> Tried:
     """Each thread of psprove's, on a project that takes it a minute."""
     text = (folder / "long.sch").read_bytes()
-    words = [program, "solve", "--record", "record", "--start", "long.starts"]
-    for jobs, first in [(2, 1), (4, 1), (4, 2), (4, 3), (64, 63)]:
-        got = Refusing(made, [*words, "--jobs", jobs], text, folder).ended({"REFUSE_THREADS": str(first)}, SECONDS)
-        well = got == (1, b"", b"psprove: cannot start a thread\n") and not any(folder.glob("record*"))
-        yield f"{jobs} jobs, thread {first} refused", well, got
+    start, resume, reports = ["--start", "long.starts"], ["--resume", "old"], ["--json", "--progress"]
+    asked: list[tuple[int, int, list[str]]] = [
+        (2, 1, start), (4, 1, start), (4, 2, start), (4, 3, start), (64, 63, start),
+        (3, 2, []), (3, 1, resume), (3, 2, reports)]
+    for jobs, first, more in asked:
+        for file in folder.glob("record*"):
+            file.unlink()
+        words = [program, "solve", "--record", "record", "--jobs", jobs, *more]
+        status, out, fault = Refusing(made, words, text, folder).ended({"REFUSE_THREADS": str(first)}, SECONDS)
+        is_left = not (folder / "record").exists() and is_part_right(folder, more == resume)
+        well = (status, out, without_reports(fault)) == (1, b"", NO_THREAD) and is_left
+        yield f"{jobs} jobs {more}, thread {first} refused", well, (status, out, fault)
     for jobs in (1, 4):
         refusing = Refusing(made, [program, "solve", "--jobs", jobs], TWO, folder)
         got = refusing.ended({"REFUSE_THREADS": str(jobs)}, SECONDS)
@@ -138,7 +170,7 @@ def verdicts(words: Sequence[str]) -> Verdicts:
     o = parser.parse_args(words)
     with harness.new_folder() as folder:
         made, program = library(folder), o.program
-        of_psprove = by_jobs(program, folder), jobs_refused(program, made, folder)
+        of_psprove = by_jobs(program, folder), jobs_refused(program, made, folder), jobs_grown(program, made, folder)
         of_psmax = numbered(program, folder), refused(program, made, folder), told_apart(program, made, folder)
         for name, well, told in itertools.chain(*(of_psprove if o.proofs else of_psmax)):
             yield name, None if well else str(told)
