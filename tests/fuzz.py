@@ -1,16 +1,16 @@
 #!/usr/bin/env python3
-"""tests/fuzz.py PSMAX PSPROVE [--records N] [--seed S] [--only K] [--keep FOLDER]
+"""tests/fuzz.py PSMAX PSPROVE [--records N] [--seed S] [--only K] [--keep FOLDER] [--checkers FOLDER]
 
 Makes N records (5,000 by default), the same for the same S: half are records of a search, half are logs of lemmas. They are
 of small projects of which all feasible schedules are known, by trying all starts. Some are right; others are damaged, have
 parts of other records, have lines that are wrong by one, or claim more than they prove. `verify` of the program of their
 kind and the checker in Python have to say the same of each, with the same place of the first fault. What they accept before
 that place has to be true of the schedules: a lemma of all in question, a node that is cut of all that are its own, and each
-starts, bound and claim.
+starts, bound and claim. What is right has to be accepted.
 
 With --only record K alone is made. Each record of which something wrong is said stands in the FOLDER of --keep, with its
-project. The last line counts the records."""
-import argparse
+project. The checkers in Python are those of the folder of --checkers, of tests/ by default. The last line counts the
+records."""
 import collections
 import functools
 import itertools
@@ -43,6 +43,7 @@ EACH = 40  # records of a project, of which half are logs
 MOST = 1_200  # feasible schedules of a project
 PLACE = re.compile(rb"ps\w+: (line|event) (\d+): (\w+)\n")
 FALSE = "it is false: "
+RIGHT = "right"  # what was done to a record that has to be accepted
 Made = tuple[str, bytes]  # what was done to a record, and the record
 
 
@@ -76,9 +77,12 @@ def known(rng: random.Random) -> Known:
             continue
         for some in (drawn, with_deadline(drawn, (shortest or 0) + rng.randrange(3))):
             try:
-                return Known(some, verify.Project(some.text()), Schedules(some, MOST))
+                schedules = Schedules(some, MOST)
             except all_schedules.TooMany:
-                pass
+                continue
+            if schedules.shortest != shortest:
+                raise AssertionError(f"{some}: {schedules.shortest} by all starts, {shortest} by all orders")
+            return Known(some, verify.Project(some.text()), schedules)
 
 
 # ---- records of a search
@@ -93,19 +97,25 @@ def claimed(rng: random.Random, schedules: Schedules) -> Sequence[int] | None:
     return rng.choice([starts for starts in schedules.starts if starts[-1] == schedules.shortest])
 
 
+def claim_of(record: bytes) -> int | None:
+    """The makespan that a record claims, none where it claims that there is no schedule."""
+    words = record.split(b"\n")[1].split(b" ")
+    return int(words[1]) if words[0] == b"optimal" else None
+
+
 def records(rng: random.Random, known: Known) -> Iterator[Made]:
     def made(lies: float) -> bytes:
         return small_trees.record_of(known.project, rng, claimed(rng, known.schedules), lies)
 
-    whole = made(0)
-    yield "whole", whole
     while True:
+        whole = made(0)
+        is_right = claim_of(whole) == known.schedules.shortest and whole.count(b"\n") < small_trees.LINES
+        yield RIGHT if is_right else "whole", whole
         yield "made with lies", made(rng.choice([0.05, 0.2, 0.5]))
         yield "damaged", damages.damaged(rng, whole)
         yield "spliced", damages.spliced(rng, whole, made(0))
         yield "made with lies", made(rng.choice([0.05, 0.2, 0.5]))
         yield "claims more", damages.claimed_later(whole)
-        whole = made(0)
 
 
 # ---- logs of lemmas
@@ -137,7 +147,7 @@ def logs(rng: random.Random, known: Known) -> Iterator[Made]:
         return max((small_prover.proved(known.project, rng) for _ in range(2)), key=len)
 
     events = made()
-    yield "whole", log_bytes.text_of(events)
+    yield RIGHT, log_bytes.text_of(events)
     while True:
         whole = log_bytes.text_of(events)
         for _ in range(3):
@@ -221,6 +231,8 @@ class Fuzzer(NamedTuple):
             is_log, partial = number % 2 == 1, number % 6 == 5
             if self.is_wanted(number):
                 said, wrong = self.judge.said(drawn, file, record, is_log, partial)
+                if what == RIGHT and said[0] != 0:
+                    wrong = f"it is right; {said} {wrong or ''}"
                 self.ends["log" if is_log else "record", end_of(said)] += 1
                 name = f"record {number} of seed {self.seed}, {'a log' if is_log else 'of a search'}, {what}"
                 self.told(name, drawn, number, record, wrong)
@@ -244,7 +256,7 @@ def verdicts(words: Sequence[str]) -> Verdicts:
     parser.add_argument("--seed", type=int, default=0)
     parser.add_argument("--only", type=int)
     parser.add_argument("--keep", type=Path)
-    parser.add_argument("--checkers", type=Path, default=TOP / "tests", help=argparse.SUPPRESS)
+    parser.add_argument("--checkers", type=Path, default=TOP / "tests", )
     o = parser.parse_args(words)
     fuzzer = Fuzzer(Judge(o.psmax, o.psprove, loaded(o.checkers)), o.seed, o.records, o.only, o.keep,
                     collections.Counter())
