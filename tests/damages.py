@@ -35,6 +35,16 @@ def other_number(rng: random.Random, lines: list[bytes]) -> None:
         lines[place] = lines[place][:number.start()] + b"%d" % value + lines[place][number.end():]
 
 
+def spelled_otherwise(rng: random.Random, lines: list[bytes]) -> None:
+    """A number in a form that other texts allow."""
+    found = [(place, part) for place, line in enumerate(lines) for part in NUMBER.finditer(line)]
+    if found:
+        place, part = rng.choice(found)
+        forms = [(b"0", b""), (b"0", b""), (b"+", b""), (b" ", b""), (b"", b" "), (b"", b"\r"), (b"\t", b"")]
+        before, after = rng.choice(forms)
+        lines[place] = lines[place][:part.start()] + before + part.group() + after + lines[place][part.end():]
+
+
 def other_claim(rng: random.Random, lines: list[bytes]) -> None:
     if rng.randrange(2) or lines[1] == b"no schedule":
         lines[1] = b"optimal %d" % rng.randrange(60)
@@ -71,7 +81,9 @@ def claimed_later(record: bytes) -> bytes:
     return b"\n".join(lines)
 
 
-DAMAGES = (without_line, line_twice, lines_swapped, other_leaf, other_number, other_claim, other_byte, cut_off)
+DAMAGES = (
+    without_line, line_twice, lines_swapped, other_leaf, other_number, spelled_otherwise, other_claim, other_byte, cut_off,
+)
 
 
 def damaged(rng: random.Random, record: bytes) -> bytes:
