@@ -21,8 +21,8 @@ fn two_pieces<J: Naming, R: Abort>(rt: &R, alloc: Global, opened: Opened) -> Res
     text.push(b"c")?;
     text.push(b"d")?;
     let second = text.take(&mut taken).ok_or("taken again")?;
-    assert_eq!(rt; first.as_slice(), b"ab");
-    assert_eq!(rt; second.as_slice(), b"cd");
+    assert_eq!(rt; first.as_slice(), b"ab".as_slice());
+    assert_eq!(rt; second.as_slice(), b"cd".as_slice());
     assert!(rt; text.rest().is_empty());
     Ok(())
 }
