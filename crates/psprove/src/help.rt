@@ -38,7 +38,8 @@ each report is a line with the seconds, the bound, and the makespan and the star
 schedule.
 --record writes the log into FILE, even if the search stopped at a limit. 'psprove verify' checks it.
 While the search goes on the log grows in FILE.part, which takes the name FILE in the end. If
-psprove is killed, FILE.part proves what was found: 'psprove verify --partial' prints it.
+psprove is killed, FILE.part proves what was found: 'psprove verify --partial' prints it. If the log
+cannot be written, the search ends, without an answer.
 --resume goes on from a log of the project, whole or cut off, with its schedule, its root and its
 lemmas. The new log begins with the events of the old one.
 
