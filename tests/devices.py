@@ -27,6 +27,7 @@ import verify
 from calls import CALLS, PROOFS, SEARCHES, Call, without_reports
 from channels import given, limit_files
 from harness import TIMEOUT, Ended, Verdicts
+from log_bytes import bodies_of, framed
 
 Tried = Iterator[tuple[Call, str, bool, Ended]]  # a call, a device, whether it went as it has to, and how it ended
 INPUTS = "--project", "--start", "--resume"
@@ -233,24 +234,34 @@ def endless_input(calls: Calls) -> Tried:
                 yield call, f"endless {name}", calls.is_fault(ended, run, said, status), ended
 
 
+def begun_record(calls: Calls, call: Call) -> int:
+    """How many bytes of a record are written before the answer: of psprove's all but the claim."""
+    if calls.name == "psmax" or not call.record:
+        return 0
+    return len(call.record) - len(framed(bodies_of(call.record)[-1]))
+
+
 def limited_files(calls: Calls) -> Tried:
     """The answer and the record in files that may have no more than so many bytes."""
     for call in calls.answered:
         status, out, fault = call.usual
+        begun = begun_record(calls, call)
         for room in range(max(len(out), len(call.record)) + 1):
             with Run(calls.program, call) as run:
                 with open(run.folder / "out", "wb") as stdout:
                     code, _, told = run.ended(stdout=stdout, preexec_fn=lambda: limit_files(room))
                 ended: Ended = code, (run.folder / "out").read_bytes(), told
                 wanted: Ended
-                if len(out) > room:
-                    wanted, record = (1, out[:room], calls.fault("cannot write")), b""
+                if begun > room:
+                    wanted, record = (1, b"", calls.fault("cannot write")), call.record[:room]
+                elif len(out) > room:
+                    wanted, record = (1, out[:room], calls.fault("cannot write")), call.record[:begun]
                 elif len(call.record) > room:
                     wanted, record = (1, out, calls.fault("cannot write")), call.record[:room]
                 else:
                     wanted, record = call.usual, call.record
                 is_whole = calls.name == "psmax" or record == call.record
-                is_left = run.record() == record if is_whole else run.record() == b"" and call.record.startswith(run.part())
+                is_left = run.record() == record if is_whole else (run.record(), run.part()) == (b"", record)
                 yield call, f"files of {room} bytes", ended == wanted and is_left, ended
 
 
@@ -289,10 +300,14 @@ def failing_output(calls: Calls) -> Tried:
 
 
 def failing_record(calls: Calls) -> Tried:
-    """A full device, and a reader that has gone, in place of the record."""
+    """A full device, and a reader that has gone, in place of the record. psmax has answered by then, psprove has not."""
+    def is_answered(call: Call, out: bytes) -> bool:
+        if calls.name == "psprove":
+            return out == b""
+        return call.answer(out, b"") if call.answer else out == call.usual[1]
+
     def is_told(call: Call, ended: Ended) -> bool:
-        is_right = call.answer(ended[1], b"") if call.answer else ended[1] == call.usual[1]
-        return is_right and (ended[0], ended[2]) == (1, calls.fault("cannot write"))
+        return is_answered(call, ended[1]) and (ended[0], ended[2]) == (1, calls.fault("cannot write"))
 
     for call in (call for call in calls.answered + calls.open if call.record or call.answer and "--record" in call.words):
         with Run(calls.program, call) as run:

@@ -73,9 +73,9 @@ class Trial:
 def without_room(trial: Trial, room: int) -> str | None:
     """A file may have no more than so many bytes, of the record or of anything else."""
     ended = trial.ended(lambda: limit_files(room))
-    if (ended[0], ended[2]) != (1, b"psprove: cannot write\n"):
+    if ended != (1, b"", b"psprove: cannot write\n"):
         return f"ends with {ended}"
-    return trial.wrong_answer(ended[1]) or trial.kept() or trial.wrong_part()
+    return trial.kept() or trial.wrong_part()
 
 
 def without_memory(trial: Trial, most: int) -> str | None:
