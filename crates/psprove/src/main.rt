@@ -86,7 +86,8 @@ fn search<R: Runtime + Threads + Wait + Sync>(
     until: Option<&str>,
     resumed: Vec<u8>,
 ) -> Result<Ended, FileFault> {
-    let mut files = Opener::new(rt).open(call)?;
+    let files = Opener::new(rt).open(call)?;
+    let (mut second, record_file) = (files.second, files.record_file);
     let mut input = Reader::new(rt.reader());
     let mut out = Writer::new(io::writer(rt));
     let host = FilesBeside { rt, until, resumed };
@@ -96,9 +97,9 @@ fn search<R: Runtime + Threads + Wait + Sync>(
         asked,
         &host,
         &mut input,
-        &mut files.second,
+        &mut second,
         &mut out,
-        files.record_file,
+        record_file,
     );
     Ok(ended)
 }
