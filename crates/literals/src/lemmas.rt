@@ -68,7 +68,7 @@ pub struct Lemmas {
 impl Lemmas {
     /// No lemmas, over so many slots.
     pub fn new(alloc: Global, slots: u32) -> Result<Lemmas> {
-        let mut watched = Vec::new(alloc);
+        let mut watched = Vec::with_capacity(alloc, slots as usize)?;
         for _ in 0..slots {
             watched.push(Table::new(alloc, Watched::default()))?;
         }
