@@ -39,7 +39,7 @@ pub(crate) struct Frame {
 
 impl Engine<'_> {
     /// The literal that is needed of an event.
-    fn needed(&self, event: u32) -> Literal {
+    pub(crate) fn needed(&self, event: u32) -> Literal {
         Literal::new(self.trail.event(event).slot, self.marks.need[event])
     }
 
@@ -83,7 +83,7 @@ impl Engine<'_> {
     }
 
     /// The literals that were found are needed. Gives how many events of the last level are so for the first time.
-    fn note_found(&mut self, top: u32) -> Result<u32> {
+    pub(crate) fn note_found(&mut self, top: u32) -> Result<u32> {
         let mut count = 0u32;
         for at in 0..self.marks.found.count() {
             let literal = self.marks.found[at];
@@ -105,7 +105,7 @@ impl Engine<'_> {
     fn resolve(&mut self, top: u32) -> Result<u32> {
         let mut count = self.note_found(top)?;
         for event in (0..self.trail.count()).rev() {
-            if self.marks.need[event] == NO_VALUE {
+            if !self.marks.is_needed(event) {
                 continue;
             }
             let literal = self.needed(event);
@@ -225,7 +225,7 @@ impl Engine<'_> {
     }
 
     /// Of each slot the greatest value says all; the first literal's is the greatest of its slot.
-    fn keep_greatest(&mut self, first: Literal) {
+    pub(crate) fn keep_greatest(&mut self, first: Literal) {
         let nogood = &mut self.marks.nogood;
         nogood.retain(|literal: &Literal| literal.slot != first.slot);
         nogood.sort_unstable_by_key(|literal: &Literal| Reverse(*literal));
@@ -233,7 +233,7 @@ impl Engine<'_> {
     }
 
     /// Puts the first literal before the nogood, and one of the last level of the others second. Gives this level, and how
-    /// many levels there are; each of several first decisions counts.
+    /// many levels there are; each of several first decisions counts, and all of a path as one.
     fn put_in_order(&mut self, first: Literal) -> Result<(u32, u32)> {
         self.keep_greatest(first);
         let literals = self.marks.nogood.iter();
@@ -246,7 +246,10 @@ impl Engine<'_> {
             self.marks.nogood.swap(1, second + 1);
         }
         let floor = self.floor;
-        let firsts = levels.iter().filter(|here| **here <= floor).count();
+        let mut firsts = levels.iter().filter(|here| **here <= floor).count();
+        if self.has_path {
+            firsts = firsts.min(1);
+        }
         levels.retain(|here: &u32| *here > floor);
         levels.sort_unstable();
         levels.dedup();

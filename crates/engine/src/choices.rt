@@ -165,21 +165,51 @@ impl Choices {
         Ok(())
     }
 
-    /// The open literal of greatest weight, as its variable's saved value says. Those that it takes from the heap are
-    /// judged again when the level ends that begins next.
-    fn heaviest(&mut self, trail: &Trail) -> Result<Option<Literal>> {
+    /// Takes the open literal of greatest weight from the heap: its number. Those that it takes are judged again when the
+    /// level ends that begins next.
+    fn take_open(&mut self, trail: &Trail) -> Result<Option<u32>> {
         for _ in 0..u64::MAX {
             let Some(number) = self.heap.take_top() else {
                 break;
             };
             self.taken.push(number)?;
-            let literal = self.literals[number];
-            if trail.is_open(literal) {
-                let is_saved = self.saved[literal.variable()] >= literal.value;
-                return Ok(Some(if is_saved { literal } else { !literal }));
+            if trail.is_open(self.literals[number]) {
+                return Ok(Some(number));
             }
         }
         Ok(None)
+    }
+
+    /// The open literal of greatest weight, as its variable's saved value says.
+    fn heaviest(&mut self, trail: &Trail) -> Result<Option<Literal>> {
+        let Some(number) = self.take_open(trail)? else {
+            return Ok(None);
+        };
+        let literal = self.literals[number];
+        let is_saved = self.saved[literal.variable()] >= literal.value;
+        Ok(Some(if is_saved { literal } else { !literal }))
+    }
+
+    /// The open literals of greatest weight with that weight, so many at most, at a level of their own. If none has a weight,
+    /// the literal that is tried next.
+    pub(crate) fn heaviest_of(
+        &mut self,
+        trail: &Trail,
+        edges: &Edges,
+        most: usize,
+    ) -> Result<Vec<(f64, Literal)>> {
+        let mut open = Vec::new(self.alloc);
+        for _ in 0..most {
+            let Some(number) = self.take_open(trail)? else {
+                break;
+            };
+            open.push((self.heap.weights[number], self.literals[number]))?;
+        }
+        if open.is_empty() {
+            let next = self.next_start(trail, edges);
+            open.extend(next.map(|literal| (1.0, literal)))?;
+        }
+        Ok(open)
     }
 
     /// The literal to try next, at a level that begins with it; none where all is settled.

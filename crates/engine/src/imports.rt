@@ -48,6 +48,18 @@ impl Engine<'_> {
         Ok(())
     }
 
+    /// Takes a lemma of another search as [`Engine::import`] does. Its literals get weight, as if a conflict had needed them,
+    /// and the next reduction of the store comes no earlier.
+    pub fn import_heavy(&mut self, number: u32, lbd: u32, arcs: &[Lag]) -> Result<()> {
+        self.reduction = self.reduction.saturating_add(1);
+        for arc in arcs {
+            if let Some(literal) = self.literal_of(*arc) {
+                self.choices.bump(literal)?;
+            }
+        }
+        self.import(number, lbd, arcs)
+    }
+
     /// Takes an arc that always holds, as another search has proved. It is looked at when the search is at the root next.
     pub fn hold(&mut self, arc: Lag) -> Result<()> {
         let literal = self

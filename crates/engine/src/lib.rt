@@ -12,9 +12,13 @@ mod heap;
 mod imports;
 mod marks;
 mod pace;
+mod paths;
 mod search;
+mod split;
 mod state;
 
 pub use pace::Pace;
+pub use paths::Path;
 pub use search::{Found, Run};
+pub use split::Piece;
 pub use state::{Counts, Engine, Options};

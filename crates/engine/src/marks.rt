@@ -95,6 +95,11 @@ impl Marks {
         Ok(known == NO_VALUE)
     }
 
+    /// Whether a value of an event is needed.
+    pub(crate) fn is_needed(&self, event: u32) -> bool {
+        self.need[event] != NO_VALUE
+    }
+
     /// Whether the nogood has a value of an event anyway.
     pub(crate) fn has(&self, event: u32, value: i32) -> bool {
         self.need[event] >= value || self.gone[event] >= value

@@ -53,6 +53,7 @@ impl Engine<'_> {
         self.go_back(0)?;
         first.retain(|literal: &Literal| !self.trail.holds(*literal));
         self.floor = u32::from(first.len() > 1);
+        self.has_path = false;
         let mut run = Run {
             first,
             conflict: conflict_of(self.settle_root())?,
@@ -60,6 +61,14 @@ impl Engine<'_> {
             pace,
         };
         run.pace.start();
+        Ok(run)
+    }
+
+    /// A search under a path begins, at the root. Where there is no schedule, the last lemma says so of decisions of the
+    /// path alone.
+    pub fn start_under(&mut self, path: Vec<Literal>, pace: Pace) -> Result<Run> {
+        let run = self.start(path, u64::MAX, pace)?;
+        self.has_path = true;
         Ok(run)
     }
 
@@ -94,6 +103,9 @@ impl Engine<'_> {
         self.counts.conflicts = self.counts.conflicts.wrapping_add(1);
         self.log_root()?;
         let Some(Learnt { level, lbd, number }) = self.analyse(conflict)? else {
+            if self.has_path && !self.is_refuted {
+                self.blame_first(conflict)?;
+            }
             return Ok(Found::Refuted);
         };
         run.pace.note(lbd);
@@ -117,6 +129,7 @@ impl Engine<'_> {
         }
         let fails = |literal: &Literal| self.trail.fails(*literal);
         if self.trail.level() == 0 && run.first.iter().any(fails) {
+            self.log_root()?;
             return Ok(Found::Refuted);
         }
         self.start_again(&mut run.pace)?;
@@ -162,9 +175,10 @@ impl Engine<'_> {
         Ok(())
     }
 
-    /// Looks at energy and at long cliques, where a supposed end, or none, is the only decision.
+    /// Looks at energy and at long cliques, where a supposed end, a path or nothing is all that is decided.
     fn find_overloads(&mut self, first: &[Literal]) -> Result<(), Stop> {
-        if first.len() < 2 && self.trail.level() as usize <= first.len() {
+        let is_short = first.len() < 2 || self.has_path;
+        if is_short && self.trail.level() as usize <= first.len().min(1) {
             find_overloads(self.instance, &self.trail)?;
             self.cliques.find_overloads(&self.trail)?;
         }

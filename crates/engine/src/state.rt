@@ -67,6 +67,8 @@ pub struct Engine<'a> {
     pub is_refuted: bool,
     /// 1 where several first decisions stand on the first level, else 0.
     pub(crate) floor: u32,
+    /// Whether the first decisions are a path: where they are at fault, a lemma says so.
+    pub(crate) has_path: bool,
     /// The count of conflicts at which lemmas are forgotten next, and how far it is from one such count to the next.
     pub(crate) reduction: u64,
     pub(crate) reduction_step: u64,
@@ -116,8 +118,8 @@ fn shared_resources(instance: &Instance, settled: &Settled) -> Result<Vec<u32>> 
 
 impl<'a> Engine<'a> {
     /// A search for schedules, over the longest walks. It looks at all that follows at the root.
-    pub fn open(instance: &'a Instance, walks: &Walks, options: Options) -> Result<Engine<'a>> {
-        let settled = settle(instance, walks.try_copy()?, options.most)?;
+    pub fn open(instance: &'a Instance, walks: Walks, options: Options) -> Result<Engine<'a>> {
+        let settled = settle(instance, walks, options.most)?;
         let mut engine = Engine::new(instance, &settled, options)?;
         for order in &settled.forced {
             engine.log.order(*order)?;
@@ -161,6 +163,7 @@ impl<'a> Engine<'a> {
             table_marks: Table::new(alloc, 0),
             is_refuted: false,
             floor: 0,
+            has_path: false,
             reduction: options.done.conflicts.wrapping_add(FIRST_REDUCTION),
             reduction_step: FIRST_REDUCTION,
             counts: options.done,

@@ -138,6 +138,14 @@ impl<'a> Log<'a> {
         lag(edge)
     }
 
+    /// The arc of a decision that is one side of a split: the arcs of two sides are each other's reverse.
+    pub fn side(&self, literal: Literal, is_second: bool) -> Lag {
+        match is_second {
+            true => lag(self.arc(literal)),
+            false => self.supposed(literal),
+        }
+    }
+
     /// Adds the line that shows an arc, or that none is left. What arcs alone show needs none.
     fn put(&self, lines: &mut Vec<Line>, ground: Ground, edge: Option<Edge>) -> Result<()> {
         let over = match ground {

@@ -1,0 +1,115 @@
+//! Paths: first decisions that arcs say, and the lemma of those that are at fault.
+
+use crate::state::Engine;
+use literals::{Conflict, Literal, NEVER, Reason};
+use network::Lag;
+use proof_log::Link;
+use tables::{Result, narrow};
+
+/// What the arcs of a path are to a search.
+#[derive(Drop)]
+pub enum Path {
+    /// These are its decisions, of which no two contradict each other.
+    Decisions(Vec<Literal>),
+    /// Two arcs contradict each other, or one of them what always holds, or there is no schedule at all.
+    Refuted,
+    /// The arc at this place is neither a bound of a start nor an order of rivals.
+    Other(usize),
+}
+
+/// What an arc is to a search.
+#[derive(Clone, Copy)]
+enum Side {
+    Holds,
+    Fails,
+    Decision(Literal),
+    Other,
+}
+
+/// Whether two literals can't both hold, whatever else does.
+fn contradict(a: Literal, b: Literal) -> bool {
+    a.slot == b.slot ^ 1 && a.value.wrapping_add(b.value) > 0
+}
+
+impl Engine<'_> {
+    /// What an arc between activities says of their order. It is to say no less than that the second does not end before
+    /// the first one starts.
+    fn order_side(&self, from: u32, to: u32, weight: i64) -> Side {
+        if weight <= i64::from(self.instance.durations[to]).wrapping_neg() {
+            return Side::Other;
+        }
+        match self.edges.precedence(from, to) {
+            None => Side::Holds,
+            Some(NEVER) if self.edges.precedence(to, from).is_none() => Side::Fails,
+            Some(NEVER) => Side::Other,
+            Some(literal) => Side::Decision(literal),
+        }
+    }
+
+    /// What an arc is to this search.
+    fn side(&self, arc: Lag) -> Side {
+        let (from, to) = (narrow(arc.from), narrow(arc.to));
+        let count = self.instance.count();
+        let Ok(weight) = i32::try_from(arc.weight) else {
+            return Side::Other;
+        };
+        if from >= count || to >= count || from == to {
+            return Side::Other;
+        }
+        let decision = match (from, to) {
+            (0, _) => Literal::at_least(to, weight),
+            (_, 0) => Literal::at_most(from, weight.wrapping_neg()),
+            _ => return self.order_side(from, to, arc.weight),
+        };
+        Side::Decision(decision)
+    }
+
+    /// The first decisions of a path.
+    pub fn path(&self, arcs: &[Lag]) -> Result<Path> {
+        if self.is_refuted {
+            return Ok(Path::Refuted);
+        }
+        let mut decisions: Vec<Literal> = Vec::new(self.alloc);
+        for (place, arc) in arcs.iter().enumerate() {
+            match self.side(*arc) {
+                Side::Holds => {}
+                Side::Other => return Ok(Path::Other(place)),
+                Side::Decision(literal) => {
+                    if decisions.iter().any(|other| contradict(*other, literal)) {
+                        return Ok(Path::Refuted);
+                    }
+                    decisions.push(literal)?;
+                }
+                Side::Fails => return Ok(Path::Refuted),
+            }
+        }
+        Ok(Path::Decisions(decisions))
+    }
+
+    /// The decisions of the first level are at fault: tells the lemma of those that a conflict needs.
+    pub(crate) fn blame_first(&mut self, conflict: Conflict) -> Result<()> {
+        self.marks.begin(self.trail.count())?;
+        let ground = self.explain_conflict(conflict)?;
+        self.note_found(1)?;
+        for event in (0..self.trail.count()).rev() {
+            if !self.marks.is_needed(event) {
+                continue;
+            }
+            let (literal, reason) = (self.needed(event), self.trail.event(event).reason);
+            if reason == Reason::Decision {
+                self.marks.nogood.push(literal)?;
+                continue;
+            }
+            let ground = self.explain(literal, reason, event)?;
+            self.marks.replace(event, Link { literal, ground })?;
+            self.note_found(1)?;
+        }
+        let literal = NEVER;
+        self.marks.replace(u32::MAX, Link { literal, ground })?;
+        self.marks.end();
+        self.keep_greatest(NEVER);
+        let (nogood, replaced) = (&self.marks.nogood, &self.marks.replaced);
+        self.log.lemma(nogood, narrow(nogood.len()), replaced)?;
+        Ok(())
+    }
+}

@@ -1,0 +1,167 @@
+//! Splits of what is open, by the literals that conflicts needed most (cube and conquer, Heule and others 2012).
+
+use crate::search::conflict_of;
+use crate::state::Engine;
+use literals::Literal;
+use network::Lag;
+use tables::Result;
+
+/// How many literals are looked at for a split.
+const LOOKS: usize = 40;
+
+/// A part of what is open under a path.
+#[derive(Drop)]
+pub struct Piece {
+    /// A word of `0` and `1`, which goes on from the name of the path.
+    pub name: String,
+    /// The arcs of its path beyond those of the path.
+    pub arcs: Vec<Lag>,
+}
+
+/// A leaf of the splits so far.
+#[derive(Drop)]
+struct Leaf {
+    /// Its decisions, each with whether it is the second side of a split.
+    sides: Vec<(Literal, bool)>,
+    /// How much is left to decide; 0 where there is nothing to split by.
+    left: u32,
+}
+
+/// The best split of a leaf: the literal, and what each side leaves.
+#[derive(Clone, Copy)]
+struct Split {
+    literal: Literal,
+    left: [u32; 2],
+    score: f64,
+}
+
+/// The place of the leaf that leaves most.
+fn widest(leaves: &[Leaf]) -> Option<usize> {
+    let places = leaves.iter().enumerate().filter(|(_, leaf)| leaf.left > 0);
+    places
+        .max_by_key(|(_, leaf)| leaf.left)
+        .map(|(place, _)| place)
+}
+
+/// By how much what is left falls, a little where it does not.
+fn gain(before: u32, after: u32) -> f64 {
+    f64::from(before.saturating_sub(after)) + 0.01
+}
+
+impl Engine<'_> {
+    /// A level begins with decisions. Whether nothing contradicts what follows.
+    fn suppose(&mut self, literals: &[Literal]) -> Result<bool> {
+        self.choices.begin_level()?;
+        self.decide(literals)?;
+        Ok(conflict_of(self.propagate())?.is_none())
+    }
+
+    /// What is left to decide: open orders, and the digits of windows of starts.
+    fn left(&self) -> u32 {
+        let width = |variable: u32| {
+            let (least, most) = (self.trail.least(variable), self.trail.greatest(variable));
+            most.saturating_sub(least).max(0).cast_unsigned()
+        };
+        let digits = |variable: u32| 32u32.saturating_sub(width(variable).leading_zeros());
+        let variables = 0..self.trail.values().count() / 2;
+        variables.fold(0u32, |sum, variable| sum.wrapping_add(digits(variable)))
+    }
+
+    /// What a decision leaves; 0 where it is contradicted.
+    fn left_after(&mut self, literal: Literal) -> Result<u32> {
+        let level = self.trail.level();
+        let left = if self.suppose(&[literal])? {
+            self.left()
+        } else {
+            0
+        };
+        self.go_back(level)?;
+        Ok(left)
+    }
+
+    /// The split that gains most on both sides by the weight of its literal. None where all is settled.
+    fn best_split(&mut self) -> Result<Option<Split>> {
+        let before = self.left();
+        let mut best: Option<Split> = None;
+        self.suppose(&[])?;
+        for (weight, literal) in self.choices.heaviest_of(&self.trail, &self.edges, LOOKS)? {
+            let left = [self.left_after(literal)?, self.left_after(!literal)?];
+            let score = weight * gain(before, left[0]) * gain(before, left[1]);
+            if best.is_none_or(|best| score > best.score) {
+                best = Some(Split {
+                    literal,
+                    left,
+                    score,
+                });
+            }
+        }
+        Ok(best)
+    }
+
+    /// The best split of a leaf under a path.
+    fn split_of(&mut self, path: &[Literal], leaf: &Leaf) -> Result<Option<Split>> {
+        self.go_back(0)?;
+        let mut is_open = path.is_empty() || self.suppose(path)?;
+        for (literal, _) in &leaf.sides {
+            is_open = is_open && self.suppose(&[*literal])?;
+        }
+        match is_open {
+            true => self.best_split(),
+            false => Ok(None),
+        }
+    }
+
+    /// One side of a split of a leaf.
+    fn side_of(&self, leaf: &Leaf, split: &Split, is_second: bool) -> Result<Leaf> {
+        let literal = if is_second {
+            !split.literal
+        } else {
+            split.literal
+        };
+        let mut sides = leaf.sides.to_vec(self.alloc)?;
+        sides.push((literal, is_second))?;
+        let left = split.left[usize::from(is_second)];
+        Ok(Leaf { sides, left })
+    }
+
+    /// A leaf as a piece.
+    fn piece_of(&self, leaf: &Leaf) -> Result<Piece> {
+        let mut name = String::new(self.alloc);
+        let mut arcs = Vec::new(self.alloc);
+        for (literal, is_second) in &leaf.sides {
+            name.push(if *is_second { '1' } else { '0' })?;
+            arcs.push(self.log.side(*literal, *is_second))?;
+        }
+        Ok(Piece { name, arcs })
+    }
+
+    /// Splits what is open under a path into so many pieces at most, each time the one that leaves most. Goes back to the
+    /// root.
+    pub fn split(&mut self, path: &[Literal], most: usize) -> Result<Vec<Piece>> {
+        let mut leaves = Vec::new(self.alloc);
+        let (sides, left) = (Vec::new(self.alloc), u32::MAX);
+        leaves.push(Leaf { sides, left })?;
+        for _ in 0..most.saturating_mul(2) {
+            let Some(place) = widest(&leaves) else {
+                break;
+            };
+            if leaves.len() >= most || place >= leaves.len() {
+                break;
+            }
+            let mut leaf = leaves.swap_remove(place);
+            if let Some(split) = self.split_of(path, &leaf)? {
+                leaves.push(self.side_of(&leaf, &split, false)?)?;
+                leaves.push(self.side_of(&leaf, &split, true)?)?;
+            } else {
+                leaf.left = 0;
+                leaves.push(leaf)?;
+            }
+        }
+        self.go_back(0)?;
+        let mut pieces = Vec::new(self.alloc);
+        for leaf in &leaves {
+            pieces.push(self.piece_of(leaf)?)?;
+        }
+        Ok(pieces)
+    }
+}
