@@ -4,10 +4,13 @@
 //! Nothing here needs to be trusted: whoever takes a schedule or a record has it checked.
 #![tactic(auto)]
 
+mod cube;
 mod effort;
 mod solver;
 mod turns;
 
+pub use cube::{CubeSearch, Cubed};
+pub use engine::{Counts, Piece};
 pub use proof_log::{Slots, Told};
 pub use solver::{Limits, Solver, State};
 pub use turns::Finder;

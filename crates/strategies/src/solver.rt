@@ -1,5 +1,6 @@
 //! The search of a project, as callers see it.
 
+use crate::cube::{CubeSearch, Cubed};
 use crate::turns::{Finder, Turns};
 use engine::{Counts, Engine, Found, Options, Pace, Run};
 use instance::{Instance, Walks};
@@ -18,6 +19,8 @@ pub struct Limits {
     pub seed: u64,
     /// Where its lemmas go.
     pub slots: Slots,
+    /// What schedules are to be shorter than, though none is known.
+    pub below: Option<i32>,
 }
 
 /// Where a search stands.
@@ -54,15 +57,18 @@ enum Stage<'a> {
     /// Strategies take turns from the next step on, with a first schedule or none.
     Ready(Option<Vec<i32>>),
     Turns(Turns<'a>),
+    /// It looks for schedules below an end that is supposed.
+    Below(CubeSearch<'a>),
 }
 
 /// The search of a project for a shortest schedule. Until a schedule is known it looks for a first one; from then on
-/// strategies take turns.
+/// strategies take turns. Or it looks for schedules below an end alone.
 #[derive(Drop)]
 pub struct Solver<'a> {
     alloc: Global,
     instance: &'a Instance,
-    walks: Walks,
+    /// The longest walks, until strategies take turns.
+    walks: Option<Walks>,
     stage: Stage<'a>,
     limits: Limits,
     /// What engines that are gone have told, and how much was done by them.
@@ -74,17 +80,22 @@ pub struct Solver<'a> {
 impl<'a> Solver<'a> {
     /// A search that has done nothing yet.
     pub fn new(alloc: Global, instance: &'a Instance, limits: Limits) -> Result<Solver<'a>> {
+        let walks = Walks::new(instance)?;
+        let is_contradiction = walks.has_loop() || instance.asks_too_much();
         let mut solver = Solver {
             alloc,
             instance,
-            walks: Walks::new(instance)?,
+            walks: None,
             stage: Stage::Contradiction,
             limits,
             told: Vec::new(alloc),
             done: Counts::default(),
             is_full: false,
         };
-        if !solver.walks.has_loop() && !instance.asks_too_much() {
+        if let (Some(below), false) = (limits.below, is_contradiction) {
+            solver.begin_below(walks, below)?;
+        } else if !is_contradiction {
+            solver.walks = Some(walks);
             solver.begin_first(None)?;
         }
         Ok(solver)
@@ -95,8 +106,14 @@ impl<'a> Solver<'a> {
         self.instance.horizon.wrapping_add(1)
     }
 
-    /// An engine for schedules that end before a ceiling.
-    fn open(&self, ceiling: i32, has_log: bool, has_cliques: bool) -> Result<Engine<'a>> {
+    /// An engine for schedules that end before a ceiling, over the longest walks.
+    fn open(
+        &self,
+        walks: Walks,
+        ceiling: i32,
+        has_log: bool,
+        has_cliques: bool,
+    ) -> Result<Engine<'a>> {
         let Limits { seed, slots, .. } = self.limits;
         let options = Options {
             most: ceiling.wrapping_sub(1),
@@ -106,13 +123,31 @@ impl<'a> Solver<'a> {
             slots,
             done: self.done,
         };
-        Engine::open(self.instance, &self.walks, options)
+        Engine::open(self.instance, walks, options)
+    }
+
+    /// Begins to look for schedules below an end.
+    fn begin_below(&mut self, walks: Walks, below: i32) -> Result<()> {
+        let arc = Lag {
+            from: self.instance.end() as usize,
+            to: 0,
+            weight: 1i64.wrapping_sub(i64::from(below)),
+        };
+        let cubed = CubeSearch::under(self.instance, walks, self.limits, None, &[arc])?;
+        if let Cubed::Search(search) = cubed {
+            self.stage = Stage::Below(search);
+        }
+        Ok(())
     }
 
     /// Begins the search at the root, which keeps a log, or a dive below a ceiling.
     fn begin_first(&mut self, dive: Option<i32>) -> Result<()> {
-        let last = self.last_ceiling();
-        let mut engine = self.open(dive.unwrap_or(last).min(last), dive.is_none(), false)?;
+        let Some(walks) = &self.walks else {
+            return Ok(());
+        };
+        let (walks, last) = (walks.try_copy()?, self.last_ceiling());
+        let ceiling = dive.unwrap_or(last).min(last);
+        let mut engine = self.open(walks, ceiling, dive.is_none(), false)?;
         let most = if dive.is_some() { DIVE } else { ROOT };
         let run = engine.start(Vec::new(self.alloc), most, Pace::default())?;
         self.stage = Stage::First { engine, run, dive };
@@ -123,7 +158,10 @@ impl<'a> Solver<'a> {
     fn begin_turns(&mut self, start: Option<Vec<i32>>) -> Result<()> {
         let end = start.as_ref().and_then(|starts| starts.last().copied());
         let ceiling = end.unwrap_or(self.last_ceiling());
-        let engine = self.open(ceiling, true, true)?;
+        let Some(walks) = self.walks.take() else {
+            return Ok(());
+        };
+        let engine = self.open(walks, ceiling, true, true)?;
         let mut turns = Turns::new(self.instance, engine, ceiling, self.limits.seed)?;
         if let Some(starts) = &start {
             turns.take(starts, Finder::Dive)?;
@@ -152,6 +190,7 @@ impl<'a> Solver<'a> {
         match &self.stage {
             Stage::First { engine, .. } => Some(engine),
             Stage::Turns(turns) => Some(&turns.engine),
+            Stage::Below(search) => Some(&search.engine),
             _ => None,
         }
     }
@@ -161,6 +200,7 @@ impl<'a> Solver<'a> {
         match &mut self.stage {
             Stage::First { engine, .. } => Some(engine),
             Stage::Turns(turns) => Some(&mut turns.engine),
+            Stage::Below(search) => Some(&mut search.engine),
             _ => None,
         }
     }
@@ -170,6 +210,8 @@ impl<'a> Solver<'a> {
         match &self.stage {
             Stage::Contradiction => State::Ended,
             Stage::Turns(turns) if turns.engine.is_refuted => State::Ended,
+            Stage::Below(search) if search.is_refuted() => State::Ended,
+            Stage::Below(search) if search.is_over() => State::Full,
             _ if self.is_full => State::Full,
             _ => State::Going,
         }
@@ -198,7 +240,8 @@ impl<'a> Solver<'a> {
         match (found, dive) {
             (Found::Schedule, _) => self.begin_with(&starts),
             (Found::Stopped, None) => {
-                let walk = self.walks.longest(0, self.instance.end());
+                let end = self.instance.end();
+                let walk = self.walks.as_ref().and_then(|walks| walks.longest(0, end));
                 let likely = self.instance.likely_end(walk.unwrap_or(0));
                 self.begin_first(Some(likely.saturating_add(1)))
             }
@@ -231,6 +274,7 @@ impl<'a> Solver<'a> {
         }
         match &mut self.stage {
             Stage::Turns(turns) => turns.advance(steps)?,
+            Stage::Below(search) => search.advance(steps)?,
             _ => self.find_first(steps)?,
         }
         self.make_room()
@@ -238,8 +282,10 @@ impl<'a> Solver<'a> {
 
     /// Takes a feasible schedule by its starts in periods, if it is shorter than the best.
     pub fn take(&mut self, starts: &[i32]) -> Result<()> {
-        if let Stage::Turns(turns) = &mut self.stage {
-            return turns.take_other(starts);
+        match &mut self.stage {
+            Stage::Turns(turns) => return turns.take_other(starts),
+            Stage::Below(search) => return search.take(starts),
+            _ => {}
         }
         if matches!(self.stage, Stage::Contradiction) {
             return Ok(());
@@ -256,6 +302,7 @@ impl<'a> Solver<'a> {
             Stage::Contradiction | Stage::First { .. } => None,
             Stage::Ready(start) => start.as_deref(),
             Stage::Turns(turns) => turns.best.as_deref(),
+            Stage::Below(search) => search.best(),
         }
     }
 
@@ -263,6 +310,7 @@ impl<'a> Solver<'a> {
     pub fn finder(&self) -> Finder {
         match &self.stage {
             Stage::Turns(turns) => turns.finder,
+            Stage::Below(_) => Finder::Whole,
             _ => Finder::Dive,
         }
     }
@@ -286,7 +334,7 @@ impl<'a> Solver<'a> {
     /// Whether strategies take turns: then it takes what other searches have proved, and they may take its lemmas. Before
     /// that it forgets all of them.
     pub fn shares(&self) -> bool {
-        matches!(self.stage, Stage::Turns(_))
+        matches!(self.stage, Stage::Turns(_) | Stage::Below(_))
     }
 
     /// Takes a lemma of another search, which stands in a slot of the record: not all of these arcs hold.

@@ -1,0 +1,172 @@
+//! The search of a cube: the whole search, under a path.
+
+use crate::solver::Limits;
+use engine::{Counts, Engine, Found, Options, Pace, Path, Piece, Run};
+use instance::{Instance, Walks};
+use large_neighbourhoods::shortened;
+use literals::Literal;
+use network::Lag;
+use proof_log::Told;
+use tables::Result;
+
+/// The search for schedules of a project that meet the arcs of a path.
+///
+/// All that it proves is true of the project. Once it is refuted, its last lemma is of arcs of the path, or its root
+/// contradicts the path.
+#[derive(Drop)]
+pub struct CubeSearch<'a> {
+    instance: &'a Instance,
+    pub(crate) engine: Engine<'a>,
+    /// The decisions of the path.
+    path: Vec<Literal>,
+    run: Run,
+    /// The starts of the shortest schedule that it has found or taken, in periods.
+    best: Option<Vec<i32>>,
+    memory: u64,
+    is_refuted: bool,
+    is_full: bool,
+}
+
+/// A search of a cube, or why there is none.
+#[derive(Drop)]
+pub enum Cubed<'a> {
+    Search(CubeSearch<'a>),
+    /// The project contradicts itself: there is nothing to search.
+    Contradiction,
+    /// The arc of the path at this place is neither a bound of a start nor an order of rivals.
+    Other(usize),
+}
+
+impl<'a> CubeSearch<'a> {
+    /// A search for schedules that end before a ceiling and meet a path. It has looked at what always holds.
+    pub fn open(
+        instance: &'a Instance,
+        limits: Limits,
+        ceiling: Option<i32>,
+        arcs: &[Lag],
+    ) -> Result<Cubed<'a>> {
+        let walks = Walks::new(instance)?;
+        if walks.has_loop() || instance.asks_too_much() {
+            return Ok(Cubed::Contradiction);
+        }
+        CubeSearch::under(instance, walks, limits, ceiling, arcs)
+    }
+
+    /// The same, over the longest walks of a project that does not contradict itself.
+    pub(crate) fn under(
+        instance: &'a Instance,
+        walks: Walks,
+        limits: Limits,
+        ceiling: Option<i32>,
+        arcs: &[Lag],
+    ) -> Result<Cubed<'a>> {
+        let options = Options {
+            most: ceiling.map_or(instance.horizon, |ceiling| ceiling.wrapping_sub(1)),
+            has_log: true,
+            has_cliques: true,
+            seed: limits.seed,
+            slots: limits.slots,
+            done: Counts::default(),
+        };
+        let mut engine = Engine::open(instance, walks, options)?;
+        let (path, is_refuted) = match engine.path(arcs)? {
+            Path::Decisions(path) => (path, false),
+            Path::Refuted => (Vec::new(instance.alloc), true),
+            Path::Other(place) => return Ok(Cubed::Other(place)),
+        };
+        let run = engine.start_under(path.to_vec(instance.alloc)?, Pace::default())?;
+        Ok(Cubed::Search(CubeSearch {
+            instance,
+            engine,
+            path,
+            run,
+            best: None,
+            memory: limits.memory,
+            is_refuted,
+            is_full: false,
+        }))
+    }
+
+    /// The values of a schedule are tried first.
+    pub fn prefer(&mut self, starts: &[i32]) {
+        self.engine.prefer(starts);
+    }
+
+    /// Takes a lemma of another search, which has this number in the log: not all of these arcs hold. What it is about is
+    /// tried first.
+    pub fn import(&mut self, slot: u32, lbd: u32, arcs: &[Lag]) -> Result<()> {
+        self.engine.import_heavy(slot, lbd, arcs)
+    }
+
+    /// The search goes on from the root, with all that was imported.
+    pub fn begin(&mut self) -> Result<()> {
+        let path = self.path.to_vec(self.instance.alloc)?;
+        self.run = self.engine.start_under(path, self.run.pace)?;
+        Ok(())
+    }
+
+    /// Takes a schedule that is shorter than those before, whose values are tried first from now on.
+    pub fn take(&mut self, starts: &[i32]) -> Result<()> {
+        let end = starts.last().copied().unwrap_or(0);
+        self.engine.end_by(end.wrapping_sub(1))?;
+        self.engine.prefer(starts);
+        self.best = Some(starts.to_vec(self.instance.alloc)?);
+        self.begin()
+    }
+
+    /// Forgets lemmas where there is no room.
+    fn make_room(&mut self) -> Result<()> {
+        if self.engine.bytes() > self.memory {
+            self.engine.reduce()?;
+            self.is_full = self.engine.bytes() > self.memory / 4 * 3;
+            self.begin()?;
+        }
+        Ok(())
+    }
+
+    /// Searches on for so many steps: conflicts and decisions.
+    pub fn advance(&mut self, steps: u64) -> Result<()> {
+        if self.is_over() {
+            return Ok(());
+        }
+        match self.engine.search(&mut self.run, steps)? {
+            Found::Open | Found::Stopped => {}
+            Found::Refuted => self.is_refuted = true,
+            Found::Schedule => {
+                let (early, _) = shortened(self.instance, &self.engine.schedule()?)?;
+                self.take(&early)?;
+            }
+        }
+        self.make_room()
+    }
+
+    /// Whether no schedule in question meets the path.
+    pub fn is_refuted(&self) -> bool {
+        self.is_refuted || self.engine.is_refuted
+    }
+
+    /// Whether it can't go on: it is refuted, or its lemmas fill the memory that they may take.
+    pub fn is_over(&self) -> bool {
+        self.is_refuted() || self.is_full
+    }
+
+    /// The starts of the shortest schedule that it has found or taken, in periods.
+    pub fn best(&self) -> Option<&[i32]> {
+        self.best.as_deref()
+    }
+
+    /// How much was done.
+    pub fn counts(&self) -> Counts {
+        self.engine.counts
+    }
+
+    /// What it has proved since it was asked last, in order.
+    pub fn events(&mut self) -> Vec<Told> {
+        self.engine.log.take()
+    }
+
+    /// Splits what is open into so many parts at most. They go on from the path.
+    pub fn pieces(&mut self, most: usize) -> Result<Vec<Piece>> {
+        self.engine.split(&self.path, most)
+    }
+}
