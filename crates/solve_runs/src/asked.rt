@@ -33,6 +33,8 @@ pub struct Asked {
     pub seed: u64,
     /// How many bytes the lemmas of a search may take.
     pub memory: u64,
+    /// What schedules are to be shorter than, in periods, though none is known: then that is what the bound may reach.
+    pub below: Option<u64>,
     /// Whether starts are read from the second input.
     pub start: bool,
     /// Whether the answer is one line of JSON.
@@ -65,6 +67,7 @@ impl Asked {
                 jobs: narrow(self.jobs as usize),
                 taken: narrow(slots),
             },
+            below: self.below.map(|below| below.min(i32::MAX as u64) as i32),
         }
     }
 }

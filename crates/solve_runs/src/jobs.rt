@@ -6,6 +6,7 @@ ghost use Rattle.lemma_record.specs.Book.{IsProof};
 use crate::asked::Asked;
 use crate::board::Board;
 use crate::host::Host;
+use crate::joined::join_all;
 use crate::pause::Nothing;
 use crate::progress::Watch;
 use crate::recorder::{Before, Recorder};
@@ -97,6 +98,17 @@ fn tell_stop<R: Eprint>(rt: &R, state: State) {
     }
 }
 
+/// Whether a search that has ended should have proved more.
+fn falls_short(asked: Asked, proved: Proved) -> bool {
+    let Proved::Bound { bound } = proved else {
+        return false;
+    };
+    let below = asked
+        .below
+        .map(|below| i64::try_from(below).unwrap_or(i64::MAX));
+    below.is_none_or(|below| bound < below)
+}
+
 /// What the book shows that searches left. The rest of its log is recorded.
 fn shown<H: Host, D: Output, J: Naming + Before>(
     mut book: Book<'_, J>,
@@ -151,7 +163,8 @@ pub(crate) fn searched<
 {
     let watch = Watch::start(rt);
     let mut board = Board::new(alloc, project, asked.jobs, start, log)?;
-    let slots = resume(rt, alloc, &mut board, recorder.resumed())?;
+    let slots = resume(rt, alloc, &mut board, recorder.host().resumed())?;
+    let slots = join_all(rt, alloc, &mut board.book, recorder, slots)?;
     let board = Mutex::new(board);
     let run = Run {
         asked,
@@ -171,7 +184,7 @@ pub(crate) fn searched<
         ..
     } = board;
     let shown = shown(book, project, recorder)?;
-    if state == State::Ended && matches!(shown.proved, Proved::Bound { .. }) {
+    if state == State::Ended && falls_short(asked, shown.proved) {
         return Err(SearchFault::Refused);
     }
     Ok(Found {

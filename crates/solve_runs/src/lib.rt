@@ -3,6 +3,7 @@
 //! [`solve`] reads a project, and perhaps starts. It searches within limits, with as many searches side by side as are
 //! asked for. They share a book under a lock, which judges and logs each lemma and each schedule that one of them finds.
 //! What the book claims in the end is the answer, and its log is the record, which is written while the searches go on.
+//! Before them the book takes logs of earlier searches: one to go on from, or those of cubes, which become one.
 #![tactic(auto)]
 
 mod asked;
@@ -10,6 +11,8 @@ mod board;
 mod figures;
 mod host;
 mod jobs;
+mod joined;
+mod joining;
 mod judging;
 mod pause;
 mod progress;

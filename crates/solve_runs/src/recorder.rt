@@ -78,9 +78,9 @@ impl<'h, H: Host, D: Output, J: Naming + Before> Recorder<'h, H, D, J> {
         }
     }
 
-    /// The log that the searches go on from.
-    pub(crate) fn resumed(&self) -> &[u8] {
-        self.host.resumed()
+    /// The program that is asked.
+    pub(crate) fn host(&self) -> &'h H {
+        self.host
     }
 
     /// The device, and what it took.

@@ -22,7 +22,7 @@ impl From<AllocError> for ResumeFault {
 }
 
 /// The event that bytes begin with, and the bytes after it. None if they end before it does.
-fn next_event(
+pub(crate) fn next_event(
     alloc: Global,
     bytes: &[u8],
     number: u64,
