@@ -1,11 +1,13 @@
 //! The words of the command line, by `clap`.
 
+use crate::cube::CubeWork;
 use crate::help;
 use calls::{
     WordsFault, file, file_name, flag, matches_of, number, program_command, project_subcommand,
     subcommand, words,
 };
 use clap::{Arg, ArgMatches, Command};
+use cube_runs::Limit;
 use solve_runs::{Asked, MAX_JOBS, Progress};
 use std::alloc::{AllocError, Global};
 
@@ -24,6 +26,9 @@ const MAX_MEMORY: i64 = 1_048_576;
 /// The most conflicts and the most seconds of the options.
 const MAX_LIMIT: i64 = 1_000_000_000;
 
+/// The greatest makespan of `--below`.
+const MAX_BELOW: i64 = 1_002_000_000;
+
 /// The forms of `--progress`.
 const FORMS: &[&str] = &["lines", "json"];
 
@@ -33,6 +38,7 @@ pub(crate) enum Work {
     /// To check a log against the project in a file; whether it may be cut off.
     Verify { project: String, partial: bool },
     Solve(Search),
+    Cube(CubeWork),
 }
 
 /// A search, and the names of its files.
@@ -47,7 +53,14 @@ pub(crate) struct Search {
     pub(crate) record: Option<String>,
     /// A file that ends it.
     pub(crate) until: Option<String>,
+    /// The project, if it is not on standard input.
+    pub(crate) project: Option<String>,
+    /// The cubes whose logs are joined.
+    pub(crate) tree: Option<String>,
 }
+
+/// The most pieces of a cube.
+const MAX_PIECES: i64 = 1_024;
 
 /// The options that say how far a search goes.
 fn with_limits<'a>(alloc: Global, command: Command<'a>) -> Result<Command<'a>, AllocError> {
@@ -77,6 +90,38 @@ fn progress<'a>(alloc: Global) -> Arg<'a> {
         .value_parser(FORMS)
 }
 
+/// An option that a search of a cube alone has.
+fn of_cube<'a>(alloc: Global, name: &'a str, about: &'a str) -> Result<Arg<'a>, AllocError> {
+    file(alloc, name, about).requires_arg("under")
+}
+
+/// The options of a search of a cube.
+fn with_cube<'a>(alloc: Global, command: Command<'a>) -> Result<Command<'a>, AllocError> {
+    let under = "Search the cube whose path is in FILE: an arc a line, FROM TO WEIGHT";
+    let project = "Read the project of the cube from FILE";
+    let import = "Use the lemmas in FILE, which searches of other cubes exported";
+    let export = "Write lemmas for searches of other cubes into FILE";
+    let guide = "Try the starts of the feasible schedule in FILE first";
+    let below = "Look only for schedules shorter than C";
+    let pieces = "Split the cube into P pieces where it stays open";
+    let follow = "Take shorter schedules from standard input, whose end ends the search";
+    let pieces = number(alloc, "pieces", "P", pieces, 1, MAX_PIECES);
+    let below = number(alloc, "below", "C", below, 0, MAX_BELOW);
+    command
+        .arg(
+            file(alloc, "under", under)
+                .requires_arg("project")?
+                .requires_arg("record")?,
+        )?
+        .arg(of_cube(alloc, "project", project)?)?
+        .arg(of_cube(alloc, "import", import)?)?
+        .arg(of_cube(alloc, "export", export)?)?
+        .arg(of_cube(alloc, "guide", guide)?)?
+        .arg(below)?
+        .arg(pieces.requires_arg("under")?)?
+        .arg(flag(alloc, "follow", follow).requires_arg("under")?)
+}
+
 fn solve_command<'a>(alloc: Global) -> Result<Command<'a>, AllocError> {
     let about = "Print a shortest schedule of a project, with a log of lemmas that proves it";
     let start = "Start from the feasible schedule in FILE";
@@ -84,12 +129,26 @@ fn solve_command<'a>(alloc: Global) -> Result<Command<'a>, AllocError> {
     let record = "Write the log that proves the answer into FILE";
     let resume = "Go on from the log in FILE";
     let command = subcommand(alloc, help::HEADING, "solve", about, help::SOLVE);
-    with_limits(alloc, command)?
+    let command = with_limits(alloc, command)?
         .arg(file(alloc, "start", start))?
         .arg(file(alloc, "resume", resume))?
         .arg(flag(alloc, "json", json))?
         .arg(file(alloc, "record", record))?
-        .arg(progress(alloc))
+        .arg(progress(alloc))?;
+    with_cube(alloc, command)
+}
+
+fn join_command<'a>(alloc: Global) -> Result<Command<'a>, AllocError> {
+    let about = "Join the logs of cubes into one log of the project";
+    let tree = "Read the cubes from FILE: NAME LOG LEMMAS and the path, a cube a line";
+    let start = "Begin with the feasible schedule in FILE";
+    let json = "Print the answer as one line of JSON";
+    let record = "Write the log that proves the answer into FILE";
+    project_subcommand(alloc, help::HEADING, "join", about, help::JOIN)?
+        .arg(file(alloc, "tree", tree).required(true))?
+        .arg(file(alloc, "start", start))?
+        .arg(flag(alloc, "json", json))?
+        .arg(file(alloc, "record", record))
 }
 
 fn verify_command<'a>(alloc: Global) -> Result<Command<'a>, AllocError> {
@@ -105,7 +164,8 @@ fn command<'a>(alloc: Global) -> Result<Command<'a>, AllocError> {
     let about = "Solve projects with resources and time lags, and check logs of lemmas";
     program_command(alloc, "psprove", heading, about, help::PROGRAM)?
         .subcommand(solve_command(alloc)?)?
-        .subcommand(verify_command(alloc)?)
+        .subcommand(verify_command(alloc)?)?
+        .subcommand(join_command(alloc)?)
 }
 
 /// What is reported while a search goes on.
@@ -127,6 +187,7 @@ fn asked(matches: &ArgMatches<'_>, start: bool, progress: Progress) -> Asked {
         seconds: matches.get_one::<u64>("seconds").unwrap_or(0),
         seed: matches.get_one::<u64>("seed").unwrap_or(0),
         memory: memory.saturating_mul(1 << 20),
+        below: matches.get_one::<u64>("below"),
         start,
         json: matches.get_flag("json"),
         progress,
@@ -143,13 +204,77 @@ fn search_of(alloc: Global, matches: &ArgMatches<'_>) -> Result<Search, AllocErr
         resume: file_name(alloc, matches, "resume")?,
         record: file_name(alloc, matches, "record")?,
         until: file_name(alloc, matches, "until")?,
+        project: None,
+        tree: None,
     })
+}
+
+/// A join of logs: a search of no seconds that begins with them.
+fn join_of(alloc: Global, matches: &ArgMatches<'_>) -> Result<Search, AllocError> {
+    let start = file_name(alloc, matches, "start")?;
+    let asked = Asked {
+        jobs: 1,
+        conflicts: 0,
+        seconds: 0,
+        seed: 0,
+        memory: 1 << 20,
+        below: None,
+        start: start.is_some(),
+        json: matches.get_flag("json"),
+        progress: Progress::Nothing,
+    };
+    Ok(Search {
+        asked,
+        start,
+        resume: None,
+        record: file_name(alloc, matches, "record")?,
+        until: None,
+        project: file_name(alloc, matches, "project")?,
+        tree: file_name(alloc, matches, "tree")?,
+    })
+}
+
+/// The name that an option has to have.
+fn needed_name(alloc: Global, matches: &ArgMatches<'_>, name: &str) -> Result<String, AllocError> {
+    Ok(file_name(alloc, matches, name)?.unwrap_or(String::new(alloc)))
+}
+
+/// A search of the cube whose path is in a file.
+fn cube_of(alloc: Global, matches: &ArgMatches<'_>, path: String) -> Result<CubeWork, AllocError> {
+    let asked = asked(matches, false, Progress::Nothing);
+    Ok(CubeWork {
+        limit: Limit {
+            conflicts: asked.conflicts,
+            seconds: asked.seconds,
+            seed: asked.seed,
+            memory: asked.memory,
+            pieces: matches.get_one::<u64>("pieces").unwrap_or(1),
+        },
+        below: asked.below,
+        project: needed_name(alloc, matches, "project")?,
+        path,
+        start: file_name(alloc, matches, "start")?,
+        guide: file_name(alloc, matches, "guide")?,
+        import: file_name(alloc, matches, "import")?,
+        export: file_name(alloc, matches, "export")?,
+        record: needed_name(alloc, matches, "record")?,
+        follow: matches.get_flag("follow"),
+    })
+}
+
+/// A search, of a cube if there is a path.
+fn solve_of(alloc: Global, matches: &ArgMatches<'_>) -> Result<Work, AllocError> {
+    match file_name(alloc, matches, "under")? {
+        Some(path) => Ok(Work::Cube(cube_of(alloc, matches, path)?)),
+        None => Ok(Work::Solve(search_of(alloc, matches)?)),
+    }
 }
 
 /// What the matches ask for. None if words ask for nothing, which `clap` doesn't let pass.
 fn found_work(alloc: Global, matches: &ArgMatches<'_>) -> Result<Option<Work>, AllocError> {
     match matches.subcommand() {
-        Some(("solve", found)) => Ok(Some(Work::Solve(search_of(alloc, found)?))),
+        Some(("solve", found)) => Ok(Some(solve_of(alloc, found)?)),
+        Some(("join", found)) => Ok(Some(Work::Solve(join_of(alloc, found)?))),
         Some(("verify", found)) => match file_name(alloc, found, "project")? {
             Some(project) => Ok(Some(Work::Verify {
                 project,

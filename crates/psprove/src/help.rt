@@ -40,6 +40,8 @@ schedule.
 While the search goes on the log grows in FILE.part, which takes the name FILE in the end. If
 psprove is killed, FILE.part proves what was found: 'psprove verify --partial' prints it. If the log
 cannot be written, the search ends, without an answer.
+--under searches a cube: schedules that meet the arcs of a path, for a join of many searches
+('psprove join --help'). The answer is one line of JSON, and is not proved before the join.
 --resume goes on from a log of the project, whole or cut off, with its schedule, its root and its
 lemmas. The new log begins with the events of the old one.
 
@@ -55,6 +57,28 @@ Exit status:
   1  memory, a thread or a device failed, or the book refused a log or the end of a search
   2  the words of the command or a text have a fault
   3  the search stopped at a limit
+  4  the starts of --start are not a feasible schedule";
+
+pub(crate) const JOIN: &str = "\
+Joins the logs that 'psprove solve --under' wrote for cubes of the project in FILE. A book judges each
+event, so nothing that they say need be trusted. Where all cubes of a tree are refuted the answer is
+'optimal C' or 'no schedule', and otherwise 'feasible C bound B' or 'unknown bound B'. A log that is
+wrong or cut off is named on standard error, and counts as far as it is right.
+
+Each line of the list is a cube, in the order in which their searches ended: its name, which is a
+word of 0 and 1 or - for the whole project; the files of its log and of the lemmas that its search
+imported, or - for none; and the arcs of its path, each FROM TO WEIGHT. The names of files are
+relative to the folder of the list. The paths of N0 and N1 are that of N, and one arc more: in one of
+them the reverse of the other's, which of (I, J, V) is (J, I, 1 - V).
+
+Example:
+  psprove join --project project.sch --tree cubes --record project.log
+
+Exit status:
+  0  answered
+  1  memory or a device failed
+  2  the words of the command or a text have a fault
+  3  a cube is open
   4  the starts of --start are not a feasible schedule";
 
 pub(crate) const VERIFY: &str = "\

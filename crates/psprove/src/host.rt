@@ -1,7 +1,10 @@
 //! What the program does for its searches while they go on.
 
+use cubes::Cube;
 use solve_runs::Host;
+use std::alloc::{AllocError, Global};
 use std::fs::{self, Files};
+use std::io::{ErrorKind, Read};
 
 /// The files of a search besides those of its call.
 #[derive(Drop)]
@@ -11,6 +14,9 @@ pub(crate) struct FilesBeside<'r, 'u, R> {
     pub(crate) until: Option<&'u str>,
     /// The bytes of the log that the search goes on from.
     pub(crate) resumed: Vec<u8>,
+    /// The cubes whose logs are joined, and what stands before the names of their files.
+    pub(crate) cubes: Vec<Cube>,
+    pub(crate) folder: &'u str,
 }
 
 impl<R: Files> Host for FilesBeside<'_, '_, R> {
@@ -21,5 +27,24 @@ impl<R: Files> Host for FilesBeside<'_, '_, R> {
 
     fn resumed(&self) -> &[u8] {
         &self.resumed
+    }
+
+    fn cubes(&self) -> &[Cube] {
+        &self.cubes
+    }
+
+    fn bytes(&self, alloc: Global, name: &str) -> Result<Option<Vec<u8>>, AllocError> {
+        let mut path = String::from_str(alloc, self.folder)?;
+        path.push_str(name)?;
+        let mut bytes = Vec::new(alloc);
+        let read = match fs::open(self.rt, path.as_str()) {
+            Ok(mut file) => file.read_to_end(&mut bytes),
+            Err(error) => Err(error),
+        };
+        match read {
+            Ok(_) => Ok(Some(bytes)),
+            Err(error) if error.kind() == ErrorKind::OutOfMemory => Err(AllocError),
+            Err(_) => Ok(None),
+        }
     }
 }

@@ -1,0 +1,277 @@
+//! The search of a cube: its files, its answer, and why there is none.
+
+use crate::PROGRAM;
+use crate::following::{Followed, Heard};
+use crate::record_file::RecordFile;
+use answers::{Answer, Fault};
+use calls::{refuse_file, report};
+use cube_runs::{Cube, CubeFault, Found, Limit, search_cube};
+use cubes::{Lemma, TextFault, lemmas_of, path_of};
+use network::{Lag, Project, Schedule};
+use runs::{Ended, Judged, Reader, judged_starts, read_project};
+use std::alloc::{AllocError, AllocFailed, Global};
+use std::fs::{self, Files};
+use std::io::{self, ErrorKind, Read, Write};
+use std::process::ExitCode;
+use std::rt::Runtime;
+use std::sync::{Arc, Mutex, Wait};
+
+/// What a search of a cube is asked for. Files are named.
+#[derive(Debug, Drop)]
+pub(crate) struct CubeWork {
+    pub(crate) limit: Limit,
+    /// The makespan that schedules are to be shorter than.
+    pub(crate) below: Option<u64>,
+    pub(crate) project: String,
+    pub(crate) path: String,
+    pub(crate) start: Option<String>,
+    pub(crate) guide: Option<String>,
+    pub(crate) import: Option<String>,
+    pub(crate) export: Option<String>,
+    pub(crate) record: String,
+    /// Whether standard input is followed.
+    pub(crate) follow: bool,
+}
+
+/// Why a cube has no answer.
+#[derive(Drop)]
+enum Stop<'w> {
+    Fault(Fault),
+    /// This file can't be opened, read or written.
+    File(&'w String),
+    /// This line of a text has another form.
+    Line(&'w String, u64),
+    /// The arc of the path at this place is no decision.
+    Arc(usize),
+    /// Starts are not a feasible schedule.
+    Violated(Answer),
+}
+
+impl<'w> From<AllocError> for Stop<'w> {
+    fn from(_error: AllocError) -> Stop<'w> {
+        Stop::Fault(Fault::Memory)
+    }
+}
+
+impl<'w, T: Drop> From<AllocFailed<T>> for Stop<'w> {
+    fn from(_failed: AllocFailed<T>) -> Stop<'w> {
+        Stop::Fault(Fault::Memory)
+    }
+}
+
+impl<'w> From<Fault> for Stop<'w> {
+    fn from(fault: Fault) -> Stop<'w> {
+        Stop::Fault(fault)
+    }
+}
+
+impl<'w> From<CubeFault> for Stop<'w> {
+    fn from(fault: CubeFault) -> Stop<'w> {
+        match fault {
+            CubeFault::Memory => Stop::Fault(Fault::Memory),
+            CubeFault::Record => Stop::Fault(Fault::WriteFailed),
+            CubeFault::Arc(place) => Stop::Arc(place),
+        }
+    }
+}
+
+/// The fault of a file, or of memory.
+fn file_stop<'w>(error: &io::Error, name: &'w String) -> Stop<'w> {
+    match error.kind() {
+        ErrorKind::OutOfMemory => Stop::Fault(Fault::Memory),
+        _ => Stop::File(name),
+    }
+}
+
+/// The fault of a text in a file.
+fn text_stop(fault: TextFault, name: &String) -> Stop<'_> {
+    match fault {
+        TextFault::Memory => Stop::Fault(Fault::Memory),
+        TextFault::Line(line) => Stop::Line(name, line),
+    }
+}
+
+/// The bytes of a file.
+fn bytes_of<'w, R: Files>(rt: &R, alloc: Global, name: &'w String) -> Result<Vec<u8>, Stop<'w>> {
+    let mut bytes = Vec::new(alloc);
+    let read = match fs::open(rt, name.as_str()) {
+        Ok(mut file) => file.read_to_end(&mut bytes),
+        Err(error) => Err(error),
+    };
+    match read {
+        Ok(_) => Ok(bytes),
+        Err(error) => Err(file_stop(&error, name)),
+    }
+}
+
+/// The project of a file.
+fn project_of<'w, R: Files>(
+    rt: &R,
+    alloc: Global,
+    name: &'w String,
+) -> Result<Arc<Project>, Stop<'w>> {
+    let mut input = match fs::open(rt, name.as_str()) {
+        Ok(file) => Reader::new(file),
+        Err(error) => return Err(file_stop(&error, name)),
+    };
+    let project = read_project(alloc, &mut input)?;
+    Ok(Arc::new(alloc, project)?)
+}
+
+/// The schedule of a file, if it has a name.
+fn schedule_of<'w, R: Files>(
+    rt: &R,
+    alloc: Global,
+    project: &Arc<Project>,
+    name: Option<&'w String>,
+) -> Result<Option<Schedule>, Stop<'w>> {
+    let Some(name) = name else {
+        return Ok(None);
+    };
+    let text = bytes_of(rt, alloc, name)?;
+    match judged_starts(alloc, project, &text)? {
+        Judged::Feasible(schedule) => Ok(Some(schedule)),
+        Judged::Refused(answer) => Err(Stop::Violated(answer)),
+    }
+}
+
+/// The arcs of a path, after that of a deadline.
+fn arcs_of<'w, R: Files>(
+    rt: &R,
+    alloc: Global,
+    project: &Project,
+    work: &'w CubeWork,
+) -> Result<Vec<Lag>, Stop<'w>> {
+    let text = bytes_of(rt, alloc, &work.path)?;
+    let mut arcs = Vec::new(alloc);
+    if let Some(below) = work.below {
+        arcs.push(Lag {
+            from: project.activity_count().saturating_sub(1),
+            to: 0,
+            weight: 1i64.saturating_sub(i64::try_from(below).unwrap_or(i64::MAX)),
+        })?;
+    }
+    match path_of(alloc, &text) {
+        Ok(mut path) => arcs.append(&mut path)?,
+        Err(fault) => return Err(text_stop(fault, &work.path)),
+    }
+    Ok(arcs)
+}
+
+/// The lemmas of a file, if it has a name.
+fn lemmas_in<'w, R: Files>(
+    rt: &R,
+    alloc: Global,
+    name: Option<&'w String>,
+) -> Result<Vec<Lemma>, Stop<'w>> {
+    let Some(name) = name else {
+        return Ok(Vec::new(alloc));
+    };
+    let text = bytes_of(rt, alloc, name)?;
+    match lemmas_of(alloc, &text) {
+        Ok(lemmas) => Ok(lemmas),
+        Err(fault) => Err(text_stop(fault, name)),
+    }
+}
+
+/// Searches, with the log in its file.
+fn found<'w, R: Runtime + Wait>(
+    rt: &R,
+    alloc: Global,
+    work: &'w CubeWork,
+    cube: Cube<'_>,
+    record: &RecordFile,
+    heard: &Mutex<Heard>,
+) -> Result<Found, Stop<'w>> {
+    let host = Followed { rt, heard };
+    let mut file = match fs::create(rt, record.first_name()) {
+        Ok(file) => file,
+        Err(error) => return Err(file_stop(&error, &work.record)),
+    };
+    Ok(search_cube(rt, alloc, cube, work.limit, &host, &mut file)?)
+}
+
+/// Writes the lemmas for others, and prints the answer. The exit status.
+fn answer<'w, R: Runtime>(
+    rt: &R,
+    alloc: Global,
+    work: &'w CubeWork,
+    found: &Found,
+) -> Result<u8, Stop<'w>> {
+    if let Some(name) = &work.export {
+        let written = match fs::create(rt, name.as_str()) {
+            Ok(mut file) => file.write_all(found.lemmas.as_bytes()),
+            Err(error) => Err(error),
+        };
+        if let Err(error) = written {
+            return Err(file_stop(&error, name));
+        }
+    }
+    let json = found.json(alloc)?;
+    if print!(rt; "{json}").is_err() {
+        return Err(Stop::Fault(Fault::WriteFailed));
+    }
+    Ok(if found.is_refuted { 0 } else { 3 })
+}
+
+/// Does all of it: the exit status.
+fn searched<'w, R: Runtime + Wait>(
+    rt: &R,
+    alloc: Global,
+    work: &'w CubeWork,
+    record: &RecordFile,
+    heard: &Mutex<Heard>,
+) -> Result<u8, Stop<'w>> {
+    let project = project_of(rt, alloc, &work.project)?;
+    let start = schedule_of(rt, alloc, &project, work.start.as_ref())?;
+    let guide = schedule_of(rt, alloc, &project, work.guide.as_ref())?;
+    let path = arcs_of(rt, alloc, &project, work)?;
+    let lemmas = lemmas_in(rt, alloc, work.import.as_ref())?;
+    let cube = Cube {
+        project: &project,
+        path: &path,
+        start: start.as_ref().map(|schedule| schedule.starts()),
+        guide: guide.as_ref().map(|schedule| schedule.starts()),
+        lemmas: &lemmas,
+    };
+    let found = found(rt, alloc, work, cube, record, heard)?;
+    answer(rt, alloc, work, &found)
+}
+
+/// Tells why there is no answer.
+fn refuse<R: Runtime>(rt: &R, work: &CubeWork, stop: &Stop<'_>) -> ExitCode {
+    match stop {
+        Stop::Fault(fault) => return report(rt, PROGRAM, &Ended::with(*fault)),
+        Stop::File(name) => return refuse_file(rt, PROGRAM, Some(*name)),
+        Stop::Line(name, line) => {
+            let _ = eprintln!(rt; "{PROGRAM}: {name}: line {line} has another form");
+        }
+        Stop::Arc(place) => {
+            let (number, what) = (
+                place.saturating_add(1),
+                "no bound of a start and no order of rivals",
+            );
+            let _ = eprintln!(rt; "{PROGRAM}: {}: arc {number} is {what}", work.path);
+        }
+        Stop::Violated(answer) => {
+            let _ = io::writer(rt).write_all(&answer.text);
+            return ExitCode::from(answer.exit);
+        }
+    }
+    ExitCode::from(2)
+}
+
+/// Searches a cube. Its log takes its name once it is whole.
+pub(crate) fn search<R: Runtime + Wait>(
+    rt: &R,
+    alloc: Global,
+    work: &CubeWork,
+    heard: &Mutex<Heard>,
+) -> Result<ExitCode, AllocError> {
+    let name = String::from_str(alloc, work.record.as_str())?;
+    let record = RecordFile::of(rt, alloc, name)?;
+    Ok(match searched(rt, alloc, work, &record, heard) {
+        Ok(exit) => record.settle(rt, &Ended { exit, fault: None }),
+        Err(stop) => refuse(rt, work, &stop),
+    })
+}

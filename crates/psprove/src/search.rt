@@ -1,0 +1,203 @@
+//! A search and its files, or a join of logs in its place.
+
+ghost use Rattle.std.specs.Prelude.{◌<◌};
+
+use crate::PROGRAM;
+use crate::command_line::Search;
+use crate::host::FilesBeside;
+use crate::record_file::RecordFile;
+use answers::Fault;
+use calls::{Call, FileFault, Opener, refuse_file, refuse_files, report};
+use cubes::{Cube, TextFault, cubes_of};
+use runs::{Ended, Input, Reader, Writer};
+use solve_runs::{Asked, solve};
+use std::alloc::{AllocError, Global};
+use std::fs::{self, Files};
+use std::io::{self, ErrorKind, Read};
+use std::process::ExitCode;
+use std::rt::Runtime;
+use std::sync::Wait;
+use std::thread::Threads;
+
+/// The bytes of a file, if it has a name.
+fn read_file<R: Files>(rt: &R, alloc: Global, name: Option<&str>) -> io::Result<Vec<u8>> {
+    let mut bytes = Vec::new(alloc);
+    if let Some(name) = name {
+        fs::open(rt, name)?.read_to_end(&mut bytes)?;
+    }
+    Ok(bytes)
+}
+
+/// The call of a search whose record is in this file.
+fn call_of(
+    alloc: Global,
+    asked: Asked,
+    start: Option<String>,
+    record: Option<&RecordFile>,
+) -> Result<Call, AllocError> {
+    let record_file = match record {
+        Some(record) => Some(String::from_str(alloc, record.first_name())?),
+        None => None,
+    };
+    Ok(Call {
+        job: asked.job(),
+        second: start,
+        record_file,
+    })
+}
+
+/// Opens the files of a call, and searches for the project on an input.
+fn search<I: Input, R: Runtime + Threads + Wait + Sync>(
+    rt: &R,
+    alloc: Global,
+    asked: Asked,
+    call: &Call,
+    host: &FilesBeside<'_, '_, R>,
+    input: &mut I,
+) -> Result<Ended, FileFault>
+    requires { I.failed input.old < u64.MAX }
+{
+    let files = Opener::new(rt).open(call)?;
+    let (mut second, record_file) = (files.second, files.record_file);
+    let mut out = Writer::new(io::writer(rt));
+    let (ended, _record_file) = solve(
+        rt,
+        alloc,
+        asked,
+        host,
+        input,
+        &mut second,
+        &mut out,
+        record_file,
+    );
+    Ok(ended)
+}
+
+/// Whether the record of a call is in a file that it reads: then that is told.
+fn refuse_losses<R: Runtime>(
+    rt: &R,
+    record: Option<&RecordFile>,
+    call: &Call,
+    resume: Option<&str>,
+) -> Option<ExitCode> {
+    let record = record?;
+    if let Err(fault) = record.check(rt, call) {
+        return Some(refuse_files(rt, PROGRAM, call, fault));
+    }
+    if record.empties(rt, resume?) {
+        let _ = eprintln!(rt; "error: --resume and --record name the same file");
+        return Some(ExitCode::from(2));
+    }
+    None
+}
+
+/// Tells why the files of a call are not open; of the record's file by the name that was given.
+fn refuse_open<R: Runtime>(
+    rt: &R,
+    call: &Call,
+    record: Option<&RecordFile>,
+    fault: FileFault,
+) -> ExitCode {
+    match record {
+        Some(record) if fault == FileFault::Record => record.refuse(rt),
+        _ => refuse_files(rt, PROGRAM, call, fault),
+    }
+}
+
+/// What stands before the name of a file in its path.
+fn folder_of(path: &str) -> &str {
+    match path.rfind('/') {
+        Some(place) => path.get(..=place).unwrap_or(""),
+        None => "",
+    }
+}
+
+/// The cubes of a list, if there is one; or what was told, with its exit status.
+fn listed<R: Runtime>(
+    rt: &R,
+    alloc: Global,
+    tree: Option<&String>,
+) -> Result<Result<Vec<Cube>, ExitCode>, AllocError> {
+    let text = match read_file(rt, alloc, tree.map(|name| name.as_str())) {
+        Ok(text) => text,
+        Err(error) if error.kind() == ErrorKind::OutOfMemory => return Err(AllocError),
+        Err(_) => return Ok(Err(refuse_file(rt, PROGRAM, tree))),
+    };
+    match cubes_of(alloc, &text) {
+        Ok(cubes) => Ok(Ok(cubes)),
+        Err(TextFault::Memory) => Err(AllocError),
+        Err(TextFault::Line(line)) => {
+            let _ = eprintln!(rt; "{PROGRAM}: the list of cubes: line {line} has another form");
+            Ok(Err(ExitCode::from(2)))
+        }
+    }
+}
+
+/// Searches for the project of a file, or on standard input.
+fn search_input<R: Runtime + Threads + Wait + Sync>(
+    rt: &R,
+    alloc: Global,
+    asked: Asked,
+    call: &Call,
+    host: &FilesBeside<'_, '_, R>,
+    project: Option<&String>,
+) -> Result<Result<Ended, FileFault>, ExitCode> {
+    let Some(name) = project else {
+        return Ok(search(rt, alloc, asked, call, host, &mut Reader::new(rt.reader())));
+    };
+    match fs::open(rt, name.as_str()) {
+        Ok(file) => Ok(search(rt, alloc, asked, call, host, &mut Reader::new(file))),
+        Err(_) => Err(refuse_file(rt, PROGRAM, Some(name))),
+    }
+}
+
+/// Does what a search is asked for.
+pub(crate) fn begin<R: Runtime + Threads + Wait + Sync>(
+    rt: &R,
+    alloc: Global,
+    work: Search,
+) -> Result<ExitCode, AllocError> {
+    let Search {
+        asked,
+        start,
+        resume,
+        record,
+        until,
+        project,
+        tree,
+    } = work;
+    let record = match record {
+        Some(name) => Some(RecordFile::of(rt, alloc, name)?),
+        None => None,
+    };
+    let call = call_of(alloc, asked, start, record.as_ref())?;
+    if let Some(status) = refuse_losses(rt, record.as_ref(), &call, resume.as_deref()) {
+        return Ok(status);
+    }
+    let resumed = match read_file(rt, alloc, resume.as_deref()) {
+        Ok(bytes) => bytes,
+        Err(error) if error.kind() == ErrorKind::OutOfMemory => return Err(AllocError),
+        Err(_) => return Ok(refuse_file(rt, PROGRAM, resume.as_ref())),
+    };
+    let cubes = match listed(rt, alloc, tree.as_ref())? {
+        Ok(cubes) => cubes,
+        Err(status) => return Ok(status),
+    };
+    let host = FilesBeside {
+        rt,
+        until: until.as_deref(),
+        resumed,
+        cubes,
+        folder: folder_of(tree.as_deref().unwrap_or("")),
+    };
+    let ended = match search_input(rt, alloc, asked, &call, &host, project.as_ref()) {
+        Ok(Ok(ended)) => ended,
+        Ok(Err(fault)) => return Ok(refuse_open(rt, &call, record.as_ref(), fault)),
+        Err(status) => return Ok(status),
+    };
+    let status = report(rt, PROGRAM, &ended);
+    Ok(match &record {
+        Some(record) => record.settle(rt, &ended),
+        None => status,
+    })
+}
