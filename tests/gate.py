@@ -24,6 +24,7 @@ import traceback
 from collections.abc import Callable, Iterator, Sequence
 
 import books
+import cubes
 import devices
 import documents
 import events
@@ -108,6 +109,7 @@ def scripts(folder: pathlib.Path, with_tests: bool) -> Iterator[Script]:
     yield "resumes", resumes.verdicts, [psprove]
     yield "options", options.verdicts, [psprove]
     yield "searches", searches.verdicts, [psmax, psprove, "--seeded", "200", "--large", "10"]
+    yield "cubes", cubes.verdicts, [psmax, psprove]
     drawn = ["--drawn", "50", "--seconds", "60"] if with_tests else []
     yield "reference values", reference_values.verdicts, [psprove, *drawn]
     yield "books", books.verdicts, [book_events]
