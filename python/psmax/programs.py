@@ -9,6 +9,7 @@ import subprocess
 import tempfile
 import time
 from collections.abc import Callable, Sequence
+from typing import IO
 
 from .clock import Clock
 from .errors import BadInput, Failed, TimeUp
@@ -36,6 +37,16 @@ def find_program(name: str) -> str:
     return found
 
 
+def given_file(given: bytes | pathlib.Path) -> IO[bytes]:
+    """What a program reads: a file that is there, or one of these bytes."""
+    if isinstance(given, pathlib.Path):
+        return open(given, "rb")
+    file = tempfile.TemporaryFile()
+    file.write(given)
+    file.seek(0)
+    return file
+
+
 class Program:
     """Calls one of the programs until the clock is stopped. `project` is what its project is called in faults."""
 
@@ -53,10 +64,10 @@ class Program:
     def odd(self, job: str) -> Failed:
         return Failed(f"{self.path} {job} gave an answer that plan does not know; is it {self.name}?")
 
-    def call(self, words: Sequence[str], given: bytes, seconds: float = SECONDS,
+    def call(self, words: Sequence[str], given: bytes | pathlib.Path, seconds: float = SECONDS,
              hear: Callable[[str], None] = lambda line: None, until: str | None = None) -> tuple[int, bytes]:
-        """The exit status of a call that answered within these seconds, and its output, or else what it told. Each line
-        that it tells is heard, and one of JSON is no fault. The file `until` asks it to end."""
+        """The exit status of a call that answered within these seconds, and its output, or else what it told. It is given
+        bytes or a file. Each line that it tells is heard, and one of JSON is no fault. The file `until` asks it to end."""
         status, out, told = self._run(words, given, seconds, hear, until)
         told = b"".join(line for line in told.splitlines(True) if not line.startswith(b"{"))
         lines = told.decode("utf-8", "replace").strip().splitlines()
@@ -83,13 +94,11 @@ class Program:
         status, out = self.judge("verify", project, record, math.inf)
         return status, out.decode("utf-8", "replace").strip().removeprefix(f"{self.name}: ")
 
-    def _run(self, words: Sequence[str], given: bytes, seconds: float, hear: Callable[[str], None],
+    def _run(self, words: Sequence[str], given: bytes | pathlib.Path, seconds: float, hear: Callable[[str], None],
              until: str | None) -> tuple[int, bytes, bytes]:
         if self.clock.stopped:
             raise TimeUp
-        with tempfile.TemporaryFile() as source, tempfile.TemporaryFile() as out, tempfile.TemporaryFile() as told:
-            source.write(given)
-            source.seek(0)
+        with given_file(given) as source, tempfile.TemporaryFile() as out, tempfile.TemporaryFile() as told:
             try:
                 child = subprocess.Popen([self.path, *words], stdin=source, stdout=out, stderr=told, start_new_session=True)
             except OSError as fault:

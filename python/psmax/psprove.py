@@ -44,7 +44,7 @@ class Psprove(Program):
         with tempfile.TemporaryDirectory(prefix="plan-") as folder:
             record, first, end = (os.path.join(folder, name) for name in ("record", "start", "end"))
             words = ["solve", "--json", "--progress", "json", *limits.words(), "--until", end, "--record", record]
-            if start is not None and max([0, *project.ends(start)]) <= start[-1] + spelled.offset:
+            if start is not None and spelled.has(start):
                 with open(first, "wb") as file:
                     file.write(starts_text(spelled.inward(start)))
                 words += ["--start", first]

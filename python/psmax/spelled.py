@@ -110,5 +110,9 @@ class Spelled:
         """The starts of the text's activities, from those of the project's."""
         return (*starts[:-1], *(begins for begins, _ in self.absences), starts[-1] + self.offset)
 
+    def has(self, starts: tuple[int, ...]) -> bool:
+        """Whether these are starts of the text, in which nothing ends behind its end."""
+        return max([0, *self.project.ends(starts)]) <= starts[-1] + self.offset
+
     def outward(self, starts: tuple[int, ...]) -> tuple[int, ...]:
         return (*starts[: self.project.end], self.value(starts[-1]))

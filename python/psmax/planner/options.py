@@ -1,5 +1,6 @@
 """The words of the command line."""
 import argparse
+import math
 import os
 import re
 from collections.abc import Callable, Sequence
@@ -11,14 +12,14 @@ from ..dates import ORDERS
 from ..errors import BadInput
 from ..formats import FORMATS
 from ..project import MOST_UNITS
-from . import (batch, batch_table, check, compare, floats, gantt, read, report, solve, verify, watch, whatif, where, why,
-               write)
+from . import (batch, batch_table, check, compare, cubes, floats, gantt, join, read, report, solve, status, verify, watch,
+               whatif, where, why, write)
 from .csv_text import SEPARATORS
 from .opened import ProjectFile, open_project
 from .replan import Start
 from .settings import GOALS, Settings, checked
 
-MOST_SECONDS = 1_000_000
+SECONDS, MOST_SECONDS = 60.0, 1_000_000
 MOST_JOBS = 64  # of psprove
 PROCESSORS = min(len(os.sched_getaffinity(0)), MOST_JOBS)
 MOST_PROJECTS = 256
@@ -85,12 +86,25 @@ def add_solve(one: argparse.ArgumentParser) -> None:
     add_project(one)
     add_limits(one)
     add_start(one)
-    one.add_argument("--out", metavar="FILE", help="write each shorter schedule into FILE")
+    one.add_argument("--out", metavar="FILE", help="write each shorter schedule into FILE; or search in cubes, which stand in "
+                     "the folder FILE/, without a limit of seconds")
+    one.add_argument("--cluster", metavar="ADDRESS", help="search the cubes on a cluster of Dask, such as tcp://HOST:8786")
     one.add_argument("--svg", metavar="FILE", help="draw the schedule into FILE")
     one.add_argument("--record", metavar="FILE", help="write the record that proves the bound into FILE")
     one.add_argument("--json", action="store_true", help="print the answer as one line of JSON")
-    one.set_defaults(run=lambda o: solve.solve(opened(o), start(o), solve.Options(
-        o.seconds, o.jobs, o.out, o.svg, o.record, o.json)))
+    one.set_defaults(run=run_solve, seconds=None)
+
+
+def run_solve(options: argparse.Namespace) -> int:
+    out, seconds, places = options.out, options.seconds, None
+    if options.cluster is not None and out is None:
+        raise BadInput("--cluster needs --out, a folder for the cubes")
+    if options.cluster is not None or out is not None and (out.endswith("/") or os.path.isdir(out)):
+        places, out = cubes.Places(out, options.cluster, options.jobs, options.record), None
+    if seconds is None:
+        seconds = SECONDS if places is None else math.inf
+    return solve.solve(opened(options), start(options), solve.Options(
+        seconds, options.jobs, out, options.svg, options.record, options.json, places))
 
 
 def add_project(one: argparse.ArgumentParser) -> None:
@@ -124,7 +138,7 @@ def settings(options: argparse.Namespace) -> Settings:
 
 
 def add_limits(one: argparse.ArgumentParser) -> None:
-    one.add_argument("--seconds", type=seconds, default=60.0, metavar="S", help="stop after S seconds (default 60)")
+    one.add_argument("--seconds", type=seconds, default=SECONDS, metavar="S", help="stop after S seconds (default 60)")
     one.add_argument("--jobs", type=number(1, MOST_JOBS), default=PROCESSORS, metavar="N",
                      help="run N searches side by side (default: the number of processors)")
 
@@ -143,6 +157,21 @@ def add_verify(one: argparse.ArgumentParser) -> None:
     one.add_argument("record", metavar="RECORD", help="a record of psprove or psmax")
     add_start(one)
     one.set_defaults(run=lambda o: verify.verify(opened(o), o.record, start(o)))
+
+
+def add_status(one: argparse.ArgumentParser) -> None:
+    add_folder(one)
+    one.set_defaults(run=lambda o: status.status(o.folder))
+
+
+def add_folder(one: argparse.ArgumentParser) -> None:
+    one.add_argument("folder", metavar="FOLDER", help="the folder of cubes that plan solve has as --out")
+
+
+def add_join(one: argparse.ArgumentParser) -> None:
+    add_folder(one)
+    one.add_argument("--record", metavar="FILE", help="write the record into FILE (default: record, in the folder)")
+    one.set_defaults(run=lambda o: join.join(o.folder, o.record))
 
 
 def add_read(one: argparse.ArgumentParser) -> None:
@@ -313,6 +342,11 @@ COMMANDS = (
      """Reads a project. Searches until it has proved a shortest schedule, or until a
 limit. Prints the answer on standard output, and its progress on standard error.""",
      "site.csv --seconds 600 --out plan.csv --record plan.rec"),
+    ("status", add_status, "show how far a search in cubes has come",
+     """Reads a folder of cubes. Prints how many are refuted, how much of the tree that is,
+and what is known of the project.""", "cubes"),
+    ("join", add_join, "make one record of the logs of cubes",
+     """Reads a folder of cubes, at any time. Writes one record, and prints what it proves.""", "cubes"),
     ("verify", add_verify, "say what a record proves of a project",
      "Reads a project and a record. Prints what it proves, or its first fault.", "site.csv plan.rec"),
     ("write", add_write, "write a schedule as a table in CSV",

@@ -1,4 +1,4 @@
-"""`plan solve`: a search by psprove with names, dates and files. What it says psprove has proved."""
+"""`plan solve`: a search by psprove with names, dates and files, or many of its cubes. What it says psprove has proved."""
 import json
 import platform
 import sys
@@ -14,7 +14,7 @@ from ..project import Goal
 from ..psmax import Psmax
 from ..psprove import Psprove
 from ..search import search
-from . import drawing, svg
+from . import cubes, drawing, svg
 from .again import once_more
 from .kept import Kept, activities_of
 from .opened import ProjectFile
@@ -32,6 +32,7 @@ class Options:
     svg: str | None
     record: str | None
     json: bool
+    places: cubes.Places | None = None  # of a search in cubes
 
 
 def solve(opened: ProjectFile, start: Start, options: Options) -> int:
@@ -55,8 +56,11 @@ def solve(opened: ProjectFile, start: Start, options: Options) -> int:
     for starts, called in schedules:
         known.offer(starts, f"{called}, by check")
     try:
-        psprove = Psprove(clock, opened.path)
-        search(beginning.project, psprove, known, options.jobs, beginning.repairs, start.answer or "")
+        if options.places is not None:
+            cubes.search(beginning, known, options.places)
+        else:
+            psprove = Psprove(clock, opened.path)
+            search(beginning.project, psprove, known, options.jobs, beginning.repairs, start.answer or "")
     except Failed:
         if known.starts is not None:
             give(known, opened, options, kept)

@@ -1,0 +1,145 @@
+"""planner/tests/cube_stand_in.py SECONDS solve | join | verify | --version WORD..
+
+Stands in for the psprove that searches cubes, on projects of a few activities, by trying all starts. A search takes SECONDS
+at least, and stays open after one try for each 100 conflicts. Its log says in JSON what it found, which `join` believes where
+the log is whole and of its cube, and `verify` tries all starts again."""
+import hashlib
+import json
+import pathlib
+import sys
+import threading
+from collections.abc import Iterator
+from itertools import combinations
+from typing import Any
+
+sys.path.insert(0, str(pathlib.Path(__file__).resolve().parents[2] / "python"))
+
+from psmax.project import Project, parse  # noqa: E402
+
+Arcs = list[list[int]]
+Row = dict[str, Any]
+
+
+def numbers(path: str | None) -> Arcs:
+    return [[int(word) for word in line.split()] for line in pathlib.Path(path).read_text().splitlines()] if path else []
+
+
+class Search:
+    def __init__(self, project: Project, arcs: Arcs, below: int | None, tries: float) -> None:
+        self.project, self.left = project, tries
+        self.arcs = [*((arc.tail, arc.head, arc.lag) for arc in project.arcs), *((i, j, v) for i, j, v in arcs)]
+        self.below = below if below is not None else sum(project.durations) + sum(abs(arc.lag) for arc in project.arcs) + 1
+        self.starts: list[int] | None = None
+
+    def run(self, starts: list[int]) -> bool:
+        """Whether all starts that begin with these were tried."""
+        self.left -= 1
+        if self.left < 0:
+            return False
+        if len(starts) == self.project.end:
+            whole = [*starts, max([0, *(starts[i] + self.project.durations[i] for i in range(1, len(starts)))])]
+            if self.fits(whole) and whole[-1] < self.below:
+                self.starts, self.below = whole, whole[-1]
+            return True
+        return all(self.run([*starts, time]) for time in range(self.below - self.project.durations[len(starts)])
+                   if self.fits([*starts, time]))
+
+    def fits(self, starts: list[int]) -> bool:
+        there, project = range(len(starts)), self.project
+        running = ([i for i in there if starts[i] <= time < starts[i] + project.durations[i]] for time in starts)
+        return (all(starts[j] >= starts[i] + v for i, j, v in self.arcs if i in there and j in there)
+                and all(sum(project.demands[i][k] for i in now) <= units
+                        for now in running for k, units in enumerate(project.capacities)))
+
+
+def pieces(project: Project, arcs: Arcs, count: int) -> Iterator[Row]:
+    """All ways to order so many more pairs."""
+    pairs = [pair for pair in combinations(range(1, project.end), 2) if {*pair} not in [{*arc[:2]} for arc in arcs]]
+    chosen = pairs[: (count - 1).bit_length()]
+    for bits in range(2 ** len(chosen) if chosen else 0):
+        name = f"{bits:0{len(chosen)}b}"
+        yield {"name": name, "arcs": [[i, j, project.durations[i]] if bit == "0" else [j, i, 1 - project.durations[i]]
+                                      for (i, j), bit in zip(chosen, name)]}
+
+
+def solve(options: dict[str, str], data: bytes, seconds: float) -> int:
+    project, arcs = parse(data), numbers(options["--under"])
+    lower: list[int] = []
+    follower = threading.Thread(target=lambda: lower.extend(int(line) for line in sys.stdin), daemon=True)
+    follower.start()
+    follower.join(seconds)
+    start = [line[1] for line in numbers(options.get("--start"))]
+    search = Search(project, arcs, min([*lower, *start[-1:]], default=None), int(options["--conflicts"]) / 100)
+    refuted = search.run([0]) and (follower.is_alive() or seconds == 0)
+    starts = search.starts or start or None
+    lemmas = [arcs] if refuted and arcs else []
+    log = {"project": hashlib.sha256(data).hexdigest(), "path": arcs, "below": search.below, "refuted": refuted,
+           "starts": starts, "lemmas": lemmas, "import": numbers(options.get("--import"))}
+    pathlib.Path(options["--record"]).write_text(f"record 3\n{json.dumps(log)}\n")
+    lines = (" ".join(map(str, [2, *sum(lemma, list[int]())])) + "\n" for lemma in lemmas)
+    pathlib.Path(options["--export"]).write_text("".join(lines))
+    kids = [] if refuted else [*pieces(project, arcs, int(options["--pieces"]))]
+    print(json.dumps({"cube": "refuted" if refuted else "open", "makespan": search.starts and search.starts[-1],
+                      "starts": search.starts, "pieces": kids, "conflicts": 1, "decisions": 1, "record_bytes": 1,
+                      "seconds": seconds}))
+    return 0 if refuted else 3
+
+
+def fault(log: pathlib.Path, data: bytes, arcs: Arcs, imported: Arcs, lemmas: list[Arcs]) -> str | Row:
+    """What is wrong with a log, or else what it says."""
+    text = log.read_text()
+    if not text.endswith("}\n"):
+        return "event 1: short"
+    row: Row = json.loads(text.removeprefix("record 3\n"))
+    told = [[line[place : place + 3] for place in range(1, len(line), 3)] for line in imported]
+    is_right = row["project"] == hashlib.sha256(data).hexdigest() and row["path"] == arcs and row["import"] == imported
+    return row if is_right and all(lemma in lemmas for lemma in told) else "event 1: lemma"
+
+
+def join(options: dict[str, str], data: bytes) -> int:
+    tree, refuted, lemmas, best = pathlib.Path(options["--tree"]), set[str](), list[Arcs](), list[list[int]]()
+    for line in tree.read_text().splitlines():
+        name, log, imported, *path = line.split()
+        arcs = [[*map(int, path[place : place + 3])] for place in range(0, len(path), 3)]
+        lines = numbers(None if imported == "-" else str(tree.parent / imported))
+        found = fault(tree.parent / log, data, arcs, lines, lemmas)
+        if isinstance(found, str):
+            print(f"psprove: cube {name}: {found}", file=sys.stderr)
+            continue
+        lemmas += found["lemmas"]
+        best += [found["starts"]] if found["starts"] else []
+        refuted |= {name.strip("-")} if found["refuted"] else set()
+    is_whole = sum(0.5 ** len(name) for name in refuted) == 1
+    least, end = max(parse(data).durations), min((starts[-1] for starts in best), default=None)
+    claim = f"bound {least}" if not is_whole else "no schedule" if end is None else f"optimal {end}"
+    pathlib.Path(options["--record"]).write_text(f"record 3\n{claim}\n")
+    print(claim)
+    return 0 if is_whole else 3
+
+
+def verify(options: dict[str, str], data: bytes) -> int:
+    claim = sys.stdin.read().removeprefix("record 3\n").strip()
+    search = Search(parse(data), [], None, float("inf"))
+    search.run([0])
+    end = None if search.starts is None else search.starts[-1]
+    is_true = claim == ("no schedule" if end is None else f"optimal {end}") or (
+        claim.startswith("bound ") and (end is None or int(claim.split()[1]) <= end))
+    print(f"proved {claim}" if is_true else "psprove: event 1: claim", file=sys.stdout if is_true else sys.stderr)
+    return 0 if is_true else 4
+
+
+def main(seconds: str, command: str, *words: str) -> int:
+    if command == "--version":
+        print("psprove stand-in")
+        return 0
+    options = {word: value for word, value in zip(words, [*words[1:], ""]) if word.startswith("--")}
+    data = pathlib.Path(options["--project"]).read_bytes()
+    if command == "solve":
+        return solve(options, data, float(seconds))
+    return (join if command == "join" else verify)(options, data)
+
+
+if __name__ == "__main__":
+    status = main(*sys.argv[1:])
+    sys.stdout.flush()
+    sys.exit(status)

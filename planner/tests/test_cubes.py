@@ -1,0 +1,262 @@
+"""One project in cubes: whatever is killed or broken on the way, the answer is the same, and what is wrong is named."""
+import importlib.util
+import json
+import os
+import pathlib
+import re
+import signal
+import socket
+import subprocess
+import sys
+import time
+import unittest
+import zlib
+from collections.abc import Callable
+from unittest import mock
+
+from psmax.cubes import cube
+from psmax.cubes.driver import MOST_LEMMAS, Lemmas
+from psmax.planner.status import seconds_left
+
+from .helpers import InFolder, plan, psmax, started
+
+STAND_IN = pathlib.Path(__file__).with_name("cube_stand_in.py")
+SECONDS = 300.0  # that something may take on a machine that does other work too
+WITHOUT_DASK = "Dask isn't here: install python3-distributed"
+
+# By hand: 9 periods of work on one machine. 2 starts 6 or more after 1 starts, and 4 at most 3 before 3 starts. So 1, 3, 4 and
+# 2 take 9 one after the other, and nothing can take less.
+FOUR = """4 1 0 0
+0 1 0
+1 1 1 2 [6]
+2 1 0
+3 1 1 4 [-3]
+4 1 0
+5 1 0
+0 1 0 0
+1 1 3 1
+2 1 2 1
+3 1 2 1
+4 1 2 1
+5 1 0 0
+1
+"""
+
+
+def until(is_so: Callable[[], bool]) -> None:
+    end = time.monotonic() + SECONDS
+    while not is_so():
+        assert time.monotonic() < end
+        time.sleep(0.05)
+
+
+class InCubes(InFolder):
+    def setUp(self) -> None:
+        super().setUp()
+        self.project, self.out = self.file("four.sch", FOUR), self.folder / "cubes"
+
+    def psprove(self, seconds: float = 0.0) -> str:
+        """A stand-in whose searches take so long."""
+        return self.program(f"psprove-{seconds:g}", f'exec {sys.executable} -ES {STAND_IN} {seconds} "$@"')
+
+    def rows(self, step: str) -> list[dict[str, object]]:
+        path = self.out / "rows"
+        lines = path.read_text().splitlines() if path.exists() else []
+        return [row for row in map(json.loads, lines) if row["step"] == step]
+
+    def solved(self, *words: object, aside: int = 0) -> str:
+        """The same command as ever finds a schedule of 9, and proves it; so many cubes are put aside on the way."""
+        ran = plan("solve", self.project, "--out", f"{self.out}/", *words, psprove=self.psprove())
+        self.assertEqual((ran.returncode, ran.stdout.splitlines()[0]), (0, "optimal 9"), ran.stderr)
+        self.assertEqual(psmax("check", "--project", self.project, given=ran.stdout.encode()), "feasible 9\n")
+        self.assertEqual((self.out / "record").read_text(), "record 3\noptimal 9\n")
+        self.assertEqual(ran.stderr.count("is put aside"), aside, ran.stderr)
+        return ran.stderr
+
+    def joined(self) -> str:
+        ran = plan("join", self.out, psprove=self.psprove())
+        self.assertEqual(ran.returncode, 0, ran.stderr)
+        return ran.stdout.removeprefix(f"{self.out / 'record'}: ")
+
+    def searches(self, driver: int) -> list[int]:
+        """The psproves that a driver started."""
+        threads = pathlib.Path(f"/proc/{driver}/task").glob("*/children")
+        return [int(pid) for thread in threads for pid in thread.read_text().split()]
+
+
+class Here(InCubes):
+    def test_split_and_solved(self) -> None:
+        """2,000 conflicts are 20 tries of the stand-in, so the project is split in 16. What is there is not searched again."""
+        told = self.solved("--jobs", "2")
+        self.assertIn("schedule 9: cube ", told)
+        self.assertEqual(len(self.rows("ended")), 17)
+        self.assertEqual(plan("status", self.out).stdout.splitlines()[:3], [
+            "cubes: 16 refuted, 0 open, 0 running; 100.0 % of the tree", "best schedule: 9",
+            "by the last join: proved optimal 9"])
+        self.solved("--jobs", "2")
+        self.assertEqual(len(self.rows("ended")), 17)
+
+    def test_killed_and_restarted(self) -> None:
+        """A search is killed, and then the driver, with a row that it was about to write. Searches don't outlive it."""
+        words = "solve", self.project, "--out", f"{self.out}/", "--jobs", "2"
+        with started(*words, psprove=self.psprove(0.3)) as driver:
+            until(lambda: len(self.rows("ended")) >= 3)
+            self.assertRegex(self.joined(), "proved bound [0-9]\n")
+            self.refused(plan(*words), 2, "has a driver already")
+            until(lambda: len(self.searches(driver.pid)) == 2)
+            first, second = self.searches(driver.pid)
+            os.kill(first, signal.SIGKILL)
+            until(lambda: first not in self.searches(driver.pid) and len(self.searches(driver.pid)) == 2)
+            self.assertIn("2 running", plan("status", self.out).stdout)
+            left = self.searches(driver.pid)
+            driver.kill()
+            told = driver.communicate()[1]
+        self.assertRegex(told, "cube [-01]+: psprove solve ended with status -9")
+        until(lambda: not any(pathlib.Path(f"/proc/{pid}").exists() for pid in left))
+        with open(self.out / "rows", "a") as rows:
+            rows.write('{"step": "end')
+        self.assertIn("0 running", plan("status", self.out).stdout)
+        self.solved()
+
+    def test_wrong_logs(self) -> None:
+        """One is cut and two are exchanged: their cubes, and those that got the lemma of one, are named and searched again."""
+        self.solved()
+        names = {row["number"]: row["cube"] for row in self.rows("given")}
+        cut, one, other = (self.out / "cubes" / f"{number}.log" for number in [*names][-3:])
+        cut.write_bytes(cut.read_bytes()[:-5])
+        swapped = one.read_bytes()
+        one.write_bytes(other.read_bytes())
+        other.write_bytes(swapped)
+        ran = plan("join", self.out, psprove=self.psprove())
+        named = re.findall(r"plan: cube ([01]+): event 1: (\w+); `plan solve` searches it again\n", ran.stderr)
+        self.assertEqual((ran.returncode, len(ran.stderr.splitlines())), (4, len(named)), ran.stderr)
+        self.assertIn((names[int(cut.stem)], "short"), named)
+        self.assertLessEqual({(names[int(path.stem)], "lemma") for path in (one, other)}, {*named})
+        self.assertRegex(ran.stdout, "proved bound [0-9]\n")
+        self.solved(aside=len(named))
+        self.assertEqual(len(self.rows("ended")), 17 + len(named))
+
+    def test_a_search_that_fails(self) -> None:
+        """Each time: the cube is named, and the same command with a psprove that works goes on."""
+        bad = self.program("bad", "echo psprove: no memory >&2; exit 1")
+        ran = plan("solve", self.project, "--out", f"{self.out}/", psprove=bad)
+        self.assertEqual((ran.returncode, ran.stdout), (1, ""))
+        self.assertIn("plan: cube - failed 3 times: psprove solve ended with status 1: no memory\n", ran.stderr)
+        self.solved()
+
+    def test_the_time_is_over(self) -> None:
+        """What is known then is the answer, and the record proves the bound."""
+        ran = plan("solve", self.project, "--out", f"{self.out}/", "--seconds", "2", "--jobs", "1", psprove=self.psprove(0.3))
+        self.assertEqual(ran.returncode, 3)
+        self.assertRegex(ran.stdout, "^(feasible [0-9]+|unknown) bound [0-9]\n")
+        self.assertIn("the 2 seconds are over; the same command goes on from here\n", ran.stderr)
+        self.solved()
+
+    def test_a_table(self) -> None:
+        """By hand: the crane is away from 2 to 4, so no job of 3 or 4 fits before that, and both take until 11."""
+        self.file("away.csv", "resource,from,to,units\ncrane,2,4,1\n")
+        table = self.file("jobs.csv", "absences,away.csv\n\nactivity,days,crane (1)\nlift,3,1\nturn,4,1\n")
+        ran = plan("solve", table, "--out", f"{self.out}/", "--json", psprove=self.psprove())
+        told = json.loads(ran.stdout)
+        self.assertEqual((told["status"], told["makespan"], told["names"]), ("optimal", 11, ["lift", "turn"]))
+        self.assertEqual(sorted(told["starts"])[:2], [0, 4])
+
+    def test_words(self) -> None:
+        """Folders that are none of cubes, or of another project; a cluster without a folder."""
+        self.refused(plan("solve", self.project, "--cluster", "tcp://127.0.0.1:1"), 2, "--cluster needs --out")
+        self.refused(plan("solve", self.project, "--out", self.folder), 2, "is no folder of cubes")
+        self.refused(plan("status", self.folder), 2, "is no folder of cubes")
+        self.solved()
+        other = self.file("other.sch", FOUR.replace("4 1 2 1", "4 1 1 1"))
+        self.refused(plan("solve", other, "--out", self.out), 2, "was begun with another project")
+
+    def test_without_dask(self) -> None:
+        with mock.patch.dict(sys.modules, {"distributed": None}):
+            ran = plan("solve", self.project, "--out", self.out, "--cluster", "tcp://127.0.0.1:1")
+        self.refused(ran, 1, "--cluster needs Dask (", "install python3-distributed, or `pip install distributed`")
+
+
+class Search(InCubes):
+    """A search as a worker runs it, without a driver."""
+
+    def search(self, seconds: float, ask: cube.Ask) -> cube.Row:
+        files = {"project": FOUR.encode(), "path": b"1 2 3\n", "import": b"", "start": b""}
+        packed = {name: zlib.compress(data) for name, data in files.items()}
+        limits = {"conflicts": 10**6, "pieces": 4}
+        return cube.search({"program": self.psprove(seconds), "run": "none", "folder": "/", **limits, **packed}, ask, 0.05)
+
+    def test_lower_ceilings(self) -> None:
+        """They come while it runs. Without the folder of the driver its files come back by themselves."""
+        told = iter([None, 10])
+        row = self.search(0.5, lambda: {"below": next(told, 9)})
+        log = json.loads(zlib.decompress(row["files"]["log"]).split(b"\n")[1])
+        self.assertEqual((row["cube"], row["starts"], log["below"], log["path"]), ("refuted", None, 9, [[1, 2, 3]]))
+        self.assertEqual(zlib.decompress(row["files"]["lemmas"]), b"2 1 2 3\n")
+
+    def test_nobody_waits(self) -> None:
+        began = time.monotonic()
+        with self.assertRaisesRegex(RuntimeError, "nobody waits"):
+            self.search(SECONDS, lambda: None)
+        self.assertLess(time.monotonic(), began + SECONDS / 2)
+
+
+class Chosen(unittest.TestCase):
+    def test_lemmas(self) -> None:
+        """Those of the cubes above come first, and then the shortest; each once, and no more than so many."""
+        lemmas = Lemmas(["3 1 2 4 2 3 1\n", "2 5 6 1\n2 1 2 4\n"])
+        self.assertEqual(lemmas.chosen([]), "2 1 2 4\n2 5 6 1\n3 1 2 4 2 3 1\n")
+        self.assertEqual(lemmas.chosen(["4 7 8 1 2 1 1\n5 5 6 1\n"]), "5 5 6 1\n4 7 8 1 2 1 1\n2 1 2 4\n3 1 2 4 2 3 1\n")
+        lemmas.add("".join(f"2 {i} 1 1\n" for i in range(MOST_LEMMAS + 5)))
+        self.assertEqual(len(lemmas.chosen(["2 9 8 7 6 5 4\n"]).splitlines()), MOST_LEMMAS)
+
+    def test_time(self) -> None:
+        """Told where the mean speed has been right at a quarter and at half of the time: 100 s for a third, so 200 s more."""
+        even = [(0.0, 0.0), (25.0, 0.08), (50.0, 0.17), (100.0, 1 / 3)]
+        self.assertAlmostEqual(seconds_left(even) or 0.0, 200.0)
+        self.assertIsNone(seconds_left([(0.0, 0.0), (25.0, 0.08), (50.0, 0.3), (100.0, 1 / 3)]))
+        self.assertIsNone(seconds_left([(0.0, 0.0), (90.0, 0.3), (100.0, 1 / 3)]))
+        self.assertIsNone(seconds_left([(0.0, 0.0)]))
+
+
+@unittest.skipUnless(importlib.util.find_spec("distributed"), WITHOUT_DASK)
+class OnDask(InCubes):
+    """A scheduler and two workers on this machine."""
+
+    def setUp(self) -> None:
+        super().setUp()
+        with socket.socket() as free:
+            free.bind(("127.0.0.1", 0))
+            port = free.getsockname()[1]
+        self.address = f"tcp://127.0.0.1:{port}"
+        self.dask("scheduler", "--host", "127.0.0.1", "--port", str(port))
+        self.workers = [self.worker() for _ in range(2)]
+
+    def dask(self, *words: str) -> subprocess.Popen[bytes]:
+        child = subprocess.Popen([sys.executable, "-m", "distributed.cli.dask_" + words[0], *words[1:], "--no-dashboard"],
+                                 env={**os.environ, "PSPROVE": self.psprove(0.3)}, cwd=self.folder,
+                                 stdout=subprocess.DEVNULL, stderr=subprocess.DEVNULL)
+        self.addCleanup(child.wait)
+        self.addCleanup(child.kill)
+        return child
+
+    def worker(self) -> subprocess.Popen[bytes]:
+        return self.dask("worker", self.address, "--nworkers", "1", "--nthreads", "1", "--no-nanny", "--memory-limit", "0")
+
+    def test_killed_and_restarted(self) -> None:
+        """A worker is killed, and then the driver. The other worker ends what that driver asked for, and goes on."""
+        words = "solve", self.project, "--out", self.out, "--cluster", self.address
+        with started(*words, psprove=self.psprove()) as driver:
+            until(lambda: len(self.rows("ended")) >= 3)
+            self.assertRegex(self.joined(), "proved bound [0-9]\n")
+            self.workers[0].kill()
+            count = len(self.rows("ended"))
+            until(lambda: len(self.rows("ended")) >= count + 3)
+            driver.kill()
+        self.assertNotEqual(self.joined(), "proved optimal 9\n")
+        self.solved("--cluster", self.address)
+
+    def test_no_scheduler(self) -> None:
+        with mock.patch("psmax.cubes.machines.CONNECT", 1.0):
+            ran = plan("solve", self.project, "--out", self.out, "--cluster", "tcp://127.0.0.1:1")
+        self.assertEqual((ran.returncode, ran.stdout), (1, ""))
+        self.assertIn("plan: tcp://127.0.0.1:1: ", ran.stderr.splitlines()[-1])

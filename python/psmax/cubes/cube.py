@@ -1,0 +1,100 @@
+"""The search of one cube, as a worker runs it: a psprove that follows what is known elsewhere. Dask sends this module by value,
+so it imports nothing of the package. A worker needs Dask, and the psprove that $PSPROVE names or its PATH has."""
+import contextlib
+import json
+import os
+import pathlib
+import secrets
+import shutil
+import subprocess
+import tempfile
+import zlib
+from collections.abc import Callable
+from typing import Any
+
+GLANCE = 0.05  # seconds between two looks at the search
+ASK = 5.0  # seconds between two questions of a worker of Dask for a shorter schedule
+WAIT = 60.0  # seconds for an answer to one
+SECONDS = 1_000_000  # of a search, which its conflicts limit
+GIVEN = ("project", "path", "import", "start")  # files that a search reads
+MADE = ("log", "lemmas")  # files that it writes
+
+Row = dict[str, Any]
+Ask = Callable[[], Row | None]  # what is known now, of which `below` is the ceiling; none where nobody waits any more
+
+
+def on_dask(task: Row) -> Row:
+    """The search on a worker of Dask. What is known stands in a variable with the name of the run."""
+    from distributed import Variable, get_client
+    shared = Variable(task["run"], client=get_client())
+
+    def ask() -> Row | None:
+        known: Row | None = shared.get(timeout=WAIT)
+        return known
+
+    return search(task, ask, ASK)
+
+
+def search(task: Row, ask: Ask, every: float) -> Row:
+    """What psprove answers, with the files that it made."""
+    with tempfile.TemporaryDirectory(prefix="cube-") as folder:
+        here = pathlib.Path(folder)
+        for name in GIVEN:
+            (here / name).write_bytes(zlib.decompress(task[name]))
+        status = followed(words(task, here), here, ask, every)
+        if status not in (0, 3):
+            told = (here / "err").read_text(errors="replace").strip().removeprefix("psprove: ")
+            raise RuntimeError(f"psprove solve ended with status {status}" + (f": {told[-300:]}" if told else ""))
+        row: Row = json.loads((here / "out").read_text())
+        return row | {"files": sent(task, here)}
+
+
+def words(task: Row, here: pathlib.Path) -> list[str]:
+    found = [task["program"] or os.environ.get("PSPROVE", "psprove"), "solve", "--json", "--follow",
+             "--project", str(here / "project"), "--under", str(here / "path"), "--record", str(here / "log"),
+             "--export", str(here / "lemmas"), "--seconds", f"{SECONDS}",
+             "--conflicts", f"{task['conflicts']}", "--pieces", f"{task['pieces']}"]
+    for name in ("import", "start"):
+        if (here / name).stat().st_size:
+            found += [f"--{name}", str(here / name)]
+    return found
+
+
+def followed(line: list[str], here: pathlib.Path, ask: Ask, every: float) -> int:
+    """The exit status of the search, which is told of lower ceilings. It ends when its standard input does, so it doesn't
+    outlive who started it."""
+    with (here / "out").open("wb") as out, (here / "err").open("wb") as err, subprocess.Popen(
+            line, stdin=subprocess.PIPE, stdout=out, stderr=err, text=True, start_new_session=True) as child:
+        assert child.stdin is not None
+        told, waited = None, every
+        try:
+            while child.poll() is None:
+                if waited >= every:
+                    known, waited = ask(), 0.0
+                    if known is None:
+                        raise RuntimeError("nobody waits for this search")
+                    if known["below"] is not None and known["below"] != told:
+                        told = known["below"]
+                        with contextlib.suppress(BrokenPipeError):  # it has just ended
+                            child.stdin.write(f"{told}\n")
+                            child.stdin.flush()
+                with contextlib.suppress(subprocess.TimeoutExpired):
+                    child.wait(GLANCE)
+                waited += GLANCE
+        except BaseException:
+            child.kill()
+            raise
+        return child.returncode
+
+
+def sent(task: Row, here: pathlib.Path) -> Row:
+    """The files that were made. Where this machine sees the driver's folder they are left there, by a new name."""
+    folder, name = pathlib.Path(task["folder"]), secrets.token_hex(8)
+    try:
+        if (folder / "token").read_text() != task["run"]:
+            raise FileNotFoundError
+    except OSError:
+        return {file: zlib.compress((here / file).read_bytes(), 1) for file in MADE}
+    for file in MADE:
+        shutil.copyfile(here / file, folder / "incoming" / f"{name}.{file}")
+    return dict.fromkeys(MADE, name)

@@ -1,0 +1,141 @@
+"""The driver of a tree. It gives cubes to machines, each with the lemmas of those that ended before, splits what stays open,
+and tells all searches of a shorter schedule."""
+import zlib
+from collections import Counter
+from collections.abc import Iterable
+
+from ..clock import Clock, tell
+from ..errors import Failed
+from ..known import Known
+from ..psmax import Psmax, starts_text
+from ..spelled import Spelled
+from .cube import Row
+from .machines import Machines
+from .tree import WHOLE, Cube, Driven
+
+FIRST, CUBES = 2_000, 16  # conflicts of the whole project, before it is split; cubes of that split, or two for each processor
+CONFLICTS, PIECES, GROWTH = 4_000, 4, 1.5  # of later searches and splits; with each split a cube may take so much longer
+MOST_CONFLICTS = 1_000_000_000
+MOST_LEMMAS = 4_000  # that a cube gets
+TRIES = 3  # of a cube whose search fails, or whose log is wrong
+GLANCE, TOLD = 0.2, 5.0  # seconds: between two looks at the clock; between two lines of progress
+
+
+class Lemmas:
+    """The shortest lemmas of all searches, by their arcs, each with its line `LBD I J V ..`."""
+
+    def __init__(self, texts: Iterable[str]) -> None:
+        self.best: dict[str, str] = {}
+        for text in texts:
+            self.add(text)
+
+    def add(self, text: str) -> None:
+        found = self.best | by_arcs(text)
+        self.best = {arcs: found[arcs] for arcs in sorted(found, key=length)[:MOST_LEMMAS]}
+
+    def chosen(self, kin: Iterable[str]) -> str:
+        """Those of the cubes above first, and then the shortest."""
+        first: dict[str, str] = {}
+        for text in kin:
+            first |= by_arcs(text)
+        lines = [*(first[arcs] for arcs in sorted(first, key=length)),
+                 *(line for arcs, line in self.best.items() if arcs not in first)]
+        return "".join(f"{line}\n" for line in lines[:MOST_LEMMAS])
+
+
+def by_arcs(text: str) -> dict[str, str]:
+    return {line.partition(" ")[2]: line for line in text.splitlines()}
+
+
+def length(arcs: str) -> tuple[int, str]:
+    return arcs.count(" "), arcs
+
+
+class Driver:
+    def __init__(self, tree: Driven, known: Known, spelled: Spelled) -> None:
+        self.tree, self.known, self.spelled = tree, known, spelled
+        self.tries: Counter[str] = Counter()
+        self.before = tree.seconds - known.clock.elapsed()  # the seconds of other drivers
+        self.told = -TOLD
+        if tree.starts is not None:
+            self.is_schedule(tree.starts, f"{tree.folder}")
+
+    def refute(self, machines: Machines) -> None:
+        """Until no cube is open, or the time is over."""
+        self.machines, self.lemmas = machines, Lemmas(self.tree.lemmas())
+        try:
+            self.machines.begin(self.tree.folder)
+            self.tell()
+            while (self.tree.waiting or self.tree.running) and not self.known.clock.over():
+                self.give(self.machines.room())
+                found = self.machines.next(GLANCE)
+                if found is not None:
+                    self.take(*found)
+                self.report()
+        finally:
+            self.machines.close()
+
+    def seconds(self) -> float:
+        return self.before + self.known.clock.elapsed()
+
+    def best(self) -> tuple[int, ...] | None:
+        """The starts of the text's activities in the shortest schedule."""
+        starts = self.known.starts
+        return self.spelled.inward(starts) if starts is not None and self.spelled.has(starts) else None
+
+    def tell(self) -> None:
+        """Makes the ceiling known to all searches."""
+        best = self.best()
+        self.machines.tell(None if best is None else best[-1])
+
+    def give(self, room: int) -> None:
+        while self.tree.waiting and len(self.tree.running) < room:
+            name = self.tree.next()
+            lemmas = self.lemmas.chosen(self.tree.lemmas(name))
+            number = self.tree.give(name, lemmas, self.seconds())
+            self.machines.give({"number": number, **self.task(self.tree.cubes[name], lemmas, room)})
+
+    def task(self, cube: Cube, lemmas: str, room: int) -> Row:
+        age, best = cube.age, self.best()
+        path = "".join(f"{i} {j} {v}\n" for i, j, v in cube.arcs)
+        files = {"project": self.spelled.text, "path": path.encode(), "import": lemmas.encode(),
+                 "start": b"" if best is None else starts_text(best)}
+        limits = {"conflicts": min(MOST_CONFLICTS, int(CONFLICTS * GROWTH ** (age - 1))), "pieces": PIECES}
+        if age == 0:
+            limits = {"conflicts": FIRST, "pieces": max(CUBES, 2 * room)}
+        packed = {kind: zlib.compress(data, 1) for kind, data in files.items()}
+        return {"age": age, "folder": str(self.tree.folder.resolve()), **limits, **packed}
+
+    def take(self, number: int, row: Row | Exception) -> None:
+        name = self.tree.running[number]
+        if isinstance(row, Exception):
+            self.tree.lose(number, self.seconds())
+            return self.fail(name, row)
+        if row["starts"] is not None:
+            if self.is_schedule(tuple(row["starts"]), f"cube {name or WHOLE}"):
+                self.tell()
+            else:
+                row["starts"] = None
+        self.tree.keep(number, row, self.seconds())
+        self.lemmas.add(self.tree.file(number, "lemmas").read_text())
+
+    def fail(self, name: str, fault: Exception) -> None:
+        self.tries[name] += 1
+        tell(self.known.clock, f"cube {name or WHOLE}: {fault or repr(fault)}")
+        if self.tries[name] == TRIES:
+            raise Failed(f"cube {name or WHOLE} failed {TRIES} times: {fault or repr(fault)}")
+
+    def is_schedule(self, starts: tuple[int, ...], by: str) -> bool:
+        """Whether psmax finds these starts of the text feasible. Then they are known."""
+        found = self.spelled.outward(starts)
+        if Psmax(Clock()).check(self.spelled.project, found).value is None:
+            tell(self.known.clock, f"{by}: its schedule is not feasible")
+            return False
+        if self.known.value is None or found[-1] < self.known.value:
+            self.known.offer(found, by)
+        return True
+
+    def report(self) -> None:
+        if self.known.clock.elapsed() >= self.told + TOLD:
+            self.told = self.known.clock.elapsed()
+            tell(self.known.clock, self.tree.state())

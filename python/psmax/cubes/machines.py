@@ -1,0 +1,159 @@
+"""Where cubes are searched: by processes of this machine, or by the workers of a Dask cluster, whoever started it. Both take
+tasks by `submit`, and give futures."""
+import logging
+import math
+import pathlib
+import queue
+import secrets
+import site
+import sys
+from collections.abc import Callable
+from concurrent.futures import CancelledError, Future, ThreadPoolExecutor
+from typing import Any, Protocol
+
+from ..errors import Failed
+from . import cube
+from .cube import Row
+
+FETCH = 30.0  # seconds for a result's way to the driver
+AHEAD = 1.2  # cubes with a cluster for each of its threads, so that none waits for the driver
+CONNECT = 10.0  # seconds
+MISSING = "--cluster needs Dask ({}): install python3-distributed, or `pip install distributed`"
+LOST = "the scheduler is lost; the same command goes on from here"
+
+
+class Coming(Protocol):
+    """A future of either kind."""
+
+    def result(self, timeout: float | None = None) -> Row: ...
+
+    def add_done_callback(self, call: Callable[[Any], object]) -> object: ...
+
+
+class Machines:
+    """What both kinds share: results come one after the other, as they end."""
+
+    program: str | None = None  # the psprove that is run, where it isn't the worker's own
+
+    def __init__(self) -> None:
+        self.run = "cubes-" + secrets.token_hex(8)
+        self.ended: queue.SimpleQueue[tuple[int, Coming]] = queue.SimpleQueue()
+
+    def give(self, task: Row) -> None:
+        self.expect(task["number"], self.submit(task | {"run": self.run, "program": self.program}))
+
+    def expect(self, number: int, coming: Coming) -> None:
+        coming.add_done_callback(lambda done: self.ended.put((number, done)))
+
+    def next(self, seconds: float) -> tuple[int, Row | Exception] | None:
+        """The number of a task that has ended, with its row or its fault; none where none ends in time."""
+        try:
+            number, coming = self.ended.get(timeout=seconds)
+        except queue.Empty:
+            return None
+        try:
+            return number, coming.result(FETCH)
+        except (TimeoutError, CancelledError):  # the worker died with the result: Dask has the task searched again
+            self.must_be_there()
+            self.expect(number, coming)
+            return None
+        except Exception as fault:
+            self.must_be_there()
+            return number, fault
+
+    def must_be_there(self) -> None:
+        """A fault where the machines are lost, and no single search."""
+
+    def begin(self, folder: pathlib.Path) -> None:
+        """Marks the folder as that of this run. Searches of a run before it end."""
+        token = folder / "token"
+        if token.exists():
+            self.end(token.read_text())
+        token.write_text(self.run)
+
+    def end(self, run: str) -> None:
+        pass
+
+    def submit(self, task: Row) -> Coming:
+        raise NotImplementedError
+
+    def tell(self, below: int | None) -> None:
+        """Makes the ceiling known to all searches."""
+        raise NotImplementedError
+
+    def room(self) -> int:
+        """How many cubes they have at once."""
+        raise NotImplementedError
+
+    def close(self) -> None:
+        """Ends all searches."""
+        raise NotImplementedError
+
+
+class Processes(Machines):
+    """The processors of this machine. A thread waits for each psprove."""
+
+    def __init__(self, jobs: int, program: str) -> None:
+        super().__init__()
+        self.jobs, self.program, self.known = jobs, program, None  # type: int, str, Row | None
+        self.pool = ThreadPoolExecutor(jobs)
+
+    def submit(self, task: Row) -> Future[Row]:
+        return self.pool.submit(cube.search, task, lambda: self.known, cube.GLANCE)
+
+    def tell(self, below: int | None) -> None:
+        self.known = {"below": below}
+
+    def room(self) -> int:
+        return self.jobs
+
+    def close(self) -> None:
+        self.known = None
+        self.pool.shutdown(cancel_futures=True)
+
+
+class Cluster(Machines):
+    """The workers of a scheduler of Dask."""
+
+    def __init__(self, address: str) -> None:
+        super().__init__()
+        if sys.flags.no_site:  # so `plan` starts
+            site.main()
+        try:
+            import cloudpickle
+            import distributed
+        except ImportError as fault:
+            raise Failed(MISSING.format(fault)) from None
+        logging.getLogger("distributed.client").setLevel(logging.CRITICAL)  # what it tells, this module says in a line
+        cloudpickle.register_pickle_by_value(cube)
+        self.variable = distributed.Variable
+        try:
+            self.client = distributed.Client(address, timeout=CONNECT)
+            self.client.get_versions(check=True)
+        except (OSError, TypeError, ValueError) as fault:  # no such host, no certificate, other versions there
+            raise Failed(f"{address}: {fault}") from None
+
+    def submit(self, task: Row) -> Coming:
+        coming: Coming = self.client.submit(cube.on_dask, task, key=f"cube-{task['number']}-{self.run}", pure=False,
+                                            priority=task["age"])
+        return coming
+
+    def tell(self, below: int | None) -> None:
+        self.variable(self.run, client=self.client).set({"below": below})
+
+    def end(self, run: str) -> None:
+        self.variable(run, client=self.client).set(None)
+
+    def must_be_there(self) -> None:
+        if self.client.status != "running":
+            raise Failed(LOST)
+
+    def room(self) -> int:
+        self.must_be_there()
+        threads: int = sum(self.client.nthreads().values())
+        return math.ceil(AHEAD * threads)
+
+    def close(self) -> None:
+        if self.client.status == "running":
+            self.end(self.run)
+        self.client.close()

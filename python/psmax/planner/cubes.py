@@ -1,0 +1,73 @@
+"""`plan solve --out FOLDER/`: one project in cubes, on the processors of this machine or of a cluster, and the answer of what
+`psprove verify` accepts."""
+import pathlib
+from collections import Counter
+from contextlib import closing
+from dataclasses import dataclass
+
+from ..clock import Clock, tell
+from ..cubes.driver import TRIES, Driver
+from ..cubes.machines import Cluster, Machines, Processes
+from ..cubes.tree import WHOLE, Driven
+from ..errors import Failed, TimeUp
+from ..known import Known
+from ..programs import find_program
+from ..psprove import Psprove
+from ..record import PROVED
+from ..solved import Solved
+from ..spelled import Spelled
+from .join import joined, place_of
+from .replan import Beginning
+
+
+@dataclass(frozen=True)
+class Places:
+    """Where cubes are searched, and where they and their record stand."""
+
+    folder: str
+    cluster: str | None  # the address of a scheduler
+    jobs: int  # of this machine, where there is no cluster
+    record: str | None
+
+    def machines(self) -> Machines:
+        return Cluster(self.cluster) if self.cluster else Processes(self.jobs, find_program(Psprove.name))
+
+
+def search(beginning: Beginning, known: Known, places: Places) -> None:
+    """Runs until everything is known or the time is over. Cubes whose logs are wrong are searched again."""
+    spelled, record = Spelled(beginning.project), place_of(places.folder, places.record)
+    with closing(Driven(pathlib.Path(places.folder), spelled.text)) as tree:
+        driver, wrong = Driver(tree, known, spelled), Counter[str]()
+        while True:
+            if tree.waiting:
+                driver.refute(places.machines())
+            bad = learn(tree, record, known, spelled) if tree.logs else {}
+            for name, fault in bad.items():
+                logs = ", ".join(tree.put_aside(name, driver.seconds()))
+                tell(known.clock, f"cube {name or WHOLE}: {fault}: {logs} is put aside, and the cube searched again")
+                wrong[name] += 1
+                if wrong[name] == TRIES:
+                    raise Failed(f"cube {name or WHOLE}: its log was wrong {TRIES} times")
+            if not bad or known.clock.over():
+                break
+    if not known.settled and known.clock.over():
+        tell(known.clock, f"{known.clock.why_over()}; the same command goes on from here")
+
+
+def learn(tree: Driven, record: str, known: Known, spelled: Spelled) -> dict[str, str]:
+    """Takes what the logs prove together. The faults of those that are wrong, by the names of their cubes."""
+    clock = Clock()
+    clock.listen()
+    try:
+        found = joined(tree, record, clock)
+    except TimeUp:
+        tell(known.clock, "stopped before the record was there; `plan join` makes it")
+        return {}
+    finally:
+        known.clock.listen()
+    proof = PROVED.fullmatch(found.says)
+    assert proof is not None
+    bound = None if proof[3] is None else spelled.value(int(proof[3]))
+    known.learn(Solved(None, None, bound, 0, b"", known.goal), "psprove join")
+    known.conflicts = tree.conflicts
+    return found.bad

@@ -1,0 +1,49 @@
+"""`plan status`: how far a search in cubes has come, while a driver runs or after that."""
+import pathlib
+from collections.abc import Sequence
+
+from ..cubes.tree import Tree, is_driven
+
+# A time is told where the same rule, used at these parts of the seconds so far, has said how much is refuted now, this nearly.
+PAST, NEARLY = (0.25, 0.5), 0.25
+UNITS = (("d", 86_400), ("h", 3_600), ("min", 60), ("s", 1))
+
+
+def status(folder: str) -> int:
+    tree = Tree(pathlib.Path(folder))
+    if not is_driven(tree.folder):
+        tree.abandon_all()
+    print(tree.state())
+    print(f"best schedule: {'none' if tree.starts is None else tree.starts[-1]}")
+    proved = tree.folder / "proved"
+    print(f"by the last join: {proved.read_text().strip() if proved.exists() else 'nothing'}")
+    print(f"so far: {shown(tree.seconds)}, {shown(tree.spent)} of processors, {tree.conflicts:,} conflicts")
+    left = seconds_left(tree.shares)
+    if tree.waiting or tree.running:
+        print(f"left: {'no estimate has been right so far' if left is None else f'about {shown(left)}'}")
+    return 0
+
+
+def seconds_left(shares: Sequence[tuple[float, float]]) -> float | None:
+    """As long as the tree takes by its mean speed, if that has been right in the past: then it is as much as was said."""
+    seconds, share = shares[-1]
+    for past in PAST:
+        said = share_at(shares, past * seconds) / past
+        if share == 0 or abs(said - share) > NEARLY * share:
+            return None
+    return seconds * (1 - share) / share
+
+
+def share_at(shares: Sequence[tuple[float, float]], time: float) -> float:
+    """What was refuted by then."""
+    return next(share for seconds, share in reversed(shares) if seconds <= time)
+
+
+def shown(seconds: float) -> str:
+    """With its two greatest units."""
+    parts, left = list[str](), round(seconds)
+    for unit, length in UNITS:
+        if left >= length or (unit == "s" and not parts):
+            parts.append(f"{left // length} {unit}")
+        left %= length
+    return " ".join(parts[:2])
