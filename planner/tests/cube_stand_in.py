@@ -65,7 +65,7 @@ def pieces(project: Project, arcs: Arcs, count: int) -> Iterator[Row]:
 def solve(options: dict[str, str], data: bytes, seconds: float) -> int:
     project, arcs = parse(data), numbers(options["--under"])
     lower: list[int] = []
-    follower = threading.Thread(target=lambda: lower.extend(int(line) for line in sys.stdin), daemon=True)
+    follower = threading.Thread(target=lambda: lower.extend(int(line.split()[-1]) for line in sys.stdin), daemon=True)
     follower.start()
     follower.join(seconds)
     start = [line[1] for line in numbers(options.get("--start"))]
@@ -89,11 +89,11 @@ def fault(log: pathlib.Path, data: bytes, arcs: Arcs, imported: Arcs, lemmas: li
     """What is wrong with a log, or else what it says."""
     text = log.read_text()
     if not text.endswith("}\n"):
-        return "event 1: short"
+        return "event 1 is wrong"
     row: Row = json.loads(text.removeprefix("record 3\n"))
     told = [[line[place : place + 3] for place in range(1, len(line), 3)] for line in imported]
     is_right = row["project"] == hashlib.sha256(data).hexdigest() and row["path"] == arcs and row["import"] == imported
-    return row if is_right and all(lemma in lemmas for lemma in told) else "event 1: lemma"
+    return row if is_right and all(lemma in lemmas for lemma in told) else "its log does not refute it"
 
 
 def join(options: dict[str, str], data: bytes) -> int:

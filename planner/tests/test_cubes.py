@@ -128,10 +128,10 @@ class Here(InCubes):
         one.write_bytes(other.read_bytes())
         other.write_bytes(swapped)
         ran = plan("join", self.out, psprove=self.psprove())
-        named = re.findall(r"plan: cube ([01]+): event 1: (\w+); `plan solve` searches it again\n", ran.stderr)
+        named = re.findall(r"plan: cube ([01]+): (.*); `plan solve` searches it again\n", ran.stderr)
         self.assertEqual((ran.returncode, len(ran.stderr.splitlines())), (4, len(named)), ran.stderr)
-        self.assertIn((names[int(cut.stem)], "short"), named)
-        self.assertLessEqual({(names[int(path.stem)], "lemma") for path in (one, other)}, {*named})
+        self.assertIn((names[int(cut.stem)], "event 1 is wrong"), named)
+        self.assertLessEqual({(names[int(path.stem)], "its log does not refute it") for path in (one, other)}, {*named})
         self.assertRegex(ran.stdout, "proved bound [0-9]\n")
         self.solved(aside=len(named))
         self.assertEqual(len(self.rows("ended")), 17 + len(named))
@@ -185,10 +185,10 @@ class Search(InCubes):
         limits = {"conflicts": 10**6, "pieces": 4}
         return cube.search({"program": self.psprove(seconds), "run": "none", "folder": "/", **limits, **packed}, ask, 0.05)
 
-    def test_lower_ceilings(self) -> None:
+    def test_shorter_schedules(self) -> None:
         """They come while it runs. Without the folder of the driver its files come back by themselves."""
-        told = iter([None, 10])
-        row = self.search(0.5, lambda: {"below": next(told, 9)})
+        told = iter([None, [0, 0, 8, 3, 5, 10]])
+        row = self.search(0.5, lambda: {"starts": next(told, [0, 0, 7, 3, 5, 9])})
         log = json.loads(zlib.decompress(row["files"]["log"]).split(b"\n")[1])
         self.assertEqual((row["cube"], row["starts"], log["below"], log["path"]), ("refuted", None, 9, [[1, 2, 3]]))
         self.assertEqual(zlib.decompress(row["files"]["lemmas"]), b"2 1 2 3\n")

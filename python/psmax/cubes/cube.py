@@ -18,9 +18,10 @@ WAIT = 60.0  # seconds for an answer to one
 SECONDS = 1_000_000  # of a search, which its conflicts limit
 GIVEN = ("project", "path", "import", "start")  # files that a search reads
 MADE = ("log", "lemmas")  # files that it writes
+TOLD = ("cube", "starts", "pieces", "conflicts", "seconds", "record_bytes")  # what it answers
 
 Row = dict[str, Any]
-Ask = Callable[[], Row | None]  # what is known now, of which `below` is the ceiling; none where nobody waits any more
+Ask = Callable[[], Row | None]  # the `starts` of the shortest schedule so far; no row where nobody waits any more
 
 
 def on_dask(task: Row) -> Row:
@@ -45,8 +46,8 @@ def search(task: Row, ask: Ask, every: float) -> Row:
         if status not in (0, 3):
             told = (here / "err").read_text(errors="replace").strip().removeprefix("psprove: ")
             raise RuntimeError(f"psprove solve ended with status {status}" + (f": {told[-300:]}" if told else ""))
-        row: Row = json.loads((here / "out").read_text())
-        return row | {"files": sent(task, here)}
+        row = json.loads((here / "out").read_text())
+        return {key: row[key] for key in TOLD} | {"files": sent(task, here)}
 
 
 def words(task: Row, here: pathlib.Path) -> list[str]:
@@ -61,7 +62,7 @@ def words(task: Row, here: pathlib.Path) -> list[str]:
 
 
 def followed(line: list[str], here: pathlib.Path, ask: Ask, every: float) -> int:
-    """The exit status of the search, which is told of lower ceilings. It ends when its standard input does, so it doesn't
+    """The exit status of the search, which is told of shorter schedules. It ends when its standard input does, so it doesn't
     outlive who started it."""
     with (here / "out").open("wb") as out, (here / "err").open("wb") as err, subprocess.Popen(
             line, stdin=subprocess.PIPE, stdout=out, stderr=err, text=True, start_new_session=True) as child:
@@ -73,10 +74,10 @@ def followed(line: list[str], here: pathlib.Path, ask: Ask, every: float) -> int
                     known, waited = ask(), 0.0
                     if known is None:
                         raise RuntimeError("nobody waits for this search")
-                    if known["below"] is not None and known["below"] != told:
-                        told = known["below"]
+                    if known["starts"] is not None and known["starts"] != told:
+                        told = known["starts"]
                         with contextlib.suppress(BrokenPipeError):  # it has just ended
-                            child.stdin.write(f"{told}\n")
+                            child.stdin.write(" ".join(map(str, told)) + "\n")
                             child.stdin.flush()
                 with contextlib.suppress(subprocess.TimeoutExpired):
                     child.wait(GLANCE)

@@ -63,15 +63,17 @@ class Driver:
     def refute(self, machines: Machines) -> None:
         """Until no cube is open, or the time is over."""
         self.machines, self.lemmas = machines, Lemmas(self.tree.lemmas())
+        self.tree.write("begun", self.seconds(), starts=self.best())
         try:
             self.machines.begin(self.tree.folder)
-            self.tell()
+            self.machines.tell(self.best())
             while (self.tree.waiting or self.tree.running) and not self.known.clock.over():
-                self.give(self.machines.room())
+                room = self.machines.room()
+                self.give(room)
                 found = self.machines.next(GLANCE)
                 if found is not None:
                     self.take(*found)
-                self.report()
+                self.report(room)
         finally:
             self.machines.close()
 
@@ -82,11 +84,6 @@ class Driver:
         """The starts of the text's activities in the shortest schedule."""
         starts = self.known.starts
         return self.spelled.inward(starts) if starts is not None and self.spelled.has(starts) else None
-
-    def tell(self) -> None:
-        """Makes the ceiling known to all searches."""
-        best = self.best()
-        self.machines.tell(None if best is None else best[-1])
 
     def give(self, room: int) -> None:
         while self.tree.waiting and len(self.tree.running) < room:
@@ -113,7 +110,7 @@ class Driver:
             return self.fail(name, row)
         if row["starts"] is not None:
             if self.is_schedule(tuple(row["starts"]), f"cube {name or WHOLE}"):
-                self.tell()
+                self.machines.tell(self.best())
             else:
                 row["starts"] = None
         self.tree.keep(number, row, self.seconds())
@@ -135,7 +132,7 @@ class Driver:
             self.known.offer(found, by)
         return True
 
-    def report(self) -> None:
+    def report(self, room: int) -> None:
         if self.known.clock.elapsed() >= self.told + TOLD:
             self.told = self.known.clock.elapsed()
-            tell(self.known.clock, self.tree.state())
+            tell(self.known.clock, self.tree.state() if room else "the cluster has no worker yet")

@@ -7,8 +7,9 @@ import queue
 import secrets
 import site
 import sys
-from collections.abc import Callable
+from collections.abc import Callable, Iterator
 from concurrent.futures import CancelledError, Future, ThreadPoolExecutor
+from contextlib import contextmanager
 from typing import Any, Protocol
 
 from ..errors import Failed
@@ -77,8 +78,8 @@ class Machines:
     def submit(self, task: Row) -> Coming:
         raise NotImplementedError
 
-    def tell(self, below: int | None) -> None:
-        """Makes the ceiling known to all searches."""
+    def tell(self, starts: tuple[int, ...] | None) -> None:
+        """Makes the shortest schedule known to all searches."""
         raise NotImplementedError
 
     def room(self) -> int:
@@ -101,8 +102,8 @@ class Processes(Machines):
     def submit(self, task: Row) -> Future[Row]:
         return self.pool.submit(cube.search, task, lambda: self.known, cube.GLANCE)
 
-    def tell(self, below: int | None) -> None:
-        self.known = {"below": below}
+    def tell(self, starts: tuple[int, ...] | None) -> None:
+        self.known = {"starts": starts}
 
     def room(self) -> int:
         return self.jobs
@@ -133,27 +134,41 @@ class Cluster(Machines):
         except (OSError, TypeError, ValueError) as fault:  # no such host, no certificate, other versions there
             raise Failed(f"{address}: {fault}") from None
 
-    def submit(self, task: Row) -> Coming:
-        coming: Coming = self.client.submit(cube.on_dask, task, key=f"cube-{task['number']}-{self.run}", pure=False,
-                                            priority=task["age"])
-        return coming
-
-    def tell(self, below: int | None) -> None:
-        self.variable(self.run, client=self.client).set({"below": below})
-
-    def end(self, run: str) -> None:
-        self.variable(run, client=self.client).set(None)
+    @contextmanager
+    def reached(self) -> Iterator[None]:
+        """A fault where the scheduler is there no more."""
+        try:
+            self.must_be_there()
+            yield
+        except OSError:
+            raise Failed(LOST) from None
 
     def must_be_there(self) -> None:
         if self.client.status != "running":
             raise Failed(LOST)
 
+    def submit(self, task: Row) -> Coming:
+        with self.reached():
+            coming: Coming = self.client.submit(cube.on_dask, task, key=f"cube-{task['number']}-{self.run}", pure=False,
+                                                priority=task["age"])
+            return coming
+
+    def tell(self, starts: tuple[int, ...] | None) -> None:
+        with self.reached():
+            self.variable(self.run, client=self.client).set({"starts": starts})
+
+    def end(self, run: str) -> None:
+        with self.reached():
+            self.variable(run, client=self.client).set(None)
+
     def room(self) -> int:
-        self.must_be_there()
-        threads: int = sum(self.client.nthreads().values())
-        return math.ceil(AHEAD * threads)
+        with self.reached():
+            threads: int = sum(self.client.nthreads().values())
+            return math.ceil(AHEAD * threads)
 
     def close(self) -> None:
-        if self.client.status == "running":
+        try:
             self.end(self.run)
+        except Failed:  # then searches end with their workers
+            pass
         self.client.close()

@@ -1,7 +1,8 @@
 """The tree of the cubes of a project, as it stands in a folder. One driver writes it; nobody else has to agree on anything.
 
 project.sch   the project
-rows          a line of JSON for each step: a cube is given out, its search has ended or is lost, or its logs are put aside
+rows          a line of JSON for each step: a driver has begun, a cube is given out, its search has ended or is lost, or its
+              logs are put aside
 cubes/N.log   what search N proves; N.import has the lemmas that it got, and N.lemmas its own
 incoming      files on their way there
 token         the run's: a worker that reads it sees the folder, and leaves its files there
@@ -18,7 +19,7 @@ from typing import IO
 
 from ..errors import BadInput
 from ..files import write_whole
-from .cube import MADE, Row
+from .cube import MADE, TOLD, Row
 
 WHOLE = "-"  # what the cube without a path is called by psprove
 
@@ -60,6 +61,8 @@ class Tree:
             self.end(row)
         elif row["step"] == "lost":
             self.abandon(row["number"])
+        elif row["step"] == "begun":
+            self.learn(row["starts"])
         else:
             self.open_again(row["cube"])
         self.shares.append((row["at"], self.share))
@@ -70,8 +73,7 @@ class Tree:
         self.logs[row["number"]] = name
         self.spent += row["seconds"]
         self.conflicts += row["conflicts"]
-        if row["starts"] is not None and (self.starts is None or row["starts"][-1] < self.starts[-1]):
-            self.starts = tuple(row["starts"])
+        self.learn(row["starts"])
         if row["state"] == "refuted":
             self.refuted.add(name)
             self.share += part(name)
@@ -80,6 +82,10 @@ class Tree:
         self.cubes[name] = replace(cube, age=cube.age + 1, kids=(*kids,))
         self.cubes |= kids
         self.waiting |= {*kids} or {name}  # one without pieces is searched again
+
+    def learn(self, starts: list[int] | None) -> None:
+        if starts is not None and (self.starts is None or starts[-1] < self.starts[-1]):
+            self.starts = tuple(starts)
 
     def open_again(self, name: str) -> None:
         """Without its logs; a cube that was split stays so."""
@@ -165,8 +171,7 @@ class Driven(Tree):
                 write_whole(str(self.file(number, kind)), zlib.decompress(found))
             else:
                 os.replace(self.folder / "incoming" / f"{found}.{kind}", self.file(number, kind))
-        told = {key: row[key] for key in ("starts", "pieces", "conflicts", "seconds", "record_bytes")}
-        self.write("ended", at, number=number, state=row["cube"], **told)
+        self.write("ended", at, number=number, **{key: row[key] for key in TOLD if key != "cube"}, state=row["cube"])
 
     def lose(self, number: int, at: float) -> None:
         self.write("lost", at, number=number)
