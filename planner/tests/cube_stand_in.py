@@ -81,7 +81,7 @@ def solve(options: dict[str, str], data: bytes, seconds: float) -> int:
     kids = [] if refuted else [*pieces(project, arcs, int(options["--pieces"]))]
     print(json.dumps({"cube": "refuted" if refuted else "open", "makespan": search.starts and search.starts[-1],
                       "starts": search.starts, "pieces": kids, "conflicts": 1, "decisions": 1, "record_bytes": 1,
-                      "seconds": seconds}))
+                      "seconds": 1}))
     return 0 if refuted else 3
 
 

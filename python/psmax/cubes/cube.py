@@ -8,17 +8,18 @@ import secrets
 import shutil
 import subprocess
 import tempfile
+import time
 import zlib
 from collections.abc import Callable
 from typing import Any
 
-GLANCE = 0.05  # seconds between two looks at the search
+GLANCE = 0.02  # seconds between two looks at the search
 ASK = 5.0  # seconds between two questions of a worker of Dask for a shorter schedule
 WAIT = 60.0  # seconds for an answer to one
 SECONDS = 1_000_000  # of a search, which its conflicts limit
 GIVEN = ("project", "path", "import", "start")  # files that a search reads
 MADE = ("log", "lemmas")  # files that it writes
-TOLD = ("cube", "starts", "pieces", "conflicts", "seconds", "record_bytes")  # what it answers
+TOLD = ("cube", "starts", "pieces", "conflicts", "record_bytes")  # what it answers
 
 Row = dict[str, Any]
 Ask = Callable[[], Row | None]  # the `starts` of the shortest schedule so far; no row where nobody waits any more
@@ -42,12 +43,12 @@ def search(task: Row, ask: Ask, every: float) -> Row:
         here = pathlib.Path(folder)
         for name in GIVEN:
             (here / name).write_bytes(zlib.decompress(task[name]))
-        status = followed(words(task, here), here, ask, every)
+        status, seconds = followed(words(task, here), here, ask, every)
         if status not in (0, 3):
             told = (here / "err").read_text(errors="replace").strip().removeprefix("psprove: ")
             raise RuntimeError(f"psprove solve ended with status {status}" + (f": {told[-300:]}" if told else ""))
         row = json.loads((here / "out").read_text())
-        return {key: row[key] for key in TOLD} | {"files": sent(task, here)}
+        return {key: row[key] for key in TOLD} | {"seconds": seconds, "files": sent(task, here)}
 
 
 def words(task: Row, here: pathlib.Path) -> list[str]:
@@ -61,31 +62,36 @@ def words(task: Row, here: pathlib.Path) -> list[str]:
     return found
 
 
-def followed(line: list[str], here: pathlib.Path, ask: Ask, every: float) -> int:
-    """The exit status of the search, which is told of shorter schedules. It ends when its standard input does, so it doesn't
-    outlive who started it."""
+def followed(line: list[str], here: pathlib.Path, ask: Ask, every: float) -> tuple[int, float]:
+    """The exit status of the search, and its seconds of a processor. It is told of shorter schedules. It ends when its standard
+    input does, so it doesn't outlive who started it."""
     with (here / "out").open("wb") as out, (here / "err").open("wb") as err, subprocess.Popen(
             line, stdin=subprocess.PIPE, stdout=out, stderr=err, text=True, start_new_session=True) as child:
-        assert child.stdin is not None
-        told, waited = None, every
+        told, asked = None, -every
         try:
-            while child.poll() is None:
-                if waited >= every:
-                    known, waited = ask(), 0.0
+            while True:
+                ended, status, used = os.wait4(child.pid, os.WNOHANG)
+                if ended:
+                    child.returncode = os.waitstatus_to_exitcode(status)
+                    return child.returncode, round(used.ru_utime + used.ru_stime, 3)
+                if time.monotonic() >= asked + every:
+                    known, asked = ask(), time.monotonic()
                     if known is None:
                         raise RuntimeError("nobody waits for this search")
                     if known["starts"] is not None and known["starts"] != told:
                         told = known["starts"]
-                        with contextlib.suppress(BrokenPipeError):  # it has just ended
-                            child.stdin.write(" ".join(map(str, told)) + "\n")
-                            child.stdin.flush()
-                with contextlib.suppress(subprocess.TimeoutExpired):
-                    child.wait(GLANCE)
-                waited += GLANCE
+                        say(child, " ".join(map(str, told)))
+                time.sleep(GLANCE)
         except BaseException:
             child.kill()
             raise
-        return child.returncode
+
+
+def say(child: subprocess.Popen[str], line: str) -> None:
+    assert child.stdin is not None
+    with contextlib.suppress(BrokenPipeError):  # it has just ended
+        child.stdin.write(f"{line}\n")
+        child.stdin.flush()
 
 
 def sent(task: Row, here: pathlib.Path) -> Row:

@@ -125,7 +125,8 @@ class Cluster(Machines):
             import distributed
         except ImportError as fault:
             raise Failed(MISSING.format(fault)) from None
-        logging.getLogger("distributed.client").setLevel(logging.CRITICAL)  # what it tells, this module says in a line
+        for name in ("distributed.client", "asyncio"):  # what they tell, this module says in a line
+            logging.getLogger(name).setLevel(logging.CRITICAL)
         cloudpickle.register_pickle_by_value(cube)
         self.variable = distributed.Variable
         try:

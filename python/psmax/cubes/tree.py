@@ -44,7 +44,7 @@ class Tree:
         self.starts: tuple[int, ...] | None = None  # of the shortest schedule, by the numbers of the text
         self.number = 0
         self.seconds = 0.0  # of all drivers
-        self.spent = 0.0  # seconds of searches
+        self.spent = 0.0  # seconds of processors
         self.conflicts = 0
         self.share = 0.0  # of the tree, refuted
         self.shares = [(0.0, 0.0)]  # after so many seconds, so much
@@ -171,7 +171,8 @@ class Driven(Tree):
                 write_whole(str(self.file(number, kind)), zlib.decompress(found))
             else:
                 os.replace(self.folder / "incoming" / f"{found}.{kind}", self.file(number, kind))
-        self.write("ended", at, number=number, **{key: row[key] for key in TOLD if key != "cube"}, state=row["cube"])
+        told = {key: row[key] for key in (*TOLD, "seconds") if key != "cube"}
+        self.write("ended", at, number=number, state=row["cube"], **told)
 
     def lose(self, number: int, at: float) -> None:
         self.write("lost", at, number=number)
