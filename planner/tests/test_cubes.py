@@ -117,6 +117,7 @@ class Here(InCubes):
             rows.write('{"step": "end')
         self.assertIn("0 running", plan("status", self.out).stdout)
         self.solved()
+        self.assertIn("cubes: 16 refuted, 0 open, 0 running; 100.0 %", plan("status", self.out).stdout)
 
     def test_wrong_logs(self) -> None:
         """One is cut and two are exchanged: their cubes, and those that got the lemma of one, are named and searched again."""
@@ -128,7 +129,7 @@ class Here(InCubes):
         one.write_bytes(other.read_bytes())
         other.write_bytes(swapped)
         ran = plan("join", self.out, psprove=self.psprove())
-        named = re.findall(r"plan: cube ([01]+): (.*); `plan solve` searches it again\n", ran.stderr)
+        named = re.findall(r"plan: cube ([01]+): (.*); it is left out\n", ran.stderr)
         self.assertEqual((ran.returncode, len(ran.stderr.splitlines())), (4, len(named)), ran.stderr)
         self.assertIn((names[int(cut.stem)], "event 1 is wrong"), named)
         self.assertLessEqual({(names[int(path.stem)], "its log does not refute it") for path in (one, other)}, {*named})

@@ -55,7 +55,6 @@ class Driver:
     def __init__(self, tree: Driven, known: Known, spelled: Spelled) -> None:
         self.tree, self.known, self.spelled = tree, known, spelled
         self.tries: Counter[str] = Counter()
-        self.before = tree.seconds - known.clock.elapsed()  # the seconds of other drivers
         self.told = -TOLD
         if tree.starts is not None:
             self.is_schedule(tree.starts, f"{tree.folder}")
@@ -63,7 +62,7 @@ class Driver:
     def refute(self, machines: Machines) -> None:
         """Until no cube is open, or the time is over."""
         self.machines, self.lemmas = machines, Lemmas(self.tree.lemmas())
-        self.tree.write("begun", self.seconds(), starts=self.best())
+        self.tree.write("begun", starts=self.best())
         try:
             self.machines.begin(self.tree.folder)
             self.machines.tell(self.best())
@@ -77,9 +76,6 @@ class Driver:
         finally:
             self.machines.close()
 
-    def seconds(self) -> float:
-        return self.before + self.known.clock.elapsed()
-
     def best(self) -> tuple[int, ...] | None:
         """The starts of the text's activities in the shortest schedule."""
         starts = self.known.starts
@@ -89,7 +85,7 @@ class Driver:
         while self.tree.waiting and len(self.tree.running) < room:
             name = self.tree.next()
             lemmas = self.lemmas.chosen(self.tree.lemmas(name))
-            number = self.tree.give(name, lemmas, self.seconds())
+            number = self.tree.give(name, lemmas)
             self.machines.give({"number": number, **self.task(self.tree.cubes[name], lemmas, room)})
 
     def task(self, cube: Cube, lemmas: str, room: int) -> Row:
@@ -106,21 +102,22 @@ class Driver:
     def take(self, number: int, row: Row | Exception) -> None:
         name = self.tree.running[number]
         if isinstance(row, Exception):
-            self.tree.lose(number, self.seconds())
+            self.tree.write("lost", number=number)
             return self.fail(name, row)
         if row["starts"] is not None:
             if self.is_schedule(tuple(row["starts"]), f"cube {name or WHOLE}"):
                 self.machines.tell(self.best())
             else:
                 row["starts"] = None
-        self.tree.keep(number, row, self.seconds())
+        self.tree.keep(number, row)
         self.lemmas.add(self.tree.file(number, "lemmas").read_text())
 
     def fail(self, name: str, fault: Exception) -> None:
         self.tries[name] += 1
-        tell(self.known.clock, f"cube {name or WHOLE}: {fault or repr(fault)}")
+        why = (str(fault) or repr(fault)).partition(". ")[0]  # Dask goes on with advice
+        tell(self.known.clock, f"cube {name or WHOLE}: {why}")
         if self.tries[name] == TRIES:
-            raise Failed(f"cube {name or WHOLE} failed {TRIES} times: {fault or repr(fault)}")
+            raise Failed(f"cube {name or WHOLE} failed {TRIES} times: {why}")
 
     def is_schedule(self, starts: tuple[int, ...], by: str) -> bool:
         """Whether psmax finds these starts of the text feasible. Then they are known."""

@@ -96,7 +96,8 @@ class Processes(Machines):
 
     def __init__(self, jobs: int, program: str) -> None:
         super().__init__()
-        self.jobs, self.program, self.known = jobs, program, None  # type: int, str, Row | None
+        self.jobs, self.program = jobs, program
+        self.known: Row | None = None
         self.pool = ThreadPoolExecutor(jobs)
 
     def submit(self, task: Row) -> Future[Row]:

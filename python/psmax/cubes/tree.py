@@ -12,6 +12,7 @@ import fcntl
 import json
 import os
 import pathlib
+import time
 import zlib
 from collections.abc import Iterator
 from dataclasses import dataclass, replace
@@ -28,7 +29,6 @@ WHOLE = "-"  # what the cube without a path is called by psprove
 class Cube:
     arcs: tuple[tuple[int, ...], ...] = ()  # of its path, each I J V
     age: int = 0  # how many searches of it, and of those above it, a limit has ended
-    kids: tuple[str, ...] = ()
 
 
 class Tree:
@@ -62,6 +62,7 @@ class Tree:
         elif row["step"] == "lost":
             self.abandon(row["number"])
         elif row["step"] == "begun":
+            self.abandon_all()
             self.learn(row["starts"])
         else:
             self.open_again(row["cube"])
@@ -79,8 +80,7 @@ class Tree:
             self.share += part(name)
             return
         kids = {name + one["name"]: Cube(cube.arcs + tuple(map(tuple, one["arcs"])), cube.age + 1) for one in row["pieces"]}
-        self.cubes[name] = replace(cube, age=cube.age + 1, kids=(*kids,))
-        self.cubes |= kids
+        self.cubes |= {name: replace(cube, age=cube.age + 1), **kids}
         self.waiting |= {*kids} or {name}  # one without pieces is searched again
 
     def learn(self, starts: list[int] | None) -> None:
@@ -149,21 +149,22 @@ class Driven(Tree):
             left.unlink()
         super().__init__(folder)
         self.abandon_all()
+        self.offset = self.seconds - time.monotonic()
 
-    def write(self, step: str, at: float, **row: object) -> None:
-        found = {"step": step, "at": round(at, 2), **row}
+    def write(self, step: str, **row: object) -> None:
+        found = {"step": step, "at": round(self.offset + time.monotonic(), 2), **row}
         self.rows.write(json.dumps(found).encode() + b"\n")
         self.rows.flush()
         self.take(found)
 
-    def give(self, name: str, lemmas: str, at: float) -> int:
+    def give(self, name: str, lemmas: str) -> int:
         """The number of a search of the cube, which gets these."""
         number = self.number + 1
         self.file(number, "import").write_text(lemmas)
-        self.write("given", at, number=number, cube=name)
+        self.write("given", number=number, cube=name)
         return number
 
-    def keep(self, number: int, row: Row, at: float) -> None:
+    def keep(self, number: int, row: Row) -> None:
         """The search has ended: its files first, and then its row."""
         for kind in MADE:
             found = row["files"][kind]
@@ -172,15 +173,12 @@ class Driven(Tree):
             else:
                 os.replace(self.folder / "incoming" / f"{found}.{kind}", self.file(number, kind))
         told = {key: row[key] for key in (*TOLD, "seconds") if key != "cube"}
-        self.write("ended", at, number=number, state=row["cube"], **told)
+        self.write("ended", number=number, state=row["cube"], **told)
 
-    def lose(self, number: int, at: float) -> None:
-        self.write("lost", at, number=number)
-
-    def put_aside(self, name: str, at: float) -> list[str]:
+    def put_aside(self, name: str) -> list[str]:
         """The logs of the cube, which stay as files, and are no part of the tree any more."""
         found = [f"{self.file(number, 'log')}" for number, other in self.logs.items() if other == name]
-        self.write("aside", at, cube=name)
+        self.write("aside", cube=name)
         return found
 
     def close(self) -> None:

@@ -43,8 +43,8 @@ def search(beginning: Beginning, known: Known, places: Places) -> None:
                 driver.refute(places.machines())
             bad = learn(tree, record, known, spelled) if tree.logs else {}
             for name, fault in bad.items():
-                logs = ", ".join(tree.put_aside(name, driver.seconds()))
-                tell(known.clock, f"cube {name or WHOLE}: {fault}: {logs} is put aside, and the cube searched again")
+                logs = ", ".join(tree.put_aside(name))
+                tell(known.clock, f"cube {name or WHOLE}: {fault}: {logs} is put aside")
                 wrong[name] += 1
                 if wrong[name] == TRIES:
                     raise Failed(f"cube {name or WHOLE}: its log was wrong {TRIES} times")

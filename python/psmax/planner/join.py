@@ -61,5 +61,5 @@ def join(folder: str, record: str | None) -> int:
     found = joined(tree, place, clock)
     print(f"{place}: {found.says}")
     for name, fault in found.bad.items():
-        print(f"plan: cube {name or WHOLE}: {printable(fault)}; `plan solve` searches it again", file=sys.stderr)
+        print(f"plan: cube {name or WHOLE}: {printable(fault)}; it is left out", file=sys.stderr)
     return WRONG if found.bad else 0
