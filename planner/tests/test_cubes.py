@@ -165,7 +165,7 @@ class Here(InCubes):
     def test_words(self) -> None:
         """Folders that are none of cubes, or of another project; a cluster without a folder."""
         self.refused(plan("solve", self.project, "--cluster", "tcp://127.0.0.1:1"), 2, "--cluster needs --out")
-        self.refused(plan("solve", self.project, "--out", self.folder), 2, "is no folder of cubes")
+        self.refused(plan("solve", self.project, "--out", f"{self.folder}/"), 2, "is no folder of cubes")
         self.refused(plan("status", self.folder), 2, "is no folder of cubes")
         self.solved()
         other = self.file("other.sch", FOUR.replace("4 1 2 1", "4 1 1 1"))

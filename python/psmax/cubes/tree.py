@@ -22,6 +22,7 @@ from ..errors import BadInput
 from ..files import write_whole
 from .cube import MADE, TOLD, Row
 
+ROWS = "rows"  # by which a folder of cubes is known
 WHOLE = "-"  # what the cube without a path is called by psprove
 
 
@@ -48,7 +49,7 @@ class Tree:
         self.conflicts = 0
         self.share = 0.0  # of the tree, refuted
         self.shares = [(0.0, 0.0)]  # after so many seconds, so much
-        for row in read_rows(folder / "rows"):
+        for row in read_rows(folder / ROWS):
             self.take(row)
 
     def take(self, row: Row) -> None:
@@ -187,7 +188,7 @@ class Driven(Tree):
 
 def locked(folder: pathlib.Path) -> IO[bytes]:
     """The rows, to which this process alone writes. A last one that was cut off goes."""
-    file = open(folder / "rows", "a+b")
+    file = open(folder / ROWS, "a+b")
     try:
         fcntl.flock(file, fcntl.LOCK_EX | fcntl.LOCK_NB)
     except OSError:
@@ -200,7 +201,7 @@ def locked(folder: pathlib.Path) -> IO[bytes]:
 
 def is_driven(folder: pathlib.Path) -> bool:
     """Whether a driver holds the lock."""
-    with open(folder / "rows", "rb") as file:
+    with open(folder / ROWS, "rb") as file:
         try:
             fcntl.flock(file, fcntl.LOCK_SH | fcntl.LOCK_NB)
         except OSError:

@@ -8,6 +8,7 @@ from dataclasses import fields
 from functools import partial
 from typing import NoReturn
 
+from ..cubes.tree import ROWS
 from ..dates import ORDERS
 from ..errors import BadInput
 from ..formats import FORMATS
@@ -99,7 +100,7 @@ def run_solve(options: argparse.Namespace) -> int:
     out, seconds, places = options.out, options.seconds, None
     if options.cluster is not None and out is None:
         raise BadInput("--cluster needs --out, a folder for the cubes")
-    if options.cluster is not None or out is not None and (out.endswith("/") or os.path.isdir(out)):
+    if options.cluster is not None or out is not None and (out.endswith("/") or os.path.isfile(os.path.join(out, ROWS))):
         places, out = cubes.Places(out, options.cluster, options.jobs, options.record), None
     if seconds is None:
         seconds = SECONDS if places is None else math.inf
