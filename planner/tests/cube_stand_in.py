@@ -53,11 +53,11 @@ class Search:
 
 
 def pieces(project: Project, arcs: Arcs, count: int) -> Iterator[Row]:
-    """All ways to order so many more pairs."""
+    """All ways to order so many more pairs; the cube itself where all are ordered."""
     pairs = [pair for pair in combinations(range(1, project.end), 2) if {*pair} not in [{*arc[:2]} for arc in arcs]]
     chosen = pairs[: (count - 1).bit_length()]
-    for bits in range(2 ** len(chosen) if chosen else 0):
-        name = f"{bits:0{len(chosen)}b}"
+    for bits in range(2 ** len(chosen)):
+        name = f"{bits:0{len(chosen)}b}" if chosen else ""
         yield {"name": name, "arcs": [[i, j, project.durations[i]] if bit == "0" else [j, i, 1 - project.durations[i]]
                                       for (i, j), bit in zip(chosen, name)]}
 
@@ -98,8 +98,9 @@ def fault(log: pathlib.Path, data: bytes, arcs: Arcs, imported: Arcs, lemmas: li
 
 def join(options: dict[str, str], data: bytes) -> int:
     tree, refuted, lemmas, best = pathlib.Path(options["--tree"]), set[str](), list[Arcs](), list[list[int]]()
-    for line in tree.read_text().splitlines():
-        name, log, imported, *path = line.split()
+    rows = [line.split() for line in tree.read_text().splitlines()]
+    assert len({name for name, *_ in rows}) == len(rows)
+    for name, log, imported, *path in rows:
         arcs = [[*map(int, path[place : place + 3])] for place in range(0, len(path), 3)]
         lines = numbers(None if imported == "-" else str(tree.parent / imported))
         found = fault(tree.parent / log, data, arcs, lines, lemmas)
@@ -109,6 +110,8 @@ def join(options: dict[str, str], data: bytes) -> int:
         lemmas += found["lemmas"]
         best += [found["starts"]] if found["starts"] else []
         refuted |= {name.strip("-")} if found["refuted"] else set()
+        if not found["refuted"] and not any(other.startswith(name.strip("-")) for other, *_ in rows if other != name):
+            print(f"psprove: cube {name}: its log does not refute it", file=sys.stderr)
     is_whole = sum(0.5 ** len(name) for name in refuted) == 1
     least, end = max(parse(data).durations), min((starts[-1] for starts in best), default=None)
     claim = f"bound {least}" if not is_whole else "no schedule" if end is None else f"optimal {end}"

@@ -110,7 +110,8 @@ class Driver:
             else:
                 row["starts"] = None
         self.tree.keep(number, row)
-        self.lemmas.add(self.tree.file(number, "lemmas").read_text())
+        if self.tree.logs.get(name) == number:
+            self.lemmas.add(self.tree.file(number, "lemmas").read_text())
 
     def fail(self, name: str, fault: Exception) -> None:
         self.tries[name] += 1

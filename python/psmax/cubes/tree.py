@@ -2,7 +2,7 @@
 
 project.sch   the project
 rows          a line of JSON for each step: a driver has begun, a cube is given out, its search has ended or is lost, or its
-              logs are put aside
+              log is put aside
 cubes/N.log   what search N proves; N.import has the lemmas that it got, and N.lemmas its own
 incoming      files on their way there
 token         the run's: a worker that reads it sees the folder, and leaves its files there
@@ -41,7 +41,7 @@ class Tree:
         self.waiting = {""}
         self.running: dict[int, str] = {}  # by the numbers of their searches
         self.refuted: set[str] = set()
-        self.logs: dict[int, str] = {}  # the cubes of the searches that ended, in this order
+        self.logs: dict[str, int] = {}  # the numbers of the searches whose logs are joined, in the order of their ends
         self.starts: tuple[int, ...] | None = None  # of the shortest schedule, by the numbers of the text
         self.number = 0
         self.seconds = 0.0  # of all drivers
@@ -72,25 +72,29 @@ class Tree:
     def end(self, row: Row) -> None:
         name = self.running.pop(row["number"])
         cube = self.cubes[name]
-        self.logs[row["number"]] = name
         self.spent += row["seconds"]
         self.conflicts += row["conflicts"]
         self.learn(row["starts"])
         if row["state"] == "refuted":
             self.refuted.add(name)
             self.share += part(name)
-            return
-        kids = {name + one["name"]: Cube(cube.arcs + tuple(map(tuple, one["arcs"])), cube.age + 1) for one in row["pieces"]}
-        self.cubes |= {name: replace(cube, age=cube.age + 1), **kids}
-        self.waiting |= {*kids} or {name}  # one without pieces is searched again
+        kids = {name + one["name"]: Cube(cube.arcs + tuple(map(tuple, one["arcs"])), cube.age + 1)
+                for one in row["pieces"] if one["name"]}
+        if kids or row["state"] == "refuted":
+            self.logs[name] = row["number"]
+            self.cubes |= kids
+            self.waiting |= {*kids}
+        else:  # it can't be split: searched again, for longer
+            self.cubes[name] = replace(cube, age=cube.age + 1)
+            self.waiting.add(name)
 
     def learn(self, starts: list[int] | None) -> None:
         if starts is not None and (self.starts is None or starts[-1] < self.starts[-1]):
             self.starts = tuple(starts)
 
     def open_again(self, name: str) -> None:
-        """Without its logs; a cube that was split stays so."""
-        self.logs = {number: other for number, other in self.logs.items() if other != name}
+        """Without its log; a cube that was split stays so."""
+        del self.logs[name]
         if name in self.refuted:
             self.refuted.discard(name)
             self.share -= part(name)
@@ -116,16 +120,16 @@ class Tree:
     def file(self, number: int, kind: str) -> pathlib.Path:
         return self.folder / "cubes" / f"{number}.{kind}"
 
-    def lemmas(self, name: str | None = None) -> Iterator[str]:
-        """The lemmas of all searches that ended, or of those of the cubes above one, itself too."""
-        for number, other in self.logs.items():
-            if name is None or name.startswith(other):
+    def lemmas(self, under: str | None = None) -> Iterator[str]:
+        """Those of each log, or of the logs of the cubes above one."""
+        for name, number in self.logs.items():
+            if under is None or under.startswith(name):
                 yield self.file(number, "lemmas").read_text()
 
     def write_list(self) -> pathlib.Path:
         """The file for `psprove join`: the logs in the order of their ends."""
         lines = []
-        for number, name in self.logs.items():
+        for name, number in self.logs.items():
             got = f"cubes/{number}.import" if self.file(number, "import").stat().st_size else "-"
             arcs = (f"{place}" for arc in self.cubes[name].arcs for place in arc)
             lines.append(" ".join([name or WHOLE, f"cubes/{number}.log", got, *arcs]) + "\n")
@@ -176,11 +180,11 @@ class Driven(Tree):
         told = {key: row[key] for key in (*TOLD, "seconds") if key != "cube"}
         self.write("ended", number=number, state=row["cube"], **told)
 
-    def put_aside(self, name: str) -> list[str]:
-        """The logs of the cube, which stay as files, and are no part of the tree any more."""
-        found = [f"{self.file(number, 'log')}" for number, other in self.logs.items() if other == name]
+    def put_aside(self, name: str) -> pathlib.Path:
+        """The log of the cube, which stays as a file, and is no part of the tree any more."""
+        number = self.logs[name]
         self.write("aside", cube=name)
-        return found
+        return self.file(number, "log")
 
     def close(self) -> None:
         self.rows.close()

@@ -16,7 +16,8 @@ from ..psprove import Psprove
 from ..record import PROVED, WRONG
 from .verify import RECORD
 
-BAD = re.compile(r"psprove: cube (-|[01]+): (.*)")  # a log that the join leaves out
+BAD = re.compile(r"psprove: cube (-|[01]+): (.*)")  # a log that is left out, at least in part
+OPEN = "its log does not refute it"  # which is no fault of a cube that was split
 
 
 @dataclass(frozen=True)
@@ -40,8 +41,8 @@ def joined(tree: Tree, record: str, clock: Clock) -> Joined:
     if status != 0 or not PROVED.fullmatch(says):
         raise Failed(f"{record}, by psprove join, proves nothing: {says}")
     write_whole(f"{tree.folder / 'proved'}", f"{says}\n".encode())
-    found = [match for match in map(BAD.fullmatch, told) if match is not None]
-    return Joined(says, {match[1].strip("-"): match[2] for match in found})
+    found = {match[1].strip("-"): match[2] for match in map(BAD.fullmatch, told) if match is not None}
+    return Joined(says, {name: fault for name, fault in found.items() if fault != OPEN or name in tree.refuted})
 
 
 def place_of(folder: str, record: str | None) -> str:
