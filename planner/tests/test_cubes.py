@@ -18,10 +18,12 @@ from psmax.cubes import cube
 from psmax.cubes.driver import MOST_LEMMAS, Lemmas
 from psmax.planner.status import seconds_left
 
-from .helpers import InFolder, plan, psmax, started
+from .helpers import PROJECTS, PSPROVE, TOP, InFolder, plan, psmax, started
 
 STAND_IN = pathlib.Path(__file__).with_name("cube_stand_in.py")
 SECONDS = 300.0  # that something may take on a machine that does other work too
+LOTS = PROJECTS / "vaccine-lots.sch"
+SEARCHES_CUBES = b"--under" in subprocess.run([PSPROVE, "solve", "--help"], capture_output=True).stdout
 WITHOUT_DASK = "Dask isn't here: install python3-distributed"
 
 # By hand: 9 periods of work on one machine. 2 starts 6 or more after 1 starts, and 4 at most 3 before 3 starts. So 1, 3, 4 and
@@ -175,6 +177,37 @@ class Here(InCubes):
         with mock.patch.dict(sys.modules, {"distributed": None}):
             ran = plan("solve", self.project, "--out", self.out, "--cluster", "tcp://127.0.0.1:1")
         self.refused(ran, 1, "--cluster needs Dask (", "install python3-distributed, or `pip install distributed`")
+
+
+@unittest.skipUnless(SEARCHES_CUBES, "this psprove searches no cubes")
+class ByPsprove(InCubes):
+    """In cubes that are split early. The README has the optimum."""
+
+    def lots(self) -> str:
+        with mock.patch.multiple("psmax.cubes.driver", FIRST=5, CUBES=4, CONFLICTS=8, PIECES=2):
+            ran = plan("solve", LOTS, "--out", f"{self.out}/", "--jobs", "2")
+        self.assertEqual((ran.returncode, ran.stdout.splitlines()[0]), (0, "optimal 105"), ran.stderr)
+        self.assertIn("shorter than 105, and has one that long", plan("verify", LOTS, self.out / "record").stdout)
+        with open(self.out / "record", "rb") as record:
+            checker = [sys.executable, str(TOP / "tests" / "verify_log.py"), str(LOTS)]
+            said = subprocess.run(checker, stdin=record, capture_output=True).stdout
+        self.assertEqual(said, b"proved optimal 105\n")
+        return ran.stderr
+
+    def test_wrong_logs(self) -> None:
+        self.assertNotIn("is put aside", self.lots())
+        first, second, third, *_ = [self.out / "cubes" / f"{row['number']}.log" for row in self.rows("ended")
+                                    if row["state"] == "refuted"]
+        first.write_bytes(first.read_bytes()[:-3])
+        swapped = second.read_bytes()
+        second.write_bytes(third.read_bytes())
+        third.write_bytes(swapped)
+        ran = plan("join", self.out)
+        self.assertEqual(ran.returncode, 4, ran.stderr)
+        self.assertRegex(ran.stdout, "proved bound [0-9]+\n")
+        told = self.lots()
+        for path in (first, second, third):
+            self.assertIn(f"{path} is put aside", told)
 
 
 class Search(InCubes):
