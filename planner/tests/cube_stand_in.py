@@ -37,7 +37,8 @@ class Search:
         if self.left < 0:
             return False
         if len(starts) == self.project.end:
-            whole = [*starts, max([0, *(starts[i] + self.project.durations[i] for i in range(1, len(starts)))])]
+            ends = (starts[i] + v for i, j, v in self.arcs if j == len(starts) and i < j)
+            whole = [*starts, max([*ends, *(starts[i] + self.project.durations[i] for i in range(len(starts)))])]
             if self.fits(whole) and whole[-1] < self.below:
                 self.starts, self.below = whole, whole[-1]
             return True

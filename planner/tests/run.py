@@ -23,6 +23,8 @@ def verdicts(words: Sequence[str] = ()) -> Iterator[tuple[str, str | None]]:
     tests = unittest.TestLoader().discover(str(folder), top_level_dir=str(TOP))
     told = names(tests)
     result = unittest.TextTestRunner(stream=sys.stdout, verbosity=1).run(tests)
+    for test, reason in result.skipped:
+        print(f"{test.id()} is left out: {reason}")
     bad = {test.id().split(" ")[0] for test, _ in [*result.failures, *result.errors]}
     yield from ((name, "as above" if name in bad else None) for name in sorted({*told, *bad}))
 

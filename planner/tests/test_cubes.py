@@ -78,7 +78,7 @@ class InCubes(InFolder):
     def joined(self) -> str:
         ran = plan("join", self.out, psprove=self.psprove())
         self.assertEqual(ran.returncode, 0, ran.stderr)
-        return ran.stdout.removeprefix(f"{self.out / 'record'}: ")
+        return ran.stdout.removeprefix(f"{self.out / 'record'}: ").removesuffix(f", of {self.out / 'project.sch'}\n")
 
     def searches(self, driver: int) -> list[int]:
         """The psproves that a driver started."""
@@ -93,8 +93,7 @@ class Here(InCubes):
         self.assertIn("schedule 9: cube ", told)
         self.assertEqual(len(self.rows("ended")), 17)
         self.assertEqual(plan("status", self.out).stdout.splitlines()[:3], [
-            "cubes: 16 refuted, 0 open, 0 running; 100.0 % of the tree", "best schedule: 9",
-            "by the last join: proved optimal 9"])
+            "cubes: 16 refuted, 0 open, 0 running; 100.0 % of the tree", "best schedule: 9", "bound: 9, by the last join"])
         self.solved("--jobs", "2")
         self.assertEqual(len(self.rows("ended")), 17)
 
@@ -103,7 +102,7 @@ class Here(InCubes):
         words = "solve", self.project, "--out", f"{self.out}/", "--jobs", "2"
         with started(*words, psprove=self.psprove(0.3)) as driver:
             until(lambda: len(self.rows("ended")) >= 3)
-            self.assertRegex(self.joined(), "proved bound [0-9]\n")
+            self.assertRegex(self.joined(), "^proved bound [0-9]$")
             self.refused(plan(*words), 2, "has a driver already")
             until(lambda: len(self.searches(driver.pid)) == 2)
             first, second = self.searches(driver.pid)
@@ -135,7 +134,7 @@ class Here(InCubes):
         self.assertEqual((ran.returncode, len(ran.stderr.splitlines())), (4, len(named)), ran.stderr)
         self.assertIn((names[int(cut.stem)], "event 1 is wrong"), named)
         self.assertLessEqual({(names[int(path.stem)], "its log does not refute it") for path in (one, other)}, {*named})
-        self.assertRegex(ran.stdout, "proved bound [0-9]\n")
+        self.assertRegex(ran.stdout, "proved bound [0-9], of ")
         self.solved(aside=len(named))
         self.assertEqual(len(self.rows("ended")), 17 + len(named))
 
@@ -156,13 +155,16 @@ class Here(InCubes):
         self.solved()
 
     def test_a_table(self) -> None:
-        """By hand: the crane is away from 2 to 4, so no job of 3 or 4 fits before that, and both take until 11."""
-        self.file("away.csv", "resource,from,to,units\ncrane,2,4,1\n")
+        """By hand: the crane is away from 2 to 4, so no job of 3 or 4 fits before that, and both take until 11. It is away
+        later, too, so the end of the text is no makespan."""
+        self.file("away.csv", "resource,from,to,units\ncrane,2,4,1\ncrane,12,13,1\n")
         table = self.file("jobs.csv", "absences,away.csv\n\nactivity,days,crane (1)\nlift,3,1\nturn,4,1\n")
         ran = plan("solve", table, "--out", f"{self.out}/", "--json", psprove=self.psprove())
         told = json.loads(ran.stdout)
         self.assertEqual((told["status"], told["makespan"], told["names"]), ("optimal", 11, ["lift", "turn"]))
         self.assertEqual(sorted(told["starts"])[:2], [0, 4])
+        known = plan("status", self.out).stdout.splitlines()[1:3]
+        self.assertEqual(known, ["best schedule: 11", "bound: 11, by the last join"])
 
     def test_words(self) -> None:
         """Folders that are none of cubes, or of another project; a cluster without a folder."""
@@ -204,7 +206,7 @@ class ByPsprove(InCubes):
         third.write_bytes(swapped)
         ran = plan("join", self.out)
         self.assertEqual(ran.returncode, 4, ran.stderr)
-        self.assertRegex(ran.stdout, "proved bound [0-9]+\n")
+        self.assertRegex(ran.stdout, "proved bound [0-9]+, of ")
         told = self.lots()
         for path in (first, second, third):
             self.assertIn(f"{path} is put aside", told)
@@ -216,12 +218,12 @@ class Search(InCubes):
     def search(self, seconds: float, ask: cube.Ask) -> cube.Row:
         files = {"project": FOUR.encode(), "path": b"1 2 3\n", "import": b"", "start": b""}
         packed = {name: zlib.compress(data) for name, data in files.items()}
-        limits = {"conflicts": 10**6, "pieces": 4}
+        limits = {"conflicts": 10**6, "pieces": 4, "below": 10}
         return cube.search({"program": self.psprove(seconds), "run": "none", "folder": "/", **limits, **packed}, ask, 0.05)
 
     def test_shorter_schedules(self) -> None:
         """They come while it runs. Without the folder of the driver its files come back by themselves."""
-        told = iter([None, [0, 0, 8, 3, 5, 10]])
+        told = iter([None, [0, 0, 8, 3, 5, 10]])  # which is no shorter than those it knows
         row = self.search(0.5, lambda: {"starts": next(told, [0, 0, 7, 3, 5, 9])})
         log = json.loads(zlib.decompress(row["files"]["log"]).split(b"\n")[1])
         self.assertEqual((row["cube"], row["starts"], log["below"], log["path"]), ("refuted", None, 9, [[1, 2, 3]]))
@@ -233,6 +235,14 @@ class Search(InCubes):
             self.search(SECONDS, lambda: None)
         self.assertLess(time.monotonic(), began + SECONDS / 2)
 
+
+    def test_one_that_reads_nothing(self) -> None:
+        """It has ended when it is told of a schedule."""
+        script = "import sys; sys.stdin.close(); import time; time.sleep(0.3); sys.exit(3)"
+        told = iter(range(10**6, 0, -1))
+        line = [sys.executable, "-c", script]
+        self.assertEqual(cube.followed(line, self.folder, None, lambda: {"starts": [0, next(told)]}, 0.0)[0], 3)
+        self.assertLess(next(told), 10**6 - 1)
 
 class Chosen(unittest.TestCase):
     def test_lemmas(self) -> None:
@@ -281,12 +291,12 @@ class OnDask(InCubes):
         words = "solve", self.project, "--out", self.out, "--cluster", self.address
         with started(*words, psprove=self.psprove()) as driver:
             until(lambda: len(self.rows("ended")) >= 3)
-            self.assertRegex(self.joined(), "proved bound [0-9]\n")
+            self.assertRegex(self.joined(), "^proved bound [0-9]$")
             self.workers[0].kill()
             count = len(self.rows("ended"))
             until(lambda: len(self.rows("ended")) >= count + 3)
             driver.kill()
-        self.assertNotEqual(self.joined(), "proved optimal 9\n")
+        self.assertRegex(self.joined(), "^proved bound [0-9]$")
         self.solved("--cluster", self.address)
 
     def test_no_scheduler(self) -> None:

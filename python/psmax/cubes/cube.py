@@ -43,7 +43,7 @@ def search(task: Row, ask: Ask, every: float) -> Row:
         here = pathlib.Path(folder)
         for name in GIVEN:
             (here / name).write_bytes(zlib.decompress(task[name]))
-        status, seconds = followed(words(task, here), here, ask, every)
+        status, seconds = followed(words(task, here), here, task["below"], ask, every)
         if status not in (0, 3):
             told = (here / "err").read_text(errors="replace").strip().removeprefix("psprove: ")
             raise RuntimeError(f"psprove solve ended with status {status}" + (f": {told[-300:]}" if told else ""))
@@ -62,12 +62,12 @@ def words(task: Row, here: pathlib.Path) -> list[str]:
     return found
 
 
-def followed(line: list[str], here: pathlib.Path, ask: Ask, every: float) -> tuple[int, float]:
-    """The exit status of the search, and its seconds of a processor. It is told of shorter schedules. It ends when its standard
-    input does, so it doesn't outlive who started it."""
+def followed(line: list[str], here: pathlib.Path, below: int | None, ask: Ask, every: float) -> tuple[int, float]:
+    """The exit status of the search, and its seconds of a processor. It is told of schedules shorter than it knows. It ends
+    when its standard input does, so it doesn't outlive who started it."""
     with (here / "out").open("wb") as out, (here / "err").open("wb") as err, subprocess.Popen(
-            line, stdin=subprocess.PIPE, stdout=out, stderr=err, text=True, start_new_session=True) as child:
-        told, asked = None, -every
+            line, stdin=subprocess.PIPE, stdout=out, stderr=err, bufsize=0, start_new_session=True) as child:
+        asked = -every
         try:
             while True:
                 ended, status, used = os.wait4(child.pid, os.WNOHANG)
@@ -78,20 +78,20 @@ def followed(line: list[str], here: pathlib.Path, ask: Ask, every: float) -> tup
                     known, asked = ask(), time.monotonic()
                     if known is None:
                         raise RuntimeError("nobody waits for this search")
-                    if known["starts"] is not None and known["starts"] != told:
-                        told = known["starts"]
-                        say(child, " ".join(map(str, told)))
+                    starts = known["starts"]
+                    if starts is not None and (below is None or starts[-1] < below):
+                        below = starts[-1]
+                        say(child, " ".join(map(str, starts)))
                 time.sleep(GLANCE)
         except BaseException:
             child.kill()
             raise
 
 
-def say(child: subprocess.Popen[str], line: str) -> None:
+def say(child: subprocess.Popen[bytes], line: str) -> None:
     assert child.stdin is not None
     with contextlib.suppress(BrokenPipeError):  # it has just ended
-        child.stdin.write(f"{line}\n")
-        child.stdin.flush()
+        child.stdin.write(f"{line}\n".encode())
 
 
 def sent(task: Row, here: pathlib.Path) -> Row:

@@ -62,7 +62,7 @@ class Driver:
     def refute(self, machines: Machines) -> None:
         """Until no cube is open, or the time is over."""
         self.machines, self.lemmas = machines, Lemmas(self.tree.lemmas())
-        self.tree.write("begun", starts=self.best())
+        self.tree.write("begun", starts=self.best(), offset=self.spelled.offset)
         try:
             self.machines.begin(self.tree.folder)
             self.machines.tell(self.best())
@@ -97,7 +97,7 @@ class Driver:
         if age == 0:
             limits = {"conflicts": FIRST, "pieces": max(CUBES, 2 * room)}
         packed = {kind: zlib.compress(data, 1) for kind, data in files.items()}
-        return {"age": age, "folder": str(self.tree.folder.resolve()), **limits, **packed}
+        return {"age": age, "folder": str(self.tree.folder.resolve()), "below": best and best[-1], **limits, **packed}
 
     def take(self, number: int, row: Row | Exception) -> None:
         name = self.tree.running[number]

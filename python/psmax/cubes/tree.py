@@ -43,6 +43,7 @@ class Tree:
         self.refuted: set[str] = set()
         self.logs: dict[str, int] = {}  # the numbers of the searches whose logs are joined, in the order of their ends
         self.starts: tuple[int, ...] | None = None  # of the shortest schedule, by the numbers of the text
+        self.offset = 0  # of what is minimized: it is so much less than the end of the text
         self.number = 0
         self.seconds = 0.0  # of all drivers
         self.spent = 0.0  # seconds of processors
@@ -65,6 +66,7 @@ class Tree:
         elif row["step"] == "begun":
             self.abandon_all()
             self.learn(row["starts"])
+            self.offset = row["offset"]
         else:
             self.open_again(row["cube"])
         self.shares.append((row["at"], self.share))
@@ -154,10 +156,10 @@ class Driven(Tree):
             left.unlink()
         super().__init__(folder)
         self.abandon_all()
-        self.offset = self.seconds - time.monotonic()
+        self.before = self.seconds - time.monotonic()
 
     def write(self, step: str, **row: object) -> None:
-        found = {"step": step, "at": round(self.offset + time.monotonic(), 2), **row}
+        found = {"step": step, "at": round(self.before + time.monotonic(), 2), **row}
         self.rows.write(json.dumps(found).encode() + b"\n")
         self.rows.flush()
         self.take(found)

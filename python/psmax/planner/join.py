@@ -60,7 +60,7 @@ def join(folder: str, record: str | None) -> int:
     clock = Clock()
     clock.listen()
     found = joined(tree, place, clock)
-    print(f"{place}: {found.says}")
+    print(f"{place}: {found.says}, of {tree.folder / 'project.sch'}")
     for name, fault in found.bad.items():
         print(f"plan: cube {name or WHOLE}: {printable(fault)}; it is left out", file=sys.stderr)
     return WRONG if found.bad else 0

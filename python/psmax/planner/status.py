@@ -3,6 +3,7 @@ import pathlib
 from collections.abc import Sequence
 
 from ..cubes.tree import Tree, is_driven
+from ..record import PROVED
 
 # A time is told where the same rule, used at these parts of the seconds so far, has said how much is refuted now, this nearly.
 PAST, NEARLY = (0.25, 0.5), 0.25
@@ -14,14 +15,22 @@ def status(folder: str) -> int:
     if not is_driven(tree.folder):
         tree.abandon_all()
     print(tree.state())
-    print(f"best schedule: {'none' if tree.starts is None else tree.starts[-1]}")
-    proved = tree.folder / "proved"
-    print(f"by the last join: {proved.read_text().strip() if proved.exists() else 'nothing'}")
+    print(f"best schedule: {'none' if tree.starts is None else tree.starts[-1] - tree.offset}")
+    print(f"bound: {bound(tree)}")
     print(f"so far: {shown(tree.seconds)}, {shown(tree.spent)} of processors, {tree.conflicts:,} conflicts")
     left = seconds_left(tree.shares)
     if tree.waiting or tree.running:
         print(f"left: {'no estimate has been right so far' if left is None else f'about {shown(left)}'}")
     return 0
+
+
+def bound(tree: Tree) -> str:
+    """That of the last join, as far as one is proved."""
+    file = tree.folder / "proved"
+    found = PROVED.search(file.read_text()) if file.exists() else None
+    if found is None:
+        return "none, until the logs are joined"
+    return f"{int(found[3]) - tree.offset}, by the last join" if found[3] else "no schedule"
 
 
 def seconds_left(shares: Sequence[tuple[float, float]]) -> float | None:
