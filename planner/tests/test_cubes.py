@@ -235,7 +235,6 @@ class Search(InCubes):
             self.search(SECONDS, lambda: None)
         self.assertLess(time.monotonic(), began + SECONDS / 2)
 
-
     def test_one_that_reads_nothing(self) -> None:
         """It has ended when it is told of a schedule."""
         script = "import sys; sys.stdin.close(); import time; time.sleep(0.3); sys.exit(3)"
@@ -243,6 +242,7 @@ class Search(InCubes):
         line = [sys.executable, "-c", script]
         self.assertEqual(cube.followed(line, self.folder, None, lambda: {"starts": [0, next(told)]}, 0.0)[0], 3)
         self.assertLess(next(told), 10**6 - 1)
+
 
 class Chosen(unittest.TestCase):
     def test_lemmas(self) -> None:
