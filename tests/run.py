@@ -11,7 +11,7 @@ A case is one line of JSON with a name, args and exit, and with those of the fol
   stdout        the whole of standard output
   stdout_first  its first line alone
   stdout_json   members of the line of JSON that it is
-  stdout_to     a device, or a file of the folder, in place of a pipe
+  stdout_to     a device, or the end of a file of the folder, in place of a pipe
   stdout_limit  standard output is a file that may have so many bytes
   stderr        the whole of standard error
   out_files     files as they are after the run
@@ -134,7 +134,7 @@ def ended(program: str, case: Spec, folder: Path, inputs: Path) -> harness.Ended
     with standard_input(case, folder, inputs) as stdin:
         if to == folder:
             return harness.ended(words, stdin=stdin, cwd=folder)
-        with open(to, "wb") as stdout:
+        with open(to, "ab") as stdout:
             status, out, fault = harness.ended(words, stdin=stdin, stdout=stdout, cwd=folder, **limited)
     return status, to.read_bytes() if limit is not None else out, fault
 
