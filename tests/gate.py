@@ -32,6 +32,7 @@ import fuzz
 import growths
 import harness
 import hostile
+import hostile_trees
 import logs
 import long_records
 import options
@@ -106,6 +107,7 @@ def scripts(folder: pathlib.Path, with_tests: bool) -> Iterator[Script]:
     yield "records of both kinds", fuzz.verdicts, [psmax, psprove, "--records", "5000"]
     yield "planted bugs", planted.verdicts, [psmax, psprove, "--first", "4"]
     yield "hostile logs", hostile.verdicts, [psprove, "--bytes", "160000", "--seconds", "5"]
+    yield "hostile records", hostile_trees.verdicts, [psmax]
     yield "resumes", resumes.verdicts, [psprove]
     yield "options", options.verdicts, [psprove]
     yield "searches", searches.verdicts, [psmax, psprove, "--seeded", "200", "--large", "10"]
