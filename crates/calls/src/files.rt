@@ -1,13 +1,12 @@
 //! The files of a call: in which order they are opened, and that none is lost.
 
-ghost use Rattle.std.specs.Prelude.{◌≡◌, false, is_some, IfOk, IfErr, IfSome};
-ghost use Rattle.calls.specs.Files.{LosesFile};
+ghost use Rattle.std.specs.Prelude.{◌≡◌, ◌⊎◌, ◌↔◌, is_some, IfOk, IfErr, IfSome, IsTrue, OnOk, OnErr, string_bytes};
+ghost use Rattle.calls.specs.Files.{Adds, IsAt, AreOneFile, LosesNone, Loses, LosesFile, acts_of, bytes_of, openings, emptyings};
 
 use crate::call::Call;
+use crate::folder::{Disk, Folder, Place};
 use runs::{Reader, Writer};
-use std::fs::{self, Files, Metadata};
 use std::io::{self, ErrorKind};
-use std::os::unix::fs::MetadataExt;
 
 /// The paths of standard input and output.
 const STANDARD_INPUT: &str = "/dev/stdin";
@@ -38,14 +37,10 @@ pub struct Opened<F> {
     pub record_file: Option<Writer<F>>,
 }
 
-/// Opens files, and knows what it did.
+/// Opens the files of calls.
 #[derive(Drop)]
-pub struct Opener<'a, R> {
-    files: &'a R,
-    /// Whether it has opened a file to be read.
-    pub has_opened: bool,
-    /// Whether it has opened a file to be written, and so made it empty.
-    pub has_emptied: bool,
+pub struct Opener<F> {
+    folder: F,
 }
 
 /// The fault of an error: want of memory, or else this one.
@@ -59,106 +54,111 @@ fn file_fault(error: &io::Error, other: FileFault) -> FileFault
     other
 }
 
-/// Whether both are one file. A device or a pipe loses nothing where it is opened to be written.
-fn is_same_file(one: &Metadata, other: &Metadata) -> bool {
-    one.is_file() && one.ino() != 0 && one.dev() == other.dev() && one.ino() == other.ino()
+impl<'a, R> Opener<Disk<'a, R>> {
+    /// An opener of the files that a program can open.
+    pub fn new(files: &'a R) -> Opener<Disk<'a, R>> {
+        Opener {
+            folder: Disk::new(files),
+        }
+    }
 }
 
-impl<'a, R: Files> Opener<'a, R> {
-    ghost use Rattle.std.specs.Prelude.{◌≡◌, false, is_some, IfOk, IfErr, IfSome};
-    ghost use Rattle.calls.specs.Files.{LosesFile};
-
-    /// An opener that has opened nothing.
-    pub fn new(files: &'a R) -> Opener<'a, R>
-        ensures opened { result.has_opened ≡ false }
-        ensures emptied { result.has_emptied ≡ false }
+impl<F: Folder> Opener<F> {
+    /// Whether a name leads to this file.
+    fn leads_to(&self, name: &str, place: Place) -> bool
+        ensures { IfSome (F.places self.now.folder) (λ places. IsTrue result ↔ IsAt places name.now place) }
     {
-        Opener {
-            files,
-            has_opened: false,
-            has_emptied: false,
+        match self.folder.find(name) {
+            Ok(Some(found)) => found == place,
+            _ => false,
         }
     }
 
-    /// Whether a name is that of this file.
-    fn is_name_of(&self, file: &Metadata, name: &str) -> bool {
-        match fs::metadata(self.files, name) {
-            Ok(found) => is_same_file(file, &found),
-            Err(_) => false,
-        }
-    }
-
-    /// Whether two names are those of one file.
-    pub fn is_one_file(&self, one: &str, other: &str) -> bool {
-        match fs::metadata(self.files, one) {
-            Ok(file) => self.is_name_of(&file, other),
-            Err(_) => false,
+    /// Whether two names lead to one file.
+    pub fn is_one_file(&self, one: &str, other: &str) -> bool
+        ensures { IfSome (F.places self.now.folder) (λ places. IsTrue result ↔ AreOneFile places one.now other.now) }
+    {
+        match self.folder.find(one) {
+            Ok(Some(place)) => self.leads_to(other, place),
+            _ => false,
         }
     }
 
     /// The fault of a call whose record, in a file of this name, would empty a file that the call reads, or the file that
     /// its answer goes into.
-    pub fn check_losses(&self, call: &Call, name: &str) -> Result<(), FileFault> {
-        let file = match fs::metadata(self.files, name) {
-            Ok(file) => file,
-            Err(error) if error.kind() == ErrorKind::NotFound => return Ok(()),
+    pub fn check_losses(&self, call: &Call, name: &str) -> Result<(), FileFault>
+        ensures none { OnOk result (IfSome (F.places self.now.folder)
+            (λ places. LosesNone places (bytes_of call.now.second) name.now)) }
+        ensures loses { IfErr result (λ fault. IfSome (F.places self.now.folder)
+            (λ places. Loses places (bytes_of call.now.second) name.now fault)) }
+    {
+        let place = match self.folder.find(name) {
+            Ok(Some(place)) => place,
+            Ok(None) => return Ok(()),
             Err(error) => return Err(file_fault(&error, FileFault::Record)),
         };
-        if self.is_name_of(&file, STANDARD_INPUT) {
+        if self.leads_to(STANDARD_INPUT, place) {
             return Err(FileFault::LosesProject);
         }
-        if self.is_name_of(&file, STANDARD_OUTPUT) {
+        if self.leads_to(STANDARD_OUTPUT, place) {
             return Err(FileFault::LosesAnswer);
         }
         match &call.second {
-            Some(second) if self.is_name_of(&file, second) => Err(FileFault::LosesStarts),
+            Some(second) if self.leads_to(second, place) => Err(FileFault::LosesStarts),
             _ => Ok(()),
         }
     }
 
     /// Opens the second input.
-    fn open_second(&mut self, call: &Call) -> Result<Option<Reader<R::File>>, FileFault>
+    #[tactic(auto, using(crate::proofs::Acts::adds_nothing, crate::proofs::Acts::adds_both))]
+    fn open_second(&mut self, call: &Call) -> Result<Option<Reader<F::File>>, FileFault>
         ensures opened { IfOk result (λ file. is_some file ≡ is_some call.now.second) }
         ensures fresh { IfOk result (λ file. IfSome file (λ device. device.failures ≡ 0)) }
         ensures fault { IfErr result (λ fault. ¬ LosesFile fault) }
-        ensures kept { self.new.has_emptied ≡ self.old.has_emptied }
+        ensures done { OnOk result
+            (Adds (F.acts self.old.folder) (openings (bytes_of call.now.second)) (F.acts self.new.folder)) }
+        ensures nothing { OnErr result (F.acts self.new.folder ≡ F.acts self.old.folder) }
     {
         let Some(name) = &call.second else {
             return Ok(None);
         };
-        match fs::open(self.files, name.as_str()) {
-            Ok(file) => {
-                self.has_opened = true;
-                Ok(Some(Reader::new(file)))
-            }
+        match self.folder.open(name.as_str()) {
+            Ok(file) => Ok(Some(Reader::new(file))),
             Err(error) => Err(file_fault(&error, FileFault::Second)),
         }
     }
 
     /// Opens the record's file, which is empty then.
-    fn open_record(&mut self, name: &str) -> Result<Writer<R::File>, FileFault>
+    fn open_record(&mut self, name: &str) -> Result<Writer<F::File>, FileFault>
         ensures fresh { IfOk result (λ device. device.failures ≡ 0) }
         ensures fault { IfErr result (λ fault. ¬ LosesFile fault) }
-        ensures kept { IfErr result (λ _. self.new.has_emptied ≡ self.old.has_emptied) }
+        ensures done { OnOk result
+            (Adds (F.acts self.old.folder) (emptyings (Some name.now)) (F.acts self.new.folder)) }
+        ensures nothing { OnErr result (F.acts self.new.folder ≡ F.acts self.old.folder) }
     {
-        match fs::create(self.files, name) {
-            Ok(file) => {
-                self.has_emptied = true;
-                Ok(Writer::new(file))
-            }
+        match self.folder.create(name) {
+            Ok(file) => Ok(Writer::new(file)),
             Err(error) => Err(file_fault(&error, FileFault::Record)),
         }
     }
 
     /// Opens the files that a call names: its second input, and last the file of its record. Where that is a file which
-    /// the call reads, or that of its answer, by whatever name, nothing is opened.
-    pub fn open(&mut self, call: &Call) -> Result<Opened<R::File>, FileFault>
+    /// the call reads, or that of its answer, by whatever name, nothing is opened. If it fails, no file was made empty.
+    #[tactic(auto, using(crate::proofs::Acts::adds_nothing, crate::proofs::Acts::adds_both))]
+    pub fn open(&mut self, call: &Call) -> Result<Opened<F::File>, FileFault>
         ensures second { IfOk result (λ files. is_some files.second ≡ is_some call.now.second) }
         ensures record_file { IfOk result (λ files. is_some files.record_file ≡ is_some call.now.record_file) }
         ensures fresh_second { IfOk result (λ files. IfSome files.second (λ device. device.failures ≡ 0)) }
         ensures fresh_record { IfOk result (λ files. IfSome files.record_file (λ device. device.failures ≡ 0)) }
-        ensures kept { IfErr result (λ _. self.new.has_emptied ≡ self.old.has_emptied) }
-        ensures untouched { IfErr result (λ fault. LosesFile fault → self.new ≡ self.old) }
+        ensures done { OnOk result (Adds (F.acts self.old.folder) (acts_of call.now) (F.acts self.new.folder)) }
+        ensures kept { OnErr result ((F.acts self.new.folder ≡ F.acts self.old.folder)
+            ⊎ Adds (F.acts self.old.folder) (openings (bytes_of call.now.second)) (F.acts self.new.folder)) }
+        ensures untouched { IfErr result
+            (λ fault. LosesFile fault → F.acts self.new.folder ≡ F.acts self.old.folder) }
+        ensures none { OnOk result (IfSome (F.places self.old.folder) (λ places. IfSome call.now.record_file
+            (λ name. LosesNone places (bytes_of call.now.second) (string_bytes name)))) }
+        ensures loses { IfErr result (λ fault. IfSome (F.places self.old.folder) (λ places. IfSome call.now.record_file
+            (λ name. Loses places (bytes_of call.now.second) (string_bytes name) fault))) }
     {
         let Some(name) = &call.record_file else {
             let second = self.open_second(call)?;

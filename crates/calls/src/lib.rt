@@ -4,6 +4,7 @@
 mod call;
 mod command_line;
 mod files;
+mod folder;
 mod help;
 mod options;
 mod program;
@@ -11,5 +12,6 @@ mod program;
 pub use call::Call;
 pub use command_line::{WordsFault, call_of, file_name, matches_of};
 pub use files::{FileFault, Opened, Opener};
+pub use folder::{Disk, Folder, Place};
 pub use options::{file, flag, number, program_command, project_subcommand, subcommand};
 pub use program::{FOLDER, refuse, refuse_file, refuse_files, report, words};
