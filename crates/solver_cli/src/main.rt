@@ -2,11 +2,12 @@
 #![tactic(auto)]
 
 ghost use Rattle.calls.specs.Calls.{IsCall};
-ghost use Rattle.std.specs.Prelude.{IfOk};
+ghost use Rattle.runs.specs.Outcome.{has_workers};
+ghost use Rattle.std.specs.Prelude.{◌≡◌, false, IfOk};
 
 use calls::{Call, FOLDER, Opener, WordsFault, call_of, refuse, refuse_files, report, words};
 use parallel_runs::run_parallel;
-use runs::{Reader, Writer};
+use runs::{Reader, Writer, run};
 use std::alloc::Global;
 use std::process::ExitCode;
 use std::rt::Runtime;
@@ -18,14 +19,26 @@ use worker::OpenGate;
 /// The program's name in what it prints.
 const PROGRAM: &str = "psmax";
 
-/// Opens the files that the call names, and runs its job. The devices are standard input and output, the second input
-/// and the output of the record.
-fn perform<R: Runtime + Threads + Wait + Sync>(rt: &R, alloc: Global, call: &Call) -> ExitCode
+/// Opens the files that a call without workers names, and runs its job. The devices are standard input and output, and
+/// the second input.
+fn perform<R: Runtime>(rt: &R, alloc: Global, call: &Call) -> ExitCode
+    requires call { IsCall call.now }
+    requires alone { has_workers call.now.job ≡ false }
+{
+    let mut files = match Opener::new(rt).open(call) {
+        Ok(files) => files,
+        Err(fault) => return refuse_files(rt, PROGRAM, call, fault),
+    };
+    let mut input = Reader::new(rt.reader());
+    let mut out = Writer::new(io::writer(rt));
+    let ended = run(alloc, call.job, &mut input, &mut files.second, &mut out);
+    report(rt, PROGRAM, &ended)
+}
+
+/// Opens the files that a call with workers names, and runs its job. The devices are also the output of the record.
+fn search<R: Runtime + Threads + Wait + Sync>(rt: &R, alloc: Global, call: &Call) -> ExitCode
     requires { IsCall call.now }
 {
-    let _input = fs::open(rt, FOLDER);
-    let _output = fs::open(rt, FOLDER);
-    let _faults = fs::open(rt, FOLDER);
     let mut files = match Opener::new(rt).open(call) {
         Ok(files) => files,
         Err(fault) => return refuse_files(rt, PROGRAM, call, fault),
@@ -53,7 +66,11 @@ fn line_call(rt: &HostRuntime) -> Result<Call, WordsFault>
 }
 
 fn main(rt: HostRuntime) -> ExitCode {
+    let _input = fs::open(&rt, FOLDER);
+    let _output = fs::open(&rt, FOLDER);
+    let _faults = fs::open(&rt, FOLDER);
     match line_call(&rt) {
+        Ok(call) if call.job.has_workers() => search(&rt, rt.alloc(), &call),
         Ok(call) => perform(&rt, rt.alloc(), &call),
         Err(fault) => refuse(&rt, PROGRAM, &fault),
     }
