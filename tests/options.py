@@ -84,6 +84,9 @@ def limits_end(search: Search) -> Looked:
     yield "no second", found["status"] != "optimal" and found["conflicts"] < CONFLICTS, found["conflicts"]
     passed = time.monotonic() - before
     yield "the seconds are not over", passed < 50, passed
+    before = time.monotonic()
+    seconds = Search(search.program, search.folder, LONG).answer("--seconds", 2)["seconds"]
+    yield "the seconds are told", 2 <= seconds <= time.monotonic() - before, seconds
 
 
 def lemmas_fit_the_memory(search: Search) -> Looked:

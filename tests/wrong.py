@@ -3,8 +3,9 @@
 
 Tries wrong bodies that no contract refuses, and that a test has to refuse: the files of tests/wrong. Each has the lines of a
 must-fail edit, with paths from the top of the repository, and a line `test:` with what refuses it: a crate and one of its
-tests, which `rt try --test` runs without proofs, or a script of tests/, which is run on the psmax that `rt run` proves and
-builds. Each is tried in one copy of the sources, which takes one to some minutes.
+tests, which `rt try --test` runs without proofs, or a script of tests/ with its words. A script is run on the program that
+`rt run` proves and builds: psmax, or that of a line `program:`. Each is tried in one copy of the sources, which takes one to
+some minutes, for psprove more.
 
 Prints what refused no wrong body. The last line counts them."""
 import contextlib
@@ -28,6 +29,7 @@ class Change(NamedTuple):
 
 class Wrong(NamedTuple):
     test: list[str]
+    program: str  # the crate of the program that a script is run on
     changes: list[Change]
 
 
@@ -35,18 +37,20 @@ def read(path: pathlib.Path) -> Wrong:
     """What has to refuse an edit, and its changes."""
     test: list[str] = []
     changes: list[Change] = []
-    file = old = ""
+    program, file, old = "solver_cli", "", ""
     for line in path.read_text().splitlines():
         key, _, value = line.partition(": ")
         if key == "test":
             test = value.split()
+        elif key == "program":
+            program = value
         elif key == "file":
             file = value
         elif key == "old":
             old = value
         elif key == "new":
             changes.append(Change(file, old, value))
-    return Wrong(test, changes)
+    return Wrong(test, program, changes)
 
 
 @contextlib.contextmanager
@@ -70,16 +74,16 @@ def told(words: Sequence[object], folder: pathlib.Path) -> str:
     return (output + faults).decode(errors="replace")
 
 
-def is_refused(copy: pathlib.Path, test: Sequence[str]) -> bool:
+def is_refused(copy: pathlib.Path, wrong: Wrong) -> bool:
     """Whether a test fails that ends. One that doesn't compile or has no answer in time refuses nothing."""
-    if len(test) == 2:
-        crate, name = test
+    if not wrong.test[0].endswith(".py"):
+        crate, name = wrong.test
         said = told(["rt", "try", "--test"], copy / "crates" / crate)
         _, failed, why = said.partition(f"test {name} ... FAILED\n")
         return failed != "" and "no-answer" not in why.partition("\ntest ")[0]
-    folder = copy / "crates" / "solver_cli"
+    folder, (script, *words) = copy / "crates" / wrong.program, wrong.test
     told(["rt", "run", "--", "--version"], folder)
-    said = told([sys.executable, TOP / test[0], folder / "out" / "solver_cli"], TOP)
+    said = told([sys.executable, TOP / script, folder / "out" / wrong.program, *words], TOP)
     return "\nFAILED " in f"\n{said}"
 
 
@@ -95,7 +99,7 @@ def verdicts(words: Sequence[str]) -> Verdicts:
             wrong = read(path)
             if only in path.name:
                 with changed(copy, wrong.changes):
-                    yield path.stem, None if is_refused(copy, wrong.test) else f"not refused by {' '.join(wrong.test)}"
+                    yield path.stem, None if is_refused(copy, wrong) else f"not refused by {' '.join(wrong.test)}"
 
 
 if __name__ == "__main__":
