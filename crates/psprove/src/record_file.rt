@@ -44,8 +44,11 @@ impl RecordFile {
         self.part().unwrap_or(self.name.as_str())
     }
 
-    /// The fault of a call that reads the file of the record, by either name.
+    /// The fault of a call that reads the file of the record, by either name; or of a name that no file has.
     pub(crate) fn check<R: Files>(&self, rt: &R, call: &Call) -> Result<(), FileFault> {
+        if self.name.is_empty() {
+            return Err(FileFault::Record);
+        }
         let opener = Opener::new(rt);
         opener.check_losses(call, self.name.as_str())?;
         opener.check_losses(call, self.first_name())

@@ -82,7 +82,7 @@ fn refuse_losses<R: Runtime>(
 ) -> Option<ExitCode> {
     let record = record?;
     if let Err(fault) = record.check(rt, call) {
-        return Some(refuse_files(rt, PROGRAM, call, fault));
+        return Some(refuse_open(rt, call, Some(record), fault));
     }
     if record.empties(rt, resume?) {
         let _ = eprintln!(rt; "error: --resume and --record name the same file");
