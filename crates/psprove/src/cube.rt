@@ -4,7 +4,7 @@ use crate::PROGRAM;
 use crate::following::{Followed, Heard};
 use crate::record_file::RecordFile;
 use answers::{Answer, Fault};
-use calls::{refuse_file, report};
+use calls::{Opener, refuse_file, report};
 use cube_runs::{Cube, CubeFault, Found, Limit, search_cube};
 use cubes::{Lemma, TextFault, lemmas_of, path_of};
 use network::{Lag, Project, Schedule};
@@ -45,6 +45,8 @@ enum Stop<'w> {
     Arc(usize),
     /// Starts are not a feasible schedule.
     Violated(Answer),
+    /// The file that is written is this one, which is read.
+    Lost(&'w String),
 }
 
 impl<'w> From<AllocError> for Stop<'w> {
@@ -214,6 +216,27 @@ fn answer<'w, R: Runtime>(
     Ok(if found.is_refuted { 0 } else { 3 })
 }
 
+/// That no file which is read is written over.
+fn check_losses<'w, R: Files>(
+    rt: &R,
+    work: &'w CubeWork,
+    record: &RecordFile,
+) -> Result<(), Stop<'w>> {
+    let more = [&work.start, &work.guide, &work.import];
+    let more = more.iter().filter_map(|name| name.as_ref());
+    for name in [&work.project, &work.path].iter().copied().chain(more) {
+        let export = work.export.as_ref();
+        let is_export = export.is_some_and(|export| Opener::new(rt).is_one_file(
+            name.as_str(),
+            export,
+        ));
+        if is_export || record.loses(rt, name.as_str()) {
+            return Err(Stop::Lost(name));
+        }
+    }
+    Ok(())
+}
+
 /// Does all of it: the exit status.
 fn searched<'w, R: Runtime + Wait>(
     rt: &R,
@@ -222,6 +245,7 @@ fn searched<'w, R: Runtime + Wait>(
     record: &RecordFile,
     heard: &Mutex<Heard>,
 ) -> Result<u8, Stop<'w>> {
+    check_losses(rt, work, record)?;
     let project = project_of(rt, alloc, &work.project)?;
     let start = schedule_of(rt, alloc, &project, work.start.as_ref())?;
     let guide = schedule_of(rt, alloc, &project, work.guide.as_ref())?;
@@ -252,6 +276,9 @@ fn refuse<R: Runtime>(rt: &R, work: &CubeWork, stop: &Stop<'_>) -> ExitCode {
                 "no bound of a start and no order of rivals",
             );
             let _ = eprintln!(rt; "{PROGRAM}: {}: arc {number} is {what}", work.path);
+        }
+        Stop::Lost(name) => {
+            let _ = eprintln!(rt; "error: {name} is read, and would be written over");
         }
         Stop::Violated(answer) => {
             let _ = io::writer(rt).write_all(&answer.text);

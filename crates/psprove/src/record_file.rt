@@ -59,6 +59,12 @@ impl RecordFile {
         Opener::new(rt).is_one_file(name, self.first_name())
     }
 
+    /// Whether a file of this name would be lost.
+    pub(crate) fn loses<R: Files>(&self, rt: &R, name: &str) -> bool {
+        let opener = Opener::new(rt);
+        opener.is_one_file(name, self.name.as_str()) || opener.is_one_file(name, self.first_name())
+    }
+
     /// Tells that the file can't be made.
     pub(crate) fn refuse<R: Eprint>(&self, rt: &R) -> ExitCode {
         refuse_file(rt, PROGRAM, Some(&self.name))
