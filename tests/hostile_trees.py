@@ -6,7 +6,6 @@ four times as many. What each says has to be accepted, and four times the bytes 
 seconds. Prints what each took. Both PROGRAM and tests/verify.py judge the same records of M bytes (8,000 by default). With
 --keep the records stay in that folder. The last line counts all."""
 import functools
-import itertools
 import os
 from collections.abc import Callable, Iterable, Sequence
 from pathlib import Path
@@ -65,11 +64,12 @@ def leaf(pair: tuple[int, int], chained: bool) -> str:
 
 def wide(size: int) -> Lines:
     """Splits of all activities, one below the other."""
-    pairs = [*itertools.permutations(range(1, N + 1), 2)]
+    activities = range(1, N + 1)
+    pairs = [(i, j) for i in activities for j in activities if i != j]
     levels = max(1, size // (5 * len(pairs)))
     below = [leaf(pair, True) for pair in pairs[1:]]
     first = [leaf(pair, False) for pair in pairs[1:]]
-    return [*[f"split 0 {' '.join(map(str, range(1, N + 1)))}"] * levels, "cut", *below * (levels - 1), *first]
+    return [*[f"split 0 {' '.join(map(str, activities))}"] * levels, "cut", *below * (levels - 1), *first]
 
 
 TREES: list[Callable[[int], Lines]] = [deep, forced, changing, wide]
