@@ -1,5 +1,5 @@
 -- What can be read off a ledger is true.
-use Rattle.std.proofs.Common.{◌≡◌, refl, sym, ap, ℕ, suc, ◌≤◌, ◌+◌, ◌-◌, arith, ℤ, pos, ◌+ℤ◌, ◌≤ℤ◌, ◌<ℤ◌, List, length, Option, None, Some, MatchOption, true, false, is_some}
+use Rattle.std.proofs.Common.{◌≡◌, ◌≢◌, refl, sym, ap, ◌∙◌, ℕ, suc, ◌≤◌, ◌+◌, ◌-◌, arith, ℤ, pos, ◌+ℤ◌, ◌≤ℤ◌, ◌<ℤ◌, List, length, Option, None, Some, MatchOption, true, false, is_some}
 use Rattle.std.specs.Int.{int_min}
 use Rattle.std.specs.List.{Contains}
 use Rattle.std.proofs.lemmas.Bool.{false≢true}
@@ -16,7 +16,10 @@ use Rattle.longest_path.specs.Insert.{arc_of}
 use Rattle.lemma_proof.proofs.Held.{not_both}
 use Rattle.reasons.specs.Reasons.{Implies}
 use Rattle.reasons.proofs.Weighing.{MeetsAll, implied_met}
-use Rattle.lemma_book.specs.Ledger.{IsBoundOf, IsSound, LedgerOf, ceiling_of, own_of}
+use Rattle.record_text.specs.FirstWrong.{IsFactOf}
+use Rattle.record_text.specs.declared.proved.Proved.{Proved}
+use Rattle.record_text.specs.declared.proved.Proved.TheVariants as proved
+use Rattle.lemma_book.specs.Ledger.{Claims, IsBoundOf, IsSound, LedgerOf, ceiling, ceiling_of, own_of}
 
 own_met : (l : LedgerOf) (s : List ℤ) → IsSound l → IsFeasible l.project s → makespan s <ℤ ceiling_of l → MeetsAll s (own_of l)
 own_met l s sound feasible less e c = All-contains (Meets s) (own_of l) e (sound.roots s feasible less) c
@@ -104,3 +107,25 @@ some_there (Some x) some = (x, refl)
 pub none_here : {X : Type 0} (o : Option X) → is_some o ≡ false → o ≡ None
 none_here None none = refl
 none_here (Some x) none = absurd (false≢true (sym none))
+
+-- ---- what a sound ledger claims
+
+some_best : (best : Option (List ℤ)) → best ≢ None → (starts : List ℤ) × (best ≡ Some starts)
+some_best None some = absurd (some refl)
+some_best (Some starts) some = (starts, refl)
+
+optimal_true : (l : LedgerOf) (length : ℤ) → IsSound l → Claims l (proved.Optimal length) → IsShortest l.project length
+optimal_true l length sound claims =
+    let best = some_best l.best claims.1 in
+    let is : length ≡ makespan best.0 = claims.2 ∙ ap (ceiling l.project) best.1 in
+    rw is (shortest l best.0 best.1 sound claims.0)
+
+bound_true : (l : LedgerOf) (bound : ℤ) → IsSound l → Claims l (proved.Bound bound) → IsLowerBound l.project bound
+bound_true l bound sound claims =
+    let going = claims.1.going claims.0 in
+    rw going.2 (bounded l going.0 sound (least_implied (own_of l) 0 (end_of l.project) going.0 going.1))
+
+pub claim_true : (l : LedgerOf) (what : Proved) → IsProject l.project → IsSound l → Claims l what → IsFactOf l.project what
+claim_true l (proved.Optimal length) is sound claims = optimal_true l length sound claims
+claim_true l (proved.Bound bound) is sound claims = bound_true l bound sound claims
+claim_true l proved.NoSchedule is sound claims = no_schedule l is claims.1 sound claims.0

@@ -13,7 +13,7 @@ use Rattle.lemma_proof.specs.declared.line.Line.{Line}
 use Rattle.lemma_proof.specs.Lines.{IsArc, IsIn, IsRefuted, MeetsNone, Slots, impossible}
 use Rattle.lemma_book.specs.declared.deadline.TheConstants.{MAX_CEILING}
 use Rattle.lemma_book.proofs.TooMuch.{too_much_out}
-use Rattle.lemma_book.specs.Ledger.{IsLedger, IsRootOf, IsSound, LedgerOf, asks_too_much, ceiling_of, deadline, first_roots, own_of, root_of, with_schedule, with_slot, without_lemma}
+use Rattle.lemma_book.specs.Ledger.{IsDraft, IsRootOf, IsSound, Leads, LedgerOf, MayLead, MayTake, asks_too_much, ceiling_of, deadline, first_roots, own_of, root_of, with_lemma, with_schedule, with_slot, without_lemma}
 use Rattle.lemma_book.specs.Premises.{PremisesOf, first_premises, ledger_of}
 use Rattle.lemma_book.proofs.Slotted.{in_emptied, in_shelved}
 use Rattle.lemma_proof.proofs.Truth.{none_meets_refuted}
@@ -46,8 +46,8 @@ first_sound p roots lemmas roots_are lemmas_are = record {
     none_in : (s : List ℤ) → MeetsNone s []
     none_in s slot lemma found = absurd cc
 
-pub first_is : (p : Problem) (x : PremisesOf) → IsBetween (pos 0) MAX_CEILING (pos (horizon p + 1)) → x ≡ first_premises p → IsLedger (ledger_of x None)
-first_is p x within is = rw is (record { sound = first_sound p (first_roots p) [] refl refl; within = within })
+pub first_is : (p : Problem) (x : PremisesOf) → IsBetween (pos 0) MAX_CEILING (pos (horizon p + 1)) → x ≡ first_premises p → IsDraft (ledger_of x None)
+first_is p x within is = rw is within
 
 pub of_sum : (h : ℕ) → (pos h +ℤ pos 1) ≡ pos (h + 1)
 of_sum h = omega (arith, ints)
@@ -76,9 +76,6 @@ with_root_sound l arc sound met = record {
   roots = λ s feasible less. subst (All (Meets s)) (own_more l arc) (All-push (Meets s) (own_of l) arc (sound.roots s feasible less) (met s feasible less));
   lemmas = sound.lemmas;
 }
-
-pub with_root_is : (l : LedgerOf) (arc : Lag) → IsLedger l → ((s : List ℤ) → IsFeasible l.project s → makespan s <ℤ ceiling_of l → Meets s arc) → IsLedger (with_root l arc)
-with_root_is l arc is met = record { sound = with_root_sound l arc is.sound met; within = is.within }
 
 -- ---- refuted arcs
 
@@ -127,9 +124,6 @@ shelved_sound l slot arcs lines sound refuted = record {
       (in_shelved l.lemmas slot k arcs lemma found);
 }
 
-pub shelved_is : (l : LedgerOf) (slot : ℕ) (arcs : List Lag) (lines : List Line) → IsLedger l → IsRefuted l.project l.lemmas (own_of l) arcs lines → IsLedger (shelved l slot arcs)
-shelved_is l slot arcs lines is refuted = record { sound = shelved_sound l slot arcs lines is.sound refuted; within = is.within }
-
 -- a lemma goes
 pub emptied_sound : (l : LedgerOf) (slot : ℕ) → IsSound l → IsSound (without_lemma l slot)
 emptied_sound l slot sound = record {
@@ -137,9 +131,6 @@ emptied_sound l slot sound = record {
   roots = sound.roots;
   lemmas = λ s feasible less k lemma found. sound.lemmas s feasible less k lemma (in_emptied l.lemmas slot k lemma found);
 }
-
-pub emptied_is : (l : LedgerOf) (slot : ℕ) → IsLedger l → IsLedger (without_lemma l slot)
-emptied_is l slot is = record { sound = emptied_sound l slot is.sound; within = is.within }
 
 -- ---- a shorter schedule
 
@@ -154,7 +145,21 @@ led_sound l starts sound feasible shorter = record {
   lemmas = λ s f less. let below : makespan s <ℤ makespan starts = less in sound.lemmas s f (omega (arith, ints, below, shorter));
 }
 
-pub led_is : (l : LedgerOf) (starts : List ℤ) → IsLedger l → IsFeasible l.project starts → makespan starts <ℤ ceiling_of l → pos 0 ≤ℤ makespan starts → IsLedger (with_schedule l starts)
-led_is l starts is feasible shorter least =
-    let led_one : IsLedger (led l starts) = record { sound = led_sound l starts is.sound feasible shorter; within = let high = is.within.at_most in record { at_least = least; at_most = omega (arith, ints, high, shorter) } } in
-    with_root_is (led l starts) (deadline l.project (makespan starts)) led_one (λ s f less. deadline_met l.project s (makespan starts) f less)
+pub led_within : (l : LedgerOf) (starts : List ℤ) → IsDraft l → makespan starts <ℤ ceiling_of l → pos 0 ≤ℤ makespan starts → IsDraft (with_schedule l starts)
+led_within l starts is shorter least = let high = is.at_most in record { at_least = least; at_most = omega (arith, ints, high, shorter) }
+
+-- ---- what a ledger takes keeps it sound
+
+pub lemma_sound : (l : LedgerOf) (slot : ℕ) (arcs : List Lag) (lines : List Line) → IsSound l → MayTake l slot arcs lines → IsSound (with_lemma l slot arcs)
+lemma_sound l slot [] lines sound may = with_root_sound l impossible sound (root_met l [] lines impossible sound may.refuted refl)
+lemma_sound l slot (e ∷ []) lines sound may = with_root_sound l (reverse_of e) sound (root_met l (e ∷ []) lines (reverse_of e) sound may.refuted refl)
+lemma_sound l slot (e ∷ f ∷ arcs) lines sound may = shelved_sound l slot (e ∷ f ∷ arcs) lines sound may.refuted
+
+pub schedule_sound : (l : LedgerOf) (starts : List ℤ) → IsSound l → MayLead l starts → IsSound (with_schedule l starts)
+schedule_sound l starts sound may =
+    with_root_sound (led l starts) (deadline l.project (makespan starts)) (led_sound l starts sound may.feasible may.shorter)
+    (λ s feasible shorter. deadline_met l.project s (makespan starts) feasible shorter)
+
+pub led_stays_sound : (l after : LedgerOf) (starts : List ℤ) (led : Bool) → IsSound l → Leads l starts led after → IsSound after
+led_stays_sound l after starts true sound leads = rw leads.1 (schedule_sound l starts sound leads.0)
+led_stays_sound l after starts false sound leads = rw leads.1 sound

@@ -14,7 +14,7 @@ use Rattle.longest_path.specs.Insert.{arc_of}
 use Rattle.reasons.specs.Reasons.{reverse_of}
 use Rattle.lemma_proof.specs.declared.line.Line.{Line}
 use Rattle.lemma_proof.specs.Bench.{BenchOf}
-use Rattle.lemma_proof.specs.Lines.{IsIn, IsRefuted, MeetsNone, Slots, impossible, picked}
+use Rattle.lemma_proof.specs.Lines.{IsArc, IsIn, IsRefuted, MeetsNone, Slots, impossible, picked}
 use Rattle.std.specs.declared.alloc.Global.{Global}
 use Rattle.lemma_book.specs.declared.deadline.TheConstants.{MAX_CEILING}
 use Rattle.lemma_book.specs.declared.ledger.TheConstants.{MAX_SLOTS}
@@ -99,9 +99,8 @@ abbrev pub IsRootOf : Problem → List Lag → Option BenchOf → Type 0
 IsRootOf p own None = HasPositiveCycle own
 IsRootOf p own (Some bench) = IsMatrixOf (activity_count p) own bench.rows
 
-pub record IsLedger (l : LedgerOf) : Type 0 where
-  pub sound : IsSound l
-  pub within : IsBetween (pos 0) MAX_CEILING (ceiling_of l)
+abbrev pub IsDraft : LedgerOf → Type 0
+IsDraft l = IsBetween (pos 0) MAX_CEILING (ceiling_of l)
 
 -- ---- Who may change a ledger.
 
@@ -119,6 +118,11 @@ abbrev pub HasRoom : Slots → ℕ → List Lag → Type 0
 HasRoom lemmas slot [] = Unit {0}
 HasRoom lemmas slot (e ∷ []) = Unit {0}
 HasRoom lemmas slot (e ∷ f ∷ arcs) = IsFree lemmas slot
+
+-- its arcs are within the limits
+pub record MayKeep (l : LedgerOf) (slot : ℕ) (arcs : List Lag) : Type 0 where
+  pub room : HasRoom l.lemmas slot arcs
+  pub are_arcs : All (IsArc l.project) arcs
 
 -- the lines refute the lemma's arcs beside what the ledger has
 pub record MayTake (l : LedgerOf) (slot : ℕ) (arcs : List Lag) (lines : List Line) : Type 0 where

@@ -1,24 +1,20 @@
 //! What is proved of a project, and what changes it.
 
-ghost use Rattle.std.specs.Prelude.{◌≡◌, ◌↔◌, pos, Some, List, None, IsTrue, IfOk, IfSome, OnOk, OnErr, MatchOption};
-ghost use Rattle.std.specs.List.{All};
-ghost use Rattle.network.specs.Problem.{IsBetween, IsWithin, Problem};
+ghost use Rattle.std.specs.Prelude.{◌≡◌, ◌↔◌, pos, Some, List, None, IfOk, IfSome, OnOk, OnErr, MatchOption};
+ghost use Rattle.network.specs.Problem.{IsBetween, IsWithin};
 ghost use Rattle.lemma_book.specs.declared.deadline.TheConstants.{MAX_CEILING};
 ghost use Rattle.network.specs.declared.limits.TheConstants.{MAX_WALK_WEIGHT};
-ghost use Rattle.network.specs.Schedule.{IsFeasible, IsLowerBound, makespan};
+ghost use Rattle.network.specs.Schedule.{IsFeasible, IsLowerBound};
 ghost use Rattle.record_text.specs.FirstWrong.{IsFactOf};
 ghost use Rattle.lemma_proof.specs.declared.line.Line.{Line};
-ghost use Rattle.lemma_proof.specs.Lines.{IsArc, IsIn, IsRefuted, picked};
-ghost use Rattle.lemma_book.specs.Ledger.{Claims, IsBoundOf, IsFilled, IsSmall, Leads, LetsGo, MayLead, MayTake, Takes, ceiling_of, first_ledger, own_of, root_of, with_lemma};
+ghost use Rattle.lemma_proof.specs.Lines.{IsIn, picked};
+ghost use Rattle.lemma_book.specs.Ledger.{Claims, IsBoundOf, IsFilled, IsSmall, Leads, LetsGo, MayTake, Takes, ceiling_of, first_ledger, with_lemma};
 ghost use Rattle.lemma_book.specs.Premises.{premises_in};
 
-use crate::deadline::{MAX_CEILING, deadline};
-use crate::leading::{are_starts, is_feasible};
+use crate::draft::Draft;
 use crate::premises::Premises;
-use horizon::horizon_of;
-use lemma_proof::{IMPOSSIBLE, Lags, Line};
+use lemma_proof::{Lags, Line};
 use network::{Lag, Project};
-use reasons::reverse_of;
 use record_text::{Proved, Starts};
 use std::alloc::{AllocError, Global};
 use std::marker::Model;
@@ -32,41 +28,17 @@ pub const MAX_SLOTS: usize = 1_048_576;
 /// than it or no longer than the horizon, meets all arcs of the root and of each lemma not all.
 #[derive(Drop)]
 pub struct Ledger<'a> {
-    alloc: Global,
-    /// The root's arcs and the lemmas.
-    premises: Premises<'a>,
-    /// The starts of the best schedule.
-    best: Option<Starts>,
-}
-
-/// The last of these starts, that of the end; 0 if there are none.
-fn last_of(starts: &[i64]) -> i64
-    ensures { result ≡ makespan starts.now }
-{
-    starts.last().copied().unwrap_or(0)
-}
-
-/// The arc that a lemma of fewer than two arcs makes one of the root's.
-fn root_arc(arcs: &[Lag]) -> Option<Lag>
-    requires { (p : Problem) × All (IsArc p) arcs.now }
-    ensures { result ≡ root_of arcs.now }
-{
-    match arcs {
-        [] => Some(IMPOSSIBLE),
-        [arc] => Some(reverse_of(*arc)),
-        _ => None,
-    }
+    draft: Draft<'a>,
 }
 
 impl<'a> Model for Ledger<'a> {
-    ghost use Rattle.lemma_book.specs.Ledger.{IsLedger, LedgerOf};
-    ghost use Rattle.lemma_book.specs.Premises.{ledger_of};
+    ghost use Rattle.lemma_book.specs.Ledger.{IsSound, LedgerOf};
 
     ghost Value = { LedgerOf };
 
-    ghost view = { λ s. ledger_of s.premises s.best };
+    ghost view = { λ s. s.draft };
 
-    ghost invariant = { λ s. IsLedger (ledger_of s.premises s.best) };
+    ghost invariant = { λ s. IsSound s.draft };
 }
 
 impl<'a> Ledger<'a> {
@@ -75,23 +47,9 @@ impl<'a> Ledger<'a> {
     pub fn new(alloc: Global, project: &'a Project) -> Result<Ledger<'a>, AllocError>
         ensures { IfOk result (λ x. x ≡ first_ledger project.now) }
     {
-        prove!(horizon_of(project) < MAX_CEILING);
         Ok(Ledger {
-            alloc,
-            premises: Premises::new(alloc, project)?,
-            best: None,
+            draft: Draft::new(alloc, project)?,
         })
-    }
-
-    /// The places of the lines that show something new, if the lines refute these arcs beside what the ledger has.
-    pub fn refute(&mut self, arcs: &[Lag], lines: &[Line]) -> Result<Option<Vec<usize>>, AllocError>
-        ensures same { self.new ≡ self.old }
-        ensures refuted { IfOk result (λ found. MatchOption found
-            (¬ IsRefuted self.old.project self.old.lemmas (own_of self.old) arcs.now lines.now)
-            (λ used. IsRefuted self.old.project self.old.lemmas (own_of self.old) arcs.now lines.now
-            × IsRefuted self.old.project self.old.lemmas (own_of self.old) arcs.now (picked lines.now used.items))) }
-    {
-        self.premises.refute(arcs, lines)
     }
 
     /// The places of the lines that show something new, if a lemma may be taken: it has the slot that it needs, and the
@@ -107,10 +65,7 @@ impl<'a> Ledger<'a> {
             (λ used. MayTake self.old slot arcs.now lines.now
             × MayTake self.old slot arcs.now (picked lines.now used.items))) }
     {
-        if !self.premises.has_room(slot, arcs) {
-            return Ok(None);
-        }
-        self.refute(arcs, lines)
+        self.draft.may_take(slot, arcs, lines)
     }
 
     /// Keeps a lemma that may be taken by some lines.
@@ -119,12 +74,7 @@ impl<'a> Ledger<'a> {
         ensures kept { OnOk result (self.new ≡ with_lemma self.old slot arcs) }
         ensures unchanged { OnErr result (self.new ≡ self.old) }
     {
-        prove!(self.premises.project().activity_count() >= 2);
-        let Some(arc) = root_arc(arcs.as_slice()) else {
-            self.premises.shelve(slot, arcs)?;
-            return Ok(());
-        };
-        self.premises.add_root(arc)?;
+        self.draft.keep(slot, arcs)?;
         Ok(())
     }
 
@@ -151,7 +101,7 @@ impl<'a> Ledger<'a> {
     pub fn let_go(&mut self, slot: usize) -> bool
         ensures { LetsGo self.old slot result self.new }
     {
-        self.premises.let_go(slot)
+        self.draft.let_go(slot)
     }
 
     /// What schedules in question are shorter than: the makespan of the best one, or the horizon and one.
@@ -159,38 +109,35 @@ impl<'a> Ledger<'a> {
         ensures value { result ≡ ceiling_of self.now }
         ensures within { IsBetween (pos 0) MAX_CEILING result }
     {
-        match &self.best {
-            Some(starts) => last_of(starts.as_slice()),
-            None => horizon_of(self.premises.project()) + 1,
-        }
+        self.draft.ceiling()
     }
 
     /// The project of which this is proved.
     pub fn project(&self) -> &Project
         ensures { result.now ≡ self.now.project }
     {
-        self.premises.project()
+        self.draft.project()
     }
 
     /// What the lines of a lemma are checked against.
     pub fn premises(&self) -> &Premises<'a>
         ensures { result.now ≡ premises_in self.now }
     {
-        &self.premises
+        self.draft.premises()
     }
 
     /// The root's arcs beside the project's rules, in the order in which they came.
     pub fn roots(&self) -> &[Lag]
         ensures { result.now ≡ self.now.roots }
     {
-        self.premises.roots()
+        self.draft.premises().roots()
     }
 
     /// The arcs of the lemma in a slot, if there is one.
     pub fn lemma_in(&self, slot: usize) -> Option<&[Lag]>
         ensures { MatchOption result (¬ IsFilled self.now.lemmas slot) (λ arcs. IsIn self.now.lemmas slot arcs.now) }
     {
-        self.premises.lemma_in(slot)
+        self.draft.premises().lemma_in(slot)
     }
 
     /// The starts of the best schedule by activity, in periods.
@@ -198,24 +145,7 @@ impl<'a> Ledger<'a> {
         ensures best { MatchOption result (self.now.best ≡ None) (λ starts. self.now.best ≡ Some starts.now) }
         ensures feasible { IfSome result (λ starts. IsFeasible self.now.project starts.now) }
     {
-        match &self.best {
-            Some(starts) => Some(starts.as_slice()),
-            None => None,
-        }
-    }
-
-    /// Whether starts are a feasible schedule that is in question.
-    fn may_lead(&self, starts: &[i64]) -> Result<bool, AllocError>
-        ensures { IfOk result (λ may. IsTrue may ↔ MayLead self.now starts.now) }
-    {
-        let project = self.premises.project();
-        if !are_starts(project, starts) {
-            return Ok(false);
-        }
-        if last_of(starts) >= self.ceiling() {
-            return Ok(false);
-        }
-        is_feasible(self.alloc, project, starts)
+        self.draft.best()
     }
 
     /// Takes a schedule, if it is feasible and in question: from now on those are that are shorter. Starts are by
@@ -224,14 +154,8 @@ impl<'a> Ledger<'a> {
         ensures led { IfOk result (λ taken. Leads self.old starts taken self.new) }
         ensures unchanged { OnErr result (self.new ≡ self.old) }
     {
-        if !self.may_lead(starts.as_slice())? {
-            return Ok(false);
-        }
-        prove!(self.premises.project().activity_count() >= 2);
-        let arc = deadline(self.premises.project(), last_of(starts.as_slice()));
-        self.premises.add_root(arc)?;
-        self.best = Some(starts);
-        Ok(true)
+        let led = self.draft.schedule(starts)?;
+        Ok(led)
     }
 
     /// What no feasible schedule is shorter than: the least end by the root's arcs, or the ceiling where that is less or
@@ -241,10 +165,7 @@ impl<'a> Ledger<'a> {
         ensures law { IsLowerBound self.now.project result }
         ensures small { IsWithin MAX_WALK_WEIGHT result }
     {
-        match self.premises.least_end() {
-            Some(least) => least.min(self.ceiling()),
-            None => self.ceiling(),
-        }
+        self.draft.bound()
     }
 
     /// What is proved now. It is true of the project.
@@ -253,17 +174,7 @@ impl<'a> Ledger<'a> {
         ensures law { IsFactOf self.now.project result }
         ensures small { IsSmall result }
     {
-        prove!(self.premises.project().activity_count() >= 2);
-        if self.premises.least_end().is_some() {
-            return Proved::Bound {
-                bound: self.bound(),
-            };
-        }
-        if self.best.is_some() {
-            return Proved::Optimal {
-                makespan: self.ceiling(),
-            };
-        }
-        Proved::NoSchedule
+        prove!(self.draft.project().activity_count() >= 2);
+        self.draft.claim()
     }
 }

@@ -3,11 +3,13 @@
 
 mod comparing;
 mod deadline;
+mod draft;
 mod leading;
 mod ledger;
 mod premises;
 mod slots;
 mod too_much;
 
+pub use draft::Draft;
 pub use ledger::{Ledger, MAX_SLOTS};
 pub use premises::Premises;

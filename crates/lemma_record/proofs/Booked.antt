@@ -17,7 +17,7 @@ use Rattle.lemma_log.specs.Logs.{Spells, log_text}
 use Rattle.lemma_log.proofs.Spelled.{log_is_spelled}
 use Rattle.lemma_log.proofs.Each.{each_at}
 use Rattle.lemma_book.specs.Ledger.{Claims, LedgerOf, first_ledger}
-use Rattle.lemma_record.specs.Faults.{IsRightText}
+use Rattle.lemma_record.specs.Right.{IsRightText}
 use Rattle.lemma_record.specs.Right.{IsStep, Takes, TakesAll, proved_of}
 use Rattle.lemma_record.specs.Taking.{IsLoggedOf, IsTaken}
 use Rattle.lemma_record.specs.Book.{IsBest, IsLogOf}

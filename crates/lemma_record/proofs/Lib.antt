@@ -7,3 +7,5 @@ pub mod Stepping
 pub mod Titles
 pub mod Desks
 pub mod Accepted
+pub mod Parted
+pub mod Texts

@@ -1,12 +1,10 @@
 -- A text that has a first fault is not that of a right log.
-use Rattle.std.proofs.Common.{◌≡◌, ℕ, List, [], ◌∷◌, ◌++◌, Result, Ok, inl, inr, sym, ap, ◌∙◌, subst}
+use Rattle.std.proofs.Common.{◌≡◌, ◌+◌, true, ℕ, List, [], ◌∷◌, ◌++◌, Ok, inl, inr, sym, ◌∙◌, subst}
 use Rattle.std.specs.List.{AllByRecursion}
 use Rattle.network.specs.Problem.{Problem}
 use Rattle.lemma_log.specs.declared.event.Event.{Event}
 use Rattle.lemma_log.specs.declared.event.Event.TheVariants as event
 use Rattle.lemma_log.specs.declared.event.Claim.{Claim}
-use Rattle.lemma_log.specs.declared.fault.LogFault.{LogFault}
-use Rattle.lemma_log.specs.Numbers.{Part}
 use Rattle.lemma_log.specs.Text.{title_text}
 use Rattle.lemma_log.specs.Reading.{read_in}
 use Rattle.lemma_log.specs.Logs.{AreFirst}
@@ -14,31 +12,14 @@ use Rattle.lemma_book.specs.Ledger.{LedgerOf, first_ledger}
 use Rattle.lemma_record.specs.declared.fault.EventFault.{EventFault}
 use Rattle.lemma_record.specs.declared.fault.Wrong.{Wrong}
 use Rattle.lemma_record.specs.declared.fault.Wrong.TheVariants as wrong
-use Rattle.lemma_record.specs.Right.{IsStep, Takes, TakesAll}
-use Rattle.lemma_record.specs.Faults.{FaultIsWrong, IsNextFault, IsRightText, IsTrailing, IsWrongNext, IsWrongTitle}
+use Rattle.lemma_record.specs.Right.{IsRightText, IsStep, Takes, TakesAll}
+use Rattle.lemma_record.specs.Parts.{PartOf, TakesPart, has, number_after}
+use Rattle.lemma_record.specs.Faults.{FaultIsWrong, IsNextFault, IsTrailing, IsWrongNext, IsWrongTitle}
+use Rattle.lemma_record.proofs.Parted.{one_after}
+use Rattle.lemma_record.proofs.Texts.{no_step, same_body, same_event, same_left}
 use Rattle.lemma_record.proofs.Titles.{title_there}
 
 -- ---- one event
-
--- an event makes one ledger of a ledger
-one_after : (l a b : LedgerOf) (e : Event) → Takes l e a → Takes l e b → a ≡ b
-one_after l a b (event.Lemma slot arcs lines) h k = h.1 ∙ sym k.1
-one_after l a b (event.Drop slot) h k = h.1 ∙ sym k.1
-one_after l a b (event.Schedule starts) h k = h.1 ∙ sym k.1
-one_after l a b (event.Claim c) h k = h.1 ∙ sym k.1
-
--- bytes begin with one event
-same_part : (r : Result (Part Event) LogFault) (p q : Part Event) → r ≡ Ok p → r ≡ Ok q → p ≡ q
-same_part r p q h k = cc
-
-same_event : (bytes left rest : List ℕ) (e f : Event) → read_in bytes ≡ Ok (record { value = e; left = left }) → read_in bytes ≡ Ok (record { value = f; left = rest }) → e ≡ f
-same_event bytes left rest e f h k = ap (λ (p : Part Event). p.value) (same_part (read_in bytes) (record { value = e; left = left }) (record { value = f; left = rest }) h k)
-
-same_left : (bytes left rest : List ℕ) (e f : Event) → read_in bytes ≡ Ok (record { value = e; left = left }) → read_in bytes ≡ Ok (record { value = f; left = rest }) → left ≡ rest
-same_left bytes left rest e f h k = ap (λ (p : Part Event). p.left) (same_part (read_in bytes) (record { value = e; left = left }) (record { value = f; left = rest }) h k)
-
-no_step : (e : Event) (c : Claim) → e ≡ event.Claim c → IsStep e → ⊥
-no_step e c is step = subst IsStep is step
 
 -- an event that is taken is not wrong
 taken_right : (l after : LedgerOf) (left rest : List ℕ) (e : Event) (w : Wrong) → read_in left ≡ Ok (record { value = e; left = rest }) → Takes l e after → IsWrongNext l left w → ⊥
@@ -50,25 +31,25 @@ taken_right l after left rest e w read takes (inr (inr not)) =
 
 -- ---- several
 
-wrong_within : (l m after : LedgerOf) (all left : List ℕ) (steps others : List Event) (c : Claim) (w : Wrong) →
-    AreFirst all steps left → AllByRecursion IsStep steps → TakesAll l steps m →
+wrong_within : (part : PartOf) (before : ℕ) (l m after : LedgerOf) (all left : List ℕ) (steps others : List Event) (c : Claim) (w : Wrong) →
+    AreFirst all steps left → AllByRecursion IsStep steps → TakesPart part before l steps m →
     AreFirst all (others ++ event.Claim c ∷ []) [] → AllByRecursion IsStep others → TakesAll l (others ++ event.Claim c ∷ []) after →
     IsWrongNext m left w → ⊥
-wrong_within l m after all left [] [] c w first are taken whole each right wrong =
+wrong_within part before l m after all left [] [] c w first are taken whole each right wrong =
     taken_right m right.0 left whole.0 (event.Claim c) w
     (subst (λ (b : List ℕ). read_in b ≡ Ok (record { value = event.Claim c; left = whole.0 })) (sym first) whole.1)
     (subst (λ (n : LedgerOf). Takes n (event.Claim c) right.0) (sym taken) right.1) wrong
-wrong_within l m after all left [] (o ∷ others) c w first are taken whole each right wrong =
+wrong_within part before l m after all left [] (o ∷ others) c w first are taken whole each right wrong =
     taken_right m right.0 left whole.0 o w
     (subst (λ (b : List ℕ). read_in b ≡ Ok (record { value = o; left = whole.0 })) (sym first) whole.1)
     (subst (λ (n : LedgerOf). Takes n o right.0) (sym taken) right.1) wrong
-wrong_within l m after all left (s ∷ steps) [] c w first are taken whole each right wrong =
+wrong_within part before l m after all left (s ∷ steps) [] c w first are taken whole each right wrong =
     no_step s c (same_event all first.0 whole.0 s (event.Claim c) first.1 whole.1) are.0
-wrong_within l m after all left (s ∷ steps) (o ∷ others) c w first are taken whole each right wrong =
+wrong_within part before l m after all left (s ∷ steps) (o ∷ others) c w first are taken whole each right wrong =
     let same : o ≡ s = same_event all whole.0 first.0 o s whole.1 first.1 in
     let rest : whole.0 ≡ first.0 = same_left all whole.0 first.0 o s whole.1 first.1 in
-    let next : right.0 ≡ taken.0 = one_after l right.0 taken.0 s (subst (λ (e : Event). Takes l e right.0) same right.1) taken.1 in
-    wrong_within taken.0 m after first.0 left steps others c w first.2 are.1 taken.2
+    let next : right.0 ≡ taken.0 = one_after true (has part (number_after before)) l right.0 taken.0 s (subst (λ (e : Event). Takes l e right.0) same right.1) taken.1 in
+    wrong_within part (before + 1) taken.0 m after first.0 left steps others c w first.2 are.1 taken.2
     (subst (λ (b : List ℕ). AreFirst b (others ++ event.Claim c ∷ []) []) rest whole.2) each.1
     (subst (λ (n : LedgerOf). TakesAll n (others ++ event.Claim c ∷ []) after) next right.2) wrong
 
@@ -88,12 +69,6 @@ none_after all left (s ∷ steps) (o ∷ others) c d first are whole each =
 
 -- ---- the law
 
-same_body : (text a b : List ℕ) → text ≡ title_text ++ a → text ≡ title_text ++ b → a ≡ b
-same_body text a b h k = cancelled (sym h ∙ k)
-  where
-    cancelled : title_text ++ a ≡ title_text ++ b → a ≡ b
-    cancelled is = cc
-
 title_right : (text body : List ℕ) (w : Wrong) → text ≡ title_text ++ body → IsWrongTitle text w → ⊥
 title_right text body wrong.Form is h = let there = title_there text body is in cc
 title_right text body wrong.Long is h = h
@@ -105,18 +80,18 @@ title_right text body wrong.Schedule is h = h
 title_right text body wrong.Claim is h = h
 title_right text body wrong.Memory is h = h
 
-next_right : (p : Problem) (text : List ℕ) (fault : EventFault) (c : Claim) → IsNextFault p text fault → IsRightText p text c → ⊥
-next_right p text fault c found right =
+next_right : (part : PartOf) (p : Problem) (text : List ℕ) (fault : EventFault) (c : Claim) → IsNextFault part p text fault → IsRightText p text c → ⊥
+next_right part p text fault c found right =
     let ends = right.right.ends in
     let body : right.spells.body ≡ found.leads.begins.body = same_body text right.spells.body found.leads.begins.body right.spells.title found.leads.begins.title in
     let whole : AreFirst found.leads.begins.body (right.right.steps ++ event.Claim c ∷ []) [] =
     subst (λ (b : List ℕ). AreFirst b (right.right.steps ++ event.Claim c ∷ []) []) body (subst (λ (all : List Event). AreFirst right.spells.body all []) ends right.spells.first) in
     let taken : TakesAll (first_ledger p) (right.right.steps ++ event.Claim c ∷ []) right.right.after = subst (λ (all : List Event). TakesAll (first_ledger p) all right.right.after) ends right.right.taken in
-    wrong_within (first_ledger p) found.ledger right.right.after found.leads.begins.body found.left found.steps right.right.steps c fault.wrong
+    wrong_within part 0 (first_ledger p) found.ledger right.right.after found.leads.begins.body found.left found.steps right.right.steps c fault.wrong
     found.leads.begins.first found.leads.are_steps found.leads.taken whole right.right.are_steps taken found.next
 
-trailing_right : (p : Problem) (text : List ℕ) (fault : EventFault) (c : Claim) → IsTrailing p text fault → IsRightText p text c → ⊥
-trailing_right p text fault c found right =
+trailing_right : (part : PartOf) (p : Problem) (text : List ℕ) (fault : EventFault) (c : Claim) → IsTrailing part p text fault → IsRightText p text c → ⊥
+trailing_right part p text fault c found right =
     let body : right.spells.body ≡ found.begins.body = same_body text right.spells.body found.begins.body right.spells.title found.begins.title in
     let whole : AreFirst found.begins.body (right.right.steps ++ event.Claim c ∷ []) [] =
     subst (λ (b : List ℕ). AreFirst b (right.right.steps ++ event.Claim c ∷ []) []) body (subst (λ (all : List Event). AreFirst right.spells.body all []) right.right.ends right.spells.first) in
@@ -124,6 +99,6 @@ trailing_right p text fault c found right =
     found.more (none_after found.begins.body found.left found.right.steps right.right.steps found.claim c first found.right.are_steps whole right.right.are_steps)
 
 pub fault_is_wrong : FaultIsWrong
-fault_is_wrong p text fault c (inl title) right = title_right text right.spells.body fault.wrong right.spells.title title.title
-fault_is_wrong p text fault c (inr (inl next)) right = next_right p text fault c next right
-fault_is_wrong p text fault c (inr (inr more)) right = trailing_right p text fault c more right
+fault_is_wrong part p text fault c (inl title) right = title_right text right.spells.body fault.wrong right.spells.title title.title
+fault_is_wrong part p text fault c (inr (inl next)) right = next_right part p text fault c next right
+fault_is_wrong part p text fault c (inr (inr more)) right = trailing_right part p text fault c more right

@@ -1,12 +1,11 @@
 -- What a right log claims is true.
-use Rattle.std.proofs.Common.{◌≡◌, ◌≢◌, refl, sym, ap, ◌∙◌, subst, ℤ, ◌≤ℤ◌, List, [], ◌∷◌, ◌++◌, Option, None, Some, arith}
+use Rattle.std.proofs.Common.{◌≡◌, refl, sym, ap, ◌∙◌, subst, ℤ, ◌≤ℤ◌, List, [], ◌∷◌, ◌++◌, Some, arith}
 use Rattle.std.specs.Int.{int_min}
 use Rattle.std.proofs.lemmas.Int.{ints}
-use Rattle.network.specs.Problem.{IsProject, Problem, end_of}
-use Rattle.network.specs.Schedule.{IsLowerBound, IsShortest, makespan}
+use Rattle.network.specs.Problem.{Problem, end_of}
+use Rattle.network.specs.Schedule.{makespan}
 use Rattle.network.specs.Walk.{IsGreatestWeight, weight}
-use Rattle.longest_path.specs.Insert.{arc_of}
-use Rattle.reasons.specs.Reasons.{Implies, reverse_of}
+use Rattle.reasons.specs.Reasons.{reverse_of}
 use Rattle.record_text.specs.FirstWrong.{IsFactOf}
 use Rattle.record_text.specs.declared.proved.Proved.{Proved}
 use Rattle.record_text.specs.declared.proved.Proved.TheVariants as proved
@@ -15,8 +14,8 @@ use Rattle.lemma_proof.specs.Lines.{impossible}
 use Rattle.lemma_log.specs.declared.event.Event.{Event}
 use Rattle.lemma_log.specs.declared.event.Event.TheVariants as event
 use Rattle.lemma_log.specs.declared.event.Claim.{Claim}
-use Rattle.lemma_book.specs.Ledger.{Claims, IsSound, LedgerOf, ceiling, ceiling_of, deadline, first_ledger, first_roots, own_of}
-use Rattle.lemma_book.proofs.Claims.{bounded, no_schedule, shortest}
+use Rattle.lemma_book.specs.Ledger.{Claims, IsSound, LedgerOf, ceiling_of, deadline, first_ledger, first_roots, own_of}
+use Rattle.lemma_book.proofs.Claims.{claim_true}
 use Rattle.lemma_book.proofs.Ledgers.{deadline_met, emptied_sound, first_sound, led, led_sound, root_met, shelved_sound, with_root, with_root_sound}
 use Rattle.lemma_record.specs.Right.{ClaimIsTrue, Takes, TakesAll, proved_of}
 
@@ -55,33 +54,6 @@ sound_next p l after (event.Claim c) is takes = sound_same p l after is takes.1
 pub sound_all : (p : Problem) (l after : LedgerOf) (events : List Event) → IsSoundFor p l → TakesAll l events after → IsSoundFor p after
 sound_all p l after [] is takes = sound_same p l after is takes
 sound_all p l after (e ∷ events) is takes = sound_all p takes.0 after events (sound_next p l takes.0 e is takes.1) takes.2
-
--- ---- what a sound ledger claims
-
-some_best : (best : Option (List ℤ)) → best ≢ None → (starts : List ℤ) × (best ≡ Some starts)
-some_best None some = absurd (some refl)
-some_best (Some starts) some = (starts, refl)
-
-optimal_true : (l : LedgerOf) (length : ℤ) → IsSound l → Claims l (proved.Optimal length) → IsShortest l.project length
-optimal_true l length sound claims =
-    let best = some_best l.best claims.1 in
-    let is : length ≡ makespan best.0 = claims.2 ∙ ap (ceiling l.project) best.1 in
-    rw is (shortest l best.0 best.1 sound claims.0)
-
-least_implied : (l : LedgerOf) (least : ℤ) → IsGreatestWeight (own_of l) 0 (end_of l.project) (Some least) → Implies (own_of l) (arc_of 0 (end_of l.project) least)
-least_implied l least is =
-    let sum : weight is.0.0 ≡ least = is.0.2 in
-    record { walk = is.0.0; goes = is.0.1; weighs = omega (arith, ints) }
-
-bound_true : (l : LedgerOf) (bound : ℤ) → IsSound l → Claims l (proved.Bound bound) → IsLowerBound l.project bound
-bound_true l bound sound claims =
-    let going = claims.1.going claims.0 in
-    rw going.2 (bounded l going.0 sound (least_implied l going.0 going.1))
-
-pub claim_true : (l : LedgerOf) (what : Proved) → IsProject l.project → IsSound l → Claims l what → IsFactOf l.project what
-claim_true l (proved.Optimal length) is sound claims = optimal_true l length sound claims
-claim_true l (proved.Bound bound) is sound claims = bound_true l bound sound claims
-claim_true l proved.NoSchedule is sound claims = no_schedule l is claims.1 sound claims.0
 
 -- ---- the theorem
 

@@ -22,7 +22,8 @@ use Rattle.lemma_record.specs.declared.fault.EventFault.{EventFault}
 use Rattle.lemma_record.specs.declared.fault.Wrong.{Wrong}
 use Rattle.lemma_record.specs.declared.fault.Wrong.TheVariants as wrong
 use Rattle.lemma_record.specs.Right.{IsStep, Takes, TakesAll, proved_of}
-use Rattle.lemma_record.specs.Faults.{IsFirstFault, IsRightText, IsWrongEvent, LeadsTo, number_after}
+use Rattle.lemma_record.specs.Parts.{IsRightTextIn, PartOf, TakesIf, TakesPart, has, number_after}
+use Rattle.lemma_record.specs.Faults.{IsFirstFault, IsWrongEvent, LeadsTo}
 use Rattle.lemma_record.specs.Reached.{Awaits, CheckerOf, HasClaimed, HasRead, IsAt, IsAtTitle, TakesNext, checker_of, claimed}
 
 -- ---- one event more
@@ -34,6 +35,20 @@ first_more bytes (step ∷ steps) left e rest first read = (first.0, first.1, fi
 pub taken_more : (l mid after : LedgerOf) (steps : List Event) (e : Event) → TakesAll l steps mid → Takes mid e after → TakesAll l (steps ++ e ∷ []) after
 taken_more l mid after [] e taken takes = (after, subst (λ (m : LedgerOf). Takes m e after) taken takes, refl)
 taken_more l mid after (step ∷ steps) e taken takes = (taken.0, taken.1, taken_more taken.0 mid after steps e taken.2 takes)
+
+part_more : (part : PartOf) (before : ℕ) (l mid after : LedgerOf) (steps : List Event) (e : Event) → TakesPart part before l steps mid → TakesIf (has part (number_after (before + length steps))) mid e after → TakesPart part before l (steps ++ e ∷ []) after
+part_more part before l mid after [] e taken takes =
+    let first : TakesIf (has part (number_after before)) mid e after = subst (λ (n : ℕ). TakesIf (has part (number_after n)) mid e after) (omega (arith)) takes in
+    (after, subst (λ (m : LedgerOf). TakesIf (has part (number_after before)) m e after) taken first, refl)
+part_more part before l mid after (step ∷ steps) e taken takes =
+    let later : TakesIf (has part (number_after ((before + 1) + length steps))) mid e after = subst (λ (n : ℕ). TakesIf (has part (number_after n)) mid e after) (omega (arith)) takes in
+    (taken.0, taken.1, part_more part (before + 1) taken.0 mid after steps e taken.2 later)
+
+-- the number that is due is that of the event after the steps
+its_takes : (part : PartOf) (steps : List Event) (l after : LedgerOf) (e : Event) (due : ℕ) → due ≡ number_after (length steps) → TakesIf (has part due) l e after → TakesIf (has part (number_after (0 + length steps))) l e after
+its_takes part steps l after e due is takes =
+    let none : length steps ≡ 0 + length steps = omega (arith) in
+    subst (λ (n : ℕ). TakesIf (has part (number_after n)) l e after) none (subst (λ (n : ℕ). TakesIf (has part n) l e after) is takes)
 
 pub steps_more : (steps : List Event) (e : Event) → AllByRecursion IsStep steps → IsStep e → AllByRecursion IsStep (steps ++ e ∷ [])
 steps_more [] e all is = (is, record {})
@@ -59,19 +74,19 @@ is_claim (event.Drop slot) what some = absurd (let bad : Some what ≡ None = so
 is_claim (event.Schedule starts) what some = absurd (let bad : Some what ≡ None = some in cc)
 is_claim (event.Claim c) what some = (c, refl, let same : Some what ≡ Some (proved_of c) = some in cc)
 
-pub at_step : (p : Problem) (text : List ℕ) (l new : LedgerOf) (left rest : List ℕ) (due : ℕ) → IsAt p text l left due → TakesNext l left None rest new → IsAt p text new rest (min (due + 1) (2 ^ 64 - 1))
-at_step p text l new left rest due at next = record {
+pub at_step : (part : PartOf) (p : Problem) (text : List ℕ) (l new : LedgerOf) (left rest : List ℕ) (due : ℕ) → IsAt part p text l left due → TakesNext (has part due) l left None rest new → IsAt part p text new rest (min (due + 1) (2 ^ 64 - 1))
+at_step part p text l new left rest due at next = record {
   steps = at.steps ++ next.next ∷ [];
   leads = record {
     begins = begins_more text at.steps left next.next rest at.leads.begins next.read;
     are_steps = steps_more at.steps next.next at.leads.are_steps (is_step next.next next.claims);
-    taken = taken_more (first_ledger p) l new at.steps next.next at.leads.taken next.takes;
+    taken = part_more part 0 (first_ledger p) l new at.steps next.next at.leads.taken (its_takes part at.steps l new next.next due at.number next.takes);
   };
   number = next_number at.steps next.next due at.number;
 }
 
-pub at_claim : (p : Problem) (text : List ℕ) (l new : LedgerOf) (left rest : List ℕ) (due : ℕ) (what : Proved) → IsAt p text l left due → TakesNext l left (Some what) rest new → HasClaimed p text rest what (min (due + 1) (2 ^ 64 - 1))
-at_claim p text l new left rest due what at next =
+pub at_claim : (part : PartOf) (p : Problem) (text : List ℕ) (l new : LedgerOf) (left rest : List ℕ) (due : ℕ) (what : Proved) → IsAt part p text l left due → TakesNext (has part due) l left (Some what) rest new → HasClaimed part p text rest what (min (due + 1) (2 ^ 64 - 1))
+at_claim part p text l new left rest due what at next =
     let is = is_claim next.next what next.claims in
     record {
       events = at.steps ++ next.next ∷ [];
@@ -82,7 +97,7 @@ at_claim p text l new left rest due what at next =
         are_steps = at.leads.are_steps;
         ends = ap (λ (e : Event). at.steps ++ e ∷ []) is.1;
         after = new;
-        taken = taken_more (first_ledger p) l new at.steps next.next at.leads.taken next.takes;
+        taken = part_more part 0 (first_ledger p) l new at.steps next.next at.leads.taken (its_takes part at.steps l new next.next due at.number next.takes);
       };
       number = next_number at.steps next.next due at.number;
       says = is.2;
@@ -110,11 +125,11 @@ still_begins text more steps left begins = record {
   first = still_first begins.body more steps left begins.first;
 }
 
-still_leads : (p : Problem) (text more : List ℕ) (steps : List Event) (l : LedgerOf) (left : List ℕ) → LeadsTo p text steps l left → LeadsTo p (text ++ more) steps l (left ++ more)
-still_leads p text more steps l left leads = record { begins = still_begins text more steps left leads.begins; are_steps = leads.are_steps; taken = leads.taken }
+still_leads : (part : PartOf) (p : Problem) (text more : List ℕ) (steps : List Event) (l : LedgerOf) (left : List ℕ) → LeadsTo part p text steps l left → LeadsTo part p (text ++ more) steps l (left ++ more)
+still_leads part p text more steps l left leads = record { begins = still_begins text more steps left leads.begins; are_steps = leads.are_steps; taken = leads.taken }
 
-pub at_more : (p : Problem) (text more : List ℕ) (l : LedgerOf) (left : List ℕ) (due : ℕ) → IsAt p text l left due → IsAt p (text ++ more) l (left ++ more) due
-at_more p text more l left due at = record { steps = at.steps; leads = still_leads p text more at.steps l left at.leads; number = at.number }
+pub at_more : (part : PartOf) (p : Problem) (text more : List ℕ) (l : LedgerOf) (left : List ℕ) (due : ℕ) → IsAt part p text l left due → IsAt part p (text ++ more) l (left ++ more) due
+at_more part p text more l left due at = record { steps = at.steps; leads = still_leads part p text more at.steps l left at.leads; number = at.number }
 
 still_wrong : (l : LedgerOf) (left more : List ℕ) (w : Wrong) → IsWrongEvent l left w → IsWrongEvent l (left ++ more) w
 still_wrong l left more w (inl (inl form)) = inl (inl (form.0, form_more left more form.1))
@@ -123,18 +138,18 @@ still_wrong l left more w (inr not) = inr (record { next = not.next; more = not.
 
 -- ---- faults
 
-pub wrong_found : (p : Problem) (text more : List ℕ) (l : LedgerOf) (left : List ℕ) (due : ℕ) (fault : EventFault) → IsAt p text l left due → fault.event ≡ due → IsWrongEvent l left fault.wrong → IsFirstFault p (text ++ more) fault
-wrong_found p text more l left due fault at event is = inr (inl (record {
+pub wrong_found : (part : PartOf) (p : Problem) (text more : List ℕ) (l : LedgerOf) (left : List ℕ) (due : ℕ) (fault : EventFault) → IsAt part p text l left due → fault.event ≡ due → IsWrongEvent l left fault.wrong → IsFirstFault part p (text ++ more) fault
+wrong_found part p text more l left due fault at event is = inr (inl (record {
   steps = at.steps;
   ledger = l;
   left = left ++ more;
-  leads = still_leads p text more at.steps l left at.leads;
+  leads = still_leads part p text more at.steps l left at.leads;
   number = event ∙ at.number;
   next = inr (still_wrong l left more fault.wrong is);
 }))
 
-pub short_found : (p : Problem) (text : List ℕ) (l : LedgerOf) (left : List ℕ) (due : ℕ) → IsAt p text l left due → read_in left ≡ Err reading.Short → IsFirstFault p text (record { event = due; wrong = wrong.Short })
-short_found p text l left due at short = inr (inl (record {
+pub short_found : (part : PartOf) (p : Problem) (text : List ℕ) (l : LedgerOf) (left : List ℕ) (due : ℕ) → IsAt part p text l left due → read_in left ≡ Err reading.Short → IsFirstFault part p text (record { event = due; wrong = wrong.Short })
+short_found part p text l left due at short = inr (inl (record {
   steps = at.steps;
   ledger = l;
   left = left;
@@ -147,8 +162,8 @@ some_more : (left more : List ℕ) → left ≢ [] → (left ++ more) ≢ []
 some_more [] more some is = some refl
 some_more (b ∷ left) more some is = cc
 
-pub trailing_found : (p : Problem) (text rest more : List ℕ) (what : Proved) (due : ℕ) → HasClaimed p text rest what due → rest ≢ [] → IsFirstFault p (text ++ more) (record { event = due; wrong = wrong.Trailing })
-trailing_found p text rest more what due has some = inr (inr (record {
+pub trailing_found : (part : PartOf) (p : Problem) (text rest more : List ℕ) (what : Proved) (due : ℕ) → HasClaimed part p text rest what due → rest ≢ [] → IsFirstFault part p (text ++ more) (record { event = due; wrong = wrong.Trailing })
+trailing_found part p text rest more what due has some = inr (inr (record {
   events = has.events;
   claim = has.claim;
   left = rest ++ more;
@@ -159,8 +174,8 @@ trailing_found p text rest more what due has some = inr (inr (record {
 }))
 
 -- bytes that come after the claim
-pub claimed_more : (p : Problem) (text piece : List ℕ) (what : Proved) (due : ℕ) → HasClaimed p text [] what due → HasClaimed p (text ++ piece) piece what due
-claimed_more p text piece what due has = record {
+pub claimed_more : (part : PartOf) (p : Problem) (text piece : List ℕ) (what : Proved) (due : ℕ) → HasClaimed part p text [] what due → HasClaimed part p (text ++ piece) piece what due
+claimed_more part p text piece what due has = record {
   events = has.events;
   claim = has.claim;
   begins = still_begins text piece has.events [] has.begins;
@@ -169,13 +184,13 @@ claimed_more p text piece what due has = record {
   says = has.says;
 }
 
-pub claimed_right : (p : Problem) (text : List ℕ) (what : Proved) (due : ℕ) → HasClaimed p text [] what due → (c : Claim) × IsRightText p text c × (what ≡ proved_of c)
-claimed_right p text what due has = (has.claim, record { events = has.events; spells = has.begins; right = has.right }, has.says)
+pub claimed_right : (part : PartOf) (p : Problem) (text : List ℕ) (what : Proved) (due : ℕ) → HasClaimed part p text [] what due → (c : Claim) × IsRightTextIn part p text c × (what ≡ proved_of c)
+claimed_right part p text what due has = (has.claim, record { events = has.events; spells = has.begins; right = has.right }, has.says)
 
 -- ---- the title
 
-pub title_at : (p : Problem) (text rest : List ℕ) (l : LedgerOf) (n : ℕ) → l ≡ first_ledger p → title_in text ≡ Ok n → rest ≡ drop n text → IsAt p text l rest 1
-title_at p text rest l n first title is = record {
+pub title_at : (part : PartOf) (p : Problem) (text rest : List ℕ) (l : LedgerOf) (n : ℕ) → l ≡ first_ledger p → title_in text ≡ Ok n → rest ≡ drop n text → IsAt part p text l rest 1
+title_at part p text rest l n first title is = record {
   steps = [];
   leads = record {
     begins = record { body = drop n text; title = title_first text n title; first = is };
@@ -186,37 +201,37 @@ title_at p text rest l n first title is = record {
 }
 
 pub title_waits : (p : Problem) (text : List ℕ) (x : CheckerOf) → IsAtTitle p text x → title_in text ≡ Err reading.Short → HasRead p text x
-title_waits p text x at short = subst (λ (proved : Option Proved). MatchOption proved (Awaits p text x) (λ what. HasClaimed p text [] what x.due)) (sym at.going) (inl (at, short))
+title_waits p text x at short = subst (λ (proved : Option Proved). MatchOption proved (Awaits p text x) (λ what. HasClaimed x.part p text [] what x.due)) (sym at.going) (inl (at, short))
 
-pub title_wrong : (p : Problem) (text more : List ℕ) → title_in text ≡ Err reading.Form → IsFirstFault p (text ++ more) (record { event = 0; wrong = wrong.Form })
-title_wrong p text more form = inl (record { number = refl; title = form_stays text more form })
+pub title_wrong : (part : PartOf) (p : Problem) (text more : List ℕ) → title_in text ≡ Err reading.Form → IsFirstFault part p (text ++ more) (record { event = 0; wrong = wrong.Form })
+title_wrong part p text more form = inl (record { number = refl; title = form_stays text more form })
 
 -- ---- a piece more
 
-title_due : (p : Problem) (text piece : List ℕ) (x : CheckerOf) → x.proved ≡ None → Awaits p text x → x.due ≡ 0 → IsAtTitle p (text ++ piece) (checker_of x.ledger (x.left ++ piece) x.due x.proved)
+title_due : (p : Problem) (text piece : List ℕ) (x : CheckerOf) → x.proved ≡ None → Awaits p text x → x.due ≡ 0 → IsAtTitle p (text ++ piece) (checker_of x.part x.ledger (x.left ++ piece) x.due x.proved)
 title_due p text piece x going (inl title) due = record { ledger = title.0.ledger; left = ap (λ (b : List ℕ). b ++ piece) title.0.left; due = title.0.due; going = going }
 title_due p text piece x going (inr event) due = let number = event.0.number in absurd (omega (arith, number, due))
 
-event_due : (p : Problem) (text piece : List ℕ) (x : CheckerOf) → Awaits p text x → x.due ≢ 0 → IsAt p (text ++ piece) x.ledger (x.left ++ piece) x.due
+event_due : (p : Problem) (text piece : List ℕ) (x : CheckerOf) → Awaits p text x → x.due ≢ 0 → IsAt x.part p (text ++ piece) x.ledger (x.left ++ piece) x.due
 event_due p text piece x (inl title) due = absurd (due title.0.due)
-event_due p text piece x (inr event) due = at_more p text piece x.ledger x.left x.due event.0
+event_due p text piece x (inr event) due = at_more x.part p text piece x.ledger x.left x.due event.0
 
-awaits : (p : Problem) (text : List ℕ) (x : CheckerOf) (proved : Option Proved) → is_some proved ≡ false → MatchOption proved (Awaits p text x) (λ what. HasClaimed p text [] what x.due) → Awaits p text x
+awaits : (p : Problem) (text : List ℕ) (x : CheckerOf) (proved : Option Proved) → is_some proved ≡ false → MatchOption proved (Awaits p text x) (λ what. HasClaimed x.part p text [] what x.due) → Awaits p text x
 awaits p text x None none read = read
 awaits p text x (Some what) none read = absurd (false≢true (sym none))
 
-pub title_piece : (p : Problem) (text piece : List ℕ) (x : CheckerOf) → is_some x.proved ≡ false → x.due ≡ 0 → HasRead p text x → IsAtTitle p (text ++ piece) (checker_of x.ledger (x.left ++ piece) x.due x.proved)
+pub title_piece : (p : Problem) (text piece : List ℕ) (x : CheckerOf) → is_some x.proved ≡ false → x.due ≡ 0 → HasRead p text x → IsAtTitle p (text ++ piece) (checker_of x.part x.ledger (x.left ++ piece) x.due x.proved)
 title_piece p text piece x none due read = title_due p text piece x (none_here x.proved none) (awaits p text x x.proved none read) due
 
-pub event_piece : (p : Problem) (text piece : List ℕ) (x : CheckerOf) → is_some x.proved ≡ false → x.due ≢ 0 → HasRead p text x → IsAt p (text ++ piece) x.ledger (x.left ++ piece) x.due
+pub event_piece : (p : Problem) (text piece : List ℕ) (x : CheckerOf) → is_some x.proved ≡ false → x.due ≢ 0 → HasRead p text x → IsAt x.part p (text ++ piece) x.ledger (x.left ++ piece) x.due
 event_piece p text piece x none due read = event_due p text piece x (awaits p text x x.proved none read) due
 
-pub event_waits : (p : Problem) (text : List ℕ) (x : CheckerOf) → is_some x.proved ≡ false → IsAt p text x.ledger x.left x.due → read_in x.left ≡ Err reading.Short → HasRead p text x
-event_waits p text x none at short = subst (λ (proved : Option Proved). MatchOption proved (Awaits p text x) (λ what. HasClaimed p text [] what x.due)) (sym (none_here x.proved none)) (inr (at, short))
+pub event_waits : (p : Problem) (text : List ℕ) (x : CheckerOf) → is_some x.proved ≡ false → IsAt x.part p text x.ledger x.left x.due → read_in x.left ≡ Err reading.Short → HasRead p text x
+event_waits p text x none at short = subst (λ (proved : Option Proved). MatchOption proved (Awaits p text x) (λ what. HasClaimed x.part p text [] what x.due)) (sym (none_here x.proved none)) (inr (at, short))
 
-piece_after : (p : Problem) (text piece more : List ℕ) (x : CheckerOf) (proved : Option Proved) → is_some proved ≡ true → piece ≢ [] → MatchOption proved (Awaits p text x) (λ what. HasClaimed p text [] what x.due) → IsFirstFault p ((text ++ piece) ++ more) (record { event = x.due; wrong = wrong.Trailing })
+piece_after : (p : Problem) (text piece more : List ℕ) (x : CheckerOf) (proved : Option Proved) → is_some proved ≡ true → piece ≢ [] → MatchOption proved (Awaits p text x) (λ what. HasClaimed x.part p text [] what x.due) → IsFirstFault x.part p ((text ++ piece) ++ more) (record { event = x.due; wrong = wrong.Trailing })
 piece_after p text piece more x None some here read = absurd (false≢true some)
-piece_after p text piece more x (Some what) some here read = trailing_found p (text ++ piece) piece more what x.due (claimed_more p text piece what x.due read) here
+piece_after p text piece more x (Some what) some here read = trailing_found x.part p (text ++ piece) piece more what x.due (claimed_more x.part p text piece what x.due read) here
 
-pub trailing_piece : (p : Problem) (text piece more : List ℕ) (x : CheckerOf) → is_some x.proved ≡ true → piece ≢ [] → HasRead p text x → IsFirstFault p ((text ++ piece) ++ more) (record { event = x.due; wrong = wrong.Trailing })
+pub trailing_piece : (p : Problem) (text piece more : List ℕ) (x : CheckerOf) → is_some x.proved ≡ true → piece ≢ [] → HasRead p text x → IsFirstFault x.part p ((text ++ piece) ++ more) (record { event = x.due; wrong = wrong.Trailing })
 trailing_piece p text piece more x some here read = piece_after p text piece more x x.proved some here read

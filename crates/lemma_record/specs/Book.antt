@@ -10,7 +10,7 @@ use Rattle.lemma_log.specs.Text.{IsWritable, IsWritableBody, title_text}
 use Rattle.lemma_log.specs.Logs.{log_text}
 use Rattle.lemma_book.specs.Ledger.{LedgerOf, first_ledger}
 use Rattle.record_text.specs.declared.proved.Proved.{Proved}
-use Rattle.lemma_record.specs.Faults.{IsRightText}
+use Rattle.lemma_record.specs.Right.{IsRightText}
 use Rattle.lemma_record.specs.Right.{IsStep, Takes, TakesAll, proved_of}
 
 -- a ledger, and the text of the log so far; none once memory ran out for it

@@ -1,5 +1,5 @@
--- The first fault of a log that is not right for a project.
-use Rattle.std.specs.Prelude.{◌≡◌, ◌≢◌, ◌⊎◌, ℕ, ◌+◌, ◌-◌, ◌^◌, min, List, [], length, Err, Ok}
+-- The first fault of a log that is not right for a project, or in a part of it.
+use Rattle.std.specs.Prelude.{◌≡◌, ◌≢◌, ◌⊎◌, ℕ, List, [], length, Err, Ok}
 use Rattle.std.specs.List.{AllByRecursion}
 use Rattle.network.specs.Problem.{Problem}
 use Rattle.lemma_log.specs.declared.event.Event.{Event}
@@ -7,22 +7,20 @@ use Rattle.lemma_log.specs.declared.event.Event.TheVariants as event
 use Rattle.lemma_log.specs.declared.event.Claim.{Claim}
 use Rattle.lemma_log.specs.declared.fault.LogFault.TheVariants as reading
 use Rattle.lemma_log.specs.Reading.{read_in, title_in}
-use Rattle.lemma_log.specs.Logs.{Begins, Spells}
+use Rattle.lemma_log.specs.Logs.{Begins}
 use Rattle.lemma_book.specs.Ledger.{LedgerOf, first_ledger}
 use Rattle.lemma_record.specs.declared.fault.EventFault.{EventFault}
 use Rattle.lemma_record.specs.declared.fault.Wrong.{Wrong}
 use Rattle.lemma_record.specs.declared.fault.Wrong.TheVariants as wrong
-use Rattle.lemma_record.specs.Right.{IsRight, IsStep, Takes, TakesAll}
+use Rattle.lemma_record.specs.Right.{IsRightText, IsStep, Takes}
+use Rattle.lemma_record.specs.Parts.{IsRightIn, PartOf, TakesPart, number_after}
 
--- the number of the event that comes after so many
-abbrev pub number_after : ℕ → ℕ
-number_after count = min (count + 1) (2 ^ 64 - 1)
-
--- the text begins with the title and these steps, which lead from the first ledger to this one; and this is left
-pub record LeadsTo (p : Problem) (text : List ℕ) (steps : List Event) (l : LedgerOf) (left : List ℕ) : Type 0 where
+-- the text begins with the title and these steps, which lead from the first ledger to this one as the part is checked;
+-- and this is left
+pub record LeadsTo (part : PartOf) (p : Problem) (text : List ℕ) (steps : List Event) (l : LedgerOf) (left : List ℕ) : Type 0 where
   pub begins : Begins text steps left
   pub are_steps : AllByRecursion IsStep steps
-  pub taken : TakesAll (first_ledger p) steps l
+  pub taken : TakesPart part 0 (first_ledger p) steps l
 
 -- ---- the title
 
@@ -66,35 +64,29 @@ abbrev pub IsWrongNext : LedgerOf → List ℕ → Wrong → Type 0
 IsWrongNext l left w = ((w ≡ wrong.Short) × (read_in left ≡ Err reading.Short)) ⊎ IsWrongEvent l left w
 
 -- after steps that are taken comes an event that is wrong
-pub record IsNextFault (p : Problem) (text : List ℕ) (fault : EventFault) : Type 0 where
+pub record IsNextFault (part : PartOf) (p : Problem) (text : List ℕ) (fault : EventFault) : Type 0 where
   pub steps : List Event
   pub ledger : LedgerOf
   pub left : List ℕ
-  pub leads : LeadsTo p text steps ledger left
+  pub leads : LeadsTo part p text steps ledger left
   pub number : fault.event ≡ number_after (length steps)
   pub next : IsWrongNext ledger left fault.wrong
 
 -- after events that are right, of which the last is a claim, come further bytes
-pub record IsTrailing (p : Problem) (text : List ℕ) (fault : EventFault) : Type 0 where
+pub record IsTrailing (part : PartOf) (p : Problem) (text : List ℕ) (fault : EventFault) : Type 0 where
   pub events : List Event
   pub claim : Claim
   pub left : List ℕ
   pub begins : Begins text events left
-  pub right : IsRight p events claim
+  pub right : IsRightIn part p events claim
   pub more : left ≢ []
   pub is : fault ≡ record { event = number_after (length events); wrong = wrong.Trailing }
 
 -- ---- the log
 
-abbrev pub IsFirstFault : Problem → List ℕ → EventFault → Type 0
-IsFirstFault p text fault = IsTitleFault text fault ⊎ IsNextFault p text fault ⊎ IsTrailing p text fault
-
--- the text is that of a right log, which claims this
-pub record IsRightText (p : Problem) (text : List ℕ) (c : Claim) : Type 0 where
-  pub events : List Event
-  pub spells : Spells text events
-  pub right : IsRight p events c
+abbrev pub IsFirstFault : PartOf → Problem → List ℕ → EventFault → Type 0
+IsFirstFault part p text fault = IsTitleFault text fault ⊎ IsNextFault part p text fault ⊎ IsTrailing part p text fault
 
 -- a text that has a first fault is not that of a right log
 abbrev pub FaultIsWrong : Type 0
-FaultIsWrong = (p : Problem) (text : List ℕ) (fault : EventFault) (c : Claim) → IsFirstFault p text fault → ¬ IsRightText p text c
+FaultIsWrong = (part : PartOf) (p : Problem) (text : List ℕ) (fault : EventFault) (c : Claim) → IsFirstFault part p text fault → ¬ IsRightText p text c

@@ -1,6 +1,7 @@
 pub mod Faults
 pub mod Reached
 pub mod Right
+pub mod Parts
 pub mod SoFar
 pub mod Taking
 pub mod Book

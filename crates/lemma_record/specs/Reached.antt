@@ -1,5 +1,5 @@
 -- How far a log is checked that comes piece by piece.
-use Rattle.std.specs.Prelude.{◌≡◌, ◌⊎◌, ℕ, List, [], length, Ok, Err, Option, None, Some, MatchOption}
+use Rattle.std.specs.Prelude.{Bool, ◌≡◌, ◌⊎◌, ℕ, List, [], length, Ok, Err, Option, None, Some, MatchOption}
 use Rattle.network.specs.Problem.{Problem}
 use Rattle.record_text.specs.declared.proved.Proved.{Proved}
 use Rattle.lemma_log.specs.declared.event.Event.{Event}
@@ -9,8 +9,9 @@ use Rattle.lemma_log.specs.declared.fault.LogFault.TheVariants.{Short}
 use Rattle.lemma_log.specs.Reading.{read_in, title_in}
 use Rattle.lemma_log.specs.Logs.{Begins}
 use Rattle.lemma_book.specs.Ledger.{LedgerOf, first_ledger}
-use Rattle.lemma_record.specs.Right.{IsRight, Takes, proved_of}
-use Rattle.lemma_record.specs.Faults.{LeadsTo, number_after}
+use Rattle.lemma_record.specs.Right.{proved_of}
+use Rattle.lemma_record.specs.Parts.{IsRightIn, PartOf, TakesIf, number_after}
+use Rattle.lemma_record.specs.Faults.{LeadsTo}
 
 -- ---- one event
 
@@ -21,41 +22,42 @@ claimed (event.Drop slot) = None
 claimed (event.Schedule starts) = None
 claimed (event.Claim c) = Some (proved_of c)
 
--- an event comes first, it is taken, it claims this, and these bytes are left
-pub record TakesNext (old : LedgerOf) (bytes : List ℕ) (claim : Option Proved) (left : List ℕ) (new : LedgerOf) : Type 0 where
+-- an event comes first, it is taken, its lines being looked at or not, it claims this, and these bytes are left
+pub record TakesNext (looks : Bool) (old : LedgerOf) (bytes : List ℕ) (claim : Option Proved) (left : List ℕ) (new : LedgerOf) : Type 0 where
   pub next : Event
   pub read : read_in bytes ≡ Ok (record { value = next; left = left })
-  pub takes : Takes old next new
+  pub takes : TakesIf looks old next new
   pub claims : claim ≡ claimed next
 
 -- ---- so far
 
 -- the text is a title and steps that lead to this ledger, and bytes that are left; this number of event is due
-pub record IsAt (p : Problem) (text : List ℕ) (l : LedgerOf) (left : List ℕ) (due : ℕ) : Type 0 where
+pub record IsAt (part : PartOf) (p : Problem) (text : List ℕ) (l : LedgerOf) (left : List ℕ) (due : ℕ) : Type 0 where
   pub steps : List Event
-  pub leads : LeadsTo p text steps l left
+  pub leads : LeadsTo part p text steps l left
   pub number : due ≡ number_after (length steps)
 
 -- the text is right events, of which the last claims this, and bytes that are left; this number would be due
-pub record HasClaimed (p : Problem) (text left : List ℕ) (what : Proved) (due : ℕ) : Type 0 where
+pub record HasClaimed (part : PartOf) (p : Problem) (text left : List ℕ) (what : Proved) (due : ℕ) : Type 0 where
   pub events : List Event
   pub claim : Claim
   pub begins : Begins text events left
-  pub right : IsRight p events claim
+  pub right : IsRightIn part p events claim
   pub number : due ≡ number_after (length events)
   pub says : what ≡ proved_of claim
 
 -- ---- what is kept between pieces
 
--- what is proved, the bytes that are not used yet, the number of the event that is due, and what was claimed
+-- the part that is checked, what is said to be proved, the bytes that are not used yet, the number of the event that is due, and what was claimed
 pub record CheckerOf : Type 0 where
+  pub part : PartOf
   pub ledger : LedgerOf
   pub left : List ℕ
   pub due : ℕ
   pub proved : Option Proved
 
-abbrev pub checker_of : LedgerOf → List ℕ → ℕ → Option Proved → CheckerOf
-checker_of ledger left due proved = record { ledger = ledger; left = left; due = due; proved = proved }
+abbrev pub checker_of : PartOf → LedgerOf → List ℕ → ℕ → Option Proved → CheckerOf
+checker_of part ledger left due proved = record { part = part; ledger = ledger; left = left; due = due; proved = proved }
 
 -- the title is due
 pub record IsAtTitle (p : Problem) (text : List ℕ) (x : CheckerOf) : Type 0 where
@@ -68,8 +70,8 @@ pub record IsAtTitle (p : Problem) (text : List ℕ) (x : CheckerOf) : Type 0 wh
 abbrev pub Awaits : Problem → List ℕ → CheckerOf → Type 0
 Awaits p text x =
     (IsAtTitle p text x × (title_in text ≡ Err Short))
-    ⊎ (IsAt p text x.ledger x.left x.due × (read_in x.left ≡ Err Short))
+    ⊎ (IsAt x.part p text x.ledger x.left x.due × (read_in x.left ≡ Err Short))
 
 -- this text has come, and what is whole of it was checked
 abbrev pub HasRead : Problem → List ℕ → CheckerOf → Type 0
-HasRead p text x = MatchOption x.proved (Awaits p text x) (λ what. HasClaimed p text [] what x.due)
+HasRead p text x = MatchOption x.proved (Awaits p text x) (λ what. HasClaimed x.part p text [] what x.due)

@@ -1,5 +1,5 @@
 -- When a log of lemmas is right for a project, and what it proves.
-use Rattle.std.specs.Prelude.{◌≡◌, List, [], ◌∷◌, ◌++◌}
+use Rattle.std.specs.Prelude.{◌≡◌, ℕ, List, [], ◌∷◌, ◌++◌}
 use Rattle.std.specs.List.{AllByRecursion}
 use Rattle.network.specs.Problem.{IsProject, Problem}
 use Rattle.record_text.specs.FirstWrong.{IsFactOf}
@@ -9,6 +9,7 @@ use Rattle.lemma_log.specs.declared.event.Event.{Event}
 use Rattle.lemma_log.specs.declared.event.Event.TheVariants as event
 use Rattle.lemma_log.specs.declared.event.Claim.{Claim}
 use Rattle.lemma_log.specs.declared.event.Claim.TheVariants as claim
+use Rattle.lemma_log.specs.Logs.{Spells}
 use Rattle.lemma_book.specs.Ledger.{Claims, IsFilled, LedgerOf, MayLead, MayTake, first_ledger, with_lemma, with_schedule, without_lemma}
 
 -- what is claimed
@@ -45,6 +46,12 @@ pub record IsRight (p : Problem) (events : List Event) (c : Claim) : Type 0 wher
   pub ends : events ≡ steps ++ event.Claim c ∷ []
   pub after : LedgerOf
   pub taken : TakesAll (first_ledger p) events after
+
+-- the text is that of a right log, which claims this
+pub record IsRightText (p : Problem) (text : List ℕ) (c : Claim) : Type 0 where
+  pub events : List Event
+  pub spells : Spells text events
+  pub right : IsRight p events c
 
 -- what a right log claims is true of its project
 abbrev pub ClaimIsTrue : Type 0

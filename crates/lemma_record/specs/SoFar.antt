@@ -8,13 +8,20 @@ use Rattle.lemma_log.specs.declared.event.Claim.{Claim}
 use Rattle.lemma_log.specs.declared.fault.LogFault.TheVariants.{Short}
 use Rattle.lemma_log.specs.Reading.{read_in, title_in}
 use Rattle.lemma_book.specs.Ledger.{Claims, LedgerOf, first_ledger}
-use Rattle.lemma_record.specs.Right.{proved_of}
-use Rattle.lemma_record.specs.Faults.{IsRightText, LeadsTo}
+use Rattle.lemma_record.specs.Right.{IsRightText, proved_of}
+use Rattle.lemma_record.specs.Parts.{IsRightTextIn, PartOf, whole}
+use Rattle.lemma_record.specs.Faults.{LeadsTo}
 
 -- the text is that of a right log, which claims this
 pub record IsClaimed (p : Problem) (text : List ℕ) (what : Proved) : Type 0 where
   pub claim : Claim
   pub right : IsRightText p text claim
+  pub says : what ≡ proved_of claim
+
+-- it is that of a log that is right in this part
+pub record IsClaimedIn (part : PartOf) (p : Problem) (text : List ℕ) (what : Proved) : Type 0 where
+  pub claim : Claim
+  pub right : IsRightTextIn part p text claim
   pub says : what ≡ proved_of claim
 
 -- the text ends within the title, and the first ledger claims this
@@ -27,7 +34,7 @@ pub record IsCutOff (p : Problem) (text : List ℕ) (what : Proved) : Type 0 whe
   pub steps : List Event
   pub ledger : LedgerOf
   pub left : List ℕ
-  pub leads : LeadsTo p text steps ledger left
+  pub leads : LeadsTo whole p text steps ledger left
   pub short : read_in left ≡ Err Short
   pub claims : Claims ledger what
 

@@ -1,10 +1,11 @@
 -- What becomes of an event that a ledger is given.
-use Rattle.std.specs.Prelude.{◌≡◌, ℕ, List}
+use Rattle.std.specs.Prelude.{Bool, true, false, ◌≡◌, ℕ, List}
 use Rattle.lemma_proof.specs.Lines.{picked}
 use Rattle.lemma_log.specs.declared.event.Event.{Event}
 use Rattle.lemma_log.specs.declared.event.Event.TheVariants as event
 use Rattle.lemma_book.specs.Ledger.{LedgerOf}
 use Rattle.lemma_record.specs.Right.{Takes}
+use Rattle.lemma_record.specs.Parts.{TakesIf}
 
 -- what is logged of an event: of a lemma some of its lines, of another all
 abbrev pub IsLoggedOf : Event → Event → Type 0
@@ -23,3 +24,10 @@ pub record IsTaken (old : LedgerOf) (e logged : Event) (new : LedgerOf) : Type 0
 pub record IsRefused (old : LedgerOf) (e : Event) (new : LedgerOf) : Type 0 where
   pub never : (after : LedgerOf) → ¬ Takes old e after
   pub same : new ≡ old
+
+-- ---- Where the lines of a lemma are looked at, or not.
+
+-- an event is taken, or the draft takes it to no other, and nothing changes
+abbrev pub Judges : Bool → LedgerOf → Event → Bool → LedgerOf → Type 0
+Judges looks old e true new = TakesIf looks old e new
+Judges looks old e false new = IsRefused old e new

@@ -7,11 +7,13 @@ ghost use Rattle.lemma_log.specs.Reading.{title_in};
 ghost use Rattle.lemma_record.specs.declared.fault.Wrong.TheVariants as wrongs;
 ghost use Rattle.lemma_record.specs.Faults.{IsFirstFault};
 ghost use Rattle.lemma_record.specs.Reached.{HasRead, IsAt, IsAtTitle};
-ghost use Rattle.lemma_record.specs.SoFar.{IsClaimed, IsProvedSoFar};
+ghost use Rattle.lemma_record.specs.Parts.{whole};
+ghost use Rattle.lemma_record.specs.SoFar.{IsClaimed, IsClaimedIn, IsProvedSoFar};
 
 use crate::fault::{EventFault, NO_MEMORY, Wrong};
 use crate::next::{nothing_after, take_whole};
-use lemma_book::Ledger;
+use crate::part::LogPart;
+use lemma_book::Draft;
 use lemma_log::{LogFault, is_cut_off, read_title};
 use network::Project;
 use record_text::Proved;
@@ -39,12 +41,14 @@ fn after_title(alloc: Global, bytes: &[u8]) -> Result<Option<Vec<u8>>, EventFaul
     }
 }
 
-/// A log that comes piece by piece, checked as far as it has come. It keeps what is proved, and less than the bytes of
-/// one event.
+/// A log that comes piece by piece, of which a part is checked as far as it has come. It keeps what is proved, and less
+/// than the bytes of one event.
 #[derive(Drop)]
 pub struct Checker<'a> {
     alloc: Global,
-    ledger: Ledger<'a>,
+    part: LogPart,
+    /// What the events so far say, those of the part rightly.
+    draft: Draft<'a>,
     /// The bytes that are not used yet.
     left: Vec<u8>,
     /// The number of the event that is due; that of the title is 0.
@@ -58,18 +62,23 @@ impl<'a> Model for Checker<'a> {
 
     ghost Value = { CheckerOf };
 
-    ghost view = { λ s. checker_of s.ledger s.left.items s.due s.proved };
+    ghost view = { λ s. checker_of s.part s.draft s.left.items s.due s.proved };
 }
 
 impl<'a> Checker<'a> {
-    /// Nothing has come yet.
-    pub fn new(alloc: Global, project: &'a Project) -> Result<Checker<'a>, AllocError>
-        ensures { IfOk result (λ x. HasRead project.now [] x) }
+    /// Nothing has come yet of a log of which this part is to be checked.
+    pub fn new(
+        alloc: Global,
+        project: &'a Project,
+        part: LogPart,
+    ) -> Result<Checker<'a>, AllocError>
+        ensures { IfOk result (λ x. HasRead project.now [] x × (x.part ≡ part)) }
     {
-        let ledger = Ledger::new(alloc, project)?;
+        let draft = Draft::new(alloc, project)?;
         Ok(Checker {
             alloc,
-            ledger,
+            part,
+            draft,
             left: Vec::new(alloc),
             due: 0,
             proved: None,
@@ -79,11 +88,18 @@ impl<'a> Checker<'a> {
     /// Reads and takes the events that have come whole.
     fn read_events(&mut self) -> Result<(), EventFault>
         ensures read { OnOk result ((p : Problem) (text : List ℕ)
-            → IsAt p text self.old.ledger self.old.left self.old.due → HasRead p text self.new) }
+            → IsAt self.old.part p text self.old.ledger self.old.left self.old.due → HasRead p text self.new) }
         ensures fault { IfErr result (λ fault. fault.wrong ≢ wrongs.Memory → (p : Problem) (text more : List ℕ)
-            → IsAt p text self.old.ledger self.old.left self.old.due → IsFirstFault p (text ++ more) fault) }
+            → IsAt self.old.part p text self.old.ledger self.old.left self.old.due → IsFirstFault self.old.part p (text ++ more) fault) }
+        ensures part { self.new.part ≡ self.old.part }
     {
-        let stop = take_whole(self.alloc, &mut self.ledger, &self.left, self.due)?;
+        let stop = take_whole(
+            self.alloc,
+            &mut self.draft,
+            &self.part,
+            &self.left,
+            self.due,
+        )?;
         self.due = stop.due;
         self.proved = stop.proved;
         self.left = stop.left.to_vec(self.alloc)?;
@@ -94,7 +110,8 @@ impl<'a> Checker<'a> {
     fn read_title(&mut self) -> Result<(), EventFault>
         ensures read { OnOk result ((p : Problem) (text : List ℕ) → IsAtTitle p text self.old → HasRead p text self.new) }
         ensures fault { IfErr result (λ fault. fault.wrong ≢ wrongs.Memory → (p : Problem) (text more : List ℕ)
-            → IsAtTitle p text self.old → IsFirstFault p (text ++ more) fault) }
+            → IsAtTitle p text self.old → IsFirstFault self.old.part p (text ++ more) fault) }
+        ensures part { self.new.part ≡ self.old.part }
     {
         let Some(rest) = after_title(self.alloc, &self.left)? else {
             return Ok(());
@@ -109,7 +126,8 @@ impl<'a> Checker<'a> {
         ensures read { OnOk result ((p : Problem) (text : List ℕ) → HasRead p text self.old
             → HasRead p (text ++ piece.now) self.new) }
         ensures fault { IfErr result (λ fault. fault.wrong ≢ wrongs.Memory → (p : Problem) (text more : List ℕ)
-            → HasRead p text self.old → IsFirstFault p ((text ++ piece.now) ++ more) fault) }
+            → HasRead p text self.old → IsFirstFault self.old.part p ((text ++ piece.now) ++ more) fault) }
+        ensures part { self.new.part ≡ self.old.part }
     {
         if self.proved.is_some() {
             return nothing_after(piece, self.due);
@@ -127,9 +145,11 @@ impl<'a> Checker<'a> {
     /// What the log proves, which ends here.
     pub fn finish(&self) -> Result<Proved, EventFault>
         ensures right { IfOk result (λ proved. (p : Problem) (text : List ℕ) → HasRead p text self.now
-            → IsClaimed p text proved) }
+            → IsClaimedIn self.now.part p text proved) }
+        ensures whole { IfOk result (λ proved. self.now.part ≡ whole → (p : Problem) (text : List ℕ)
+            → HasRead p text self.now → IsClaimed p text proved) }
         ensures fault { IfErr result (λ fault. (p : Problem) (text : List ℕ) → HasRead p text self.now
-            → IsFirstFault p text fault) }
+            → IsFirstFault self.now.part p text fault) }
         ensures short { IfErr result (λ fault. fault.wrong ≡ wrongs.Short) }
     {
         match self.proved {
@@ -141,13 +161,15 @@ impl<'a> Checker<'a> {
         }
     }
 
-    /// What is proved so far: what the log claims, and where no claim has come what the ledger claims.
+    /// What is proved so far, if all of the log is checked: what it claims, and where no claim has come what is claimed
+    /// there.
     pub fn proved(&self) -> Proved
-        ensures { (p : Problem) (text : List ℕ) → HasRead p text self.now → IsProvedSoFar p text result }
+        ensures { self.now.part ≡ whole → (p : Problem) (text : List ℕ) → HasRead p text self.now
+            → IsProvedSoFar p text result }
     {
         match self.proved {
             Some(proved) => proved,
-            None => self.ledger.claim(),
+            None => self.draft.claim(),
         }
     }
 }

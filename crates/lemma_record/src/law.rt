@@ -2,6 +2,7 @@
 
 ghost use Rattle.lemma_record.specs.Faults.{FaultIsWrong};
 ghost use Rattle.lemma_record.specs.Right.{ClaimIsTrue};
+ghost use Rattle.lemma_record.specs.Parts.{PartsMakeWhole};
 ghost use Rattle.lemma_record.specs.SoFar.{SoFarIsTrue};
 
 /// The theorem: what a right log claims is true of its project, and so is what a log proves that is cut off.
@@ -10,7 +11,12 @@ pub fn claim_law()
     ensures so_far { SoFarIsTrue }
 {}
 
-/// A law over the definitions: a text that has a first fault is not that of a right log.
+/// The theorem of parts: a log that is right in all parts is right.
+pub fn parts_law()
+    ensures { PartsMakeWhole }
+{}
+
+/// A law over the definitions: a text that has a first fault, or one in a part, is not that of a right log.
 pub fn fault_law()
     ensures { FaultIsWrong }
 {}

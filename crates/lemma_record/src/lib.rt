@@ -1,7 +1,7 @@
 //! Logs of lemmas, judged: which are right for a project, and what they prove.
 //!
 //! [`take`] is what an event makes of a ledger. A [`Checker`] is fed a log piece by piece: it takes event after event,
-//! and tells the first fault or what the log proves. A [`Book`] is a ledger that logs what it takes, and accepts what was
+//! and tells the first fault or what the log proves. It checks all of the log or a [`LogPart`]. A [`Book`] is a ledger that logs what it takes, and accepts what was
 //! proved at a [`Desk`]. Its log leaves it piece by piece.
 #![tactic(auto)]
 
@@ -11,9 +11,11 @@ mod checker;
 mod copies;
 mod desk;
 mod fault;
+mod judging;
 mod law;
 mod logging;
 mod next;
+mod part;
 mod taking;
 #[cfg(test)]
 mod tests;
@@ -22,5 +24,6 @@ pub use book::{Book, Shown};
 pub use checker::Checker;
 pub use desk::{Desk, Lemma};
 pub use fault::{EventFault, Wrong};
-pub use law::{claim_law, fault_law};
+pub use law::{claim_law, fault_law, parts_law};
+pub use part::LogPart;
 pub use taking::take;

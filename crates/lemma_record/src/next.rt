@@ -8,12 +8,15 @@ ghost use Rattle.lemma_log.specs.Reading.{read_in};
 ghost use Rattle.lemma_book.specs.Ledger.{LedgerOf};
 ghost use Rattle.lemma_record.specs.declared.fault.Wrong.TheVariants.{Memory, Trailing};
 ghost use Rattle.lemma_record.specs.Right.{Takes};
+ghost use Rattle.lemma_record.specs.Parts.{PartOf, TakesIf, has};
 ghost use Rattle.lemma_record.specs.Faults.{IsFirstFault, IsUnread, IsWrongEvent, wrong_of};
 ghost use Rattle.lemma_record.specs.Reached.{HasClaimed, HasRead, IsAt, TakesNext, checker_of, claimed};
 
 use crate::fault::{EventFault, NO_MEMORY, Wrong};
-use crate::taking::{proved_of, take};
-use lemma_book::Ledger;
+use crate::judging::judge;
+use crate::part::LogPart;
+use crate::taking::proved_of;
+use lemma_book::Draft;
 use lemma_log::{Event, LogFault, Read, read_event};
 use record_text::Proved;
 use std::alloc::Global;
@@ -66,20 +69,21 @@ fn read_next(alloc: Global, bytes: &[u8], due: u64) -> Result<Option<Read>, Even
 
 /// Takes an event, which has this number: what it claims.
 fn take_read(
-    alloc: Global,
-    ledger: &mut Ledger<'_>,
+    draft: &mut Draft<'_>,
+    looks: bool,
     event: Event,
     due: u64,
 ) -> Result<Option<Proved>, EventFault>
-    ensures taken { IfOk result (λ claim. Takes ledger.old event ledger.new × (claim ≡ claimed event)) }
+    ensures taken { IfOk result (λ claim. TakesIf looks draft.old event draft.new × (claim ≡ claimed event)) }
     ensures refused { IfErr result (λ fault. fault.wrong ≢ Memory
-        → (fault ≡ record { event = due; wrong = wrong_of event }) × ((after : LedgerOf) → ¬ Takes ledger.old event after)) }
+        → (fault ≡ record { event = due; wrong = wrong_of event }) × ((after : LedgerOf) → ¬ Takes draft.old event after)) }
 {
     let wrong = wrong_of(&event);
     let claim = claimed(&event);
-    match take(alloc, ledger, event)? {
-        Some(_) => Ok(claim),
-        None => Err(EventFault { event: due, wrong }),
+    if judge(draft, looks, event)? {
+        Ok(claim)
+    } else {
+        Err(EventFault { event: due, wrong })
     }
 }
 
@@ -87,22 +91,23 @@ fn take_read(
 /// they end before it does.
 fn take_next<'t>(
     alloc: Global,
-    ledger: &mut Ledger<'_>,
+    draft: &mut Draft<'_>,
+    part: &LogPart,
     bytes: &'t [u8],
     due: u64,
 ) -> Result<Option<(Option<Proved>, &'t [u8])>, EventFault>
     ensures taken { IfOk result (λ found. MatchOption found
-        ((read_in bytes.now ≡ Err read_faults.Short) × (ledger.new ≡ ledger.old))
-        (λ r. TakesNext ledger.old bytes.now r.0 r.1.now ledger.new)) }
+        ((read_in bytes.now ≡ Err read_faults.Short) × (draft.new ≡ draft.old))
+        (λ r. TakesNext (has part.now due) draft.old bytes.now r.0 r.1.now draft.new)) }
     ensures shorter { IfOk result (λ found. IfSome found (λ r. length r.1.now < length bytes.now)) }
     ensures wrong { IfErr result (λ fault. fault.wrong ≢ Memory
-        → (fault.event ≡ due) × IsWrongEvent ledger.old bytes.now fault.wrong) }
+        → (fault.event ≡ due) × IsWrongEvent draft.old bytes.now fault.wrong) }
 {
     let Some(read) = read_next(alloc, bytes, due)? else {
         return Ok(None);
     };
     let count = read.count;
-    let claim = take_read(alloc, ledger, read.event, due)?;
+    let claim = take_read(draft, part.has(due), read.event, due)?;
     Ok(Some((claim, &bytes[count..])))
 }
 
@@ -134,11 +139,11 @@ pub(crate) struct Stop<'t> {
 
 /// That a claim, after which this number is due, is the end of the bytes.
 fn ended<'t>(left: &'t [u8], due: u64, proved: Proved) -> Result<Stop<'t>, EventFault>
-    ensures read { IfOk result (λ stop. (p : Problem) (text : List ℕ) (l : LedgerOf)
-        → HasClaimed p text left.now proved due
-        → HasRead p text (checker_of l stop.left.now stop.due stop.proved)) }
-    ensures fault { IfErr result (λ fault. (p : Problem) (text more : List ℕ) → HasClaimed p text left.now proved due
-        → IsFirstFault p (text ++ more) fault) }
+    ensures read { IfOk result (λ stop. (part : PartOf) (p : Problem) (text : List ℕ) (l : LedgerOf)
+        → HasClaimed part p text left.now proved due
+        → HasRead p text (checker_of part l stop.left.now stop.due stop.proved)) }
+    ensures fault { IfErr result (λ fault. (part : PartOf) (p : Problem) (text more : List ℕ)
+        → HasClaimed part p text left.now proved due → IsFirstFault part p (text ++ more) fault) }
 {
     nothing_after(left, due)?;
     Ok(Stop {
@@ -151,18 +156,19 @@ fn ended<'t>(left: &'t [u8], due: u64, proved: Proved) -> Result<Stop<'t>, Event
 /// Reads and takes events, of which the first has this number, up to a claim or as far as they are whole.
 pub(crate) fn take_whole<'t>(
     alloc: Global,
-    ledger: &mut Ledger<'_>,
+    draft: &mut Draft<'_>,
+    part: &LogPart,
     bytes: &'t [u8],
     due: u64,
 ) -> Result<Stop<'t>, EventFault>
-    ensures read { IfOk result (λ stop. (p : Problem) (text : List ℕ) → IsAt p text ledger.old bytes.now due
-        → HasRead p text (checker_of ledger.new stop.left.now stop.due stop.proved)) }
+    ensures read { IfOk result (λ stop. (p : Problem) (text : List ℕ) → IsAt part.now p text draft.old bytes.now due
+        → HasRead p text (checker_of part.now draft.new stop.left.now stop.due stop.proved)) }
     ensures fault { IfErr result (λ fault. fault.wrong ≢ Memory → (p : Problem) (text more : List ℕ)
-        → IsAt p text ledger.old bytes.now due → IsFirstFault p (text ++ more) fault) }
+        → IsAt part.now p text draft.old bytes.now due → IsFirstFault part.now p (text ++ more) fault) }
 {
     let mut left = bytes;
     let mut next = due;
-    while let Some((claim, rest)) = take_next(alloc, ledger, left, next)? {
+    while let Some((claim, rest)) = take_next(alloc, draft, part, left, next)? {
         left = rest;
         next = next.saturating_add(1);
         if let Some(proved) = claim {

@@ -1,6 +1,6 @@
 //! Logs of a small project, their bytes worked out by hand, and what they prove.
 
-use crate::{Checker, EventFault, Wrong};
+use crate::{Checker, EventFault, LogPart, Wrong};
 use network::Project;
 use record_text::Proved;
 use std::alloc::Global;
@@ -10,14 +10,14 @@ use test_projects::project;
 
 /// What a log proves that comes in one piece.
 fn at_once(alloc: Global, project: &Project, log: &[u8]) -> Result<Proved, EventFault> {
-    let mut checker = Checker::new(alloc, project)?;
+    let mut checker = Checker::new(alloc, project, LogPart::whole())?;
     checker.feed(log)?;
     checker.finish()
 }
 
 /// What it proves that comes byte by byte.
 fn by_bytes(alloc: Global, project: &Project, log: &[u8]) -> Result<Proved, EventFault> {
-    let mut checker = Checker::new(alloc, project)?;
+    let mut checker = Checker::new(alloc, project, LogPart::whole())?;
     for byte in log {
         checker.feed(&[*byte])?;
     }

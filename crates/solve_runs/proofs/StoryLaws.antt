@@ -15,7 +15,7 @@ use Rattle.record_text.specs.declared.proved.Proved.{Proved}
 use Rattle.lemma_log.specs.declared.event.Claim.{Claim}
 use Rattle.lemma_log.specs.declared.event.Claim.TheVariants as claims
 use Rattle.lemma_record.specs.Book.{IsProof}
-use Rattle.lemma_record.specs.Faults.{IsRightText}
+use Rattle.lemma_record.specs.Right.{IsRightText}
 use Rattle.lemma_record.specs.Right.{proved_of}
 
 pub replies_started : (start json : Bool) (reply : ReplyOf) (text more : List ℕ) → start ≡ true → SpellsOne text (λ p. GivesStarts p more (IsStartedReply p json reply)) → ReplyTo start json reply text more

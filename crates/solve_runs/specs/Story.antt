@@ -14,7 +14,7 @@ use Rattle.plain_search.specs.declared.search.Outcome.TheVariants.{Optimal, NoSc
 use Rattle.plain_search.specs.Verdicts.{IsTrueOf}
 use Rattle.lemma_log.specs.declared.event.Claim.{Claim}
 use Rattle.lemma_log.specs.declared.event.Claim.TheVariants as claims
-use Rattle.lemma_record.specs.Faults.{IsRightText}
+use Rattle.lemma_record.specs.Right.{IsRightText}
 use Rattle.answers.specs.Answers.{IsViolationsText}
 use Rattle.runs.specs.Outcome.{GivesStarts, IfTextsTold, SpellsOne}
 use Rattle.runs.specs.declared.one_thread.Ended.{Ended}
