@@ -5,8 +5,9 @@ use Rattle.network.specs.Problem.{Problem}
 use Rattle.lemma_record.specs.declared.fault.EventFault.{EventFault}
 use Rattle.lemma_record.specs.declared.fault.Wrong.TheVariants as wrong
 use Rattle.lemma_record.specs.Faults.{IsFirstFault}
+use Rattle.log_runs.specs.declared.scope.Scope.{Scope}
 use Rattle.log_runs.specs.Faults.{event_fault, exit_of}
-use Rattle.log_runs.specs.Outcome.{TellsEvent}
+use Rattle.log_runs.specs.Outcome.{TellsEvent, part_in}
 
 -- all was read
 pub all_given : (old mid new : Option (List ℕ)) (front bytes : List ℕ) → Consumes old mid front → Consumes mid new [] → IsAtEnd new → old ≡ Some bytes → front ≡ bytes
@@ -24,9 +25,9 @@ front_given (Some xs) None front bytes p is = absurd p
 front_given (Some xs) (Some ys) front bytes p is = let same : xs ≡ bytes = cc in (ys, sym same ∙ p)
 
 -- the fault of a log that comes wherever it goes on
-pub tells_event : (p : Problem) (old new : Option (List ℕ)) (front bytes : List ℕ) (cause : EventFault) → Consumes old new front → old ≡ Some bytes → exit_of (event_fault cause.event cause.wrong) ≢ 1 →
-    (cause.wrong ≢ wrong.Memory → (more : List ℕ) → IsFirstFault p (front ++ more) cause) → TellsEvent p bytes (event_fault cause.event cause.wrong)
-tells_event p old new front bytes cause given is other first =
+pub tells_event : (scope : Scope) (p : Problem) (old new : Option (List ℕ)) (front bytes : List ℕ) (cause : EventFault) → Consumes old new front → old ≡ Some bytes → exit_of (event_fault cause.event cause.wrong) ≢ 1 →
+    (cause.wrong ≢ wrong.Memory → (more : List ℕ) → IsFirstFault (part_in scope) p (front ++ more) cause) → TellsEvent scope p bytes (event_fault cause.event cause.wrong)
+tells_event scope p old new front bytes cause given is other first =
     let rest = front_given old new front bytes given is in
     let no_memory : cause.wrong ≢ wrong.Memory = λ memory. other (ap (λ w. exit_of (event_fault cause.event w)) memory) in
-    record { cause = cause; first = subst (λ (text : List ℕ). IsFirstFault p text cause) (sym rest.1) (first no_memory rest.0); told = refl }
+    record { cause = cause; first = subst (λ (text : List ℕ). IsFirstFault (part_in scope) p text cause) (sym rest.1) (first no_memory rest.0); told = refl }

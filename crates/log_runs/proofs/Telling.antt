@@ -1,22 +1,24 @@
 -- What a run tells of a log, and of its own end.
-use Rattle.std.proofs.Common.{◌≡◌, ◌∙◌, ℕ, List, Bool, true, false, Option, None, Some, Result, Err, ap, inl}
+use Rattle.std.proofs.Common.{◌≡◌, ◌∙◌, ℕ, List, Option, None, Some, Result, Err, ap, inl}
 use Rattle.std.specs.Option.{IfNone}
 use Rattle.std.specs.Prelude.{option_map}
 use Rattle.network.specs.Problem.{IsProject, Problem}
 use Rattle.record_text.specs.declared.proved.Proved.{Proved}
-use Rattle.answers.specs.Answers.{proved_line}
 use Rattle.answers.specs.declared.answer.Answer.{Answer}
 use Rattle.answers.specs.declared.fault.Fault.TheVariants as run_faults
 use Rattle.runs.specs.Runs.{Span}
 use Rattle.lemma_record.specs.SoFar.{SoFarIsTrue}
 use Rattle.log_runs.specs.declared.fault.LogFault.{LogFault}
 use Rattle.log_runs.specs.declared.fault.LogFault.TheVariants as faults
-use Rattle.log_runs.specs.Outcome.{HasReadLog, IsLogProof, Shows}
+use Rattle.log_runs.specs.declared.scope.Scope.{Scope}
+use Rattle.log_runs.specs.declared.scope.Scope.TheVariants as scopes
+use Rattle.log_runs.specs.Outcome.{HasReadLog, IsLogProof, Shows, line_of}
 
 -- the line of what a log shows
-pub log_proof_of : (partial : Bool) (p : Problem) (text written : List ℕ) (what : Proved) → IsProject p → SoFarIsTrue → Shows partial p text what → written ≡ proved_line what → IsLogProof partial p text written
-log_proof_of false p text written what is law shows line = record { what = what; shows = shows; true_of = law p text what is (inl shows); line = line }
-log_proof_of true p text written what is law shows line = record { what = what; shows = shows; true_of = law p text what is shows; line = line }
+pub log_proof_of : (scope : Scope) (p : Problem) (text written : List ℕ) (what : Proved) → IsProject p → SoFarIsTrue → Shows scope p text what → written ≡ line_of scope what → IsLogProof scope p text written
+log_proof_of scopes.Whole p text written what is law shows line = record { what = what; shows = shows; true_of = law p text what is (inl shows); line = line }
+log_proof_of scopes.SoFar p text written what is law shows line = record { what = what; shows = shows; true_of = law p text what is shows; line = line }
+log_proof_of (scopes.Part part) p text written what is law shows line = record { what = what; shows = shows; true_of = record {}; line = line }
 
 -- where there is no fault there is none in other words
 pub none_told : {A B : Type 0} (f : A → B) (fault : Option A) {P Q : Type 0} → IfNone fault P → (P → Q) → IfNone (option_map f fault) Q

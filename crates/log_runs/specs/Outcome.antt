@@ -1,5 +1,6 @@
 -- What a run over a log reads, what it writes, and why it proves nothing.
-use Rattle.std.specs.Prelude.{◌≡◌, ◌≢◌, ◌⊎◌, ◌+◌, Bool, true, false, List, ℕ, Option}
+use Rattle.std.specs.Prelude.{◌≡◌, ◌≢◌, ◌⊎◌, ◌+◌, ◌++◌, codes, List, ℕ, Option}
+use Rattle.std.specs.Fmt.{decimal}
 use Rattle.std.specs.Io.KnownBytes.{Consumes}
 use Rattle.network.specs.Problem.{Problem}
 use Rattle.words.specs.declared.TheConstants.{MAX_TEXT_BYTES}
@@ -11,10 +12,21 @@ use Rattle.runs.specs.Runs.{Span, GaveUpTo, IfTold, OneFailedWhere}
 use Rattle.runs.specs.Outcome.{HasFault, SpellsOne}
 use Rattle.lemma_record.specs.declared.fault.EventFault.{EventFault}
 use Rattle.lemma_record.specs.Faults.{IsFirstFault}
-use Rattle.lemma_record.specs.SoFar.{IsClaimed, IsProvedSoFar}
+use Rattle.lemma_record.specs.Parts.{PartOf, whole}
+use Rattle.lemma_record.specs.SoFar.{IsClaimed, IsClaimedIn, IsProvedSoFar}
 use Rattle.log_runs.specs.declared.fault.LogFault.{LogFault}
 use Rattle.log_runs.specs.declared.fault.LogFault.TheVariants as faults
+use Rattle.log_runs.specs.declared.scope.Scope.{Scope}
+use Rattle.log_runs.specs.declared.scope.Scope.TheVariants as scope
 use Rattle.log_runs.specs.Faults.{event_fault, exit_of}
+
+-- ---- what is checked
+
+-- the part of the log
+abbrev pub part_in : Scope → PartOf
+part_in scope.Whole = whole
+part_in scope.SoFar = whole
+part_in (scope.Part part) = part
 
 -- ---- what is read
 
@@ -31,28 +43,42 @@ pub record HasReadLog {I S : Type 0} (Failed : Type 0) (first : Span I) (second 
 
 -- ---- what is written
 
--- a right log shows what it claims; where logs may be cut off, such a one shows what the ledger claims there
-abbrev pub Shows : Bool → Problem → List ℕ → Proved → Type 0
-Shows false p text what = IsClaimed p text what
-Shows true p text what = IsProvedSoFar p text what
+-- a right log shows what it claims; where it may be cut off, what the ledger claims there; and where a part of it is
+-- checked, what is claimed if all parts are right
+abbrev pub Shows : Scope → Problem → List ℕ → Proved → Type 0
+Shows scope.Whole p text what = IsClaimed p text what
+Shows scope.SoFar p text what = IsProvedSoFar p text what
+Shows (scope.Part part) p text what = IsClaimedIn part p text what
 
--- the line of what the log shows, which is true of the project
-pub record IsLogProof (partial : Bool) (p : Problem) (text written : List ℕ) : Type 0 where
+-- what is shown is true of the project, unless a part alone is checked
+abbrev pub IsTrueOf : Scope → Problem → Proved → Type 0
+IsTrueOf scope.Whole p what = IsFactOf p what
+IsTrueOf scope.SoFar p what = IsFactOf p what
+IsTrueOf (scope.Part part) p what = Unit {0}
+
+abbrev pub line_of : Scope → Proved → List ℕ
+line_of scope.Whole what = proved_line what
+line_of scope.SoFar what = proved_line what
+line_of (scope.Part part) what =
+    (codes "part " ++ (decimal part.number ++ (codes "/" ++ (decimal part.count ++ codes " of ")))) ++ proved_line what
+
+-- the line of what the log shows
+pub record IsLogProof (scope : Scope) (p : Problem) (text written : List ℕ) : Type 0 where
   pub what : Proved
-  pub shows : Shows partial p text what
-  pub true_of : IsFactOf p what
-  pub line : written ≡ proved_line what
+  pub shows : Shows scope p text what
+  pub true_of : IsTrueOf scope p what
+  pub line : written ≡ line_of scope what
 
 -- the second text spells a project, and the first is that of a log which shows this
-abbrev pub IsProof : Bool → List ℕ → List ℕ → List ℕ → Type 0
-IsProof partial text second written = SpellsOne second (λ p. IsLogProof partial p text written)
+abbrev pub IsProof : Scope → List ℕ → List ℕ → List ℕ → Type 0
+IsProof scope text second written = SpellsOne second (λ p. IsLogProof scope p text written)
 
 -- ---- why nothing is proved
 
--- the first fault of the log, which is told
-pub record TellsEvent (p : Problem) (text : List ℕ) (fault : LogFault) : Type 0 where
+-- the first fault of the log in what is checked, which is told
+pub record TellsEvent (scope : Scope) (p : Problem) (text : List ℕ) (fault : LogFault) : Type 0 where
   pub cause : EventFault
-  pub first : IsFirstFault p text cause
+  pub first : IsFirstFault (part_in scope) p text cause
   pub told : fault ≡ event_fault cause.event cause.wrong
 
 -- the text has a fault of a project, which is told
@@ -62,8 +88,8 @@ pub record TellsProject (text : List ℕ) (fault : LogFault) : Type 0 where
   pub told : fault ≡ faults.Run cause
 
 -- the second text spells no project, or the first has a fault
-abbrev pub IsRefusal : List ℕ → List ℕ → LogFault → Type 0
-IsRefusal text second fault = TellsProject second fault ⊎ SpellsOne second (λ p. TellsEvent p text fault)
+abbrev pub IsRefusal : Scope → List ℕ → List ℕ → LogFault → Type 0
+IsRefusal scope text second fault = TellsProject second fault ⊎ SpellsOne second (λ p. TellsEvent scope p text fault)
 
 -- where both inputs tell their texts, these have this property
 abbrev pub IfBothTold : Option (List ℕ) → Option (List ℕ) → (List ℕ → List ℕ → Type 0) → Type 0
@@ -73,11 +99,11 @@ IfBothTold first second P = IfTold first (λ text. IfTold second (P text))
 
 -- what the first input tells proves something of the project that the second tells, and this is done with the line
 -- that says so
-pub record Proves (partial : Bool) (first second : Option (List ℕ)) (Done : List ℕ → Type 0) : Type 0 where
+pub record Proves (scope : Scope) (first second : Option (List ℕ)) (Done : List ℕ → Type 0) : Type 0 where
   pub text : List ℕ
-  pub proof : IfBothTold first second (λ told more. IsProof partial told more text)
+  pub proof : IfBothTold first second (λ told more. IsProof scope told more text)
   pub done : Done text
 
 -- it proves nothing: for want of memory or of a device, or for this fault of a text
-abbrev pub IsNoProof : Option (List ℕ) → Option (List ℕ) → LogFault → Type 0
-IsNoProof first second fault = exit_of fault ≢ 1 → IfBothTold first second (λ text more. IsRefusal text more fault)
+abbrev pub IsNoProof : Scope → Option (List ℕ) → Option (List ℕ) → LogFault → Type 0
+IsNoProof scope first second fault = exit_of fault ≢ 1 → IfBothTold first second (λ text more. IsRefusal scope text more fault)

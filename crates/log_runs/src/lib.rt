@@ -7,6 +7,9 @@
 mod fault;
 mod reading;
 mod running;
+mod scope;
 
 pub use fault::LogFault;
+pub use lemma_record::LogPart;
 pub use running::{LogEnded, run};
+pub use scope::Scope;

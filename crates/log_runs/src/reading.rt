@@ -6,9 +6,10 @@ ghost use Rattle.runs.specs.Runs.{span, FailedWhere, IfTold};
 ghost use Rattle.lemma_record.specs.Reached.{HasRead};
 ghost use Rattle.log_runs.specs.declared.fault.LogFault.TheVariants as faults;
 ghost use Rattle.log_runs.specs.Faults.{exit_of};
-ghost use Rattle.log_runs.specs.Outcome.{GaveSome, TellsEvent};
+ghost use Rattle.log_runs.specs.Outcome.{GaveSome, TellsEvent, part_in};
 
 use crate::fault::LogFault;
+use crate::scope::Scope;
 use answers::Fault;
 use lemma_record::Checker;
 use network::Project;
@@ -18,22 +19,24 @@ use std::alloc::Global;
 /// How many bytes are read at once, at most.
 const PIECE: usize = 16_384;
 
-/// Reads a log to its end, and checks it as it comes. A log of 2^64 - 1 pieces and more is given up.
+/// Reads a log to its end, and checks what is to be checked as it comes. A log of 2^64 - 1 pieces and more is given up.
 pub(crate) fn read_log<'a, I: Input>(
     alloc: Global,
+    scope: &Scope,
     project: &'a Project,
     input: &mut I,
 ) -> Result<Checker<'a>, LogFault>
     requires { I.failed input.old < u64.MAX }
     ensures read { IfOk result (λ checker. IfTold (I.left input.old) (λ text. HasRead project.now text checker)) }
+    ensures part { IfOk result (λ checker. checker.part ≡ part_in scope.now) }
     ensures fault { IfErr result (λ fault. exit_of fault ≢ 1
-        → IfTold (I.left input.old) (λ text. TellsEvent project.now text fault)) }
+        → IfTold (I.left input.old) (λ text. TellsEvent scope.now project.now text fault)) }
     ensures cause { IfErr result (λ fault. fault ≢ faults.Run run_faults.WriteFailed) }
     ensures failed { FailedWhere (result ≡ Err (faults.Run run_faults.ReadFailed))
         (span I.left I.failed input.old input.new) }
     ensures given { GaveSome (span I.left I.failed input.old input.new) }
 {
-    let mut checker = Checker::new(alloc, project)?;
+    let mut checker = Checker::new(alloc, project, scope.part())?;
     let mut buffer = [0u8; PIECE];
     for _ in 0..u64::MAX {
         let Ok(n) = input.pull(&mut buffer) else {

@@ -7,11 +7,12 @@ ghost use Rattle.runs.specs.Runs.{span, FailedWhere, IfTold, IsUntouched, TookAl
 ghost use Rattle.lemma_record.specs.Reached.{HasRead};
 ghost use Rattle.log_runs.specs.declared.fault.LogFault.TheVariants as faults;
 ghost use Rattle.log_runs.specs.Faults.{exit_of};
-ghost use Rattle.log_runs.specs.Outcome.{GaveSome, HasReadLog, IfBothTold, IsLogProof, IsNoProof, IsProof, Proves, Shows, TellsEvent};
+ghost use Rattle.log_runs.specs.Outcome.{GaveSome, HasReadLog, IfBothTold, IsLogProof, IsNoProof, IsProof, Proves, Shows, TellsEvent, part_in};
 
 use crate::fault::LogFault;
 use crate::reading::read_log;
-use answers::{Answer, Fault, proved_text};
+use crate::scope::Scope;
+use answers::{Answer, Fault};
 use lemma_record::{Checker, claim_law};
 use network::Project;
 use record_text::Proved;
@@ -53,14 +54,15 @@ impl LogEnded {
 }
 
 /// What a log shows that was read.
-fn shown(partial: bool, checker: &Checker<'_>) -> Result<Proved, LogFault>
+fn shown(scope: &Scope, checker: &Checker<'_>) -> Result<Proved, LogFault>
+    requires { checker.now.part ≡ part_in scope.now }
     ensures shown { IfOk result (λ what. (p : Problem) (text : List ℕ) → HasRead p text checker.now
-        → Shows partial p text what) }
+        → Shows scope.now p text what) }
     ensures fault { IfErr result (λ fault. (p : Problem) (text : List ℕ) → HasRead p text checker.now
-        → TellsEvent p text fault) }
+        → TellsEvent scope.now p text fault) }
     ensures cause { IfErr result (λ fault. exit_of fault ≡ 4) }
 {
-    if partial {
+    if let Scope::SoFar = scope {
         return Ok(checker.proved());
     }
     match checker.finish() {
@@ -72,40 +74,40 @@ fn shown(partial: bool, checker: &Checker<'_>) -> Result<Proved, LogFault>
 /// What the log proves of the project.
 fn log_proof<I: Input>(
     alloc: Global,
-    partial: bool,
+    scope: &Scope,
     project: &Project,
     input: &mut I,
 ) -> Result<Answer, LogFault>
     requires input { I.failed input.old < u64.MAX }
     requires project { IsProject project.now }
     ensures said { IfOk result (λ a. (a.exit ≡ 0)
-        × IfTold (I.left input.old) (λ text. IsLogProof partial project.now text a.text.items)) }
+        × IfTold (I.left input.old) (λ text. IsLogProof scope.now project.now text a.text.items)) }
     ensures fault { IfErr result (λ fault. exit_of fault ≢ 1
-        → IfTold (I.left input.old) (λ text. TellsEvent project.now text fault)) }
+        → IfTold (I.left input.old) (λ text. TellsEvent scope.now project.now text fault)) }
     ensures cause { IfErr result (λ fault. fault ≢ faults.Run run_faults.WriteFailed) }
     ensures failed { FailedWhere (result ≡ Err (faults.Run run_faults.ReadFailed))
         (span I.left I.failed input.old input.new) }
     ensures given { GaveSome (span I.left I.failed input.old input.new) }
 {
     claim_law();
-    let checker = read_log(alloc, project, input)?;
-    let proved = shown(partial, &checker)?;
-    let text = proved_text(alloc, proved)?;
+    let checker = read_log(alloc, scope, project, input)?;
+    let shown = shown(scope, &checker)?;
+    let text = scope.line(alloc, shown)?;
     Ok(Answer::of(text, 0))
 }
 
 /// What the inputs prove. The project is read and judged before the log is read.
 fn proof<I: Input, S: Input>(
     alloc: Global,
-    partial: bool,
+    scope: &Scope,
     input: &mut I,
     second: &mut S,
 ) -> Result<Answer, LogFault>
     requires input { I.failed input.old < u64.MAX }
     requires second { S.failed second.old < u64.MAX }
     ensures said { IfOk result (λ a. (a.exit ≡ 0)
-        × IfBothTold (I.left input.old) (S.left second.old) (λ text more. IsProof partial text more a.text.items)) }
-    ensures refused { IfErr result (IsNoProof (I.left input.old) (S.left second.old)) }
+        × IfBothTold (I.left input.old) (S.left second.old) (λ text more. IsProof scope.now text more a.text.items)) }
+    ensures refused { IfErr result (IsNoProof scope.now (I.left input.old) (S.left second.old)) }
     ensures cause { IfErr result (λ fault. fault ≢ faults.Run run_faults.WriteFailed) }
     ensures read { HasReadLog (result ≡ Err (faults.Run run_faults.ReadFailed))
         (span I.left I.failed input.old input.new) (span S.left S.failed second.old second.new) }
@@ -113,15 +115,16 @@ fn proof<I: Input, S: Input>(
         → IsUntouched (span I.left I.failed input.old input.new) }
 {
     let project = read_project(alloc, second)?;
-    log_proof(alloc, partial, &project, input)
+    log_proof(alloc, scope, &project, input)
 }
 
 /// Reads a project from the second input and then a log of lemmas from the first. Writes what the log proves of the
 /// project and nothing else: `proved optimal C`, `proved bound C` or `proved no schedule`, and LF. A log that is cut off
-/// is wrong, or if `partial` it proves what its events prove. After a failure a device isn't called again.
+/// is wrong, unless what it proves so far is asked for. Of part K of N the line begins with `part K/N of `: that is proved
+/// if all parts are right. After a failure a device isn't called again.
 pub fn run<I: Input, S: Input, O: Output>(
     alloc: Global,
-    partial: bool,
+    scope: &Scope,
     input: &mut I,
     second: &mut S,
     out: &mut O,
@@ -131,15 +134,15 @@ pub fn run<I: Input, S: Input, O: Output>(
     requires out { O.failed out.old < u64.MAX }
 
     // No fault: what is proved was written whole.
-    ensures proved { IfNone result.fault ((result.exit ≡ 0) × Proves partial (I.left input.old) (S.left second.old)
+    ensures proved { IfNone result.fault ((result.exit ≡ 0) × Proves scope.now (I.left input.old) (S.left second.old)
         (TookAll (span O.held O.failed out.old out.new))) }
 
     // The output failed: it holds a beginning of what is proved.
     ensures cut_short { result.fault ≡ Some (faults.Run run_faults.WriteFailed)
-        → Proves partial (I.left input.old) (S.left second.old) (TookFront (span O.held O.failed out.old out.new)) }
+        → Proves scope.now (I.left input.old) (S.left second.old) (TookFront (span O.held O.failed out.old out.new)) }
 
     // Any other fault: nothing is proved, and nothing was written.
-    ensures refused { IfSome result.fault (IsNoProof (I.left input.old) (S.left second.old)) }
+    ensures refused { IfSome result.fault (IsNoProof scope.now (I.left input.old) (S.left second.old)) }
     ensures silent { IfSome result.fault (λ fault. fault ≢ faults.Run run_faults.WriteFailed → out.new ≡ out.old) }
     ensures status { IfSome result.fault (λ fault. result.exit ≡ exit_of fault) }
 
@@ -151,7 +154,7 @@ pub fn run<I: Input, S: Input, O: Output>(
     ensures failed { FailedWhere (result.fault ≡ Some (faults.Run run_faults.WriteFailed))
         (span O.held O.failed out.old out.new) }
 {
-    match proof(alloc, partial, input, second) {
+    match proof(alloc, scope, input, second) {
         Ok(answer) => LogEnded::of(write_answer(out, &answer)),
         Err(fault) => LogEnded::with(fault),
     }

@@ -20,9 +20,9 @@ returns-in-Err-clause-fault g c other bytes is =
     let left = g.I.Input.left in
     let front = c.loop.invariant.front in
     let piece = take c.in-Ok.n c.pull.new.buffer in
-    rw c.of_event.ensures (tells_event c.args.project.now (left c.args.input.now) (left c.pull.new.self) (front ++ piece) bytes c.in-Err.cause
+    rw c.of_event.ensures (tells_event c.args.scope.now c.args.project.now (left c.args.input.now) (left c.pull.new.self) (front ++ piece) bytes c.in-Err.cause
     (Consumes-trans (left c.args.input.now) (left c.loop.input) (left c.pull.new.self) front piece c.loop.invariant.given c.in-Ok.ensures.told.0) is (rw c.of_event.ensures at other)
-    (λ no_memory more. c.in-Err.ensures.fault no_memory c.args.project.now front more c.loop.invariant.read))
+    (λ no_memory more. rw c.loop.invariant.part at (c.in-Err.ensures.fault no_memory c.args.project.now front more c.loop.invariant.read)))
 
 pub returns-in-Err-clause-given : goal.returns-in-Err-clause-given
 returns-in-Err-clause-given g c =
@@ -39,5 +39,6 @@ loop-preserved g c =
       front = front ++ piece;
       given = Consumes-trans (left c.args.input.now) (left c.loop.input) (left c.pull.new.self) front piece c.loop.invariant.given c.in-Ok.ensures.told.0;
       read = c.in_default-feed.ensures.read c.args.project.now front c.loop.invariant.read;
+      part = c.in_default-feed.ensures.part ∙ c.loop.invariant.part;
       count = c.in-Ok.ensures.ok ∙ c.loop.invariant.count;
     }

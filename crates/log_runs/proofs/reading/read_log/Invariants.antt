@@ -1,6 +1,7 @@
 use Rattle.std.proofs.Common.{◌≡◌, List, ℕ}
 use Rattle.std.specs.Io.KnownBytes.{Consumes}
 use Rattle.lemma_record.specs.Reached.{HasRead}
+use Rattle.log_runs.specs.Outcome.{part_in}
 use Rattle.log_runs.proofs.reading.read_log.Given as goal
 
 abbrev pub invariant-loop : goal.invariant-loop
@@ -8,5 +9,6 @@ invariant-loop g l = record {
   front : List ℕ;
   given : Consumes (g.I.Input.left l.fn.input) (g.I.Input.left l.input) front;
   read : HasRead l.project front l.checker;
+  part : l.checker.part ≡ part_in l.scope;
   count : g.I.Input.failed l.input ≡ g.I.Input.failed l.fn.input;
 }

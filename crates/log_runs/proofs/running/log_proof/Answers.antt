@@ -7,6 +7,6 @@ returns-clause-said g c = (
   c.of.ensures.status,
   λ text told.
       let p = c.args.project.now in
-      log_proof_of c.args.partial p text c.of.result.text.items c.in_ok-proved.proved c.requires.project c.claim_law.ensures.so_far
-      (c.in_ok-proved.ensures.shown p text (c.in_ok-checker.ensures.read text told)) (c.of.ensures.text ∙ c.in_ok-text.ensures),
+      log_proof_of c.args.scope.now p text c.of.result.text.items c.in_ok-shown.shown c.requires.project c.claim_law.ensures.so_far
+      (c.in_ok-shown.ensures.shown p text (c.in_ok-checker.ensures.read text told)) (c.of.ensures.text ∙ c.in_ok-text.ensures),
 )
