@@ -42,7 +42,7 @@ pub struct Cube<'c> {
 #[derive(Drop)]
 pub enum News {
     Nothing,
-    /// The starts of a schedule that others have found, in periods.
+    /// The starts of a feasible schedule that others have found, in periods.
     Schedule(Vec<i32>),
     /// It is to end.
     End,
@@ -130,7 +130,7 @@ impl Searcher<'_> {
             let left = limit
                 .conflicts
                 .saturating_sub(self.search.counts().conflicts);
-            let is_late = seconds(rt, since) >= limit.seconds;
+            let is_late = seconds(rt, since).is_none_or(|spent| spent >= limit.seconds);
             if left == 0 || is_late || self.search.is_over() {
                 break;
             }
@@ -149,10 +149,10 @@ impl Searcher<'_> {
     }
 }
 
-/// Whole seconds since then. A clock that can't be read has none left.
-fn seconds<R: Clock>(rt: &R, since: Option<Instant>) -> u64 {
+/// Whole seconds since then. None if the clock can't be read.
+fn seconds<R: Clock>(rt: &R, since: Option<Instant>) -> Option<u64> {
     let spent = since.and_then(|since| since.elapsed(rt).ok());
-    spent.map_or(u64::MAX, |spent| spent.as_secs())
+    spent.map(|spent| spent.as_secs())
 }
 
 /// A search of a cube that knows what others have proved. None where the project contradicts itself.
@@ -232,7 +232,8 @@ pub fn search_cube<R: Clock, H: CubeHost, W: Write>(
         ceiling,
     };
     searcher.search_within(rt, host, limit, since, record)?;
-    searcher.found(alloc, limit, seconds(rt, since), record)
+    let spent = seconds(rt, since).unwrap_or(0);
+    searcher.found(alloc, limit, spent, record)
 }
 
 impl Searcher<'_> {

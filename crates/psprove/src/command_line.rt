@@ -6,8 +6,9 @@ use calls::{
     WordsFault, file, file_name, flag, matches_of, number, program_command, project_subcommand,
     subcommand, words,
 };
-use clap::{Arg, ArgMatches, Command};
+use clap::{Arg, ArgAction, ArgMatches, Command};
 use cube_runs::Limit;
+use log_runs::{LogPart, Scope};
 use solve_runs::{Asked, MAX_JOBS, Progress};
 use std::alloc::{AllocError, Global};
 
@@ -35,8 +36,8 @@ const FORMS: &[&str] = &["lines", "json"];
 /// What words ask for.
 #[derive(Debug, Drop)]
 pub(crate) enum Work {
-    /// To check a log against the project in a file; whether it may be cut off.
-    Verify { project: String, partial: bool },
+    /// To check what of a log, against the project in a file.
+    Verify { project: String, scope: Scope },
     Solve(Search),
     Cube(CubeWork),
 }
@@ -154,9 +155,15 @@ fn join_command<'a>(alloc: Global) -> Result<Command<'a>, AllocError> {
 fn verify_command<'a>(alloc: Global) -> Result<Command<'a>, AllocError> {
     let about = "Check a log of lemmas against a project in a file";
     let partial = "Take a log that is cut off, and print what its events prove";
-    project_subcommand(alloc, help::HEADING, "verify", about, help::VERIFY)?.arg(flag(
-        alloc, "partial", partial,
-    ))
+    let part = "Check part K of N of the lemmas, 1 to N";
+    let part = Arg::new(alloc, "part")
+        .long("part")
+        .value_name("K/N")
+        .help(part)
+        .action(ArgAction::Set);
+    project_subcommand(alloc, help::HEADING, "verify", about, help::VERIFY)?
+        .arg(flag(alloc, "partial", partial).conflicts_with("part")?)?
+        .arg(part)
 }
 
 fn command<'a>(alloc: Global) -> Result<Command<'a>, AllocError> {
@@ -270,15 +277,43 @@ fn solve_of(alloc: Global, matches: &ArgMatches<'_>) -> Result<Work, AllocError>
     }
 }
 
+/// The part that a word names, as `2/8`.
+fn part_of(word: &str) -> Option<LogPart> {
+    let (number, count) = word.split_once('/')?;
+    LogPart::new(number.parse().ok()?, count.parse().ok()?)
+}
+
+/// That a word names no part, as `clap` would say it.
+fn no_part(alloc: Global, word: &str) -> Result<WordsFault, AllocError> {
+    let text = format!(in alloc;
+        "error: invalid value '{word}' for '--part <K/N>': K is not in 1..=N\n\nFor more information, try '--help'.\n"
+    )?;
+    Ok(WordsFault::Bad { text })
+}
+
+/// What of a log is to be checked.
+fn scope_of(alloc: Global, matches: &ArgMatches<'_>) -> Result<Scope, WordsFault> {
+    let Some(word) = file_name(alloc, matches, "part")? else {
+        return Ok(match matches.get_flag("partial") {
+            true => Scope::SoFar,
+            false => Scope::Whole,
+        });
+    };
+    match part_of(word.as_str()) {
+        Some(part) => Ok(Scope::Part(part)),
+        None => Err(no_part(alloc, word.as_str())?),
+    }
+}
+
 /// What the matches ask for. None if words ask for nothing, which `clap` doesn't let pass.
-fn found_work(alloc: Global, matches: &ArgMatches<'_>) -> Result<Option<Work>, AllocError> {
+fn found_work(alloc: Global, matches: &ArgMatches<'_>) -> Result<Option<Work>, WordsFault> {
     match matches.subcommand() {
         Some(("solve", found)) => Ok(Some(solve_of(alloc, found)?)),
         Some(("join", found)) => Ok(Some(Work::Solve(join_of(alloc, found)?))),
         Some(("verify", found)) => match file_name(alloc, found, "project")? {
             Some(project) => Ok(Some(Work::Verify {
                 project,
-                partial: found.get_flag("partial"),
+                scope: scope_of(alloc, found)?,
             })),
             None => Ok(None),
         },

@@ -2,6 +2,7 @@
 
 use crate::PROGRAM;
 use crate::following::{Followed, Heard};
+use crate::host::read_file;
 use crate::record_file::RecordFile;
 use answers::{Answer, Fault};
 use calls::{Opener, refuse_file, report};
@@ -11,7 +12,7 @@ use network::{Lag, Project, Schedule};
 use runs::{Ended, Judged, Reader, judged_starts, read_project};
 use std::alloc::{AllocError, AllocFailed, Global};
 use std::fs::{self, Files};
-use std::io::{self, ErrorKind, Read, Write};
+use std::io::{self, ErrorKind, Write};
 use std::process::ExitCode;
 use std::rt::Runtime;
 use std::sync::{Arc, Mutex, Wait};
@@ -95,13 +96,8 @@ fn text_stop(fault: TextFault, name: &String) -> Stop<'_> {
 
 /// The bytes of a file.
 fn bytes_of<'w, R: Files>(rt: &R, alloc: Global, name: &'w String) -> Result<Vec<u8>, Stop<'w>> {
-    let mut bytes = Vec::new(alloc);
-    let read = match fs::open(rt, name.as_str()) {
-        Ok(mut file) => file.read_to_end(&mut bytes),
-        Err(error) => Err(error),
-    };
-    match read {
-        Ok(_) => Ok(bytes),
+    match read_file(rt, alloc, name.as_str()) {
+        Ok(bytes) => Ok(bytes),
         Err(error) => Err(file_stop(&error, name)),
     }
 }
@@ -181,11 +177,17 @@ fn found<'w, R: Runtime + Wait>(
     rt: &R,
     alloc: Global,
     work: &'w CubeWork,
+    project: &Arc<Project>,
     cube: Cube<'_>,
     record: &RecordFile,
     heard: &Mutex<Heard>,
 ) -> Result<Found, Stop<'w>> {
-    let host = Followed { rt, heard };
+    let host = Followed {
+        rt,
+        alloc,
+        project,
+        heard,
+    };
     let mut file = match fs::create(rt, record.first_name()) {
         Ok(file) => file,
         Err(error) => return Err(file_stop(&error, &work.record)),
@@ -258,7 +260,7 @@ fn searched<'w, R: Runtime + Wait>(
         guide: guide.as_ref().map(|schedule| schedule.starts()),
         lemmas: &lemmas,
     };
-    let found = found(rt, alloc, work, cube, record, heard)?;
+    let found = found(rt, alloc, work, &project, cube, record, heard)?;
     answer(rt, alloc, work, &found)
 }
 

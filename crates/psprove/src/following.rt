@@ -1,6 +1,10 @@
 //! What a search hears on standard input while it goes on.
 
+use crate::PROGRAM;
+use answers::Fault;
 use cube_runs::{CubeHost, News};
+use network::Project;
+use runs::{Judged, judged_starts};
 use std::alloc::{AllocError, Global};
 use std::io::Input;
 use std::sync::{Arc, Mutex, Wait};
@@ -54,20 +58,48 @@ pub(crate) fn listen<R: Input + Wait>(rt: &R, alloc: Global, heard: &Mutex<Heard
 
 /// What a search asks for news.
 #[derive(Drop)]
-pub(crate) struct Followed<'r, R> {
+pub(crate) struct Followed<'r, 'p, R> {
     pub(crate) rt: &'r R,
+    pub(crate) alloc: Global,
+    pub(crate) project: &'p Arc<Project>,
     pub(crate) heard: &'r Mutex<Heard>,
 }
 
-impl<R: Wait> CubeHost for Followed<'_, R> {
-    fn news(&self) -> News {
+impl<R: Wait + Eprint> Followed<'_, '_, R> {
+    /// What was heard and not asked for yet; none once nothing more is to be heard.
+    fn heard(&self) -> Option<Option<Vec<i32>>> {
         let mut heard = self.heard.lock(self.rt);
         if heard.is_over {
-            return News::End;
+            return None;
         }
-        match heard.starts.take() {
-            Some(starts) => News::Schedule(starts),
-            None => News::Nothing,
+        Some(heard.starts.take())
+    }
+
+    /// Whether starts are a feasible schedule of the project.
+    fn is_feasible(&self, starts: &[i32]) -> Result<bool, Fault> {
+        let mut text = String::new(self.alloc);
+        for (activity, start) in starts.iter().enumerate() {
+            writeln!(text, "{activity} {start}")?;
+        }
+        let judged = judged_starts(self.alloc, self.project, text.as_bytes())?;
+        Ok(matches!(judged, Judged::Feasible(_)))
+    }
+}
+
+impl<R: Wait + Eprint> CubeHost for Followed<'_, '_, R> {
+    fn news(&self) -> News {
+        match self.heard() {
+            None => News::End,
+            Some(None) => News::Nothing,
+            Some(Some(starts)) => match self.is_feasible(&starts) {
+                Ok(true) => News::Schedule(starts),
+                _ => {
+                    let _ = eprintln!(self.rt;
+                        "{PROGRAM}: a line on standard input is no feasible schedule"
+                    );
+                    News::Nothing
+                }
+            },
         }
     }
 }

@@ -101,6 +101,9 @@ is event 0:
   event N: schedule   the starts are not feasible, or not shorter than the schedules before
   event N: claim      it is not what the events before it prove
 --partial takes a log that is cut off, and prints what its events prove; 'short' is then no fault.
+--part K/N looks at the lines of the lemmas whose event leaves K - 1 when it is divided by N, and at no
+others, and prints 'part K/N of proved ..'. That is proved once all N parts of a log have said so:
+parts can be checked side by side.
 
 Example:
   psprove verify --project project.sch < project.log

@@ -4,7 +4,14 @@ use cubes::Cube;
 use solve_runs::Host;
 use std::alloc::{AllocError, Global};
 use std::fs::{self, Files};
-use std::io::{ErrorKind, Read};
+use std::io::{self, ErrorKind, Read};
+
+/// The bytes of a file.
+pub(crate) fn read_file<R: Files>(rt: &R, alloc: Global, name: &str) -> io::Result<Vec<u8>> {
+    let mut bytes = Vec::new(alloc);
+    fs::open(rt, name)?.read_to_end(&mut bytes)?;
+    Ok(bytes)
+}
 
 /// The files of a search besides those of its call.
 #[derive(Drop)]
@@ -36,13 +43,8 @@ impl<R: Files> Host for FilesBeside<'_, '_, R> {
     fn bytes(&self, alloc: Global, name: &str) -> Result<Option<Vec<u8>>, AllocError> {
         let mut path = String::from_str(alloc, self.folder)?;
         path.push_str(name)?;
-        let mut bytes = Vec::new(alloc);
-        let read = match fs::open(self.rt, path.as_str()) {
-            Ok(mut file) => file.read_to_end(&mut bytes),
-            Err(error) => Err(error),
-        };
-        match read {
-            Ok(_) => Ok(Some(bytes)),
+        match read_file(self.rt, alloc, path.as_str()) {
+            Ok(bytes) => Ok(Some(bytes)),
             Err(error) if error.kind() == ErrorKind::OutOfMemory => Err(AllocError),
             Err(_) => Ok(None),
         }

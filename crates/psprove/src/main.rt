@@ -14,7 +14,7 @@ use answers::Fault;
 use calls::{FOLDER, refuse, refuse_file, report};
 use command_line::{Work, work_of};
 use following::{Heard, ear, listen};
-use log_runs::{LogEnded, run};
+use log_runs::{LogEnded, Scope, run};
 use runs::{Ended, Reader, Writer};
 use std::alloc::Global;
 use std::io::{ErrorKind, IsTerminal};
@@ -35,8 +35,8 @@ fn report_log<R: Eprint>(rt: &R, ended: &LogEnded) -> ExitCode {
     ExitCode::from(ended.exit)
 }
 
-/// Opens the project's file, and checks the log on standard input against it, which may be cut off if `partial`.
-fn verify<R: Runtime>(rt: &R, alloc: Global, name: &String, partial: bool) -> ExitCode {
+/// Opens the project's file, and checks what is asked of the log on standard input against it.
+fn verify<R: Runtime>(rt: &R, alloc: Global, name: &String, scope: &Scope) -> ExitCode {
     let mut second = match fs::open(rt, name.as_str()) {
         Ok(file) => Reader::new(file),
         Err(error) if error.kind() == ErrorKind::OutOfMemory => {
@@ -46,7 +46,7 @@ fn verify<R: Runtime>(rt: &R, alloc: Global, name: &String, partial: bool) -> Ex
     };
     let mut input = Reader::new(rt.reader());
     let mut out = Writer::new(io::writer(rt));
-    let ended = run(alloc, partial, &mut input, &mut second, &mut out);
+    let ended = run(alloc, scope, &mut input, &mut second, &mut out);
     report_log(rt, &ended)
 }
 
@@ -69,7 +69,7 @@ fn perform<R: Runtime + Threads + Wait + Sync>(
     let _output = fs::open(rt, FOLDER);
     let _faults = fs::open(rt, FOLDER);
     let done = match work {
-        Work::Verify { project, partial } => Ok(verify(rt, alloc, &project, partial)),
+        Work::Verify { project, scope } => Ok(verify(rt, alloc, &project, &scope)),
         Work::Solve(work) => search::begin(rt, alloc, work),
         Work::Cube(work) => cube::search(rt, alloc, &work, heard),
     };

@@ -4,7 +4,7 @@ ghost use Rattle.std.specs.Prelude.{◌<◌};
 
 use crate::PROGRAM;
 use crate::command_line::Search;
-use crate::host::FilesBeside;
+use crate::host::{FilesBeside, read_file};
 use crate::record_file::RecordFile;
 use answers::Fault;
 use calls::{Call, FileFault, Opener, refuse_file, refuse_files, report};
@@ -13,19 +13,18 @@ use runs::{Ended, Input, Reader, Writer};
 use solve_runs::{Asked, solve};
 use std::alloc::{AllocError, Global};
 use std::fs::{self, Files};
-use std::io::{self, ErrorKind, Read};
+use std::io::{self, ErrorKind};
 use std::process::ExitCode;
 use std::rt::Runtime;
 use std::sync::Wait;
 use std::thread::Threads;
 
 /// The bytes of a file, if it has a name.
-fn read_file<R: Files>(rt: &R, alloc: Global, name: Option<&str>) -> io::Result<Vec<u8>> {
-    let mut bytes = Vec::new(alloc);
-    if let Some(name) = name {
-        fs::open(rt, name)?.read_to_end(&mut bytes)?;
+fn read_named<R: Files>(rt: &R, alloc: Global, name: Option<&str>) -> io::Result<Vec<u8>> {
+    match name {
+        Some(name) => read_file(rt, alloc, name),
+        None => Ok(Vec::new(alloc)),
     }
-    Ok(bytes)
 }
 
 /// The call of a search whose record is in this file.
@@ -118,7 +117,7 @@ fn listed<R: Runtime>(
     alloc: Global,
     tree: Option<&String>,
 ) -> Result<Result<Vec<Cube>, ExitCode>, AllocError> {
-    let text = match read_file(rt, alloc, tree.map(|name| name.as_str())) {
+    let text = match read_named(rt, alloc, tree.map(|name| name.as_str())) {
         Ok(text) => text,
         Err(error) if error.kind() == ErrorKind::OutOfMemory => return Err(AllocError),
         Err(_) => return Ok(Err(refuse_file(rt, PROGRAM, tree))),
@@ -174,7 +173,7 @@ pub(crate) fn begin<R: Runtime + Threads + Wait + Sync>(
     if let Some(status) = refuse_losses(rt, record.as_ref(), &call, resume.as_deref()) {
         return Ok(status);
     }
-    let resumed = match read_file(rt, alloc, resume.as_deref()) {
+    let resumed = match read_named(rt, alloc, resume.as_deref()) {
         Ok(bytes) => bytes,
         Err(error) if error.kind() == ErrorKind::OutOfMemory => return Err(AllocError),
         Err(_) => return Ok(refuse_file(rt, PROGRAM, resume.as_ref())),
