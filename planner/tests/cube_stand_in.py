@@ -1,8 +1,8 @@
 """planner/tests/cube_stand_in.py SECONDS solve | join | verify | --version WORD..
 
 Stands in for the psprove that searches cubes, on projects of a few activities, by trying all starts. A search takes SECONDS
-at least, and stays open after one try for each 100 conflicts. Its log says in JSON what it found, which `join` believes where
-the log is whole and of its cube, and `verify` tries all starts again."""
+at least, and stays open after one try for each 100 conflicts. One that isn't of a cube makes no try. Its log says in JSON
+what it found, which `join` believes where the log is whole and of its cube, and `verify` tries all starts again."""
 import hashlib
 import json
 import pathlib
@@ -64,6 +64,11 @@ def pieces(project: Project, arcs: Arcs, count: int) -> Iterator[Row]:
 
 
 def solve(options: dict[str, str], data: bytes, seconds: float) -> int:
+    if "--under" not in options:
+        write_log(options, {"project": hashlib.sha256(data).hexdigest(), "path": [], "refuted": False, "starts": None,
+                            "lemmas": [], "import": []})
+        print(json.dumps({"starts": None, "makespan": None, "bound": 0, "conflicts": 1}))
+        return 3
     project, arcs = parse(data), numbers(options["--under"])
     lower: list[int] = []
     follower = threading.Thread(target=lambda: lower.extend(int(line.split()[-1]) for line in sys.stdin), daemon=True)
@@ -74,9 +79,8 @@ def solve(options: dict[str, str], data: bytes, seconds: float) -> int:
     refuted = search.run([0]) and (follower.is_alive() or seconds == 0)
     starts = search.starts or start or None
     lemmas = [arcs] if refuted and arcs else []
-    log = {"project": hashlib.sha256(data).hexdigest(), "path": arcs, "below": search.below, "refuted": refuted,
-           "starts": starts, "lemmas": lemmas, "import": numbers(options.get("--import"))}
-    pathlib.Path(options["--record"]).write_text(f"record 3\n{json.dumps(log)}\n")
+    write_log(options, {"project": hashlib.sha256(data).hexdigest(), "path": arcs, "below": search.below, "refuted": refuted,
+                        "starts": starts, "lemmas": lemmas, "import": numbers(options.get("--import"))})
     lines = (" ".join(map(str, [2, *sum(lemma, list[int]())])) + "\n" for lemma in lemmas)
     pathlib.Path(options["--export"]).write_text("".join(lines))
     kids = [] if refuted else [*pieces(project, arcs, int(options["--pieces"]))]
@@ -84,6 +88,10 @@ def solve(options: dict[str, str], data: bytes, seconds: float) -> int:
                       "starts": search.starts, "pieces": kids, "conflicts": 1, "decisions": 1, "record_bytes": 1,
                       "seconds": 1}))
     return 0 if refuted else 3
+
+
+def write_log(options: dict[str, str], log: Row) -> None:
+    pathlib.Path(options["--record"]).write_text(f"record 3\n{json.dumps(log)}\n")
 
 
 def fault(log: pathlib.Path, data: bytes, arcs: Arcs, imported: Arcs, lemmas: list[Arcs]) -> str | Row:
@@ -100,9 +108,9 @@ def fault(log: pathlib.Path, data: bytes, arcs: Arcs, imported: Arcs, lemmas: li
 def join(options: dict[str, str], data: bytes) -> int:
     tree, refuted, lemmas, best = pathlib.Path(options["--tree"]), set[str](), list[Arcs](), list[list[int]]()
     rows = [line.split() for line in tree.read_text().splitlines()]
-    assert len({name for name, *_ in rows}) == len(rows)
-    for name, log, imported, *path in rows:
-        arcs = [[*map(int, path[place : place + 3])] for place in range(0, len(path), 3)]
+    assert len({log for _, log, *_ in rows}) == len(rows)
+    for place, (name, log, imported, *path) in enumerate(rows):
+        arcs = [[*map(int, path[at : at + 3])] for at in range(0, len(path), 3)]
         lines = numbers(None if imported == "-" else str(tree.parent / imported))
         found = fault(tree.parent / log, data, arcs, lines, lemmas)
         if isinstance(found, str):
@@ -111,7 +119,7 @@ def join(options: dict[str, str], data: bytes) -> int:
         lemmas += found["lemmas"]
         best += [found["starts"]] if found["starts"] else []
         refuted |= {name.strip("-")} if found["refuted"] else set()
-        if not found["refuted"] and not any(other.startswith(name.strip("-")) for other, *_ in rows if other != name):
+        if not found["refuted"] and not any(other.strip("-").startswith(name.strip("-")) for other, *_ in rows[place + 1 :]):
             print(f"psprove: cube {name}: its log does not refute it", file=sys.stderr)
     is_whole = sum(0.5 ** len(name) for name in refuted) == 1
     least, end = max(parse(data).durations), min((starts[-1] for starts in best), default=None)
@@ -137,7 +145,7 @@ def main(seconds: str, command: str, *words: str) -> int:
         print("psprove stand-in")
         return 0
     options = {word: value for word, value in zip(words, [*words[1:], ""]) if word.startswith("--")}
-    data = pathlib.Path(options["--project"]).read_bytes()
+    data = pathlib.Path(options["--project"]).read_bytes() if "--project" in options else sys.stdin.buffer.read()
     if command == "solve":
         return solve(options, data, float(seconds))
     return (join if command == "join" else verify)(options, data)

@@ -88,14 +88,14 @@ class InCubes(InFolder):
 
 class Here(InCubes):
     def test_split_and_solved(self) -> None:
-        """2,000 conflicts are 20 tries of the stand-in, so the project is split in 16. What is there is not searched again."""
+        """8,000 conflicts are 80 tries of the stand-in, so the project is split in 16. What is there is not searched again."""
         told = self.solved("--jobs", "2")
         self.assertIn("schedule 9: cube ", told)
         self.assertEqual(len(self.rows("ended")), 17)
         self.assertEqual(plan("status", self.out).stdout.splitlines()[:3], [
             "cubes: 16 refuted, 0 open, 0 running; 100.0 % of the tree", "best schedule: 9", "bound: 9, by the last join"])
         self.solved("--jobs", "2")
-        self.assertEqual(len(self.rows("ended")), 17)
+        self.assertEqual((len(self.rows("first")), len(self.rows("ended"))), (1, 17))
 
     def test_killed_and_restarted(self) -> None:
         """A search is killed, and then the driver, with a row that it was about to write. Searches don't outlive it."""
@@ -140,7 +140,7 @@ class Here(InCubes):
 
     def test_a_search_that_fails(self) -> None:
         """Each time: the cube is named, and the same command with a psprove that works goes on."""
-        bad = self.program("bad", "echo psprove: no memory >&2; exit 1")
+        bad = self.program("bad", f"case $* in *--under*) echo psprove: no memory >&2; exit 1;; esac\nexec {self.psprove()} $*")
         ran = plan("solve", self.project, "--out", f"{self.out}/", psprove=bad)
         self.assertEqual((ran.returncode, ran.stdout), (1, ""))
         self.assertIn("plan: cube - failed 3 times: psprove solve ended with status 1: no memory\n", ran.stderr)
@@ -186,7 +186,7 @@ class ByPsprove(InCubes):
     """In cubes that are split early. The README has the optimum."""
 
     def lots(self) -> str:
-        with mock.patch.multiple("psmax.cubes.driver", FIRST=5, CUBES=4, CONFLICTS=8, PIECES=2):
+        with mock.patch.multiple("psmax.cubes.driver", BEGIN=1, FIRST=5, CUBES=4, CONFLICTS=8, PIECES=2):
             ran = plan("solve", LOTS, "--out", f"{self.out}/", "--jobs", "2")
         self.assertEqual((ran.returncode, ran.stdout.splitlines()[0]), (0, "optimal 105"), ran.stderr)
         self.assertIn("shorter than 105, and has one that long", plan("verify", LOTS, self.out / "record").stdout)
@@ -195,6 +195,21 @@ class ByPsprove(InCubes):
             said = subprocess.run(checker, stdin=record, capture_output=True).stdout
         self.assertEqual(said, b"proved optimal 105\n")
         return ran.stderr
+
+    def test_settled_at_first(self) -> None:
+        """One search proves it. Once its log is cut, the project is searched again."""
+        for count, told in enumerate(["proved: psprove solve", "1.log is put aside"]):
+            ran = plan("solve", self.project, "--out", f"{self.out}/")
+            self.assertEqual((ran.returncode, ran.stdout.splitlines()[0]), (0, "optimal 9"), ran.stderr)
+            self.assertIn(told, ran.stderr)
+            self.assertEqual((len(self.rows("first")), len(self.rows("ended"))), (1, count))
+            (self.out / "cubes" / "1.log").write_bytes(b"record 3\n")
+
+    def test_with_a_start(self) -> None:
+        """Then there is no first search."""
+        start = self.file("start", "0 0\n1 0\n2 7\n3 3\n4 5\n5 9\n")
+        ran = plan("solve", self.project, "--out", f"{self.out}/", "--start", start)
+        self.assertEqual((ran.returncode, ran.stdout.splitlines()[0], self.rows("first")), (0, "optimal 9", []), ran.stderr)
 
     def test_wrong_logs(self) -> None:
         self.assertNotIn("is put aside", self.lots())

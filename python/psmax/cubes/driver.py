@@ -1,19 +1,23 @@
-"""The driver of a tree. It gives cubes to machines, each with the lemmas of those that ended before, splits what stays open,
-and tells all searches of a shorter schedule."""
+"""The driver of a tree. It begins with one search for a good schedule. Then it gives cubes to machines, each with the lemmas
+of those that ended before, splits what stays open, and tells all searches of a shorter schedule."""
+import resource
 import zlib
 from collections import Counter
 from collections.abc import Iterable
+from dataclasses import replace
 
 from ..clock import Clock, tell
-from ..errors import Failed
+from ..errors import Failed, TimeUp
 from ..known import Known
 from ..psmax import Psmax, starts_text
+from ..psprove import Limits, Psprove
 from ..spelled import Spelled
-from .cube import Row
+from .cube import SECONDS, Row
 from .machines import Machines
 from .tree import WHOLE, Cube, Driven
 
-FIRST, CUBES = 2_000, 16  # conflicts of the whole project, before it is split; cubes of that split, or two for each processor
+BEGIN = 10_000  # conflicts of the first search
+FIRST, CUBES = 8_000, 16  # conflicts of the whole project, before it is split; cubes of that split, or two for each processor
 CONFLICTS, PIECES, GROWTH = 4_000, 4, 1.5  # of later searches and splits; with each split a cube may take so much longer
 MOST_CONFLICTS = 1_000_000_000
 MOST_LEMMAS = 4_000  # that a cube gets
@@ -43,6 +47,12 @@ class Lemmas:
         return "".join(f"{line}\n" for line in lines[:MOST_LEMMAS])
 
 
+def used() -> float:
+    """Seconds of a processor of all programs that have ended."""
+    found = resource.getrusage(resource.RUSAGE_CHILDREN)
+    return found.ru_utime + found.ru_stime
+
+
 def by_arcs(text: str) -> dict[str, str]:
     return {line.partition(" ")[2]: line for line in text.splitlines()}
 
@@ -59,12 +69,26 @@ class Driver:
         if tree.starts is not None:
             self.is_schedule(tree.starts, f"{tree.folder}")
 
+    def first(self) -> None:
+        """A search with neighbourhoods, which cubes have none of: it comes by a better schedule sooner than they do."""
+        clock, before = self.known.clock, used()
+        limits = Limits(min(SECONDS, clock.left()), conflicts=BEGIN)
+        try:
+            found = Psprove(clock, f"{self.tree.folder}").solve(self.spelled.project, limits, None, self.known.hear)
+        except TimeUp:  # what it told is known
+            return
+        self.known.learn(replace(found, record=b""), " ".join(["psprove solve", *limits.words()]))
+        self.tree.keep_first(found.record, state="refuted" if found.settled else "open", starts=self.best(),
+                             conflicts=found.conflicts, record_bytes=len(found.record), seconds=round(used() - before, 3))
+
     def refute(self, machines: Machines) -> None:
         """Until no cube is open, or the time is over."""
         self.machines, self.lemmas = machines, Lemmas(self.tree.lemmas())
         self.tree.write("begun", starts=self.best(), offset=self.spelled.offset)
         try:
             self.machines.begin(self.tree.folder)
+            if self.known.starts is None and not self.tree.number:
+                self.first()
             self.machines.tell(self.best())
             while (self.tree.waiting or self.tree.running) and not self.known.clock.over():
                 room = self.machines.room()
@@ -110,7 +134,7 @@ class Driver:
             else:
                 row["starts"] = None
         self.tree.keep(number, row)
-        if self.tree.logs.get(name) == number:
+        if number in self.tree.logs:
             self.lemmas.add(self.tree.file(number, "lemmas").read_text())
 
     def fail(self, name: str, fault: Exception) -> None:

@@ -1,8 +1,8 @@
 """The tree of the cubes of a project, as it stands in a folder. One driver writes it; nobody else has to agree on anything.
 
 project.sch   the project
-rows          a line of JSON for each step: a driver has begun, a cube is given out, its search has ended or is lost, or its
-              log is put aside
+rows          a line of JSON for each step: the first search has ended, a driver has begun, a cube is given out, its search
+              has ended or is lost, or its logs are put aside
 cubes/N.log   what search N proves; N.import has the lemmas that it got, and N.lemmas its own
 incoming      files on their way there
 token         the run's: a worker that reads it sees the folder, and leaves its files there
@@ -41,7 +41,7 @@ class Tree:
         self.waiting = {""}
         self.running: dict[int, str] = {}  # by the numbers of their searches
         self.refuted: set[str] = set()
-        self.logs: dict[str, int] = {}  # the numbers of the searches whose logs are joined, in the order of their ends
+        self.logs: dict[int, str] = {}  # the searches whose logs are joined, in the order of their ends, with their cubes
         self.starts: tuple[int, ...] | None = None  # of the shortest schedule, by the numbers of the text
         self.offset = 0  # of what is minimized: it is so much less than the end of the text
         self.number = 0
@@ -59,6 +59,8 @@ class Tree:
             self.number = row["number"]
             self.waiting.discard(row["cube"])
             self.running[self.number] = row["cube"]
+        elif row["step"] == "first":
+            self.begin(row)
         elif row["step"] == "ended":
             self.end(row)
         elif row["step"] == "lost":
@@ -71,32 +73,48 @@ class Tree:
             self.open_again(row["cube"])
         self.shares.append((row["at"], self.share))
 
+    def begin(self, row: Row) -> None:
+        """The first search is one of the whole project, which a driver gives out again where it stays open."""
+        self.number = row["number"]
+        self.logs[self.number] = ""
+        self.count(row)
+        if row["state"] == "refuted":
+            self.waiting.discard("")
+            self.refute("")
+
     def end(self, row: Row) -> None:
         name = self.running.pop(row["number"])
         cube = self.cubes[name]
-        self.spent += row["seconds"]
-        self.conflicts += row["conflicts"]
-        self.learn(row["starts"])
+        self.count(row)
         if row["state"] == "refuted":
-            self.refuted.add(name)
-            self.share += part(name)
+            self.refute(name)
         kids = {name + one["name"]: Cube(cube.arcs + tuple(map(tuple, one["arcs"])), cube.age + 1)
                 for one in row["pieces"] if one["name"]}
         if kids or row["state"] == "refuted":
-            self.logs[name] = row["number"]
+            self.logs[row["number"]] = name
             self.cubes |= kids
             self.waiting |= {*kids}
         else:  # it can't be split: searched again, for longer
             self.cubes[name] = replace(cube, age=cube.age + 1)
             self.waiting.add(name)
 
+    def count(self, row: Row) -> None:
+        """What a search took, and its schedule."""
+        self.spent += row["seconds"]
+        self.conflicts += row["conflicts"]
+        self.learn(row["starts"])
+
+    def refute(self, name: str) -> None:
+        self.refuted.add(name)
+        self.share += part(name)
+
     def learn(self, starts: list[int] | None) -> None:
         if starts is not None and (self.starts is None or starts[-1] < self.starts[-1]):
             self.starts = tuple(starts)
 
     def open_again(self, name: str) -> None:
-        """Without its log; a cube that was split stays so."""
-        del self.logs[name]
+        """Without its logs; a cube that was split stays so."""
+        self.logs = {number: other for number, other in self.logs.items() if other != name}
         if name in self.refuted:
             self.refuted.discard(name)
             self.share -= part(name)
@@ -124,14 +142,14 @@ class Tree:
 
     def lemmas(self, under: str | None = None) -> Iterator[str]:
         """Those of each log, or of the logs of the cubes above one."""
-        for name, number in self.logs.items():
+        for number, name in self.logs.items():
             if under is None or under.startswith(name):
                 yield self.file(number, "lemmas").read_text()
 
     def write_list(self) -> pathlib.Path:
         """The file for `psprove join`: the logs in the order of their ends."""
         lines = []
-        for name, number in self.logs.items():
+        for number, name in self.logs.items():
             got = f"cubes/{number}.import" if self.file(number, "import").stat().st_size else "-"
             arcs = (f"{place}" for arc in self.cubes[name].arcs for place in arc)
             lines.append(" ".join([name or WHOLE, f"cubes/{number}.log", got, *arcs]) + "\n")
@@ -171,6 +189,14 @@ class Driven(Tree):
         self.write("given", number=number, cube=name)
         return number
 
+    def keep_first(self, log: bytes, **row: object) -> None:
+        """A search of the project before there are cubes, which got no lemmas and leaves none."""
+        number = self.number + 1
+        write_whole(str(self.file(number, "log")), log)
+        for kind in ("import", "lemmas"):
+            self.file(number, kind).write_text("")
+        self.write("first", number=number, **row)
+
     def keep(self, number: int, row: Row) -> None:
         """The search has ended: its files first, and then its row."""
         for kind in MADE:
@@ -182,11 +208,11 @@ class Driven(Tree):
         told = {key: row[key] for key in (*TOLD, "seconds") if key != "cube"}
         self.write("ended", number=number, state=row["cube"], **told)
 
-    def put_aside(self, name: str) -> pathlib.Path:
-        """The log of the cube, which stays as a file, and is no part of the tree any more."""
-        number = self.logs[name]
+    def put_aside(self, name: str) -> list[pathlib.Path]:
+        """The logs of the cube, which stay as files, and are no part of the tree any more."""
+        numbers = [number for number, other in self.logs.items() if other == name]
         self.write("aside", cube=name)
-        return self.file(number, "log")
+        return [self.file(number, "log") for number in numbers]
 
     def close(self) -> None:
         self.rows.close()

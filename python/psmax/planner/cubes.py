@@ -43,7 +43,8 @@ def search(beginning: Beginning, known: Known, places: Places) -> None:
                 driver.refute(places.machines())
             bad = learn(tree, record, known, spelled) if tree.logs else {}
             for name, fault in bad.items():
-                tell(known.clock, f"cube {name or WHOLE}: {fault}: {tree.put_aside(name)} is put aside")
+                for path in tree.put_aside(name):
+                    tell(known.clock, f"cube {name or WHOLE}: {fault}: {path} is put aside")
                 wrong[name] += 1
                 if wrong[name] == TRIES:
                     raise Failed(f"cube {name or WHOLE}: its log was wrong {TRIES} times")
