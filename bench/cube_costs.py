@@ -1,0 +1,166 @@
+#!/usr/bin/env python3
+"""bench/cube_costs.py PSPROVE PROJECT.. [--machines N..] [--seconds S]
+
+Prints a table of what projects cost in cubes, beside one undivided search with its record, which ends after S processor
+seconds (600 by default).
+
+Machines are simulated: searches run one after another, each when the driver gives it out, with the lemmas of those that
+have ended by then. A search ends when its processor seconds are over. Each number of machines (4, 16, 64 and 256 by default)
+is a run of its own. Seconds are of a processor, as the system counts them of children. In brackets stands what all cubes take
+to what the undivided search does. `takes` is the simulated time of all searches, without the join, and `speed-up` the seconds
+of the undivided search to it."""
+import argparse
+import heapq
+import json
+import math
+import os
+import pathlib
+import sys
+import tempfile
+from collections.abc import Callable
+from contextlib import closing
+from typing import NamedTuple
+
+import measuring
+import watching
+
+sys.path.append(str(measuring.TOP / "python"))
+from psmax.clock import Clock  # noqa: E402
+from psmax.cubes import cube  # noqa: E402
+from psmax.cubes.driver import Driver, used  # noqa: E402
+from psmax.cubes.machines import Machines  # noqa: E402
+from psmax.cubes.tree import Driven  # noqa: E402
+from psmax.known import Known  # noqa: E402
+from psmax.project import parse  # noqa: E402
+from psmax.psmax import starts_text  # noqa: E402
+from psmax.psprove import Psprove  # noqa: E402
+from psmax.spelled import Spelled  # noqa: E402
+
+HEADS = ("project", "one: s", "conflicts", "machines", "cubes", "s", "conflicts", "longest", "takes", "speed-up", "logs, MB",
+         "record, MB", "join, s", "verify, s", "proved")
+Job = Callable[[], object]
+
+
+class Simulated(Machines):
+    """So many machines. The results come in the order in which their searches end."""
+
+    def __init__(self, count: int, program: str) -> None:
+        super().__init__()
+        self.count, self.program = count, program
+        self.time, self.spent, self.longest = 0.0, 0.0, 0.0
+        self.coming: list[tuple[float, int, cube.Row]] = []
+        self.known: cube.Row = {"starts": None}
+
+    def give(self, task: cube.Row) -> None:
+        row = cube.search(task | {"run": self.run, "program": self.program}, lambda: self.known, math.inf)
+        self.spent += row["seconds"]
+        self.longest = max(self.longest, row["seconds"])
+        heapq.heappush(self.coming, (self.time + row["seconds"], task["number"], row))
+
+    def next(self, seconds: float) -> tuple[int, cube.Row | Exception] | None:
+        if not self.coming:
+            return None
+        self.time, number, row = heapq.heappop(self.coming)
+        return number, row
+
+    def tell(self, starts: tuple[int, ...] | None) -> None:
+        self.known = {"starts": starts}
+
+    def room(self) -> int:
+        return self.count
+
+    def close(self) -> None:
+        pass
+
+
+class One(NamedTuple):
+    """The undivided search."""
+
+    seconds: float
+    conflicts: int | None  # none where it was ended
+    says: str
+
+
+class Cubes(NamedTuple):
+    """A search in cubes, and what became of their logs."""
+
+    searches: int
+    spent: float
+    conflicts: int
+    longest: float
+    takes: float
+    logs: int  # bytes
+    record: int
+    join: float
+    verify: float
+    says: str
+
+
+def timed(job: Job) -> float:
+    before = used()
+    job()
+    return used() - before
+
+
+def undivided(psprove: str, path: str, most: float) -> One:
+    with tempfile.TemporaryDirectory() as folder:
+        words = [psprove, "solve", "--json", "--progress", "json", "--seconds", "1000000", "--record", f"{folder}/record"]
+        before = used()
+        found = watching.watch(words, path, most)
+        told = json.loads([line for _, line in found.lines if line.startswith("{")][-1])
+        makespan = (told["starts"] or [None])[-1]
+        return One(used() - before, None if found.stopped else told["conflicts"], f"{makespan}, bound {told['bound']}")
+
+
+def in_cubes(psprove: str, path: str, machines: int) -> Cubes:
+    clock = Clock(says=lambda *_: None)
+    project = parse(pathlib.Path(path).read_bytes())
+    spelled, known, simulated = Spelled(project), Known(clock, project), Simulated(machines, psprove)
+    with tempfile.TemporaryDirectory() as folder, closing(Driven(pathlib.Path(folder), spelled.text)) as tree:
+        Driver(tree, known, spelled).refute(simulated)
+        begin = tree.spent - simulated.spent
+        join, verify, says = joined(tree, clock)
+        logs = sum(tree.file(number, "log").stat().st_size for number in tree.logs)
+        return Cubes(tree.number, tree.spent, tree.conflicts, simulated.longest, begin + simulated.time, logs,
+                     (tree.folder / "record").stat().st_size, join, verify, says)
+
+
+def joined(tree: Driven, clock: Clock) -> tuple[float, float, str]:
+    """The seconds of the join and of its check, and what that says."""
+    program, begun, record = Psprove(clock), tree.folder / "start", tree.folder / "record"
+    begun.write_bytes(starts_text(tree.starts or ()))
+    words = ["--project", f"{tree.folder / 'project.sch'}"]
+    start = ["--start", f"{begun}"] if tree.starts else []
+    join = timed(lambda: program.call(["join", *words, *start, "--tree", f"{tree.write_list()}", "--record", f"{record}"],
+                                      b"", math.inf))
+    before = used()
+    says = program.call(["verify", *words], record, math.inf)[1].decode().strip()
+    return join, used() - before, says
+
+
+def print_row(name: str, one: One, machines: int, found: Cubes) -> None:
+    ratios = [f"{found.spent / one.seconds:.2f}", "-" if one.conflicts is None else f"{found.conflicts / one.conflicts:.2f}"]
+    counted = one.says if one.conflicts is None else f"{one.conflicts:,}"
+    measuring.row(name, f"{one.seconds:.1f}", counted, machines, found.searches, f"{found.spent:.1f} ({ratios[0]})",
+                  f"{found.conflicts:,} ({ratios[1]})", f"{found.longest:.1f}", f"{found.takes:.1f}",
+                  f"{one.seconds / found.takes:.1f}", f"{found.logs / 1e6:.0f}", f"{found.record / 1e6:.0f}",
+                  f"{found.join:.1f}", f"{found.verify:.1f}", found.says)
+
+
+def main() -> None:
+    parser = argparse.ArgumentParser(description=__doc__, formatter_class=argparse.RawDescriptionHelpFormatter)
+    parser.add_argument("psprove", type=measuring.path)
+    parser.add_argument("projects", metavar="PROJECT", type=measuring.path, nargs="+")
+    parser.add_argument("--machines", type=int, nargs="*", default=[4, 16, 64, 256])
+    parser.add_argument("--seconds", type=float, default=600)
+    o = parser.parse_args()
+    os.environ["PSPROVE"] = o.psprove
+    measuring.heads(*HEADS)
+    for path in o.projects:
+        one = undivided(o.psprove, path, o.seconds)
+        for machines in o.machines:
+            print_row(pathlib.Path(path).stem, one, machines, in_cubes(o.psprove, path, machines))
+
+
+if __name__ == "__main__":
+    main()
