@@ -2,12 +2,14 @@
 
 Stands in for the psprove that searches cubes, on projects of a few activities, by trying all starts. A search takes SECONDS
 at least, and stays open after one try for each 100 conflicts. One that isn't of a cube makes no try. Its log says in JSON
-what it found, which `join` believes where the log is whole and of its cube, and `verify` tries all starts again."""
+what it found, which `join` believes where the log is whole and of its cube. `verify` tries all starts again; a part of it takes
+SECONDS, too."""
 import hashlib
 import json
 import pathlib
 import sys
 import threading
+import time
 from collections.abc import Iterator
 from itertools import combinations
 from typing import Any
@@ -129,14 +131,17 @@ def join(options: dict[str, str], data: bytes) -> int:
     return 0 if is_whole else 3
 
 
-def verify(options: dict[str, str], data: bytes) -> int:
+def verify(options: dict[str, str], data: bytes, seconds: float) -> int:
+    part = options.get("--part")
+    time.sleep(seconds if part else 0)
     claim = sys.stdin.read().removeprefix("record 3\n").strip()
     search = Search(parse(data), [], None, float("inf"))
     search.run([0])
     end = None if search.starts is None else search.starts[-1]
     is_true = claim == ("no schedule" if end is None else f"optimal {end}") or (
         claim.startswith("bound ") and (end is None or int(claim.split()[1]) <= end))
-    print(f"proved {claim}" if is_true else "psprove: event 1: claim", file=sys.stdout if is_true else sys.stderr)
+    begin = f"part {part} of " if part else ""
+    print(f"{begin}proved {claim}" if is_true else "psprove: event 1: claim", file=sys.stdout if is_true else sys.stderr)
     return 0 if is_true else 4
 
 
@@ -148,7 +153,7 @@ def main(seconds: str, command: str, *words: str) -> int:
     data = pathlib.Path(options["--project"]).read_bytes() if "--project" in options else sys.stdin.buffer.read()
     if command == "solve":
         return solve(options, data, float(seconds))
-    return (join if command == "join" else verify)(options, data)
+    return join(options, data) if command == "join" else verify(options, data, float(seconds))
 
 
 if __name__ == "__main__":

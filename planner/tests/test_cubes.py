@@ -1,4 +1,5 @@
 """One project in cubes: whatever is killed or broken on the way, the answer is the same, and what is wrong is named."""
+import contextlib
 import importlib.util
 import json
 import os
@@ -16,6 +17,7 @@ from unittest import mock
 
 from psmax.cubes import cube
 from psmax.cubes.driver import MOST_LEMMAS, Lemmas
+from psmax.cubes.machines import Cluster
 from psmax.planner.status import seconds_left
 
 from .helpers import PROJECTS, PSPROVE, TOP, InFolder, plan, psmax, started
@@ -45,7 +47,7 @@ FOUR = """4 1 0 0
 """
 
 
-def until(is_so: Callable[[], bool]) -> None:
+def until(is_so: Callable[[], object]) -> None:
     end = time.monotonic() + SECONDS
     while not is_so():
         assert time.monotonic() < end
@@ -313,6 +315,18 @@ class OnDask(InCubes):
             driver.kill()
         self.assertRegex(self.joined(), "^proved bound [0-9]$")
         self.solved("--cluster", self.address)
+
+    def test_parts_of_a_record(self) -> None:
+        """A worker is killed while it checks one."""
+        record = self.file("four.log", "record 3\noptimal 9\n")
+        with contextlib.closing(Cluster(self.address)) as cluster:
+            until(lambda: cluster.threads() == 2)
+        with started("verify", self.project, record, "--cluster", self.address) as verify:
+            until(lambda: self.searches(self.workers[0].pid) or verify.poll() is not None)
+            self.workers[0].kill()
+            out, told = verify.communicate()
+        self.assertIn("is shorter than 9, and has one that long.\n", out, told)
+        self.assertIn("has judged it in 2 parts", out)
 
     def test_no_scheduler(self) -> None:
         with mock.patch("psmax.cubes.machines.CONNECT", 1.0):

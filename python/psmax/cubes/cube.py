@@ -26,7 +26,12 @@ Ask = Callable[[], Row | None]  # the `starts` of the shortest schedule so far; 
 
 
 def on_dask(task: Row) -> Row:
-    """The search on a worker of Dask. What is known stands in a variable with the name of the run."""
+    """The search on a worker of Dask."""
+    return search(task, ask_dask(task), ASK)
+
+
+def ask_dask(task: Row) -> Ask:
+    """What is known stands in a variable with the name of the run."""
     from distributed import Variable, get_client
     shared = Variable(task["run"], client=get_client())
 
@@ -34,7 +39,7 @@ def on_dask(task: Row) -> Row:
         known: Row | None = shared.get(timeout=WAIT)
         return known
 
-    return search(task, ask, ASK)
+    return ask
 
 
 def search(task: Row, ask: Ask, every: float) -> Row:
@@ -45,14 +50,28 @@ def search(task: Row, ask: Ask, every: float) -> Row:
             (here / name).write_bytes(zlib.decompress(task[name]))
         status, seconds = followed(words(task, here), here, task["below"], ask, every)
         if status not in (0, 3):
-            told = (here / "err").read_text(errors="replace").strip().removeprefix("psprove: ")
-            raise RuntimeError(f"psprove solve ended with status {status}" + (f": {told[-300:]}" if told else ""))
+            raise failed("solve", status, here)
         row = json.loads((here / "out").read_text())
         return {key: row[key] for key in TOLD} | {"seconds": seconds, "files": sent(task, here)}
 
 
+def program_of(task: Row) -> str:
+    program: str = task["program"] or os.environ.get("PSPROVE", "psprove")
+    return program
+
+
+def told(here: pathlib.Path, file: str) -> str:
+    """The end of what psprove wrote there."""
+    return (here / file).read_text(errors="replace").strip().removeprefix("psprove: ")[-300:]
+
+
+def failed(command: str, status: int, here: pathlib.Path) -> RuntimeError:
+    why = told(here, "err")
+    return RuntimeError(f"psprove {command} ended with status {status}" + (f": {why}" if why else ""))
+
+
 def words(task: Row, here: pathlib.Path) -> list[str]:
-    found = [task["program"] or os.environ.get("PSPROVE", "psprove"), "solve", "--json", "--follow",
+    found = [program_of(task), "solve", "--json", "--follow",
              "--project", str(here / "project"), "--under", str(here / "path"), "--record", str(here / "log"),
              "--export", str(here / "lemmas"), "--seconds", f"{SECONDS}",
              "--conflicts", f"{task['conflicts']}", "--pieces", f"{task['pieces']}"]

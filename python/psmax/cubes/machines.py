@@ -1,5 +1,5 @@
-"""Where cubes are searched: by processes of this machine, or by the workers of a Dask cluster, whoever started it. Both take
-tasks by `submit`, and give futures."""
+"""Where cubes are searched, and parts of a record checked: by processes of this machine, or by the workers of a Dask cluster,
+whoever started it. Both take tasks by `submit`, and give futures."""
 import logging
 import math
 import pathlib
@@ -10,17 +10,27 @@ import sys
 from collections.abc import Callable, Iterator
 from concurrent.futures import CancelledError, Future, ThreadPoolExecutor
 from contextlib import contextmanager
-from typing import Any, Protocol
+from typing import Any, NamedTuple, Protocol
 
 from ..errors import Failed
-from . import cube
-from .cube import Row
+from . import cube, part
+from .cube import Ask, Row
 
 FETCH = 30.0  # seconds for a result's way to the driver
 AHEAD = 1.2  # cubes with a cluster for each of its threads, so that none waits for the driver
 CONNECT = 10.0  # seconds
 MISSING = "--cluster needs Dask ({}): install python3-distributed, or `pip install distributed`"
-LOST = "the scheduler is lost; the same command goes on from here"
+LOST = "the scheduler is lost; start one, and give the same command again"
+
+
+class Work(NamedTuple):
+    """What is done with a task, here and on a worker of Dask."""
+
+    here: Callable[[Row, Ask, float], Row]
+    on_dask: Callable[[Row], Row]
+
+
+SEARCH, CHECK = Work(cube.search, cube.on_dask), Work(part.check, part.on_dask)
 
 
 class Coming(Protocol):
@@ -36,8 +46,8 @@ class Machines:
 
     program: str | None = None  # the psprove that is run, where it isn't the worker's own
 
-    def __init__(self) -> None:
-        self.run = "cubes-" + secrets.token_hex(8)
+    def __init__(self, work: Work = SEARCH) -> None:
+        self.work, self.run = work, "cubes-" + secrets.token_hex(8)
         self.ended: queue.SimpleQueue[tuple[int, Coming]] = queue.SimpleQueue()
 
     def give(self, task: Row) -> None:
@@ -82,9 +92,13 @@ class Machines:
         """Makes the shortest schedule known to all searches."""
         raise NotImplementedError
 
-    def room(self) -> int:
-        """How many cubes they have at once."""
+    def threads(self) -> int:
+        """How many tasks they work on at once."""
         raise NotImplementedError
+
+    def room(self) -> int:
+        """How many they have at once."""
+        return self.threads()
 
     def close(self) -> None:
         """Ends all searches."""
@@ -94,19 +108,19 @@ class Machines:
 class Processes(Machines):
     """The processors of this machine. A thread waits for each psprove."""
 
-    def __init__(self, jobs: int, program: str) -> None:
-        super().__init__()
+    def __init__(self, jobs: int, program: str, work: Work = SEARCH) -> None:
+        super().__init__(work)
         self.jobs, self.program = jobs, program
         self.known: Row | None = None
         self.pool = ThreadPoolExecutor(jobs)
 
     def submit(self, task: Row) -> Future[Row]:
-        return self.pool.submit(cube.search, task, lambda: self.known, cube.GLANCE)
+        return self.pool.submit(self.work.here, task, lambda: self.known, cube.GLANCE)
 
     def tell(self, starts: tuple[int, ...] | None) -> None:
         self.known = {"starts": starts}
 
-    def room(self) -> int:
+    def threads(self) -> int:
         return self.jobs
 
     def close(self) -> None:
@@ -117,8 +131,8 @@ class Processes(Machines):
 class Cluster(Machines):
     """The workers of a scheduler of Dask."""
 
-    def __init__(self, address: str) -> None:
-        super().__init__()
+    def __init__(self, address: str, work: Work = SEARCH) -> None:
+        super().__init__(work)
         if sys.flags.no_site:  # so `plan` starts
             site.main()
         try:
@@ -128,7 +142,8 @@ class Cluster(Machines):
             raise Failed(MISSING.format(fault)) from None
         for name in ("distributed.client", "asyncio"):  # what they tell, this module says in a line
             logging.getLogger(name).setLevel(logging.CRITICAL)
-        cloudpickle.register_pickle_by_value(cube)
+        for module in (cube, part):
+            cloudpickle.register_pickle_by_value(module)
         self.variable = distributed.Variable
         try:
             self.client = distributed.Client(address, timeout=CONNECT)
@@ -151,7 +166,7 @@ class Cluster(Machines):
 
     def submit(self, task: Row) -> Coming:
         with self.reached():
-            coming: Coming = self.client.submit(cube.on_dask, task, key=f"cube-{task['number']}-{self.run}", pure=False,
+            coming: Coming = self.client.submit(self.work.on_dask, task, key=f"cube-{secrets.token_hex(8)}", pure=False,
                                                 priority=task["age"])
             return coming
 
@@ -163,10 +178,13 @@ class Cluster(Machines):
         with self.reached():
             self.variable(run, client=self.client).set(None)
 
-    def room(self) -> int:
+    def threads(self) -> int:
         with self.reached():
             threads: int = sum(self.client.nthreads().values())
-            return math.ceil(AHEAD * threads)
+            return threads
+
+    def room(self) -> int:
+        return math.ceil(AHEAD * self.threads())
 
     def close(self) -> None:
         try:

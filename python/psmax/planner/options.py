@@ -155,9 +155,26 @@ def start(options: argparse.Namespace) -> Start:
 
 def add_verify(one: argparse.ArgumentParser) -> None:
     add_project(one)
-    one.add_argument("record", metavar="RECORD", help="a record of psprove or psmax")
+    one.add_argument("record", metavar="RECORD", nargs="?", help="a record of psprove or psmax, or a folder of cubes with one; "
+                     "a folder of cubes alone has its project, too")
     add_start(one)
-    one.set_defaults(run=lambda o: verify.verify(opened(o), o.record, start(o)))
+    one.add_argument("--jobs", type=number(1, MOST_JOBS), default=1, metavar="N",
+                     help="check a record of psprove in N parts at once (default 1)")
+    one.add_argument("--cluster", metavar="ADDRESS", help="check its parts on a cluster of Dask, such as tcp://HOST:8786")
+    one.add_argument("--json", action="store_true", help="print the verdict as one line of JSON")
+    one.set_defaults(run=run_verify)
+
+
+def run_verify(options: argparse.Namespace) -> int:
+    record = options.project if options.record is None else options.record
+    if os.path.isfile(os.path.join(record, ROWS)):
+        if options.record is None:
+            options.project = os.path.join(record, "project.sch")
+        record = os.path.join(record, "record")
+    elif options.record is None:
+        raise BadInput(f"{record} is no folder of cubes; name a record behind the project")
+    shares = verify.Shares(options.jobs, options.cluster) if options.cluster is not None or options.jobs > 1 else None
+    return verify.verify(opened(options), record, start(options), shares, options.json)
 
 
 def add_status(one: argparse.ArgumentParser) -> None:

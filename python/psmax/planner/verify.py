@@ -1,10 +1,16 @@
 """`plan verify`: what a record proves of a project, and who has checked it."""
+import json
 from dataclasses import dataclass
 
+from ..clock import Clock
+from ..cubes.machines import CHECK, Cluster, Machines, Processes
+from ..cubes.parts import Parts
 from ..files import read_bytes
+from ..programs import find_program
 from ..project import Goal
 from ..psmax import Psmax
-from ..record import WRONG, Record
+from ..psprove import Psprove
+from ..record import OF_PSMAX, WRONG, Record
 from ..spelled import Spelled
 from .opened import ProjectFile
 from .replan import Start, begin_with
@@ -23,6 +29,7 @@ class Verdict:
     script: str  # that judges the record without the program
     told: str
     wrong: bool
+    parts: int = 1  # in which it was checked
 
     @property
     def bound(self) -> int | None:
@@ -40,15 +47,37 @@ class Verdict:
         return f"{self.path} proves that no schedule of {self.which} {least}{ends}."
 
     def judges(self) -> str:
-        return (f"`{self.program} verify`, which is proved itself, has judged it; {self.script} judges it without "
+        parts = "" if self.parts == 1 else f" in {self.parts} parts"
+        return (f"`{self.program} verify`, which is proved itself, has judged it{parts}; {self.script} judges it without "
                 f"{self.program}.")
 
+    def as_json(self) -> str:
+        """One line."""
+        return json.dumps({"record": self.path, "project": self.which, "program": self.program, "parts": self.parts,
+                           "says": self.told, "bound": None if self.wrong else self.bound, "wrong": self.wrong})
 
-def verdict(opened: ProjectFile, path: str, start: Start) -> Verdict:
+
+@dataclass(frozen=True)
+class Shares:
+    """Where the parts of a record are checked."""
+
+    jobs: int  # of this machine, where there is no cluster
+    cluster: str | None
+
+    def machines(self) -> Machines:
+        return Cluster(self.cluster, CHECK) if self.cluster else Processes(self.jobs, find_program(Psprove.name), CHECK)
+
+
+def verdict(opened: ProjectFile, path: str, start: Start, shares: Shares | None = None) -> Verdict:
     """The verdict on a record of the project, or of it with what has started kept."""
     keeps = "" if start.frozen is None else f" that keeps what {start.answer} starts before {start.frozen}"
-    record = Record(read_bytes(path, None), Spelled(begin_with(opened, start).project))
-    return judged(record, path, f"{opened.path}{keeps}")
+    spelled, which = Spelled(begin_with(opened, start).project), f"{opened.path}{keeps}"
+    begin = b"" if shares is None else read_bytes(path, len(OF_PSMAX) - 1)
+    if shares is None or begin == OF_PSMAX:
+        return judged(Record(read_bytes(path, None), spelled), path, which)
+    parts = Parts(path, spelled.text, shares.machines(), Clock())
+    told, is_wrong = parts.check()
+    return Verdict(path, Record(begin, spelled), which, Psprove.name, "verify_log.py", told, is_wrong, parts.count)
 
 
 def judged(record: Record, path: str, which: str) -> Verdict:
@@ -59,9 +88,9 @@ def judged(record: Record, path: str, which: str) -> Verdict:
     return Verdict(path, record, which, program.name, script, told, is_wrong)
 
 
-def verify(opened: ProjectFile, record: str, start: Start) -> int:
-    found = verdict(opened, record, start)
-    print(found.sentence())
-    if not found.wrong:
+def verify(opened: ProjectFile, record: str, start: Start, shares: Shares | None, is_json: bool) -> int:
+    found = verdict(opened, record, start, shares)
+    print(found.as_json() if is_json else found.sentence())
+    if not found.wrong and not is_json:
         print(found.judges())
     return WRONG if found.wrong else 0

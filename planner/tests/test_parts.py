@@ -1,0 +1,113 @@
+"""A record that is checked in parts: what they say together, and what becomes of a part that fails."""
+import json
+import subprocess
+import unittest
+import zlib
+from unittest import mock
+
+from psmax.cubes import cube, part
+
+from .helpers import PROJECTS, PSMAX, PSPROVE, TWO_JOBS, Ran, plan
+from .test_cubes import InCubes
+
+HAS_PARTS = b"--part " in subprocess.run([PSPROVE, "verify", "--help"], capture_output=True).stdout
+LOTS = PROJECTS / "vaccine-lots.sch"
+
+
+class InParts(InCubes):
+    def setUp(self) -> None:
+        super().setUp()
+        self.record = self.file("four.log", "record 3\noptimal 9\n")
+
+    def verify(self, script: str, *words: object) -> Ran:
+        """With a stand-in of which a part runs this script first; $3 is K/N."""
+        program = self.program("in-parts", f"cd {self.folder}\ncase $2 in --part) {script}\n;; esac\nexec {self.psprove()} $*")
+        return plan("verify", self.project, self.record, *words, psprove=program)
+
+    def test_all_are_right(self) -> None:
+        ran = self.verify("echo $3 >> asked", "--jobs", "3")
+        self.assertEqual(ran.returncode, 0, ran.stderr)
+        self.assertEqual(ran.stdout.splitlines(), [
+            f"{self.record} proves that no schedule of {self.project} is shorter than 9, and has one that long.",
+            "`psprove verify`, which is proved itself, has judged it in 3 parts; verify_log.py judges it without psprove."])
+        self.assertEqual(sorted((self.folder / "asked").read_text().split()), ["1/3", "2/3", "3/3"])
+
+    def test_json(self) -> None:
+        told = {"record": f"{self.record}", "project": f"{self.project}", "program": "psprove", "parts": 2,
+                "says": "proved optimal 9", "bound": 9, "wrong": False}
+        self.assertEqual(json.loads(self.verify(":", "--jobs", "2", "--json").stdout), told)
+        self.assertEqual(json.loads(self.verify(":", "--json").stdout), told | {"parts": 1})
+        self.file("four.log", "record 3\noptimal 8\n")
+        ran = self.verify(":", "--jobs", "2", "--json")
+        self.assertEqual(json.loads(ran.stdout), told | {"says": "event 1: claim", "bound": None, "wrong": True})
+        self.assertEqual(ran.returncode, 4)
+
+    def test_the_first_fault(self) -> None:
+        """That of the least event, though another part finds its own first. Not all is read then."""
+        self.file("four.log", "record 3\n" + "x" * 3_000_000)
+        fault = "echo psprove: event $event >&2; exit 4"
+        ran = self.verify(f"case $3 in 1/3) event='7: lemma'; {fault};; 2/3) event='12: lemma'; {fault};; esac\n"
+                          "cat > /dev/null; echo part $3 of proved optimal 9; exit 0", "--jobs", "3")
+        self.assertEqual((ran.returncode, ran.stdout.partition(": ")[2]), (4, "event 7: lemma\n"), ran.stderr)
+
+    def test_a_check_that_dies(self) -> None:
+        """Once: the part is checked again. Each time: it is named."""
+        ran = self.verify("mkdir died-${3%/*} 2> /dev/null && kill -9 $$", "--jobs", "2")
+        self.assertEqual((ran.returncode, ran.stderr.count("psprove verify ended with status -9")), (0, 2), ran.stderr)
+        ran = self.verify("case $3 in 2/2) kill -9 $$;; esac", "--jobs", "2")
+        self.assertEqual((ran.returncode, ran.stdout), (1, ""))
+        self.assertIn("plan: part 2/2 failed 3 times: psprove verify ended with status -9\n", ran.stderr)
+
+    def test_odd_answers(self) -> None:
+        odd = "psprove verify --part gave an answer that plan does not know: "
+        for script, told in (
+            ("echo part $3 of proved bound ${3%/*}; exit 0", "contradict each other: proved bound 1, proved bound 2"),
+            ("echo part 1/2 of proved optimal 9; exit 0", f"{odd}part 1/2 of proved optimal 9"),
+            ("echo part $3 of proved something; exit 0", f"{odd}part 1/2 of proved something"),
+            ("echo proved optimal 9; exit 0", f"{odd}proved optimal 9"),
+            ("echo psprove: what >&2; exit 4", f"{odd}what"),
+        ):
+            with self.subTest(script):
+                self.refused(self.verify(f"cat > /dev/null; {script}", "--jobs", "2"), 1, told)
+
+    def test_a_machine_that_has_no_such_file(self) -> None:
+        """It gets the record with the task."""
+        real = part.record_of
+        with mock.patch.object(part, "record_of", lambda task: real(task if "record" in task else {"path": "/no/file"})):
+            self.assertEqual(self.verify(":", "--jobs", "2").returncode, 0)
+
+    def test_a_record_that_changes(self) -> None:
+        with mock.patch("psmax.cubes.parts.digest_of", return_value="0" * 64):
+            self.refused(self.verify(":", "--jobs", "2"), 1, f"plan: {self.record} was changed while it was checked\n")
+
+    def test_nobody_waits(self) -> None:
+        task = {"path": f"{self.record}", "project": zlib.compress(b""), "number": 1, "count": 2, "program": self.psprove()}
+        with self.assertRaisesRegex(RuntimeError, "nobody waits"):
+            part.check(task, lambda: None, cube.GLANCE)
+
+    def test_words(self) -> None:
+        """A folder of cubes has a record, and alone its project too. A record of psmax has no parts."""
+        self.refused(plan("verify", self.project), 2, f"{self.project} is no folder of cubes; name a record behind the project")
+        self.refused(plan("verify", self.project, self.folder / "none", "--jobs", "2"), 1, "cannot read ")
+        self.solved()
+        for words in ([self.out], [self.project, self.out]):
+            ran = plan("verify", *words, "--jobs", "2", psprove=self.psprove())
+            self.assertIn("is shorter than 9, and has one that long.\n", ran.stdout)
+        two = self.file("two.sch", TWO_JOBS)
+        subprocess.run([PSMAX, "solve", "--record", self.folder / "two.record"], input=two.read_bytes(), check=True,
+                       stdout=subprocess.DEVNULL)
+        self.assertIn("`psmax verify`", plan("verify", two, self.folder / "two.record", "--jobs", "2").stdout)
+
+
+@unittest.skipUnless(HAS_PARTS, "this psprove checks no parts")
+class ByPsprove(InCubes):
+    def test_whole_and_cut(self) -> None:
+        """In parts as in one piece: a record that is right, cut off, or of another project."""
+        record = self.folder / "lots.log"
+        with open(LOTS, "rb") as text:
+            subprocess.run([PSPROVE, "solve", "--record", record], stdin=text, check=True, stdout=subprocess.DEVNULL)
+        data = record.read_bytes()
+        for project, bytes_of_it in ((LOTS, data), (LOTS, data[: len(data) // 2]), (self.project, data)):
+            record.write_bytes(bytes_of_it)
+            whole, parts = (plan("verify", project, record, "--jobs", jobs) for jobs in (1, 3))
+            self.assertEqual((whole.returncode, whole.stdout.splitlines()[0]), (parts.returncode, parts.stdout.splitlines()[0]))
