@@ -17,7 +17,7 @@ from .machines import Machines
 from .tree import WHOLE, Cube, Driven
 
 BEGIN = 10_000  # conflicts of the first search
-FIRST, CUBES = 8_000, 16  # conflicts of the whole project, before it is split; cubes of that split, or two for each processor
+FIRST, CUBES = 8_000, 16  # conflicts of the whole project, before it is split; cubes of that split
 CONFLICTS, PIECES, GROWTH = 4_000, 4, 1.5  # of later searches and splits; with each split a cube may take so much longer
 MOST_CONFLICTS = 1_000_000_000
 MOST_LEMMAS = 4_000  # that a cube gets
@@ -110,16 +110,16 @@ class Driver:
             name = self.tree.next()
             lemmas = self.lemmas.chosen(self.tree.lemmas(name))
             number = self.tree.give(name, lemmas)
-            self.machines.give({"number": number, **self.task(self.tree.cubes[name], lemmas, room)})
+            self.machines.give({"number": number, **self.task(self.tree.cubes[name], lemmas)})
 
-    def task(self, cube: Cube, lemmas: str, room: int) -> Row:
+    def task(self, cube: Cube, lemmas: str) -> Row:
         age, best = cube.age, self.best()
         path = "".join(f"{i} {j} {v}\n" for i, j, v in cube.arcs)
         files = {"project": self.spelled.text, "path": path.encode(), "import": lemmas.encode(),
                  "start": b"" if best is None else starts_text(best)}
         limits = {"conflicts": min(MOST_CONFLICTS, int(CONFLICTS * GROWTH ** (age - 1))), "pieces": PIECES}
         if age == 0:
-            limits = {"conflicts": FIRST, "pieces": max(CUBES, 2 * room)}
+            limits = {"conflicts": FIRST, "pieces": CUBES}
         packed = {kind: zlib.compress(data, 1) for kind, data in files.items()}
         return {"age": age, "folder": str(self.tree.folder.resolve()), "below": best and best[-1], **limits, **packed}
 
