@@ -40,6 +40,8 @@ RECORD = ["solve", "--record", "record"]
 START = ["solve", "--start", "second"]
 RESUME = ["solve", "--resume", "more"]
 UNTIL = ["--until", "more"]
+CUBE = ["solve", "--under", "more", "--project", "second", "--record", "record"]
+JOIN = ["join", "--project", "second", "--tree", "more"]
 CHECK = ["check", "--project", "second"]
 VERIFY = ["verify", "--project", "second"]
 
@@ -71,6 +73,7 @@ class Call:
         self.words, self.text, self.second, self.more = words, text, second, more
         self.usual: Ended = exit, out, fault
         self.record, self.answer, self.name = record, answer, " ".join(words)
+        self.project = second if "--project" in words else text
 
     def is_usual(self, ended: Ended, record: bytes) -> bool:
         if "--progress" in self.words:
@@ -191,6 +194,21 @@ def solved(text: bytes, makespan: int | None) -> Callable[[bytes, bytes], bool]:
     return is_right
 
 
+def in_cube(text: bytes, makespan: int | None, pieces: int = 0) -> Callable[[bytes, bytes], bool]:
+    """Whether an answer is of a cube that is refuted, with a shortest schedule of so long if it has any, or that stays open and
+    is split into so many pieces; and whether its log is right so far."""
+    judge = verify.Project(text)
+
+    def is_right(out: bytes, record: bytes) -> bool:
+        found = json.loads(out)
+        is_said = (found["cube"], len(found["pieces"])) == ("open" if pieces else "refuted", pieces)
+        is_schedule = makespan is None or judge.is_feasible(found["starts"])
+        return (is_said and found["makespan"] == makespan and is_schedule
+                and judges.by_script_of_logs(judge, record, True)[0] == 0)
+
+    return is_right
+
+
 JSON = ["--json"]
 JOBS = ["--jobs", "4"]
 REPORTS = ["--progress", "json"]
@@ -220,6 +238,8 @@ PROOFS = [
     Call(RESUME, TWO, more=b"record 1\n", exit=1, fault=WRONG_LOG % 0),
     Call([*RESUME, "--jobs", "2"], TWO, more=text_of([*TWO_EVENTS[:1], Lemma(0, [], [])]), exit=1, fault=WRONG_LOG % 2),
 ]
+# The list of a tree of one cube, whose log is that of a search of the whole.
+WHOLE = f"- {TOP / 'tests' / 'logs' / 'worked.log'} -\n".encode()
 # Searches of which each answer and record that is right will do. With one job the same ones come again.
 SEARCHES = [
     Call([*SOLVE, "--progress"], TWO, answer=solved(TWO, 7)),
@@ -236,4 +256,8 @@ SEARCHES = [
     Call([*RESUME, "--jobs", "2", *JSON, "--record", "record"], TWO, more=TWO_LOG[:-1], answer=solved(TWO, 7)),
     Call([*RECORD, *UNTIL], WORKED, exit=3, answer=stopped(WORKED, 8)),
     Call([*RECORD, "--jobs", "2", "--conflicts", "0", *REPORTS], WORKED, exit=3, answer=stopped(WORKED, 8)),
+    Call(CUBE, b"", LAGS, more=b"1 2 2\n", answer=in_cube(LAGS, 5)),
+    Call([*CUBE, "--pieces", "2", "--conflicts", "0"], b"", WORKED, exit=3, more=b"", answer=in_cube(WORKED, None, 2)),
+    Call(JOIN, b"", WORKED, more=WHOLE, answer=solved(WORKED, 8)),
+    Call([*JOIN, "--record", "record", *JSON], b"", WORKED, more=WHOLE, answer=solved(WORKED, 8)),
 ]

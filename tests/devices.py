@@ -30,7 +30,7 @@ from harness import TIMEOUT, Ended, Verdicts
 from log_bytes import bodies_of, framed
 
 Tried = Iterator[tuple[Call, str, bool, Ended]]  # a call, a device, whether it went as it has to, and how it ended
-INPUTS = "--project", "--start", "--resume"
+INPUTS = "--project", "--start", "--resume", "--under", "--tree"
 MOST_MEMORY = 100 << 20  # bytes that a run on endless input may take
 WAITS = b"psprove: waits for a project on standard input\n"  # at a terminal
 
@@ -68,7 +68,7 @@ class Run:
     def is_part_right(self) -> bool:
         """Whether that is none, or a log that is cut off, and right so far."""
         part = self.part()
-        return not part or judges.by_script_of_logs(verify.Project(self.call.text), part, True)[0] == 0
+        return not part or judges.by_script_of_logs(verify.Project(self.call.project), part, True)[0] == 0
 
     def bytes_of(self, name: str) -> bytes:
         """The bytes of a file, none where the name is none of a file."""
@@ -98,7 +98,10 @@ class Calls:
 
     def each_kind(self) -> list[Call]:
         """A call of each command, with one job and with several."""
-        return list({(call.words[0], "--jobs" in call.words): call for call in self.open + self.answered}.values())
+        def kind(call: Call) -> tuple[str, bool, bool]:
+            return call.words[0], "--jobs" in call.words, self.reads_input(call)
+
+        return list({kind(call): call for call in self.open + self.answered}.values())
 
     def each_options(self) -> list[Call]:
         """A call of each command with the same options."""
@@ -109,8 +112,10 @@ class Calls:
         return list({(call.words[0], options(call)): call for call in calls if call.usual[0] in (0, 3)}.values())
 
     def reads_input(self, call: Call) -> bool:
-        """Whether standard input is read. psprove judges the project first, which is the second input of verify."""
-        return not (self.name == "psprove" and call.words[0] == "verify" and call.usual[0] == 2)
+        """Whether standard input is read. psprove judges the project first, which is the second input of verify. Cubes and
+        their logs are in files."""
+        is_refused = self.name == "psprove" and call.words[0] == "verify" and call.usual[0] == 2
+        return not is_refused and call.words[0] != "join" and "--under" not in call.words
 
     def fault(self, what: str) -> bytes:
         return f"{self.name}: {what}\n".encode()
@@ -164,7 +169,7 @@ def in_pieces(calls: Calls) -> Tried:
 
 def failing_input(calls: Calls) -> Tried:
     """Standard input that fails after so many bytes: a terminal whose other side has gone."""
-    for call in calls.each_kind():
+    for call in filter(calls.reads_input, calls.each_kind()):
         for room in range(len(call.text) + 1):
             with Run(calls.program, call) as run:
                 master, slave = pty.openpty()
@@ -201,8 +206,9 @@ def no_files(calls: Calls) -> Tried:
     for call in calls.each_options():
         for name in call.files(*INPUTS, "--record"):
             for what, put in UNREADABLE.items():
-                if name == "record" and what in ("nothing", "what cannot be read"):
-                    continue
+                is_link = what in ("a link to itself", "a path through a file", "a name that is too long")
+                if name == "record" and (what in ("nothing", "what cannot be read") or "--under" in call.words and is_link):
+                    continue  # it is written; the record of a cube takes the place of a link
                 with Run(calls.program, call) as run:
                     file = run.folder / name
                     file.unlink(missing_ok=True)
@@ -218,13 +224,14 @@ def endless_input(calls: Calls) -> Tried:
     def limit() -> None:
         resource.setrlimit(resource.RLIMIT_AS, (MOST_MEMORY, MOST_MEMORY))
 
-    for call in calls.each_options():
+    for call in filter(calls.reads_input, calls.each_options()):
         with Run(calls.program, call) as run, open("/dev/zero", "rb") as zeros:
             ended = run.ended(stdin=zeros, preexec_fn=limit)
             is_log = calls.name == "psprove" and call.words[0] == "verify"
             is_record = calls.name == "psmax" and call.words[0] == "verify"
             said, status = ("out of memory", 1) if is_record else ("event 0: form", 4) if is_log else ("too long", 2)
             yield call, "endless input", calls.is_fault(ended, run, said, status), ended
+    for call in calls.each_options():
         for name in call.files(*INPUTS):
             with Run(calls.program, call) as run:
                 (run.folder / name).unlink()
@@ -235,7 +242,9 @@ def endless_input(calls: Calls) -> Tried:
 
 
 def begun_record(calls: Calls, call: Call) -> int:
-    """How many bytes of a record are written before the answer: of psprove's all but the claim."""
+    """How many bytes of a record are written before the answer: of psprove's all but the claim, which a cube has none of."""
+    if "--under" in call.words:
+        return len(call.record)
     if calls.name == "psmax" or not call.record:
         return 0
     return len(call.record) - len(framed(bodies_of(call.record)[-1]))
@@ -260,7 +269,7 @@ def limited_files(calls: Calls) -> Tried:
                     wanted, record = (1, out, calls.fault("cannot write")), call.record[:room]
                 else:
                     wanted, record = call.usual, call.record
-                is_whole = calls.name == "psmax" or record == call.record
+                is_whole = calls.name == "psmax" or wanted == call.usual
                 is_left = run.record() == record if is_whole else (run.record(), run.part()) == (b"", record)
                 yield call, f"files of {room} bytes", ended == wanted and is_left, ended
 

@@ -8,7 +8,8 @@ Counts the threads of searches by workers, or with --proofs of those of psprove 
   outputs. The thread that drops the nodes left is not needed.
 - Growths of memory are refused one by one. `cannot start a thread` comes for those of the starts of threads: as many for each
   of N workers as for one, one after another. For every other growth `out of memory` comes, or the usual answer.
-- While `psprove solve --jobs N` runs, whatever options stand beside that, the process has N threads.
+- While `psprove solve --jobs N` runs, whatever options stand beside that, the process has N threads. The search of a cube has
+  one, and with `--follow` one more, without which it does not begin.
 - Where the Kth thread that psprove starts and all after it are refused, the search ends at once in the same way, and the record
   is not there. The first job needs no new thread.
 - Growths of memory are refused one by one with one job and with two. `cannot start a thread` comes for those of the start of
@@ -124,6 +125,23 @@ def by_jobs(program: str, folder: pathlib.Path) -> Tried:
         yield f"{jobs} jobs {more}", most == later == jobs, f"{most} and then {later} threads"
 
 
+def of_cubes(program: str, made: pathlib.Path, folder: pathlib.Path) -> Tried:
+    """The same of the search of a cube, on the same project. What it follows tells nothing."""
+    (folder / "path").write_bytes(b"")
+    words = [program, "solve", "--seconds", "1000", "--under", "path", "--project", "long.sch", "--record", "cube.log"]
+    for threads, more in [(1, list[str]()), (2, ["--follow"])]:
+        ran = subprocess.Popen([*words, *more], stdin=subprocess.PIPE, stdout=subprocess.PIPE, stderr=subprocess.PIPE,
+                               cwd=folder)
+        most = most_threads(ran, threads)
+        time.sleep(0.05)
+        later = threads_of(ran)
+        ran.kill()
+        ran.communicate()
+        yield f"a cube {more}", most == later == threads, f"{most} and then {later} threads"
+    got = Refusing(made, [*words, "--follow"], b"", folder).ended({"REFUSE_THREADS": "1"}, SECONDS)
+    yield "a cube, its thread refused", got == (1, b"", NO_THREAD) and not (folder / "cube.log").exists(), got
+
+
 def is_part_right(folder: pathlib.Path, is_resumed: bool) -> bool:
     """Whether nothing is left of a record, or of one that goes on from an older one what is right so far."""
     part, project = folder / "record.part", verify.Project((folder / "long.sch").read_bytes())
@@ -170,7 +188,8 @@ def verdicts(words: Sequence[str]) -> Verdicts:
     o = parser.parse_args(words)
     with harness.new_folder() as folder:
         made, program = library(folder), o.program
-        of_psprove = by_jobs(program, folder), jobs_refused(program, made, folder), jobs_grown(program, made, folder)
+        of_psprove = (by_jobs(program, folder), of_cubes(program, made, folder), jobs_refused(program, made, folder),
+                      jobs_grown(program, made, folder))
         of_psmax = numbered(program, folder), refused(program, made, folder), told_apart(program, made, folder)
         for name, well, told in itertools.chain(*(of_psprove if o.proofs else of_psmax)):
             yield name, None if well else str(told)
