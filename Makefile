@@ -5,7 +5,7 @@
 # make install PREFIX=.., make uninstall PREFIX=..
 # make wheel    a package for pip in build/, with the released programs inside
 # make deb      a Debian package in build/, the same way
-# make lint     mypy and flake8, where they are there
+# make lint     mypy, flake8 and shellcheck, where they are there
 # make reference  write the projects of reference/values.csv into build/reference, and check their digests
 # make reference-values  compute the rows of that table anew that are of another psprove, and its page; make reference-page: that
 # make bench    measure the program, and with OTHER=PROGRAM that program in turn with it
@@ -80,9 +80,7 @@ deb:
 	dpkg-deb --root-owner-group --build build/deb build/psmax_$(VERSION)_amd64.deb
 
 lint:
-	@for tool in mypy flake8; do \
-	  if command -v $$tool > /dev/null; then MYPY_CACHE_DIR=build/mypy $$tool || exit 1; \
-	  else echo "$$tool is not here"; fi; done
+	python3 tests/lint.py
 
 clean:
 	rm -rf build crates/*/out

@@ -7,7 +7,7 @@ prove    proves everything from nothing with `rt ci` (tests and must-fail edits 
          With a kit that keeps what passed, ANEW=1 proves all of it again.
 compare  fails where release/ is not the release of these sources: by the checksum in release/SOURCES, and, where the kit is
          that of the release, byte for byte with build/.
-gate     prove, compare, and then test on what was proved, with the growths of the tests that rt built.
+gate     prove, compare, lint, and then test on what was proved, with the growths of the tests that rt built.
 release  makes release/ of what build/ holds.
 
 Prints the minutes and the processor minutes of each part. The last line is 'N passed, M failed', over all parts."""
@@ -33,6 +33,7 @@ import growths
 import harness
 import hostile
 import hostile_trees
+import lint
 import log_parts
 import logs
 import long_records
@@ -229,6 +230,7 @@ def main(verb: str) -> bool:
     if verb in ("compare", "gate"):
         parts.run("released programs", lambda: played(compared, []))
     if verb == "gate":
+        parts.run("types and style", lambda: played(lint.verdicts, []))
         test(parts, BUILD, with_tests=True)
     if verb == "test":
         test(parts, at_hand())
