@@ -9,6 +9,7 @@ that `./psmax` and `./psprove` start.
 - Each file of the repository that a document names is there.
 - Each command of psmax, psprove, plan, make or a script that a document names is there, with its options.
 - Each definition in a ```antt block stands so in a file of specs.
+- The version in the head of a manual page, and that of the newest heading of CHANGELOG.md, is the package's.
 - The picture of docs/ARCHITECTURE.md has each crate of crates.txt.
 - Each command of a document of SHOWN is run as a user runs it, and prints what stands below it.
 
@@ -30,6 +31,7 @@ from collections.abc import Iterable, Iterator, Sequence
 
 import harness
 from harness import TOP, Verdict, Verdicts
+from psmax import __version__
 
 Blocks = Sequence[tuple[str, str]]  # the blocks of a document, each with its kind
 SHOWN = {"README.md", "docs/FORMAT.md", "docs/RECORD.md", "docs/WORKERS.md", "docs/PLANNER.md", "docs/LEMMAS.md",
@@ -42,6 +44,7 @@ SECONDS = 60
 LINK = re.compile(r"\[((?:[^\[\]]|\[[^\]]*\])*)\]\(([^)\s]+)\)")
 SPAN = re.compile(r"`([^`\n]+)`")
 FENCE = re.compile(r"^```(\w*)\n(.*?)^```$", re.M | re.S)
+STATED = re.compile(r"^(?:\.TH .*?|## )(\d+\.\d+\.\d+)", re.M)
 EXAMPLE = re.compile(r"^\.EX\n(.*?)^\.EE$", re.M | re.S)
 COMMAND = re.compile(r"^\$ (.*\n(?:> .*\n)*)", re.M)
 PROGRESS = re.compile(r"^ *\d+\.\d\d s  .*\n", re.M)
@@ -156,6 +159,12 @@ def of_definitions(document: pathlib.Path, blocks: Blocks) -> Verdicts:
         yield verdict(document, any(definition in text for text in texts), f"no definition\n{definition}")
 
 
+def of_version(document: pathlib.Path) -> Verdicts:
+    """The first version that stands in a manual page's head or in a heading."""
+    if stated := STATED.search(document.read_text()):
+        yield verdict(document, stated[1] == __version__, f"version {stated[1]} is not the package's {__version__}")
+
+
 def of_crates() -> Verdicts:
     document = TOP / "docs" / "ARCHITECTURE.md"
     _, picture = FENCE.findall(document.read_text())[0]
@@ -253,6 +262,7 @@ def of_document(document: pathlib.Path, programs: Programs) -> Verdicts:
     yield from of_files(document, prose)
     yield from of_commands(document, prose, blocks, programs)
     yield from of_definitions(document, blocks)
+    yield from of_version(document)
     if str(document.relative_to(TOP)) in SHOWN:
         yield from of_shown(document, blocks, programs)
 

@@ -17,8 +17,8 @@ A case is one line of JSON with a name, args and exit, and with those of the fol
   out_files     files as they are after the run
   verified      a project, and the name of a file with a record. `verify` and the checker in Python of that kind of
                 record must accept the record with the verdict that was printed
-What is wanted of stdout, stderr and files is a text or an input. A word that is not UTF-8 has its bytes as Python's
-os.fsdecode gives them. An input is one of
+What is wanted of stdout, stderr and files is a text or an input. VERSION stands for the version of the package. A word
+that is not UTF-8 has its bytes as Python's os.fsdecode gives them. An input is one of
   {"text": TEXT}            this text
   {"hex": DIGITS}           these bytes, in base 16
   {"file": NAME}            a file of inputs/ beside the cases, with "cut": its first so many bytes,
@@ -43,6 +43,7 @@ import harness
 import verify_log
 from channels import given, limit_files
 from harness import TOP, Verdicts
+from psmax import __version__
 
 Spec = Mapping[str, Any]
 
@@ -166,7 +167,7 @@ def verdicts(words: Sequence[str]) -> Verdicts:
     o = parser.parse_args(words)
     for cases in (path.resolve() for path in o.cases):
         inputs = cases.parent if cases.parent.name == "examples" else cases.parent / "inputs"
-        for case in map(json.loads, cases.read_text().splitlines()):
+        for case in map(json.loads, cases.read_text().replace("VERSION", __version__).splitlines()):
             if o.only in case["name"]:
                 found = "".join(f"\n    {fault}" for fault in faults(o.program, case, inputs))
                 yield f"{case['name']}: {' '.join(case['args'])}", found or None
