@@ -15,10 +15,9 @@ from .project import Project as Numbers
 from .psmax import Psmax
 from .psprove import Psprove
 from .record import Record
-from .search import search
+from .search import TreeSearch, search
 from .spelled import Spelled
 from .total import TotalFloat
-from .tree import TreeSearch
 
 MOST_JOBS = 64  # of both programs
 CALLED = "the project"
