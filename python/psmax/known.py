@@ -4,9 +4,9 @@ from dataclasses import dataclass
 
 from .clock import Clock, tell
 from .errors import Failed
+from .outcome import Claim, Solved
 from .project import Project
 from .psmax import starts_text
-from .solved import Claim, Solved
 from .spelled import Spelled
 
 

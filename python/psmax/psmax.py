@@ -7,9 +7,9 @@ from dataclasses import dataclass, replace
 from typing import NamedTuple
 
 from .errors import Failed
+from .outcome import ODD, Solved, of_answer
 from .programs import Program
 from .project import Goal, Project
-from .solved import ODD, Solved, of_answer
 from .spelled import Spelled
 
 

@@ -7,10 +7,10 @@ from dataclasses import dataclass
 
 from .clock import tell
 from .errors import TimeUp
+from .outcome import ODD, Solved, not_asked, of_answer, of_report
 from .programs import Program
 from .project import Project
 from .psmax import starts_text
-from .solved import ODD, Solved, not_asked, of_answer, of_report
 from .spelled import Spelled
 
 Hear = Callable[[Solved], object]

@@ -7,10 +7,10 @@ from dataclasses import dataclass, replace
 from enum import Enum
 
 from .known import Known
+from .outcome import Solved
 from .project import MOST_UNITS, Kind, Part, Project, parts, with_lag, without
 from .psprove import Limits, Psprove
 from .search import search
-from .solved import Solved
 
 SHARE = 4  # the project as it is gets one of so many parts of the time
 

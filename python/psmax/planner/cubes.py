@@ -11,10 +11,10 @@ from ..cubes.machines import Cluster, Machines, Processes
 from ..cubes.tree import WHOLE, Driven
 from ..errors import Failed, TimeUp
 from ..known import Known
+from ..outcome import Solved
 from ..programs import find_program
 from ..psprove import Psprove
 from ..record import PROVED
-from ..solved import Solved
 from ..spelled import Spelled
 from .join import joined, place_of
 from .replan import Beginning

@@ -3,8 +3,8 @@ from collections.abc import Mapping
 from dataclasses import dataclass, field
 
 from ..errors import BadInput
+from ..outcome import Claim
 from ..project import Arc, Goal, Project
-from ..solved import Claim
 from ..total import TotalFloat
 from .compare import Move, Side, as_before, moves, totals
 from .given import Begin, Given

@@ -4,10 +4,10 @@ from collections.abc import Callable
 from ..clock import Clock, tell
 from ..errors import BadInput, TimeUp
 from ..files import must_be_empty
+from ..outcome import Solved
 from ..project import MOST_UNITS, Arc, Goal, Kind, Part, Project, too_needy, with_lag, within, without
 from ..psmax import Psmax
 from ..psprove import Limits, Psprove
-from ..solved import Solved
 from .circles import circles, in_words
 from .core import Core
 from .opened import ProjectFile
