@@ -9,7 +9,7 @@ from contextlib import suppress
 
 from .clock import tell
 from .errors import TimeUp
-from .known import Known
+from .incumbent import Known
 from .project import Project
 from .psmax import Psmax
 from .psprove import Limits, Psprove

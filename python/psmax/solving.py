@@ -7,7 +7,7 @@ from .answer import Answer, Changed, Checked, Float, Progress, Schedule, Starts,
 from .clock import Clock
 from .errors import BadInput, Failed
 from .files import guard
-from .known import Known, News
+from .incumbent import Known, News
 from .letters import at_most, short
 from .model import Absence, Activity, Lag, Parts, Resource, whole
 from .project import MOST_UNITS, Kind, least_end

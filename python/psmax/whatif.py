@@ -6,7 +6,7 @@ from concurrent.futures import ThreadPoolExecutor
 from dataclasses import dataclass, replace
 from enum import Enum
 
-from .known import Known
+from .incumbent import Known
 from .outcome import Solved
 from .project import MOST_UNITS, Kind, Part, Project, parts, with_lag, without
 from .psprove import Limits, Psprove

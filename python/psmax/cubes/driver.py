@@ -8,7 +8,7 @@ from dataclasses import replace
 
 from ..clock import Clock, tell
 from ..errors import Failed, TimeUp
-from ..known import Known
+from ..incumbent import Known
 from ..psmax import Psmax, starts_text
 from ..psprove import Limits, Psprove
 from ..spelled import Spelled

@@ -3,7 +3,7 @@ they do on the worst of days."""
 from dataclasses import replace
 
 from ..clock import tell
-from ..known import Known
+from ..incumbent import Known
 from ..project import Arc, Project
 from ..psprove import Limits, Psprove
 from .calendar_days import CalendarLag, periods

@@ -10,7 +10,7 @@ from ..cubes.driver import TRIES, Driver
 from ..cubes.machines import Cluster, Machines, Processes
 from ..cubes.tree import WHOLE, Driven
 from ..errors import Failed, TimeUp
-from ..known import Known
+from ..incumbent import Known
 from ..outcome import Solved
 from ..programs import find_program
 from ..psprove import Psprove

@@ -5,7 +5,7 @@ import os
 from ..clock import Clock, tell
 from ..errors import BadInput, Failed
 from ..files import read_bytes, write_whole
-from ..known import Known
+from ..incumbent import Known
 from ..psmax import Psmax
 from .answer import Answer, feasible
 from .csv_text import write_sheet

@@ -5,7 +5,7 @@ from dataclasses import dataclass
 
 from ..clock import Clock
 from ..files import write_whole
-from ..known import Known
+from ..incumbent import Known
 from ..project import Arc
 from ..psmax import Psmax
 from ..psprove import STOPPED, Psprove

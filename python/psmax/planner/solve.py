@@ -9,7 +9,7 @@ from .. import __version__
 from ..clock import Clock, tell
 from ..errors import Failed
 from ..files import guard, must_be_like, write_whole
-from ..known import Known
+from ..incumbent import Known
 from ..project import Goal
 from ..psmax import Psmax
 from ..psprove import Psprove

@@ -2,7 +2,7 @@
 psprove."""
 from ..clock import Clock
 from ..files import guard
-from ..known import Known
+from ..incumbent import Known
 from ..project import Goal
 from ..psprove import Psprove
 from ..whatif import Change, ChangeKind, Outcome

@@ -1,4 +1,4 @@
-"""What is known of a project while it is searched: what a program has proved, and schedules that were handed in."""
+"""What is known of a project while it is searched: the incumbent, which is the best schedule so far, and the lower bound."""
 from collections.abc import Callable, Sequence
 from dataclasses import dataclass
 
