@@ -41,7 +41,7 @@ class Faults(InFolder):
 
     def test_a_psprove_that_does_not_end(self) -> None:
         slow = self.program("slow", "exec sleep 60")
-        with mock.patch("psmax.running.ENDING", 0.1):
+        with mock.patch("psmax.process.ENDING", 0.1):
             ran = plan("solve", SITE, "--seconds", "1", psprove=slow)
         self.assertEqual((ran.returncode, ran.stdout), (3, "unknown bound 0\n"))
 

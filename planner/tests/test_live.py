@@ -36,7 +36,7 @@ class Live(InFolder):
         """It answers when it is asked to, at the limit too, with a record; what has to be killed has none."""
         record = self.folder / "record"
         for then in ("waits", "sticks"):
-            with self.subTest(then), mock.patch("psmax.running.ENDING", 1.0):
+            with self.subTest(then), mock.patch("psmax.process.ENDING", 1.0):
                 ran = plan("solve", TWO, "--seconds", "0.3", "--record", record, psprove=self.stand_in(tells=TELLS, then=then))
                 self.assertEqual((ran.returncode, ran.stdout, record.exists()), (3, ANSWER, then == "waits"))
                 is_told = "psprove solve did not end in time, and was killed: what it told stands" in ran.stderr
@@ -46,7 +46,7 @@ class Live(InFolder):
     def test_a_long_record(self) -> None:
         """It is waited for, once there is an answer."""
         record = self.folder / "record"
-        with mock.patch("psmax.running.ENDING", 0.5):
+        with mock.patch("psmax.process.ENDING", 0.5):
             slow = self.stand_in(tells=TELLS, then="waits", record=2)
             ran = plan("solve", TWO, "--seconds", "0.3", "--record", record, psprove=slow)
         self.assertEqual((ran.returncode, ran.stdout, record.exists()), (3, ANSWER, True))

@@ -71,7 +71,7 @@ class Total(InFolder):
     def test_what_the_time_does_not_settle(self) -> None:
         """It is an interval, and said so: here psprove says nothing at all."""
         table, answer = self.file("p.csv", TABLE), self.file("a.csv", "name,start\na,0\nb,3\nc,0\n")
-        with mock.patch("psmax.running.ENDING", 0.1):
+        with mock.patch("psmax.process.ENDING", 0.1):
             ran = plan("float", table, answer, "--total", "--seconds", "1", psprove=self.program("slow", "exec sleep 9"))
         self.assertEqual(ran.returncode, 3)
         self.assertIn("the total float of 3 of 3 activities is known as an interval alone", ran.stderr)

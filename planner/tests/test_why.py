@@ -110,6 +110,6 @@ Without this lag there is a schedule of 7: 3 (roof) ends by 2026-03-09.
             self.assertIn("feasible ", psmax("check", "--project", project, given=starts.read_bytes()))
 
     def test_time_is_over(self) -> None:
-        with mock.patch("psmax.running.ENDING", 0.1):
+        with mock.patch("psmax.process.ENDING", 0.1):
             ran = plan("why", EXAMPLES / "building-site.sch", "--seconds", "1", psprove=self.program("slow", "exec sleep 9"))
         self.assertEqual((ran.returncode, ran.stdout[:10]), (3, "Not known:"))

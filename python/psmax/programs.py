@@ -13,7 +13,7 @@ from typing import IO
 
 from .clock import Clock
 from .errors import BadInput, Failed, TimeUp
-from .running import Lines, Running
+from .process import Lines, Running
 
 SECONDS = 600.0  # the most that a program may take for an answer that no search is needed for
 INSIDE = "bin"  # the folder of the programs in the package, where it was installed from a wheel

@@ -15,7 +15,7 @@ from ..clock import Clock, tell
 from ..errors import BadInput, Failed
 from ..files import guard
 from ..letters import escaped
-from ..running import ENDING, GLANCE, RECORD
+from ..process import ENDING, GLANCE, RECORD
 from .bar import Bar
 from .batch_table import FAULT, HEADS, Row, Rows, keep, read_rows
 from .csv_text import write_sheet

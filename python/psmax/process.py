@@ -1,4 +1,4 @@
-"""A program that runs: its lines as they come, and how it is ended."""
+"""The process of a program that runs: its lines as they come, and how it is ended."""
 import os
 import subprocess
 import time
