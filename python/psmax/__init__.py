@@ -1,8 +1,8 @@
 """Shortest schedules of projects with resources and time lags, proved. docs/PYTHON.md says how to use it."""
 from .answer import Answer, Changed, Checked, Float, Progress, Schedule, Span, Status, Violation, ViolationKind
+from .api import Project
 from .errors import BadInput, Failed, Fault
 from .model import Absence, Activity, Lag, Point, Resource
-from .projects import Project
 from .record import Proof, Record
 from .version import __version__
 from .whatif import ChangeKind

@@ -13,7 +13,7 @@ from ..files import LARGEST, read_bytes, read_text
 from ..formats import FORMATS, read
 from ..project import Goal, parse
 from ..project import Project as Numbers
-from ..projects import Project
+from ..api import Project
 from ..psmax import Psmax
 from ..spelled import Spelled
 from .columns import is_head

@@ -5,12 +5,12 @@ import pathlib
 import sys
 
 from .. import formats
+from ..api import Project
 from ..clock import Clock
 from ..errors import BadInput
 from ..files import DASH, guard, read_bytes, read_text, write_whole
 from ..letters import printable
 from ..project import Goal, too_needy
-from ..projects import Project
 from ..psmax import Psmax
 from ..spelled import Spelled
 from .given import answer_sheet

@@ -7,11 +7,11 @@ import sys
 from dataclasses import dataclass
 
 from ..answer import Schedule
+from ..api import Project
 from ..clock import Clock
 from ..errors import BadInput
 from ..files import STANDARD_INPUT, guard, must_be_like, read_bytes, write_whole
 from ..formats import mspdi, mspdi_text
-from ..projects import Project
 from ..psmax import Psmax
 from . import icalendar
 from .answer import feasible

@@ -1,9 +1,9 @@
-"""The project as one uses it: made or read, then checked, solved and asked."""
+"""The project as one uses it in Python: made or read, then checked, solved and asked."""
 import os
 from collections.abc import Callable
 from typing import Self
 
-from . import formats, solving
+from . import formats, solver
 from .answer import Answer, Changed, Checked, Float, Progress, Schedule, Starts
 from .files import read_bytes, write_whole
 from .model import Activity, Parts
@@ -38,11 +38,11 @@ class Project(Parts):
 
     def check(self, starts: Starts) -> Checked:
         """Whether starts are a feasible schedule, by psmax."""
-        return solving.check(self, starts)
+        return solver.check(self, starts)
 
     def earliest(self) -> Schedule | None:
         """The least starts by the lags alone, by psmax; none where the lags contradict each other."""
-        return solving.earliest(self)
+        return solver.earliest(self)
 
     def solve(self, seconds: float = SECONDS, jobs: int | None = None, *,
               on_progress: Callable[[Progress], object] = lambda _: None, start: Starts | None = None,
@@ -51,7 +51,7 @@ class Project(Parts):
         known then. `jobs` searches run side by side, as many as there are processors if it is not said. `record` names a
         file for the record. psprove proves by lemmas, psmax by a tree."""
         path = None if record is None else os.fspath(record)
-        return solving.solve(self, seconds, jobs, on_progress, start, path, proved_by, minimize)
+        return solver.solve(self, seconds, jobs, on_progress, start, path, proved_by, minimize)
 
     def verify(self, record: bytes | str | os.PathLike[str], minimize: str = "makespan") -> Proof:
         """What a record of this project proves, in a file or as its bytes; its first wrong line or event is a fault."""
@@ -61,9 +61,9 @@ class Project(Parts):
     def whatif(self, seconds: float = SECONDS, jobs: int | None = None, minimize: str = "makespan") -> list[Changed]:
         """What one unit more of each resource, each absence less, and each maximum lag longer or dropped gives, proved by
         psprove. The shortest schedule comes first."""
-        return solving.changes(self, seconds, jobs, minimize)
+        return solver.changes(self, seconds, jobs, minimize)
 
     def float(self, schedule: Starts, seconds: float = SECONDS, jobs: int | None = None,
               minimize: str = "makespan") -> dict[Activity, Float]:
         """How much later each activity can start in some schedule that is no longer than this one, proved by psprove."""
-        return solving.total_floats(self, schedule, seconds, jobs, minimize)
+        return solver.total_floats(self, schedule, seconds, jobs, minimize)
