@@ -11,7 +11,7 @@ from collections.abc import Sequence
 
 sys.path.append(str(pathlib.Path(__file__).resolve().parent.parent / "python"))
 from projects import Arc, Project  # noqa: E402
-from psmax.project import parse  # noqa: E402
+from psmax.project_text import parse  # noqa: E402
 
 
 def longest(arcs: Sequence[Arc], first: int) -> dict[int, int]:

@@ -13,7 +13,7 @@ import measuring
 import verify
 from psmax.errors import BadInput, Failed
 from psmax.planner.published import Published, contradictions
-from psmax.project import parse
+from psmax.project_text import parse
 
 from . import TOP, measures
 from .families import Listed

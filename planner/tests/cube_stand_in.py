@@ -16,7 +16,8 @@ from typing import Any
 
 sys.path.insert(0, str(pathlib.Path(__file__).resolve().parents[2] / "python"))
 
-from psmax.project import Project, parse  # noqa: E402
+from psmax.project import Project  # noqa: E402
+from psmax.project_text import parse  # noqa: E402
 
 Arcs = list[list[int]]
 Row = dict[str, Any]

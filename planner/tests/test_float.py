@@ -3,7 +3,7 @@ import csv
 import io
 from xml.etree import ElementTree
 
-from psmax.project import parse
+from psmax.project_text import parse
 from psmax.psmax import starts_text
 
 from .helpers import EXAMPLES, INPUTS, PSMAX, InFolder, plan, psmax

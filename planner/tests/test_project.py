@@ -2,8 +2,8 @@ import unittest
 from dataclasses import replace
 
 from psmax.planner.circles import positive_cycle
-from psmax.project import Arc, Kind, Part, in_order, lags_only, parse, parts, with_lag, within, without
-from psmax.spelled import Spelled
+from psmax.project import Arc, Kind, Part, in_order, lags_only, parts, with_lag, within, without
+from psmax.project_text import Spelled, parse
 
 from .helpers import EXAMPLES, INPUTS, TWO_JOBS
 

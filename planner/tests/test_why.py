@@ -1,6 +1,7 @@
 from unittest import mock
 
-from psmax.project import parse, parts
+from psmax.project import parts
+from psmax.project_text import parse
 
 from .helpers import EXAMPLES, INPUTS, PROJECTS, TWO_JOBS, InFolder, plan, psmax
 

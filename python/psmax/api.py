@@ -7,8 +7,8 @@ from . import formats, solver
 from .answer import Answer, Changed, Checked, Float, Progress, Schedule, Starts
 from .files import read_bytes, write_whole
 from .model import Activity, Parts
+from .project_text import Spelled
 from .record import Proof, Record
-from .spelled import Spelled
 
 SECONDS = 60.0
 

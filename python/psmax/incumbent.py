@@ -6,8 +6,8 @@ from .clock import Clock, tell
 from .errors import Failed
 from .outcome import Claim, Solved
 from .project import Project
+from .project_text import Spelled
 from .psmax import starts_text
-from .spelled import Spelled
 
 
 @dataclass(frozen=True)

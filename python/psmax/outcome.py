@@ -5,7 +5,7 @@ from dataclasses import dataclass
 
 from .files import read_bytes
 from .project import Goal
-from .spelled import Spelled
+from .project_text import Spelled
 
 
 class Claim:

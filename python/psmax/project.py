@@ -5,8 +5,6 @@ from enum import Enum
 from itertools import combinations
 from typing import NamedTuple
 
-from .layout import layout, words
-
 MOST_ACTIVITIES = 1_000
 MOST_RESOURCES = 32
 MOST_ARCS = 100_000
@@ -98,21 +96,6 @@ class Project:
         """How many units of a resource are away at a time."""
         return sum(one.units for one in self.absences if one.resource == resource and one.begins <= time
                    and (one.ends is None or time < one.ends))
-
-
-def parse(data: bytes) -> Project:
-    """The project of a text that psmax has read; any other text may raise any error."""
-    values = [int(word.text) for word in words(data)]
-    found: dict[str, list[int]] = {"duration": [], "demand": [], "capacity": []}
-    arcs: list[Arc] = []
-    for place, value in zip(layout(values), values):
-        if place.kind == "lag":
-            arcs.append(Arc(place.activity or 0, place.other or 0, value))
-        elif place.kind in found:
-            found[place.kind].append(value)
-    count, resources = values[0] + 2, values[1]
-    demands = [tuple(found["demand"][i * resources : (i + 1) * resources]) for i in range(count)]
-    return Project(tuple(found["duration"]), tuple(demands), tuple(found["capacity"]), tuple(arcs))
 
 
 def in_order(project: Project, old: Mapping[int, int]) -> Project:

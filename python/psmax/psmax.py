@@ -10,7 +10,7 @@ from .errors import Failed
 from .outcome import ODD, Solved, of_answer
 from .programs import Program
 from .project import Goal, Project
-from .spelled import Spelled
+from .project_text import Spelled
 
 
 @dataclass(frozen=True)

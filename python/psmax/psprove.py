@@ -10,8 +10,8 @@ from .errors import TimeUp
 from .outcome import ODD, Solved, not_asked, of_answer, of_report
 from .programs import Program
 from .project import Project
+from .project_text import Spelled
 from .psmax import starts_text
-from .spelled import Spelled
 
 Hear = Callable[[Solved], object]
 

@@ -6,9 +6,9 @@ from .clock import Clock
 from .errors import BadInput, Failed
 from .files import write_whole
 from .programs import Program
+from .project_text import Spelled
 from .psmax import Psmax
 from .psprove import Psprove
-from .spelled import Spelled
 
 OF_PSMAX = b"record 1\n"  # how a record of psmax begins; any other one is a log of lemmas
 PROVED = re.compile(r"proved (no schedule|(bound|optimal) (\d+))")

@@ -16,7 +16,7 @@ from .psmax import Psmax
 from .psprove import Psprove
 from .record import Record
 from .search import TreeSearch, search
-from .spelled import Spelled
+from .project_text import Spelled
 from .total import TotalFloat
 
 MOST_JOBS = 64  # of both programs

@@ -10,9 +10,9 @@ from dataclasses import dataclass, field, replace
 from .clock import tell
 from .files import write_whole
 from .project import Arc, Goal, Project
+from .project_text import Spelled
 from .psmax import starts_text
 from .psprove import Limits, Psprove
-from .spelled import Spelled
 
 PROJECT = "project.sch"  # in the folder of records
 FIRST, GROWTH = 1, 4  # seconds for an answer in the first round, and how many times as many in the next

@@ -9,9 +9,9 @@ from dataclasses import replace
 from ..clock import Clock, tell
 from ..errors import Failed, TimeUp
 from ..incumbent import Known
+from ..project_text import Spelled
 from ..psmax import Psmax, starts_text
 from ..psprove import Limits, Psprove
-from ..spelled import Spelled
 from .cube import SECONDS, Row
 from .machines import Machines
 from .tree import WHOLE, Cube, Driven

@@ -3,9 +3,8 @@ import re
 
 from ..clock import Clock
 from ..model import Parts
-from ..project import parse
+from ..project_text import Spelled, parse
 from ..psmax import Psmax
-from ..spelled import Spelled
 
 SUFFIX = ".sch"
 HEAD = re.compile(r"\s*\d+[ \t]+\d+[ \t]+0[ \t]+0\s")

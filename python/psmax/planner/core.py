@@ -5,9 +5,9 @@ from dataclasses import dataclass, field
 
 from ..files import write_whole
 from ..project import Part, Project, parts, without
+from ..project_text import Spelled
 from ..psmax import starts_text
 from ..psprove import Limits, Psprove
-from ..spelled import Spelled
 
 LEAST = 2_000  # conflicts that a search for it may have; more where the first proof took many
 MANY = 4  # times those of the first proof

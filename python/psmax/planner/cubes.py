@@ -13,9 +13,9 @@ from ..errors import Failed, TimeUp
 from ..incumbent import Known
 from ..outcome import Solved
 from ..programs import find_program
+from ..project_text import Spelled
 from ..psprove import Psprove
 from ..record import PROVED
-from ..spelled import Spelled
 from .join import joined, place_of
 from .replan import Beginning
 

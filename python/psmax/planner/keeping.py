@@ -7,9 +7,9 @@ from itertools import count
 from ..clock import Clock
 from ..errors import BadInput, Failed
 from ..files import read_bytes, write_new
+from ..project_text import Spelled
 from ..psmax import Psmax
 from ..record import Record
-from ..spelled import Spelled
 from .answer import feasible
 from .csv_text import write_sheet
 from .given import answer_of

@@ -11,11 +11,11 @@ from ..clock import Clock
 from ..errors import BadInput
 from ..files import LARGEST, read_bytes, read_text
 from ..formats import FORMATS, read
-from ..project import Goal, parse
+from ..project import Goal
 from ..project import Project as Numbers
 from ..api import Project
 from ..psmax import Psmax
-from ..spelled import Spelled
+from ..project_text import Spelled, parse
 from .columns import is_head
 from .csv_text import read_sheet
 from .given import KEYS, LINE, WITH_STARTS, answer_sheet, json_object

@@ -11,8 +11,8 @@ from ..errors import BadInput
 from ..files import DASH, guard, read_bytes, read_text, write_whole
 from ..letters import printable
 from ..project import Goal, too_needy
+from ..project_text import Spelled
 from ..psmax import Psmax
-from ..spelled import Spelled
 from .given import answer_sheet
 from .names import MADE, page, read_page
 from .opened import PROJECT, ProjectFile, is_other, of_table, page_of

@@ -8,10 +8,10 @@ from ..cubes.parts import Parts
 from ..files import read_bytes
 from ..programs import find_program
 from ..project import Goal
+from ..project_text import Spelled
 from ..psmax import Psmax
 from ..psprove import Psprove
 from ..record import OF_PSMAX, WRONG, Record
-from ..spelled import Spelled
 from .opened import ProjectFile
 from .replan import Start, begin_with
 

@@ -16,7 +16,7 @@ from dataclasses import dataclass
 from ..clock import Clock
 from ..errors import BadInput, Failed, Fault
 from ..files import DASH, guard, must_be_like, read_bytes, read_text
-from ..spelled import Spelled
+from ..project_text import Spelled
 from .answer import tie
 from .columns import is_head
 from .csv_text import read_sheet

@@ -5,8 +5,8 @@ import re
 from ..clock import Clock
 from ..errors import BadInput
 from ..files import LARGEST, read_bytes
-from ..layout import Place, Word, layout, words
 from ..letters import short
+from ..project_text import Place, Word, layout, words
 from ..psmax import Psmax
 from .given import WITH_STARTS
 from .names import Names, read_page

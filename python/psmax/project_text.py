@@ -1,13 +1,86 @@
-"""A project as a text of psmax's. An absence is a fixed activity that nobody sees. The end of the text starts `offset` after
-what is minimized, so that neither an absence beyond the last activity nor a negative lateness changes what is shortest:
+"""A project as a text of psmax's, and back (docs/FORMAT.md). An absence is a fixed activity that nobody sees. The end of the
+text starts `offset` after what is minimized, so that neither an absence beyond the last activity nor a negative lateness
+changes what is shortest:
 
     the start of the text's end = offset + the makespan, or offset + the greatest lateness
 
 for each schedule that is no longer than `horizon`. By docs/DECISIONS.md some shortest schedule isn't."""
+import re
+from collections.abc import Iterator, Sequence
+from dataclasses import dataclass
 from functools import cached_property
 
 from .errors import BadInput
 from .project import MOST_ACTIVITIES, MOST_ARCS, MOST_UNITS, Arc, Goal, Project, least_starts
+
+WORD = re.compile(rb"[^ \t\r\n\[\]]+")  # a longest run of bytes that are no blanks
+
+
+@dataclass(frozen=True)
+class Word:
+    """A word of a text and the byte at which it begins."""
+
+    text: bytes
+    begins: int
+
+
+@dataclass(frozen=True)
+class Place:
+    """What stands at a word. The kinds are those of `layout`."""
+
+    kind: str
+    row: int | None = None
+    activity: int | None = None
+    other: int | None = None  # the activity at the other end of an arc
+    resource: int | None = None
+
+
+def words(data: bytes) -> list[Word]:
+    return [Word(found.group(), found.start()) for found in WORD.finditer(data)]
+
+
+def layout(values: Sequence[int]) -> Iterator[Place]:
+    """The place of each value, in order. A value is looked at once the place after it is asked for."""
+    yield Place("activities")
+    yield Place("resources")
+    yield Place("zero")
+    yield Place("zero")
+    n, resources = values[0], values[1]
+    word = 4
+    for row in range(n + 2):
+        yield Place("id", row, row)
+        yield Place("mode", row, row)
+        yield Place("count", row, row)
+        count = values[word + 2]
+        for _ in range(count):
+            yield Place("successor", row, row)
+        for arc in range(count):
+            yield Place("lag", row, row, values[word + 3 + arc])
+        word += 3 + 2 * count
+    for activity in range(n + 2):
+        row = n + 2 + activity
+        yield Place("id", row, activity)
+        yield Place("mode", row, activity)
+        yield Place("duration", row, activity)
+        for resource in range(resources):
+            yield Place("demand", row, activity, resource=resource)
+    for resource in range(resources):
+        yield Place("capacity", resource=resource)
+
+
+def parse(data: bytes) -> Project:
+    """The project of a text that psmax has read; any other text may raise any error."""
+    values = [int(word.text) for word in words(data)]
+    found: dict[str, list[int]] = {"duration": [], "demand": [], "capacity": []}
+    arcs: list[Arc] = []
+    for place, value in zip(layout(values), values):
+        if place.kind == "lag":
+            arcs.append(Arc(place.activity or 0, place.other or 0, value))
+        elif place.kind in found:
+            found[place.kind].append(value)
+    count, resources = values[0] + 2, values[1]
+    demands = [tuple(found["demand"][i * resources : (i + 1) * resources]) for i in range(count)]
+    return Project(tuple(found["duration"]), tuple(demands), tuple(found["capacity"]), tuple(arcs))
 
 
 class Spelled:
