@@ -12,7 +12,7 @@
 PREFIX ?= /usr/local
 JOBS ?= $(shell nproc)
 MODULES := $(shell cd python && find psmax -name '*.py' -o -name '*.html' -o -name '*.css' -o -name '*.js' -o -name '*.json' -o -name py.typed)
-VERSION := $(shell sed -n 's/^__version__ = "\(.*\)"/\1/p' python/psmax/version.py)
+VERSION := $(shell sed -n 's/^__version__ = "\(.*\)".*/\1/p' python/psmax/__init__.py)
 SOURCES := crates.txt HANDLES $(shell find crates -path '*/out' -prune -o \( -name '*.rt' -o -name '*.antt' \) -print)
 AT_HAND := $(shell if [ build/psmax -nt release/psmax ]; then echo build; else echo release; fi)
 

@@ -26,9 +26,9 @@ Settings = Mapping[str, object] | None  # what pip hands on from its command lin
 
 
 def version() -> str:
-    found = re.search(r'^__version__ = "(.+)"$', (TOP / "python/psmax/version.py").read_text(), re.M)
+    found = re.search(r'^__version__ = "(.+?)"', (TOP / "python/psmax/__init__.py").read_text(), re.M)
     if found is None:
-        raise SystemExit("python/psmax/version.py says no version")
+        raise SystemExit("python/psmax/__init__.py says no version")
     return found[1]
 
 

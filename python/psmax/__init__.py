@@ -4,9 +4,10 @@ from .api import Project
 from .errors import BadInput, Failed, Fault
 from .model import Absence, Activity, Lag, Point, Resource
 from .record import Proof, Record
-from .version import __version__
 from .whatif import ChangeKind
 from .work_time import WorkTime
+
+__version__ = "0.9.0"  # CONTRIBUTING.md says where else it is spelled
 
 __all__ = ["Absence", "Activity", "Answer", "BadInput", "ChangeKind", "Changed", "Checked", "Failed", "Fault", "Float", "Lag",
            "Point", "Progress", "Project", "Proof", "Record", "Resource", "Schedule", "Span", "Status", "Violation",
