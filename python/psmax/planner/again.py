@@ -7,7 +7,7 @@ from ..incumbent import Known
 from ..project import Arc, Project
 from ..psprove import Limits, Psprove
 from .calendar_days import CalendarLag, periods
-from .opened import ProjectFile
+from .project_file import ProjectFile
 
 SECONDS = 10  # at most, of the run
 

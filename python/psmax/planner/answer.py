@@ -9,8 +9,8 @@ from ..errors import BadInput
 from ..letters import at_most, printable, short
 from ..project import Project, least_end
 from ..psmax import Psmax
-from .given import Begin, Given
-from .opened import ProjectFile
+from .answer_text import Begin, Given
+from .project_file import ProjectFile
 from .wording import Words
 
 

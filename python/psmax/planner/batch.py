@@ -19,7 +19,7 @@ from ..process import ENDING, GLANCE, RECORD
 from .bar import Bar
 from .batch_table import FAULT, HEADS, Row, Rows, keep, read_rows
 from .csv_text import write_sheet
-from .opened import has_activities, is_project
+from .project_file import has_activities, is_project
 from .published import contradictions, read_published
 
 PATIENCE = 2 * ENDING + RECORD  # seconds that a search may take to end when it is asked to

@@ -2,8 +2,8 @@
 from ..clock import Clock
 from ..psmax import Psmax
 from .answer import judged
-from .given import read_answer
-from .opened import ProjectFile
+from .answer_text import read_answer
+from .project_file import ProjectFile
 
 VIOLATED = 4  # the exit status of psmax for the same
 

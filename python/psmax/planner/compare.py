@@ -6,8 +6,8 @@ from ..errors import BadInput
 from ..letters import short
 from ..project import Goal
 from .answer import Tied, counted, same_names, tie
-from .given import Given, read_answer
-from .opened import ProjectFile
+from .answer_text import Given, read_answer
+from .project_file import ProjectFile
 
 
 class Side:

@@ -16,8 +16,8 @@ from ..programs import find_program
 from ..project_text import Spelled
 from ..psprove import Psprove
 from ..record import PROVED
+from .beginning import Beginning
 from .join import joined, place_of
-from .replan import Beginning
 
 
 @dataclass(frozen=True)

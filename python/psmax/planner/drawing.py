@@ -3,7 +3,7 @@ from collections.abc import Callable, Collection, Mapping
 from dataclasses import dataclass, field
 
 from ..calendars import Calendar
-from .opened import ProjectFile
+from .project_file import ProjectFile
 from .window import Stretch, Window, away, stretches
 
 

@@ -10,10 +10,10 @@ from ..psprove import Psprove
 from ..total import TotalFloat
 from . import drawing
 from .answer import Answer, feasible
+from .answer_text import read_answer
+from .beginning import Start, begin_with
 from .gantt import Chart
-from .given import read_answer
-from .opened import ProjectFile
-from .replan import Start, begin_with
+from .project_file import ProjectFile
 from .total import total_float
 from .window import Window, windows
 from .write import Sheet, rows

@@ -6,9 +6,9 @@ from ..files import STANDARD_INPUT, guard, must_be_like, write_whole
 from ..psmax import Psmax
 from . import drawing, svg
 from .answer import judged
+from .answer_text import read_answer
 from .drawing import Bar, Drawing, Load
-from .given import read_answer
-from .opened import ProjectFile
+from .project_file import ProjectFile
 from .window import Stretch
 
 MARK = 10  # columns from one number of the ruler to the next

@@ -4,7 +4,7 @@ from collections.abc import Iterator
 
 from ..errors import BadInput
 from ..letters import short
-from .opened import ProjectFile
+from .project_file import ProjectFile
 
 BEGIN = b"BEGIN:VCALENDAR"
 SUFFIX = ".ics"

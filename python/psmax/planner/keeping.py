@@ -11,8 +11,8 @@ from ..project_text import Spelled
 from ..psmax import Psmax
 from ..record import Record
 from .answer import feasible
+from .answer_text import answer_of
 from .csv_text import write_sheet
-from .given import answer_of
 from .page import View
 from .plans import Plan
 from .report import page_of, proof

@@ -15,9 +15,9 @@ from ..formats import FORMATS
 from ..project import MOST_UNITS
 from . import (batch, batch_table, check, compare, cubes, floats, gantt, join, read, report, solve, status, verify, watch,
                whatif, where, why, write)
+from .beginning import Start
 from .csv_text import SEPARATORS
-from .opened import ProjectFile, open_project
-from .replan import Start
+from .project_file import ProjectFile, open_project
 from .settings import GOALS, Settings, checked
 
 SECONDS, MOST_SECONDS = 60.0, 1_000_000

@@ -11,7 +11,7 @@ from . import drawing
 from .chart import LOAD, ROW, RULER, Chart, definitions, mark, markup
 from .drawing import Bar, Drawing
 from .held import held
-from .opened import ProjectFile
+from .project_file import ProjectFile
 from .window import Window
 from .wording import Words
 

@@ -6,10 +6,10 @@ from ..errors import BadInput
 from ..outcome import Claim
 from ..project import Arc, Goal, Project
 from ..total import TotalFloat
+from .answer_text import Begin, Given
 from .compare import Move, Side, as_before, moves, totals
-from .given import Begin, Given
-from .opened import ProjectFile
 from .page import View
+from .project_file import ProjectFile
 from .window import Window
 
 

@@ -13,9 +13,9 @@ from ..letters import printable
 from ..project import Goal, too_needy
 from ..project_text import Spelled
 from ..psmax import Psmax
-from .given import answer_sheet
+from .answer_text import answer_sheet
 from .names import MADE, page, read_page
-from .opened import PROJECT, ProjectFile, is_other, of_table, page_of
+from .project_file import PROJECT, ProjectFile, is_other, of_table, page_of
 from .settings import Settings, from_rows
 from .table import read_table
 from .wording import Words

@@ -10,10 +10,10 @@ from ..files import STANDARD_INPUT, guard, must_be_like, write_whole
 from ..psmax import Psmax
 from ..psprove import Psprove
 from .answer import Answer, feasible
-from .given import read_answer
-from .opened import ProjectFile
+from .answer_text import read_answer
+from .beginning import Start, begin_with
 from .page import Page, View
-from .replan import Start, begin_with
+from .project_file import ProjectFile
 from .template import html
 from .total import total_float
 from .verify import Verdict, verdict

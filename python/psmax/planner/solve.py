@@ -16,9 +16,9 @@ from ..psprove import Psprove
 from ..search import search
 from . import cubes, drawing, svg
 from .again import once_more
-from .kept import Kept, activities_of
-from .opened import ProjectFile
-from .replan import Start, begin_with
+from .answer_file import AnswerFile, activities_of
+from .beginning import Start, begin_with
+from .project_file import ProjectFile
 from .verify import RECORD
 
 
@@ -39,7 +39,7 @@ def solve(opened: ProjectFile, start: Start, options: Options) -> int:
     guard([options.out, options.svg, options.record], opened.inputs() | start.inputs())
     must_be_like(options.record, RECORD, "record")
     must_be_like(options.svg, svg.BEGIN, "picture")
-    kept = None if options.out is None else Kept(options.out, opened)
+    kept = None if options.out is None else AnswerFile(options.out, opened)
     beginning = begin_with(opened, start)
     schedules = list(beginning.schedules)
     there = kept.look() if kept is not None else None
@@ -70,7 +70,7 @@ def solve(opened: ProjectFile, start: Start, options: Options) -> int:
     return 0 if known.settled else 3
 
 
-def give(known: Known, opened: ProjectFile, options: Options, kept: Kept | None) -> None:
+def give(known: Known, opened: ProjectFile, options: Options, kept: AnswerFile | None) -> None:
     """Prints what is known, and writes what was asked for. A schedule that can't be written is printed."""
     plain = known.answer().decode()
     try:

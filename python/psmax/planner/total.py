@@ -2,7 +2,7 @@
 from ..errors import BadInput
 from ..psprove import Psprove
 from ..total import TotalFloat
-from .replan import Beginning
+from .beginning import Beginning
 
 
 def total_float(begun: Beginning, starts: tuple[int, ...], psprove: Psprove, jobs: int) -> TotalFloat:

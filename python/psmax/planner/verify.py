@@ -12,8 +12,8 @@ from ..project_text import Spelled
 from ..psmax import Psmax
 from ..psprove import Psprove
 from ..record import OF_PSMAX, WRONG, Record
-from .opened import ProjectFile
-from .replan import Start, begin_with
+from .beginning import Start, begin_with
+from .project_file import ProjectFile
 
 RECORD = b"record "  # how one begins
 

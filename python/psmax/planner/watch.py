@@ -18,15 +18,15 @@ from ..errors import BadInput, Failed, Fault
 from ..files import DASH, guard, must_be_like, read_bytes, read_text
 from ..project_text import Spelled
 from .answer import tie
+from .answer_text import Given, read_answer
+from .beginning import Beginning, Start, begin_near, must_be_possible
 from .columns import is_head
 from .csv_text import read_sheet
 from .explained import explained
-from .given import Given, read_answer
 from .keeping import keep
-from .opened import ProjectFile, open_project
-from .planning import Limits, Planning
+from .plan_search import Limits, PlanSearch
 from .plans import Plan, Schedule
-from .replan import Beginning, Start, begin_near, must_be_possible
+from .project_file import ProjectFile, open_project
 from .saves import Saves
 from .screen import Screen
 from .server import Server
@@ -57,7 +57,7 @@ class Watch:
         self.screen, self.saves, self.clock = Screen(), Saves(), Clock()
         # And no SimpleQueue: a signal that comes while that waits may make it wait for ever (Python 3.11).
         self.orders: queue.Queue[tuple[str, int, Future[str]]] = queue.Queue()
-        self.planning: Planning | None = None
+        self.search: PlanSearch | None = None
         self.first = None if start.answer is None else read_answer(start.answer).must_have_starts()
         self.sources = {path}  # the table, and what it names
         self.kept = 0  # the number of the plan that was kept last
@@ -112,8 +112,8 @@ class Watch:
             opened, beginning.project, f"{datetime.datetime.now():%H:%M:%S}", schedule, shadow(opened, given),
             opened.project.goal, None, Spelled(beginning.project).value(0), notes=notes))
         limits = Limits(self.options.seconds, self.options.jobs, self.options.record)
-        self.planning = Planning(self.screen, number, beginning, limits, self.folder)
-        self.planning.start()
+        self.search = PlanSearch(self.screen, number, beginning, limits, self.folder)
+        self.search.start()
 
     def obey(self, seconds: float) -> None:
         """Does what the page asks for, if it does so within this time."""
@@ -132,9 +132,9 @@ class Watch:
 
     def stop(self) -> str:
         """Ends the search, whose record is whole then."""
-        if self.planning is not None:
-            self.planning.end()
-            self.planning = None
+        if self.search is not None:
+            self.search.end()
+            self.search = None
         return "Nothing is searched any more."
 
     def keep(self) -> str:

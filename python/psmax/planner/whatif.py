@@ -8,8 +8,8 @@ from ..psprove import Psprove
 from ..whatif import Change, ChangeKind, Outcome
 from ..whatif import whatif as searched
 from .csv_text import Text
-from .opened import ProjectFile
-from .replan import Start, begin_with
+from .project_file import ProjectFile
+from .beginning import Start, begin_with
 from .wording import Words, are
 from .write import Sheet
 

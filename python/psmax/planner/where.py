@@ -8,9 +8,9 @@ from ..files import LARGEST, read_bytes
 from ..letters import short
 from ..project_text import Place, Word, layout, words
 from ..psmax import Psmax
-from .given import WITH_STARTS
+from .answer_text import WITH_STARTS
 from .names import Names, read_page
-from .opened import is_other, is_table, open_project, page_of
+from .project_file import is_other, is_table, open_project, page_of
 
 NUMBER = re.compile(rb"-?[0-9]{1,9}")
 ROW_FAULTS = {  # the end of psmax's text, and the kinds of place that it is about

@@ -8,10 +8,10 @@ from ..outcome import Solved
 from ..project import MOST_UNITS, Arc, Goal, Kind, Part, Project, too_needy, with_lag, within, without
 from ..psmax import Psmax
 from ..psprove import Limits, Psprove
+from .beginning import Start, begin_with
 from .circles import circles, in_words
 from .core import Core
-from .opened import ProjectFile
-from .replan import Start, begin_with
+from .project_file import ProjectFile
 from .wording import Words, are
 
 FIRST = 1_000  # conflicts of a first search, which mostly finds a schedule where there is one

@@ -4,7 +4,7 @@ from collections.abc import Sequence
 
 from ..project import Absence, Arc, Goal
 from ..psmax import Violation
-from .opened import ProjectFile
+from .project_file import ProjectFile
 
 
 class Words:

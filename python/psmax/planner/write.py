@@ -15,9 +15,9 @@ from ..formats import mspdi, mspdi_text
 from ..psmax import Psmax
 from . import icalendar
 from .answer import feasible
+from .answer_text import PERIOD, read_answer
 from .csv_text import SEPARATORS, Text, read_sheet, write_sheet
-from .given import PERIOD, read_answer
-from .opened import ProjectFile
+from .project_file import ProjectFile
 
 HEADS = ["activity", "name", "start", "takes", "end"]  # and what they count, where a period is none of the table's own
 

@@ -11,10 +11,10 @@ from ..psmax import Psmax
 from ..psprove import STOPPED, Psprove
 from ..search import search
 from ..total import TotalFloat
+from .beginning import Beginning
 from .circles import circles, in_words
 from .explained import explained
-from .opened import ProjectFile
-from .replan import Beginning
+from .project_file import ProjectFile
 from .screen import Screen
 from .why import Causes
 from .window import windows
@@ -30,7 +30,7 @@ class Limits:
     record: str | None
 
 
-class Planning(threading.Thread):
+class PlanSearch(threading.Thread):
     def __init__(self, screen: Screen, number: int, beginning: Beginning, limits: Limits, folder: str) -> None:
         super().__init__(daemon=True)
         self.screen, self.number, self.beginning, self.limits, self.folder = screen, number, beginning, limits, folder

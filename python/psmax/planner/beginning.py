@@ -7,10 +7,10 @@ from ..letters import at_most
 from ..project import MOST_ARCS, Arc, Project, in_order
 from ..psmax import Psmax
 from .answer import Answer, Tied, counted, feasible, tie
+from .answer_text import Given, read_answer
 from .circles import circles, in_words
-from .given import Given, read_answer
-from .opened import ProjectFile
 from .progress import Progress
+from .project_file import ProjectFile
 from .window import stretches
 from .wording import Words
 

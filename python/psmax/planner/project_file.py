@@ -18,7 +18,7 @@ from ..psmax import Psmax
 from ..project_text import Spelled, parse
 from .columns import is_head
 from .csv_text import read_sheet
-from .given import KEYS, LINE, WITH_STARTS, answer_sheet, json_object
+from .answer_text import KEYS, LINE, WITH_STARTS, answer_sheet, json_object
 from .names import Names, read_page
 from .outline import Group
 from .progress import Progress

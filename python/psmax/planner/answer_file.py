@@ -8,15 +8,15 @@ from ..files import read_bytes, write_whole
 from ..incumbent import Known
 from ..psmax import Psmax
 from .answer import Answer, feasible
+from .answer_text import answer_of
 from .csv_text import write_sheet
-from .given import answer_of
-from .opened import ProjectFile
+from .project_file import ProjectFile
 from .write import rows
 
 WITHOUT_STARTS = (b"no schedule", b"unknown ")  # the beginnings of answers of a search
 
 
-class Kept:
+class AnswerFile:
     def __init__(self, path: str, opened: ProjectFile) -> None:
         self.path = path
         self.opened = opened
