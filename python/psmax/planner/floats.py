@@ -4,6 +4,7 @@ import os
 from dataclasses import dataclass
 
 from ..clock import Clock
+from ..errors import BadInput
 from ..files import STANDARD_INPUT, guard, must_be_empty
 from ..psmax import Psmax
 from ..psprove import Psprove
@@ -11,10 +12,9 @@ from ..total import TotalFloat
 from . import drawing
 from .answer import Answer, feasible
 from .answer_text import read_answer
-from .beginning import Start, begin_with
+from .beginning import Beginning, Start, begin_with
 from .gantt import Chart
 from .project_file import ProjectFile
-from .total import total_float
 from .window import Window, windows
 from .write import Sheet, rows
 
@@ -100,3 +100,13 @@ def floats(opened: ProjectFile, given: str | None, sheet: Sheet, chart: Chart, w
     elif sheet.out is None or total is not None:
         print(text(opened, known, found, total), end="")
     return 3 if total is not None and total.open() else 0
+
+
+def total_float(begun: Beginning, starts: tuple[int, ...], psprove: Psprove, jobs: int) -> TotalFloat:
+    """Of a schedule that is handed in, which has to keep what has started."""
+    if any(starts[arc.head] < starts[arc.tail] + arc.lag for arc in begun.frozen):
+        raise BadInput("the schedule doesn't keep what has started by --start and --frozen")
+    found = TotalFloat(begun.project, starts, begun.started, psprove)
+    found.run(jobs)
+    found.tell()
+    return found

@@ -12,10 +12,10 @@ from ..psprove import Psprove
 from .answer import Answer, feasible
 from .answer_text import read_answer
 from .beginning import Start, begin_with
+from .floats import total_float
 from .page import Page, View
 from .project_file import ProjectFile
 from .template import html
-from .total import total_float
 from .verify import Verdict, verdict
 from .window import windows
 
