@@ -1,21 +1,64 @@
 """`plan why`: why a project has no schedule, or none that ends in time. psprove proves each cause."""
+import os
 from collections.abc import Callable
+from dataclasses import dataclass, field
 
 from ..clock import Clock, tell
 from ..errors import BadInput, TimeUp
-from ..files import must_be_empty
+from ..files import must_be_empty, write_whole
 from ..outcome import Solved
-from ..project import MOST_UNITS, Arc, Goal, Kind, Part, Project, too_needy, with_lag, within, without
-from ..psmax import Psmax
+from ..project import MOST_UNITS, Arc, Goal, Kind, Part, Project, parts, too_needy, with_lag, within, without
+from ..project_text import Spelled
+from ..psmax import Psmax, starts_text
 from ..psprove import Limits, Psprove
 from .beginning import Start, begin_with
 from .circles import circles, in_words
-from .core import Core
 from .project_file import ProjectFile
 from .wording import Words, are
 
 FIRST = 1_000  # conflicts of a first search, which mostly finds a schedule where there is one
 CONFLICTS = 10_000  # of a search of the project without one of its lags, or with a longer one
+LEAST = 2_000  # conflicts that a search for a core may have; more where the first proof took many
+MANY = 4  # times those of the first proof
+
+
+@dataclass
+class Core:
+    """A smallest set of maximum lags, resources and absences that contradict each other: without any one of them there is a
+    schedule."""
+
+    project: Project  # which has no schedule
+    fixed: set[Part]  # that nobody asks about: a deadline, and what has started
+    record: bytes  # proves that there is none, also without what is gone
+    gone: set[Part] = field(default_factory=set)
+    schedules: dict[Part, tuple[int, ...]] = field(default_factory=dict)  # of what is left without that part
+
+    def parts(self) -> list[Part]:
+        return [part for part in parts(self.project) if part not in self.fixed and part not in self.gone]
+
+    def shrink(self, psprove: Psprove, conflicts: int) -> None:
+        """Leaves out one part after the other where psprove proves that there is still no schedule. The first proof took
+        so many conflicts. What is left when the time is over may have parts that are not needed."""
+        for part in self.parts():
+            limits = Limits(psprove.clock.left(), conflicts=max(LEAST, MANY * conflicts))
+            answer = psprove.ask(without(self.project, {*self.gone, part}), limits)
+            if answer.none:
+                self.gone.add(part)
+                self.record = answer.record
+            elif answer.starts is not None:
+                self.schedules[part] = answer.starts
+
+    def write(self, folder: str) -> None:
+        """What is left and the record, and for each part what is left without it and a schedule."""
+        os.makedirs(folder, exist_ok=True)
+        files = {"core.sch": Spelled(without(self.project, self.gone)).text, "core.record": self.record}
+        for place, part in enumerate(self.parts(), 1):
+            if part in self.schedules:
+                spelled = Spelled(without(self.project, {*self.gone, part}))
+                files[f"without-{place}.sch"] = spelled.text
+                files[f"without-{place}.starts"] = starts_text(spelled.inward(self.schedules[part]))
+        for name, data in files.items():
+            write_whole(os.path.join(folder, name), data)
 
 
 class Causes:
