@@ -1,5 +1,11 @@
-"""What a page shows of a schedule: each of its parts by the name of its place in `page.html`."""
-from collections.abc import Iterable, Mapping
+"""A page of HTML: what it shows of a schedule, each part by the name of its place in `page.html`; and its file, which has
+these parts, its style and its script, and nothing from elsewhere."""
+import base64
+import hashlib
+import json
+import pathlib
+import re
+from collections.abc import Callable, Iterable, Mapping
 from dataclasses import dataclass, field
 from html import escape
 from xml.etree.ElementTree import Element
@@ -8,13 +14,14 @@ from .. import __version__
 from ..project import Arc, Goal
 from ..total import TotalFloat
 from . import drawing
-from .chart import LOAD, ROW, RULER, Chart, definitions, mark, markup
+from .chart import LOAD, ROW, RULER, STYLE, Chart, definitions, mark, markup
 from .drawing import Bar, Drawing
-from .held import held
 from .project_file import ProjectFile
 from .window import Window
 from .wording import Words
 
+FOLDER = pathlib.Path(__file__).parent
+PLACES = ("made", "facts", "proof", "definitions", "ruler", "arrows", "heads", "total", "lines", "rows", "uses")
 WIDTH = {"A4": 760, "A3": 1230}  # pixels of the time, so that it fits the paper on its side beside the names
 WIDEST = 36  # pixels of a period at most
 Rows = list[tuple[str, str]]  # rows of a table, each with what it is known by
@@ -209,3 +216,56 @@ def fact(figure: str, what: str) -> Element:
     made.append(mark("b", "", figure))
     made[0].tail = what
     return made
+
+
+def held(words: Words, starts: tuple[int, ...], activity: int) -> list[str]:
+    """Why an activity can't start one period sooner while the others stay."""
+    project, start = words.project, starts[activity]
+    told = [words.lag(arc) for arc in project.arcs if arc.head == activity and starts[arc.tail] + arc.lag == start]
+    if not start:
+        return [*told, "the project starts then"]
+    for resource, units in enumerate(project.demands[activity]):
+        others, away = project.users(resource, starts, start - 1), project.away(resource, start - 1)
+        used = sum(project.demands[i][resource] for i in others) + away
+        if units and project.durations[activity] and used + units > project.capacities[resource]:
+            by = [*map(words.names.activity, others), *([f"{away} away"] if away else [])]
+            told.append(f"{units} of {words.names.resource(resource)}, until then in use: {', '.join(by)}")
+    return told
+
+
+@dataclass(frozen=True)
+class More:
+    """What a page has that follows a table: markup above the schedule and below its chart, style, script, and whom it may
+    ask."""
+
+    above: str = ""
+    below: str = ""
+    style: str = ""
+    script: str = ""
+    policy: str = ""
+
+
+def html(title: str, paper: str, parts: Mapping[str, str], told: object, is_shortest: bool = False, more: More = More()) -> str:
+    """The page. A place of which nothing is said is empty."""
+    quoted = json.dumps(title).replace("<", "\\3c ")
+    style = filled(file("page.css"), {"paper": paper, "quoted": quoted}, str) + STYLE + more.style
+    script = file("page.js") + more.script
+    policy = f"style-src {digest(style)}; script-src {digest(script)}{more.policy}"
+    return filled(file("page.html"), {
+        **dict.fromkeys(PLACES, ""), **parts, "title": title, "policy": policy, "style": style, "script": script,
+        "above": more.above, "below": more.below,
+        "state": "" if is_shortest else "open", "told": json.dumps(told).replace("<", "\\u003c")}, escape)
+
+
+def file(name: str) -> str:
+    return (FOLDER / name).read_text("utf-8")
+
+
+def digest(text: str) -> str:
+    """What a page allows of style or script: this text alone."""
+    return f"'sha256-{base64.b64encode(hashlib.sha256(text.encode('utf-8', 'replace')).digest()).decode()}'"
+
+
+def filled(template: str, texts: Mapping[str, str], quote: Callable[[str], str]) -> str:
+    """The template with each `{{name}}` replaced by a text, and each `{{name!}}` by what is markup already."""
+    return re.sub(r"\{\{(\w+)(!?)\}\}", lambda place: texts[place[1]] if place[2] else quote(texts[place[1]]), template)

@@ -13,9 +13,8 @@ from .answer import Answer, feasible
 from .answer_text import read_answer
 from .beginning import Start, begin_with
 from .floats import total_float
-from .page import Page, View
+from .page import Page, View, html
 from .project_file import ProjectFile
-from .template import html
 from .verify import Verdict, verdict
 from .window import windows
 

@@ -24,6 +24,7 @@ from .columns import is_head
 from .csv_text import read_sheet
 from .explained import explained
 from .keeping import keep
+from .page import More, file, html
 from .plan_search import Limits, PlanSearch
 from .plans import Plan, Schedule
 from .project_file import ProjectFile, open_project
@@ -32,7 +33,6 @@ from .screen import Screen
 from .server import Server
 from .settings import Settings
 from .table import settings_above
-from .template import More, file, html
 from .verify import RECORD
 
 GLANCE = 0.1  # seconds from one look at the files to the next
