@@ -1,9 +1,9 @@
-"""Files: read with a clear fault, written whole or not at all."""
+"""Files: read with a clear fault, written whole or not at all, and looked at for changes."""
 import os
 import pathlib
 import sys
 import tempfile
-from collections.abc import Mapping, MutableMapping, Sequence
+from collections.abc import Iterable, Mapping, MutableMapping, Sequence
 from typing import TextIO
 from weakref import WeakKeyDictionary
 
@@ -17,6 +17,7 @@ LARGEST = 16_777_216  # bytes; psmax reads no longer text, so one byte more is e
 
 # What standard input held, which can be read once alone.
 HELD: MutableMapping[TextIO, bytes] = WeakKeyDictionary()
+Stamp = tuple[int, int, int] | None  # when a file was changed, its size and its place; none where there is no file
 
 
 def read_bytes(path: str, most: int | None = LARGEST) -> bytes:
@@ -150,3 +151,29 @@ def mask() -> int:
 def reason(fault: Exception) -> str:
     text = fault.strerror if isinstance(fault, OSError) and fault.strerror else str(fault)
     return text[:1].lower() + text[1:]
+
+
+class Saves:
+    """Whether files were saved since they were read. One that is still written to counts once it rests."""
+
+    def __init__(self) -> None:
+        self.read: dict[str, Stamp] = {}
+        self.seen: dict[str, Stamp] = {}
+
+    def look(self, paths: Iterable[str]) -> bool:
+        """Whether a file is to be read again, since it differs from when it was read, and not from the last look. It has been
+        read then."""
+        now = {path: stamp(path) for path in paths}
+        rests, self.seen = now == self.seen, now
+        if not rests or now == self.read:
+            return False
+        self.read = now
+        return True
+
+
+def stamp(path: str) -> Stamp:
+    try:
+        told = os.stat(path)
+    except OSError:
+        return None
+    return told.st_mtime_ns, told.st_size, told.st_ino

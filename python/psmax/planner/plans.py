@@ -1,16 +1,30 @@
-"""The plans of a day: tables as they were read, each with what is known of a plan for it."""
+"""The plans of a day: tables as they were read, each with what is known of a plan for it, and how a plan is kept."""
+import datetime
+import os
 from collections.abc import Mapping
+from contextlib import suppress
 from dataclasses import dataclass, field
+from itertools import count
 
-from ..errors import BadInput
+from ..clock import Clock
+from ..errors import BadInput, Failed
+from ..files import read_bytes, write_new
 from ..outcome import Claim
 from ..project import Arc, Goal, Project
+from ..project_text import Spelled
+from ..psmax import Psmax
+from ..record import Record
 from ..total import TotalFloat
-from .answer_text import Begin, Given
+from .answer import feasible
+from .answer_text import Begin, Given, answer_of
 from .compare import Move, Side, as_before, moves, totals
+from .csv_text import write_sheet
 from .page import View
 from .project_file import ProjectFile
-from .window import Window
+from .report import page_of, proof
+from .verify import judged
+from .window import Window, windows
+from .write import rows
 
 
 @dataclass(frozen=True)
@@ -92,3 +106,34 @@ class Plan(Claim):
         now = Side(schedule.given(), self.opened)
         found = moves(side, now)
         return [*totals(side, now), as_before(found, now)], found
+
+
+def keep(plan: Plan | None) -> list[str]:
+    """Writes the answer, the record and the page beside the table, with the time in their names, which it returns. What they
+    hold is judged first: the schedule by psmax, and the record by `verify`."""
+    if plan is None or plan.starts is None:
+        raise BadInput("there is no plan on the screen")
+    base = f"{os.path.splitext(plan.opened.path)[0]}-{datetime.datetime.now():%Y-%m-%d-%H%M%S}"
+    for again in count():
+        stem = f"{base}-{again}" if again else base
+        files = contents(plan, stem)
+        if write_new(files):
+            return [*files]
+    raise AssertionError
+
+
+def contents(plan: Plan, stem: str) -> dict[str, bytes]:
+    """What each file holds, by its name. A record that `verify` doesn't accept is not kept."""
+    opened, starts, psmax = plan.opened, plan.starts or (), Psmax(Clock(), plan.opened.path)
+    table = write_sheet(rows(opened, starts, with_dates=False)).encode()
+    answer, found, files = feasible(opened, answer_of(table, f"{stem}.csv"), psmax), None, {f"{stem}.csv": table}
+    if plan.record is not None:
+        record = Record(read_bytes(plan.record, None), Spelled(plan.project))
+        which = opened.path if plan.project == opened.project else f"{opened.path} that keeps what has started"
+        with suppress(Failed):
+            judgement = judged(record, os.path.basename(f"{stem}.record"), which)
+            if not judgement.wrong:
+                found, files[f"{stem}.record"] = judgement, record.data
+    view = View(opened, starts, proof(answer, found), found is not None and found.bound == answer.value,
+                plan.windows or windows(opened.project, starts, psmax), plan.total)
+    return files | {f"{stem}.html": page_of(view, "A4")}

@@ -15,7 +15,7 @@ from dataclasses import dataclass
 
 from ..clock import Clock
 from ..errors import BadInput, Failed, Fault
-from ..files import DASH, guard, must_be_like, read_bytes, read_text
+from ..files import DASH, Saves, guard, must_be_like, read_bytes, read_text
 from ..project_text import Spelled
 from .answer import tie
 from .answer_text import Given, read_answer
@@ -23,12 +23,10 @@ from .beginning import Beginning, Start, begin_near, must_be_possible
 from .columns import is_head
 from .csv_text import read_sheet
 from .explained import explained
-from .keeping import keep
 from .page import More, file, html
 from .plan_search import Limits, PlanSearch
-from .plans import Plan, Schedule
+from .plans import Plan, Schedule, keep
 from .project_file import ProjectFile, open_project
-from .saves import Saves
 from .screen import Screen
 from .server import Server
 from .settings import Settings
