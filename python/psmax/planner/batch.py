@@ -10,19 +10,50 @@ from collections.abc import Sequence
 from concurrent.futures import FIRST_COMPLETED, Future, ThreadPoolExecutor, wait
 from contextlib import suppress
 from dataclasses import dataclass
+from types import TracebackType
+from typing import Self
 
 from ..clock import Clock, tell
 from ..errors import BadInput, Failed
 from ..files import guard
-from ..letters import escaped
+from ..letters import escaped, printable
 from ..process import ENDING, GLANCE, RECORD
-from .bar import Bar
-from .batch_table import FAULT, HEADS, Row, Rows, keep, read_rows
+from .batch_table import FAULT, HEADS, Row, Rows, contradictions, keep, read_published, read_rows
 from .csv_text import write_sheet
 from .project_file import has_activities, is_project
-from .published import contradictions, read_published
 
 PATIENCE = 2 * ENDING + RECORD  # seconds that a search may take to end when it is asked to
+WIDTH, ROOM = 24, 40  # signs of the bar, and of what is told behind it
+
+
+class Bar:
+    """How far a batch has come: a bar of one line on a terminal, and a line for each project elsewhere."""
+
+    def __init__(self, total: int, clock: Clock) -> None:
+        self.total, self.clock, self.done = total, clock, 0
+        self.is_shown = total > 0 and sys.stderr.isatty()
+
+    def __enter__(self) -> Self:
+        self.show("")
+        return self
+
+    def __exit__(self, kind: type[BaseException] | None, fault: BaseException | None, trace: TracebackType | None) -> None:
+        if self.is_shown:
+            print(file=sys.stderr, flush=True)
+
+    def step(self, text: str) -> None:
+        """One more is done, of which this is told."""
+        self.done += 1
+        if self.is_shown:
+            self.show(text)
+        else:
+            tell(self.clock, text)
+
+    def show(self, text: str) -> None:
+        if self.is_shown:
+            full = WIDTH * self.done // self.total
+            bar = f"[{'#' * full}{'.' * (WIDTH - full)}] {self.done} of {self.total}  {printable(text)[:ROOM]:{ROOM}}"
+            print(f"\r{bar}", end="", file=sys.stderr, flush=True)
 
 
 @dataclass(frozen=True)
