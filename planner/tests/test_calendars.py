@@ -4,8 +4,8 @@ import datetime
 import random
 import unittest
 
-from psmax.planner.calendar_days import everywhere
 from psmax.calendars import Calendar, Days, Shifts
+from psmax.planner.lags import everywhere
 
 MINUTE, DAY = datetime.timedelta(minutes=1), datetime.timedelta(days=1)
 SHIFTS = (((480, 960),), ((420, 720), (780, 960)), ((0, 360), (1320, 1440)), ((0, 1440),))

@@ -17,7 +17,7 @@ from ..search import search
 from . import cubes, drawing, svg
 from .answer_file import AnswerFile, activities_of
 from .beginning import Start, begin_with
-from .calendar_days import CalendarLag, periods
+from .lags import CalendarLag, periods
 from .project_file import ProjectFile
 from .verify import RECORD
 
