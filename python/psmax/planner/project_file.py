@@ -20,7 +20,7 @@ from .columns import is_head
 from .csv_text import read_sheet
 from .answer_text import KEYS, LINE, WITH_STARTS, answer_sheet, json_object
 from .names import Names, read_page
-from .outline import Group
+from .rows import Group
 from .progress import Progress
 from .settings import Settings, calendar, checked, from_rows, time_of
 from .table import Table, read_table

@@ -16,10 +16,9 @@ from .columns import LAGS, Column, Columns, is_head, read_heads, resource
 from .csv_text import Sheet, cell, read_sheet
 from .lags import START, START_OF, WITH, Activities, CalendarLag, Lags, lengths_in
 from .names import Names
-from .outline import Group, groups, is_summary, levels
 from .progress import Progress
 from .quantities import Length, Scale, Unit, read_length, scale_of, units_of
-from .rows import Row, Terms
+from .rows import Group, Row, Terms, groups, is_summary, levels
 from .settings import HOURS_OF_WORK, NAMES, Settings, calendar, checked, from_rows, time_of
 
 
