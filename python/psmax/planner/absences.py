@@ -5,9 +5,9 @@ from ..errors import BadInput
 from ..files import read_text
 from ..letters import short
 from ..project import MOST_UNITS, Absence, Project
-from .cells import Faults, fault_at
 from .columns import HEADS, Column, Columns
 from .csv_text import cell, read_sheet
+from .faults import Faults, fault_at
 from .lags import did_you_mean
 from .names import Names
 from .rows import Row, Terms

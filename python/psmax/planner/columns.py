@@ -6,8 +6,8 @@ from enum import Enum
 from ..errors import BadInput
 from ..letters import short
 from ..project import MOST_RESOURCES, MOST_UNITS
-from .cells import Faults, fault_at
 from .csv_text import Sheet
+from .faults import Faults, fault_at
 from .quantities import Unit
 
 RESOURCE = re.compile(r"(.*\S)\s*\(\s*(\d+)\s*\)")

@@ -9,8 +9,8 @@ from ..calendars import Calendar
 from ..dates import is_dated
 from ..letters import short
 from ..project import MOST_UNITS, Arc
-from .cells import Faults
 from .columns import Column
+from .faults import Faults
 from .quantities import NUMBER, WORDS, Length, Unit
 from .rows import Row
 

@@ -7,7 +7,7 @@ from typing import NoReturn
 
 from ..clock import end_at_once, interrupt_once
 from ..letters import printable
-from .explained import explained
+from .faults import explained
 from .options import parsed
 
 INTERRUPTED = 130

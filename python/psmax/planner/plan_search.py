@@ -13,7 +13,7 @@ from ..search import search
 from ..total import TotalFloat
 from .beginning import Beginning
 from .circles import circles, in_words
-from .explained import explained
+from .faults import explained
 from .project_file import ProjectFile
 from .screen import Screen
 from .why import Causes

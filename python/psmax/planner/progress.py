@@ -8,8 +8,8 @@ from math import ceil
 
 from ..letters import short
 from ..project import Arc
-from .cells import Faults
 from .columns import Column
+from .faults import Faults
 from .rows import Row
 
 TOLD = (Column.STARTED, Column.FINISHED, Column.REMAINING, Column.DONE)

@@ -8,9 +8,9 @@ from ..calendars import Calendar
 from ..dates import Moment, read_moment
 from ..letters import short
 from ..project import MOST_UNITS
-from .cells import CellFault, fault_at
 from .columns import Column, Columns
 from .csv_text import cell
+from .faults import CellFault, fault_at
 from .quantities import Length, Scale, Unit, number, read_length, time_after
 
 DATED = (Column.STARTED, Column.FINISHED, Column.NOT_BEFORE, Column.END_BY, Column.DUE)

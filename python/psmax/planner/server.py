@@ -13,7 +13,7 @@ from typing import Any
 from urllib.parse import parse_qs
 
 from ..errors import BadInput, Failed
-from .explained import explained
+from .faults import explained
 from .page import Page
 from .plans import Plan
 from .screen import Screen

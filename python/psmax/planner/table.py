@@ -11,9 +11,9 @@ from ..letters import printable, short
 from ..project import MOST_ACTIVITIES, MOST_ARCS, Arc, Goal, Project
 from ..work_time import minutes_of, shift, workdays
 from .absences import read_absences
-from .cells import Faults, fault_at
 from .columns import LAGS, Column, Columns, is_head, read_heads, resource
 from .csv_text import Sheet, cell, read_sheet
+from .faults import Faults, fault_at
 from .lags import START, START_OF, WITH, Activities, CalendarLag, Lags, lengths_in
 from .names import Names
 from .progress import Progress

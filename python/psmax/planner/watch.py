@@ -22,7 +22,7 @@ from .answer_text import Given, read_answer
 from .beginning import Beginning, Start, begin_near, must_be_possible
 from .columns import is_head
 from .csv_text import read_sheet
-from .explained import explained
+from .faults import explained
 from .page import More, file, html
 from .plan_search import Limits, PlanSearch
 from .plans import Plan, Schedule, keep

@@ -1,8 +1,9 @@
-"""The cells of a table, and the faults that are found in them."""
+"""Faults: those of the cells of a table, and whatever else went wrong, as an exit status and a line each."""
 from collections.abc import Iterator
 from contextlib import contextmanager
 
-from ..errors import BadInput
+from ..calendars import BEYOND
+from ..errors import BadInput, Failed, TimeUp
 from ..letters import at_most, short
 from .csv_text import letters
 
@@ -38,3 +39,20 @@ class Faults:
         if self.found:
             texts = [str(fault) for fault in sorted(self.found, key=lambda fault: fault.place)]
             raise BadInput(*at_most(list(dict.fromkeys(texts))))
+
+
+def explained(fault: BaseException) -> tuple[int, tuple[str, ...]]:
+    """The exit status, and a line for each fault."""
+    if isinstance(fault, OverflowError):  # of dates
+        return 2, (BEYOND,)
+    if isinstance(fault, BadInput):
+        return 2, tuple(map(str, fault.args))
+    if isinstance(fault, Failed):
+        return 1, (str(fault),)
+    if isinstance(fault, TimeUp):
+        return 1, ("psmax took too long",)
+    if isinstance(fault, MemoryError):
+        return 1, ("out of memory",)
+    if isinstance(fault, OSError):
+        return 1, (f"{fault.strerror or fault}" + (f": {fault.filename}" if fault.filename else ""),)
+    return 1, (f"a fault of plan itself: {type(fault).__name__}: {fault}",)
