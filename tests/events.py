@@ -7,7 +7,7 @@ take nodes, reports are checked in, often under names that they aren't of, twice
 another project, nodes are given back that nobody has, and schedules are offered. So are twelve hostile events, and these with
 each of them left out and with each of them doubled.
 
-Then puts N such lists (24 by default), and a report that is checked in again, to books once for each growth of memory in
+Then puts N such lists (24 by default), and a report that is checked in again, to books once for each allocation in
 them, which is refused: a check-in or a node that is given back may then be told so, and the book has to be as before; all that
 comes after is again as in the model.
 
@@ -253,7 +253,7 @@ def hostile_lists() -> Iterator[list[str]]:
 
 def disagreement(board: Board, words: Sequence[str], lines: Iterator[str], replies: Replies,
                  refused: bool = False) -> str | None:
-    """The first reply or counts that aren't the model's, or None. A refused growth may end the program, or be told once."""
+    """The first reply or counts that aren't the model's, or None. A refused allocation may end the program, or be told once."""
     model = board.model(words[0])
     for word in words:
         got = next(lines, "nothing")
@@ -279,11 +279,11 @@ def judged(board: Board, lists: Sequence[list[str]], replies: Replies) -> Iterat
 
 
 def refused(made: pathlib.Path, replies: Replies, board: Board, words: Sequence[str]) -> Iterator[str | None]:
-    """The same for each growth of memory in a list, which is refused."""
+    """The same for each allocation in a list, which is refused."""
     known = Refusing(made, [board.program, *board.words], board.text).count()
     refusing = Refusing(made, [board.program, *board.words, *words], board.text)
-    for growth in range(known + 1, refusing.count() + 1):
-        (status, out, fault), _ = refusing.run(one(growth))
+    for allocation in range(known + 1, refusing.count() + 1):
+        (status, out, fault), _ = refusing.run(one(allocation))
         lines = out.decode().splitlines()[board.found_lines:]
         wrong = disagreement(board, words, iter(lines), replies, True)
         well = status == 0 and len(lines) == len(words) or status == 1 and fault.startswith(b"Error: ")

@@ -7,7 +7,7 @@ prove    proves everything from nothing with `rt ci` (tests and must-fail edits 
          With a kit that keeps what passed, ANEW=1 proves all of it again.
 compare  fails where release/ is not the release of these sources: by the checksum in release/SOURCES, and, where the kit is
          that of the release, byte for byte with build/.
-gate     prove, compare, lint, and then test on what was proved, with the growths of the tests that rt built.
+gate     prove, compare, lint, and then test on what was proved, with the allocations of the tests that rt built.
 release  makes release/ of what build/ holds.
 
 Prints the minutes and the processor minutes of each part. The last line is 'N passed, M failed', over all parts."""
@@ -23,13 +23,13 @@ import time
 import traceback
 from collections.abc import Callable, Iterator, Sequence
 
+import allocations
 import books
 import cubes
 import devices
 import documents
 import events
 import fuzz
-import growths
 import harness
 import hostile
 import hostile_trees
@@ -44,7 +44,7 @@ import reference_values
 import resumes
 import run
 import searches
-import test_growths
+import test_allocations
 import threads
 import workers
 from harness import TOP, Counts, Verdicts
@@ -120,14 +120,14 @@ def scripts(folder: pathlib.Path, with_tests: bool) -> Iterator[Script]:
     yield "books", books.verdicts, [book_events]
     if shutil.which(os.environ.get("CC", "cc")):
         yield "events", events.verdicts, [book_events]
-        yield "refused growths", growths.verdicts, [psmax]
-        yield "refused growths of psprove", growths.verdicts, [psprove, "--proofs"]
+        yield "refused allocations", allocations.verdicts, [psmax]
+        yield "refused allocations of psprove", allocations.verdicts, [psprove, "--proofs"]
         yield "threads", threads.verdicts, [psmax]
         yield "threads of psprove", threads.verdicts, [psprove, "--proofs"]
         if with_tests:
-            yield "growths of tests", test_growths.verdicts, []
+            yield "allocations of tests", test_allocations.verdicts, []
     else:
-        print("left out, for want of a C compiler: refused growths, threads, and growths of lists of events")
+        print("left out, for want of a C compiler: refused allocations, threads, and allocations of lists of events")
         yield "events", events.verdicts, [book_events, "--refused", "0"]
     yield "devices", devices.verdicts, [psmax]
     yield "devices of psprove", devices.verdicts, [psprove, "--proofs"]

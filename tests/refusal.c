@@ -1,7 +1,7 @@
-/* A library that is loaded before the C library's own, and refuses growths of memory and threads of a program that takes
+/* A library that is loaded before the C library's own, and refuses allocations and threads of a program that takes
    these there.
 
-   REFUSE=N refuses the Nth growth, counted from 1; REFUSE=N-M all from the Nth to the Mth; REFUSE=N- all from the Nth on.
+   REFUSE=N refuses the Nth allocation, counted from 1; REFUSE=N-M all from the Nth to the Mth; REFUSE=N- all from the Nth on.
    At the first that is refused one byte is written to the descriptor REFUSE_TO.
    REFUSE_THREADS=N refuses the Nth thread and all after it. */
 #define _GNU_SOURCE
@@ -19,7 +19,7 @@ extern void *__libc_realloc(void *, size_t);
 
 typedef int create_thread(pthread_t *, const pthread_attr_t *, void *(*)(void *), void *);
 
-static atomic_long growths, threads;
+static atomic_long allocations, threads;
 static long first, last, first_thread;
 static int teller;
 
@@ -35,17 +35,17 @@ __attribute__((constructor)) static void begin(void)
     first = last = strtol(range, &end, 10);
     if (*end == '-')
         last = end[1] != '\0' ? atol(end + 1) : LONG_MAX;
-    atomic_store(&growths, 0);
+    atomic_store(&allocations, 0);
 }
 
 static int is_refused(void)
 {
     if (first == 0)
         return 0;
-    long growth = atomic_fetch_add(&growths, 1) + 1;
-    if (growth < first || growth > last)
+    long allocation = atomic_fetch_add(&allocations, 1) + 1;
+    if (allocation < first || allocation > last)
         return 0;
-    if (growth == first && write(teller, "!", 1) != 1)
+    if (allocation == first && write(teller, "!", 1) != 1)
         _exit(99);
     errno = ENOMEM;
     return 1;

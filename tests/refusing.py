@@ -1,4 +1,4 @@
-"""Runs a program while growths of its memory are refused, one after another."""
+"""Runs a program while allocations are refused, one after another."""
 import os
 import pathlib
 import subprocess
@@ -18,29 +18,29 @@ def library(folder: pathlib.Path) -> pathlib.Path:
     return made
 
 
-def one(growth: int) -> str:
-    return f"{growth}"
+def one(allocation: int) -> str:
+    return f"{allocation}"
 
 
-def two(growth: int) -> str:
-    return f"{growth}-{growth + 1}"
+def two(allocation: int) -> str:
+    return f"{allocation}-{allocation + 1}"
 
 
-def all_from(growth: int) -> str:
-    return f"{growth}-"
+def all_from(allocation: int) -> str:
+    return f"{allocation}-"
 
 
 class Refusing:
-    """Runs one program with one input: how it ends where some growths are refused."""
+    """Runs one program with one input: how it ends where some allocations are refused."""
 
     def __init__(self, made: pathlib.Path, words: Sequence[object], text: bytes = b"",
                  folder: pathlib.Path | None = None) -> None:
         self.made, self.words, self.text, self.folder = made, words, text, folder
 
-    def run(self, growths: str | None) -> tuple[Ended, bool]:
-        """How it ends, and whether a growth was refused: the growths of a range, or none for None."""
+    def run(self, allocations: str | None) -> tuple[Ended, bool]:
+        """How it ends, and whether an allocation was refused: the allocations of a range, or none for None."""
         told, teller = os.pipe()
-        env = {} if growths is None else {"REFUSE": growths, "REFUSE_TO": str(teller)}
+        env = {} if allocations is None else {"REFUSE": allocations, "REFUSE_TO": str(teller)}
         ended = self.ended(env, pass_fds=(teller,))
         os.close(teller)
         refused = os.read(told, 1) != b""
@@ -53,7 +53,7 @@ class Refusing:
         return harness.ended(self.words, self.text, seconds, cwd=self.folder, env=env, pass_fds=pass_fds)
 
     def count(self) -> int:
-        """How many growths there are in a run with ample memory: no more than the first so many can be refused."""
+        """How many allocations there are in a run with ample memory: no more than the first so many can be refused."""
         low, high = 0, 1
         while self.run(one(high))[1]:
             low, high = high, 2 * high

@@ -7,7 +7,7 @@ Counts the threads of searches by workers, or with --proofs of those of psprove 
 - Where the Kth thread and all after it are refused, the search ends at once with `cannot start a thread`, status 1 and empty
   outputs. The thread that drops the nodes left is not needed.
 - Growths of memory are refused one by one. `cannot start a thread` comes for those of the starts of threads: as many for each
-  of N workers as for one, one after another. For every other growth `out of memory` comes, or the usual answer.
+  of N workers as for one, one after another. For every other allocation `out of memory` comes, or the usual answer.
 - While `psprove solve --jobs N` runs, whatever options stand beside that, the process has N threads. The search of a cube has
   one, and with `--follow` one more, without which it does not begin.
 - Where the Kth thread that psprove starts and all after it are refused, the search ends at once in the same way, and the record
@@ -86,12 +86,12 @@ def refused(program: str, made: pathlib.Path, folder: pathlib.Path) -> Tried:
 
 
 def grown(program: str, made: pathlib.Path, folder: pathlib.Path, workers: int) -> str:
-    """A letter for each growth that is refused alone: a thread, memory, the usual answer, or something else. A start that is
-    shortest leaves the workers nothing to do, so that the growths are the same in each run."""
+    """A letter for each allocation that is refused alone: a thread, memory, the usual answer, or something else. A start that
+    is shortest leaves the workers nothing to do, so that the allocations are the same in each run."""
     (folder / "second").write_bytes(STARTS)
     refusing = Refusing(made, [program, "solve", "--start", "second", "--workers", workers], TWO, folder)
     letters: dict[Ended, str] = {(1, b"", THREAD): "T", (1, b"", MEMORY): "M", (0, b"optimal 7\n" + STARTS, b""): "u"}
-    runs = (refusing.run(one(growth)) for growth in itertools.count(1))
+    runs = (refusing.run(one(allocation)) for allocation in itertools.count(1))
     return "".join(letters.get(ended, "?") for ended, _ in itertools.takewhile(lambda run: run[1], runs))
 
 
@@ -100,7 +100,7 @@ def told_apart(program: str, made: pathlib.Path, folder: pathlib.Path) -> Tried:
     for workers in (1, 2, 5):
         ends = grown(program, made, folder, workers)
         well = alone > 0 and re.fullmatch("[Mu]*M[Mu]*T{%d}[Mu]*M[Mu]*" % (workers * alone), ends)
-        yield f"growths of {workers} workers", bool(well), ends
+        yield f"allocations of {workers} workers", bool(well), ends
 
 
 def by_jobs(program: str, folder: pathlib.Path) -> Tried:
@@ -149,16 +149,16 @@ def is_part_right(folder: pathlib.Path, is_resumed: bool) -> bool:
 
 
 def jobs_grown(program: str, made: pathlib.Path, folder: pathlib.Path) -> Tried:
-    """Which growths of psprove are those of a thread: none of one job, and the same ones each time of two."""
+    """Which allocations of psprove are those of a thread: none of one job, and the same ones each time of two."""
     (folder / "second").write_bytes(STARTS)
     ends: dict[Ended, str] = {
         (1, b"", NO_THREAD): "T", (1, b"", b"psprove: out of memory\n"): "M", (0, b"optimal 7\n" + STARTS, b""): "u"}
     for jobs in (1, 2):
         refusing = Refusing(made, [program, "solve", "--start", "second", "--jobs", jobs], TWO, folder)
-        runs = (refusing.run(one(growth)) for growth in itertools.count(1))
+        runs = (refusing.run(one(allocation)) for allocation in itertools.count(1))
         letters = "".join(ends.get(ended, "?") for ended, _ in itertools.takewhile(lambda run: run[1], runs))
         well = re.fullmatch("[Mu]*M[Mu]*" if jobs == 1 else "[Mu]*M[Mu]*T+[Mu]*", letters)
-        yield f"growths of {jobs} jobs", bool(well), letters
+        yield f"allocations of {jobs} jobs", bool(well), letters
 
 
 def jobs_refused(program: str, made: pathlib.Path, folder: pathlib.Path) -> Tried:

@@ -1,11 +1,11 @@
 #!/usr/bin/env python3
-"""tests/test_growths.py [--only WORD] [--most N]
+"""tests/test_allocations.py [--only WORD] [--most N]
 
-Refuses each growth of memory of each test of some crates in turn, alone and with the next. The tests are those of the
-programs crates/NAME/out/NAME_tests, which `rt ci` and `rt test` leave. A test has to pass, or to end with want of memory (or
-of a thread) as its error, or with an assertion that found that in place of what it wanted: any other end is an answer that
-changed. Of a test with more than N growths (300 by default) so many are refused, spread evenly, and fewer of one that takes
-long.
+Refuses each allocation of each test of some crates in turn, alone and with the next. The tests are those of the programs
+crates/NAME/out/NAME_tests, which `rt ci` and `rt test` leave. A test has to pass, or to end with want of memory (or of a
+thread) as its error, or with an assertion that found that in place of what it wanted: any other end is an answer that
+changed. Of a test with more than N allocations (300 by default) so many are refused, spread evenly, and fewer of one that
+takes long.
 
 Prints which tests are covered in part. The last line counts the runs."""
 import functools
@@ -56,7 +56,7 @@ def spread(count: int, most: int) -> list[int]:
 
 
 def judged(made: pathlib.Path, most: int, test: Test) -> tuple[int, int, list[Verdict]]:
-    """How many growths a test has, how many of them were refused, and the runs."""
+    """How many allocations a test has, how many of them were refused, and the runs."""
     program, name = test
     refusing = Refusing(made, test)
     start = time.monotonic()
@@ -64,11 +64,11 @@ def judged(made: pathlib.Path, most: int, test: Test) -> tuple[int, int, list[Ve
     affordable = int(SECONDS / (time.monotonic() - start) / 2)
     count, runs = refusing.count(), list[Verdict]()
     numbers = spread(count, max(10, min(most, affordable)))
-    for growth in numbers:
+    for allocation in numbers:
         for refuse in (one, two):
-            (status, _, fault), _ = refusing.run(refuse(growth))
+            (status, _, fault), _ = refusing.run(refuse(allocation))
             well = status == 0 or ENDS.fullmatch(fault)
-            told = f"{program.name} {name}, growth {refuse(growth)}"
+            told = f"{program.name} {name}, allocation {refuse(allocation)}"
             runs.append((told, None if well else f"{status} {fault.decode(errors='replace')}"))
     return count, len(numbers), runs
 
@@ -80,15 +80,15 @@ def verdicts(words: Sequence[str]) -> Verdicts:
     o = parser.parse_args(words)
     programs = [TOP / "crates" / crate / "out" / f"{crate}_tests" for crate in CRATES]
     tests = [test for program in programs for test in tests_of(program) if o.only in f"{program.name} {test[1]}"]
-    growths = covered = 0
+    allocations = covered = 0
     with harness.new_folder() as folder:
         judge = functools.partial(judged, library(folder), o.most)
         for (program, name), (count, refused, runs) in zip(tests, harness.side_by_side(judge, tests)):
-            growths, covered = growths + count, covered + refused
+            allocations, covered = allocations + count, covered + refused
             if refused < count:
-                print(f"{program.name} {name}: {refused} of {count} growths")
+                print(f"{program.name} {name}: {refused} of {count} allocations")
             yield from runs
-    print(f"{len(tests)} tests: {covered} of {growths} growths")
+    print(f"{len(tests)} tests: {covered} of {allocations} allocations")
 
 
 if __name__ == "__main__":

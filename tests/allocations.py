@@ -1,9 +1,9 @@
 #!/usr/bin/env python3
-"""tests/growths.py PROGRAM [--proofs] [--only WORD]
+"""tests/allocations.py PROGRAM [--proofs] [--only WORD]
 
-Refuses each growth of memory of whole calls of psmax, or with --proofs of psprove, in turn: the Nth alone, the Nth and the
-next, and the Nth and all after it, from N = 1 until no growth is refused. Each run has to end with the usual answer, or with
-the fault `out of memory` (with workers also `cannot start a thread`), status 1 and empty outputs.
+Refuses each allocation of whole calls of psmax, or with --proofs of psprove, in turn: the Nth alone, the Nth and the next,
+and the Nth and all after it, from N = 1 until none is refused. Each run has to end with the usual answer, or with the fault
+`out of memory` (with workers also `cannot start a thread`), status 1 and empty outputs.
 
 The last line counts the runs."""
 import collections
@@ -16,27 +16,27 @@ from calls import CALLS, PROOFS, SEARCHES, Call
 from harness import Verdict, Verdicts
 from refusing import Refusing, all_from, library, one, two
 
-AFTER = 3  # so many runs without a refusal end a call: by several threads, growths are not the same in each run
+AFTER = 3  # so many runs without a refusal end a call: by several threads, allocations are not the same in each run
 Ends = collections.Counter[str]
 
 
 def runs_of(made: pathlib.Path, program: str, ends: Ends, call: Call) -> Iterator[Verdict]:
-    """The runs of a call in which growths are refused. Counts how they end."""
+    """The runs of a call in which allocations are refused. Counts how they end."""
     with harness.new_folder() as folder:
         refusing = Refusing(made, [program, *call.words], call.text, folder)
         for refuse in (one, two, all_from):
-            growth, without = 0, 0
+            allocation, without = 0, 0
             while without < AFTER:
-                growth += 1
+                allocation += 1
                 call.put_files(folder)
                 (folder / "record").write_bytes(b"")
-                ended, refused = refusing.run(refuse(growth))
+                ended, refused = refusing.run(refuse(allocation))
                 record = (folder / "record").read_bytes()
                 without = 0 if refused else without + 1
                 usual = call.is_usual(ended, record)
                 well = usual or refused and call.is_want(ended, record)
                 ends["as usual" if usual else ended[2].decode().strip()] += 1
-                yield f"{call.name}, growth {refuse(growth)}", None if well else f"{ended} {record!r}"
+                yield f"{call.name}, allocation {refuse(allocation)}", None if well else f"{ended} {record!r}"
 
 
 def verdicts(words: Sequence[str]) -> Verdicts:
