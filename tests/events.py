@@ -35,7 +35,7 @@ PROJECTS: list[tuple[str, str, list[str], list[str]]] = [
     ("two-jobs-close-lags", "two-jobs", [], ["0,0,3,7"]),
     ("energy-above-critical", "nine-jobs", ["0,0,5,9,13,16", "0,0,9,5,13,16"], []),
 ]
-# Twelve events for a book of two jobs and two workers. Node 3 is the second kid of the root.
+# Twelve events for a book of two jobs and two workers. Node 3 is the second child of the root.
 HOSTILE = ("take:0 back:0 take:1 check:0:0: check:0:0: check:3:0: take:0 offer:0,0,3,7 check:2:3: take:1 halt take:0").split()
 # A report that is checked in again, and the trail that tells of it once.
 AGAIN = "record:1:1000 take:0 check:0:0: check:0:0: trail".split()
@@ -51,7 +51,7 @@ class Node:
     def __init__(self, foreign: bool, pairs: list[str], bound: int = 0) -> None:
         self.foreign, self.pairs, self.bound = foreign, pairs, bound
         self.found: int | None = None
-        self.kids: list[Node] | None = None
+        self.children: list[Node] | None = None
 
 
 class Model:
@@ -121,12 +121,12 @@ class Model:
         improved = found is not None and (self.best is None or found < self.best)
         if improved:
             self.best = found
-        kids = [] if cut_off else [kid for kid in node.kids or [] if ceiling is None or kid.bound < ceiling]
-        kids = [kid for kid in kids if self.best is None or kid.bound < self.best]
-        for kid in kids:
-            self.open[self.opened] = kid
+        children = [] if cut_off else [child for child in node.children or [] if ceiling is None or child.bound < ceiling]
+        children = [child for child in children if self.best is None or child.bound < self.best]
+        for child in children:
+            self.open[self.opened] = child
             self.opened += 1
-        return f"opened {len(kids)} {'improved' if improved else 'as before'}"
+        return f"opened {len(children)} {'improved' if improved else 'as before'}"
 
     def absent(self, name: int) -> str:
         return "unknown" if name >= self.opened else "gone"
@@ -174,20 +174,20 @@ class Board:
         return out.decode().splitlines() + ([] if status == 0 else [f"exit {status}: {fault.decode()}"])
 
     def found(self, lines: Sequence[str]) -> list[Node]:
-        """All nodes that were printed: a block for each that was expanded, the node first and then its kids."""
+        """All nodes that were printed: a block for each that was expanded, the node first and then its children."""
         nodes, place = [Node(False, []), Node(True, [])], -1
         for line in lines:
             kind, *words = line.split()
             if kind == "node":
                 place += 1
                 nodes[place].bound = int(words[0])
-                kids = nodes[place].kids = []
+                children = nodes[place].children = []
             elif kind == "found":
                 nodes[place].found = int(words[-1])
             elif kind == "kid":
-                kid = Node(nodes[place].foreign, words[1:], int(words[0]))
-                kids.append(kid)
-                nodes.append(kid)
+                child = Node(nodes[place].foreign, words[1:], int(words[0]))
+                children.append(child)
+                nodes.append(child)
         return nodes
 
     def list_of_events(self, rng: random.Random) -> list[str]:
@@ -235,7 +235,7 @@ class Board:
         if model.hands and rng.random() < 0.8:
             name, held = rng.choice(list(model.hands.values()))
             same = [other for other in self.nodes if other.pairs == held.pairs]
-            node = held if held.kids is not None and rng.random() < 0.8 else rng.choice(same or self.nodes)
+            node = held if held.children is not None and rng.random() < 0.8 else rng.choice(same or self.nodes)
         ceilings = [None, None, model.best, model.best, node.bound, node.bound + 1, rng.randint(0, 20)]
         ceiling = rng.choice(ceilings)
         place = next(place for place, other in enumerate(self.nodes) if other is node)

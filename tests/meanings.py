@@ -127,10 +127,10 @@ class Tree:
         return None if kept == node else f"{self.schedules.one_of(node & ~kept)} does not keep the pair"
 
     def split(self, node: Node, members: Sequence[int]) -> str | None:
-        kids = [node & self.schedules.keeping(i, j) for i in members for j in members if i != j]
-        self.due += reversed(kids)
-        for kid in kids:
-            node &= ~kid
+        children = [node & self.schedules.keeping(i, j) for i in members for j in members if i != j]
+        self.due += reversed(children)
+        for child in children:
+            node &= ~child
         return f"{self.schedules.one_of(node)} keeps none of the pairs" if node else None
 
     def line(self, text: str) -> str | None:
