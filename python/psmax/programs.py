@@ -64,21 +64,21 @@ class Program:
     def odd(self, job: str) -> Failed:
         return Failed(f"{self.path} {job} gave an answer that plan does not know; is it {self.name}?")
 
-    def call(self, words: Sequence[str], given: bytes | pathlib.Path, seconds: float = SECONDS,
+    def call(self, arguments: Sequence[str], given: bytes | pathlib.Path, seconds: float = SECONDS,
              hear: Callable[[str], None] = lambda line: None, until: str | None = None) -> tuple[int, bytes]:
         """The exit status of a call that answered within these seconds, and its output, or else what it told. It is given
         bytes or a file. Each line that it tells is heard, and one of JSON is no fault. The file `until` asks it to end."""
-        status, out, told = self._run(words, given, seconds, hear, until)
+        status, out, told = self._run(arguments, given, seconds, hear, until)
         told = b"".join(line for line in told.splitlines(True) if not line.startswith(b"{"))
         lines = told.decode("utf-8", "replace").strip().splitlines()
         text = lines[-1].removeprefix(f"{self.name}: ") if lines else ""
         if status == 2 and lines and lines[-1].startswith(f"{self.name}: "):
             raise BadInput(f"{self.project}: {text}")
         if status < 0:
-            raise Failed(f"{self.name} {words[0]} was ended by signal {-status}")
+            raise Failed(f"{self.name} {arguments[0]} was ended by signal {-status}")
         if status in (0, 3, 4):
             return status, out or told
-        raise Failed(f"{self.name} {words[0]} failed, exit status {status}" + (f": {text}" if text else ""))
+        raise Failed(f"{self.name} {arguments[0]} failed, exit status {status}" + (f": {text}" if text else ""))
 
     def judge(self, command: str, project: bytes, given: bytes, seconds: float = SECONDS) -> tuple[int, bytes]:
         """A call of a command that takes the project as a file, and is given what it has to judge."""
@@ -94,13 +94,13 @@ class Program:
         status, out = self.judge("verify", project, record, math.inf)
         return status, out.decode("utf-8", "replace").strip().removeprefix(f"{self.name}: ")
 
-    def _run(self, words: Sequence[str], given: bytes | pathlib.Path, seconds: float, hear: Callable[[str], None],
+    def _run(self, arguments: Sequence[str], given: bytes | pathlib.Path, seconds: float, hear: Callable[[str], None],
              until: str | None) -> tuple[int, bytes, bytes]:
         if self.clock.stopped:
             raise TimeUp
         with given_file(given) as source, tempfile.TemporaryFile() as out, tempfile.TemporaryFile() as told:
             try:
-                child = subprocess.Popen([self.path, *words], stdin=source, stdout=out, stderr=told, start_new_session=True)
+                child = subprocess.Popen([self.path, *arguments], stdin=source, stdout=out, stderr=told, start_new_session=True)
             except OSError as fault:
                 raise Failed(f"cannot start {self.path}: {fault.strerror}") from None
             running, lines = Running(child, out, until), Lines(told)
@@ -113,7 +113,7 @@ class Program:
             for line in lines.new():
                 hear(line)
             if not has_ended:
-                raise TimeUp(f"{self.name} {words[0]} did not end in time, and was killed")
+                raise TimeUp(f"{self.name} {arguments[0]} did not end in time, and was killed")
             out.seek(0)
             told.seek(0)
             return child.returncode, out.read(), told.read()

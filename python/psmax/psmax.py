@@ -55,13 +55,13 @@ class Psmax(Program):
         spelled = Spelled(project)
         with tempfile.TemporaryDirectory(prefix="plan-") as folder:
             record, first = os.path.join(folder, "record"), os.path.join(folder, "start")
-            words = ["solve", "--json", "--nodes", f"{nodes}"]
-            words += [] if workers is None else ["--workers", f"{workers}", "--record", record]
+            arguments = ["solve", "--json", "--nodes", f"{nodes}"]
+            arguments += [] if workers is None else ["--workers", f"{workers}", "--record", record]
             if start is not None:
                 with open(first, "wb") as file:
                     file.write(starts_text(spelled.inward(start)))
-                words += ["--start", first]
-            _, out = self.call(words, spelled.text, self.clock.left())
+                arguments += ["--start", first]
+            _, out = self.call(arguments, spelled.text, self.clock.left())
             try:
                 return of_answer(out, record, spelled)
             except ODD:

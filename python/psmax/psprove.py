@@ -15,7 +15,7 @@ from .psmax import starts_text
 
 Hear = Callable[[Solved], object]
 
-STOPPED = "psprove: the search stopped: "  # how a line begins that says why, other than by a limit of the words
+STOPPED = "psprove: the search stopped: "  # how a line begins that says why, other than by a limit of the arguments
 
 
 @dataclass(frozen=True)
@@ -26,7 +26,7 @@ class Limits:
     jobs: int = 1
     conflicts: int | None = None
 
-    def words(self) -> list[str]:
+    def arguments(self) -> list[str]:
         told = {"--seconds": math.ceil(self.seconds), "--jobs": self.jobs, "--conflicts": self.conflicts}
         return [word for option, value in told.items() if value is not None for word in (option, f"{value}")]
 
@@ -43,12 +43,12 @@ class Psprove(Program):
         spelled = Spelled(project)
         with tempfile.TemporaryDirectory(prefix="plan-") as folder:
             record, first, end = (os.path.join(folder, name) for name in ("record", "start", "end"))
-            words = ["solve", "--json", "--progress", "json", *limits.words(), "--until", end, "--record", record]
+            arguments = ["solve", "--json", "--progress", "json", *limits.arguments(), "--until", end, "--record", record]
             if start is not None and spelled.has(start):
                 with open(first, "wb") as file:
                     file.write(starts_text(spelled.inward(start)))
-                words += ["--start", first]
-            _, out = self.call(words, spelled.text, limits.seconds, lambda line: self.heard(line, spelled, hear), end)
+                arguments += ["--start", first]
+            _, out = self.call(arguments, spelled.text, limits.seconds, lambda line: self.heard(line, spelled, hear), end)
             try:
                 return of_answer(out, record, spelled)
             except ODD:

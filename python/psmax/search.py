@@ -29,7 +29,7 @@ def search(project: Project, psprove: Psprove, known: Known, jobs: int, repairs:
     limits = Limits(clock.left(), jobs)
     try:
         answer = psprove.solve(project, limits, known.starts, known.hear)
-        known.learn(answer, " ".join(["psprove solve", *limits.words()]))
+        known.learn(answer, " ".join(["psprove solve", *limits.arguments()]))
     except TimeUp as fault:
         if fault.args:
             tell(clock, f"{fault}: what it told stands, without a record")

@@ -1,4 +1,4 @@
-"""The command `plan`: runs what its words say, and turns whatever goes wrong into a line each and an exit status."""
+"""The command `plan`: runs what its arguments say, and turns whatever goes wrong into a line each and an exit status."""
 import io
 import os
 import sys
@@ -17,18 +17,18 @@ def run() -> NoReturn:
     sys.exit(main(sys.argv[1:]))
 
 
-def main(words: Sequence[str]) -> int:
+def main(arguments: Sequence[str]) -> int:
     """What ends a run interrupts it from here on, until it is over."""
     try:
         interrupt_once()
-        return answered(words)
+        return answered(arguments)
     except KeyboardInterrupt:
         return failed(INTERRUPTED, "interrupted")
     finally:
         end_at_once()
 
 
-def answered(words: Sequence[str]) -> int:
+def answered(arguments: Sequence[str]) -> int:
     if sys.stderr is None:  # closed by the shell; what is told then goes nowhere
         sys.stderr = open(os.devnull, "w")
     if sys.stdout is None:
@@ -37,7 +37,7 @@ def answered(words: Sequence[str]) -> int:
         if isinstance(stream, io.TextIOWrapper):
             stream.reconfigure(errors="replace")
     try:
-        options = parsed(words)
+        options = parsed(arguments)
         status: int = options.run(options)
         sys.stdout.flush()
         return status

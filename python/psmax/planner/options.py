@@ -1,4 +1,4 @@
-"""The words of the command line."""
+"""The arguments of the command line."""
 import argparse
 import math
 import os
@@ -77,10 +77,12 @@ def parser() -> tuple[Parser, dict[str, Parser]]:
     return top, dict(commands.choices)
 
 
-def parsed(words: Sequence[str]) -> argparse.Namespace:
-    """The words, of which files and options may stand in any order behind the command."""
+def parsed(arguments: Sequence[str]) -> argparse.Namespace:
+    """What the arguments say. Files and options may stand in any order behind the command."""
     top, commands = parser()
-    return commands[words[0]].parse_intermixed_args(words[1:]) if words and words[0] in commands else top.parse_args(words)
+    if arguments and arguments[0] in commands:
+        return commands[arguments[0]].parse_intermixed_args(arguments[1:])
+    return top.parse_args(arguments)
 
 
 def add_solve(one: argparse.ArgumentParser) -> None:
@@ -354,7 +356,7 @@ STATUSES = """exit status:
   4    check found a violation, or verify a wrong record
   130  interrupted before anything was known"""
 
-# Each command: its name, its options, what it does, what it reads and prints, and the words of an example.
+# Each command: its name, its options, what it does, what it reads and prints, and the arguments of an example.
 COMMANDS = (
     ("solve", add_solve, "find a shortest schedule, with a proof",
      """Reads a project. Searches until it has proved a shortest schedule, or until a
