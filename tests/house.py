@@ -1,7 +1,7 @@
 #!/usr/bin/env python3
 """tests/house.py [--names]
 
-Counts what CONTRIBUTING asks to keep small: names that stand twice, small crates and modules, long files, functions and
+Counts what CONTRIBUTING says of words and rooms: names that stand twice, small crates and modules, long files, functions and
 lines; and the lines of all. With --names it prints the names that it counted below each row.
 
 A type's name is that of a struct, an enum, a trait or an alias of a crate. A crate's lines are those of its src/. A
