@@ -8,8 +8,8 @@ import shutil
 import sys
 
 TOP = pathlib.Path(__file__).resolve().parent.parent
-INSTALLED = ("README.md", "docs/*.md", "docs/*.svg", "docs/*.png", "examples/*.md", "examples/*.sch", "examples/*.starts",
-             "examples/hall*", "examples/formats/*", "planner/projects/*")
+INSTALLED = ("README.md", "CHANGELOG.md", "SECURITY.md", "docs/*.md", "docs/*.svg", "docs/*.png", "examples/*.md",
+             "examples/*.sch", "examples/*.starts", "examples/hall*", "examples/formats/*", "planner/projects/*")
 LINK = re.compile(r"\[((?:[^\[\]]|\[[^\]]*\])*)\]\(([^)\s]+)\)")
 
 
