@@ -1,9 +1,9 @@
 #!/usr/bin/env python3
 """tests/allocations.py PROGRAM [--proofs] [--only WORD]
 
-Refuses each allocation of whole calls of psmax, or with --proofs of psprove, in turn: the Nth alone, the Nth and the next,
-and the Nth and all after it, from N = 1 until none is refused. Each run has to end with the usual answer, or with the fault
-`out of memory` (with workers also `cannot start a thread`), status 1 and empty outputs.
+Refuses each allocation of whole calls of psmax, or with --proofs of psprove, in turn: the Nth alone, the Nth and the
+next, and the Nth and all after it, from N = 1 until none is refused. Each run has to end with the usual answer, or with
+the fault `out of memory` (with workers also `cannot start a thread`), status 1 and empty outputs.
 
 The last line counts the runs."""
 import collections

@@ -1,15 +1,15 @@
 #!/usr/bin/env python3
 """tests/events.py PROGRAM [--lists N] [--refused N]
 
-Puts N seeded lists of events (10,000 by default) to search books of small projects, by the program of crates/book_events,
-and compares each reply, and the counts after it, with those of a plain model of a book that is written here. Workers
-take nodes, reports are checked in, often under names that they aren't of, twice, with ceilings that are too low or for
-another project, nodes are given back that nobody has, and schedules are offered. So are twelve hostile events, and these with
-each of them left out and with each of them doubled.
+Puts N seeded lists of events (10,000 by default) to search books of small projects, by the program of
+crates/book_events, and compares each reply, and the counts after it, with those of a plain model of a book that is
+written here. Workers take nodes, reports are checked in, often under names that they aren't of, twice, with ceilings
+that are too low or for another project, nodes are given back that nobody has, and schedules are offered. So are twelve
+hostile events, and these with each of them left out and with each of them doubled.
 
 Then puts N such lists (24 by default), and a report that is checked in again, to books once for each allocation in
-them, which is refused: a check-in or a node that is given back may then be told so, and the book has to be as before; all that
-comes after is again as in the model.
+them, which is refused: a check-in or a node that is given back may then be told so, and the book has to be as before;
+all that comes after is again as in the model.
 
 The last line counts the lists and the runs."""
 import collections
@@ -121,7 +121,8 @@ class Model:
         improved = found is not None and (self.best is None or found < self.best)
         if improved:
             self.best = found
-        children = [] if cut_off else [child for child in node.children or [] if ceiling is None or child.bound < ceiling]
+        made = [] if cut_off else node.children or []
+        children = [child for child in made if ceiling is None or child.bound < ceiling]
         children = [child for child in children if self.best is None or child.bound < self.best]
         for child in children:
             self.open[self.opened] = child
@@ -253,7 +254,8 @@ def hostile_lists() -> Iterator[list[str]]:
 
 def disagreement(board: Board, words: Sequence[str], lines: Iterator[str], replies: Replies,
                  refused: bool = False) -> str | None:
-    """The first reply or counts that aren't the model's, or None. A refused allocation may end the program, or be told once."""
+    """The first reply or counts that aren't the model's, or None. A refused allocation may end the program, or be told
+    once."""
     model = board.model(words[0])
     for word in words:
         got = next(lines, "nothing")

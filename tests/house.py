@@ -1,8 +1,8 @@
 #!/usr/bin/env python3
 """tests/house.py [--names]
 
-Counts what CONTRIBUTING says of words and rooms: names that stand twice, small crates and modules, long files, functions and
-lines; and the lines of all. With --names it prints the names that it counted below each row.
+Counts what CONTRIBUTING says of words and rooms: names that stand twice, small crates and modules, long files,
+functions and lines; and the lines of all. With --names it prints the names that it counted below each row.
 
 A type's name is that of a struct, an enum, a trait or an alias of a crate. A crate's lines are those of its src/. A
 function's lines are those of its body, in Python with its head. Modules are those of python/psmax."""
@@ -76,7 +76,8 @@ def functions(path: pathlib.Path, lines: Sequence[str]) -> Iterator[tuple[str, i
 
 def wide_lines(files: Texts, suffixes: Iterable[str]) -> list[str]:
     """Lines beyond the width of their kind, but those of tables."""
-    return [f"{path}:{i + 1}" for path, lines in files.items() if path.suffix in suffixes for i, line in enumerate(lines)
+    return [f"{path}:{i + 1}" for path, lines in files.items() if path.suffix in suffixes
+            for i, line in enumerate(lines)
             if len(line) > WIDEST[path.suffix] and not (path.suffix == ".md" and line.startswith("|"))]
 
 

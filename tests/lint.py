@@ -1,8 +1,8 @@
 #!/usr/bin/env python3
 """tests/lint.py
 
-Checks the types and the style of scripts: those in Python by mypy and flake8, those of the shell by shellcheck. Says which of
-these tools are not here. Prints last 'N passed, M failed', over the tools."""
+Checks the types and the style of scripts: those in Python by mypy and flake8, those of the shell by shellcheck. Says
+which of these tools are not here. Prints last 'N passed, M failed', over the tools."""
 import os
 import shutil
 from collections.abc import Sequence

@@ -86,8 +86,8 @@ def refused(program: str, made: pathlib.Path, folder: pathlib.Path) -> Tried:
 
 
 def grown(program: str, made: pathlib.Path, folder: pathlib.Path, workers: int) -> str:
-    """A letter for each allocation that is refused alone: a thread, memory, the usual answer, or something else. A start that
-    is shortest leaves the workers nothing to do, so that the allocations are the same in each run."""
+    """A letter for each allocation that is refused alone: a thread, memory, the usual answer, or something else. A
+    start that is shortest leaves the workers nothing to do, so that the allocations are the same in each run."""
     (folder / "second").write_bytes(STARTS)
     refusing = Refusing(made, [program, "solve", "--start", "second", "--workers", workers], TWO, folder)
     letters: dict[Ended, str] = {(1, b"", THREAD): "T", (1, b"", MEMORY): "M", (0, b"optimal 7\n" + STARTS, b""): "u"}

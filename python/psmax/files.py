@@ -21,7 +21,8 @@ Stamp = tuple[int, int, int] | None  # when a file was changed, its size and its
 
 
 def read_bytes(path: str, most: int | None = LARGEST) -> bytes:
-    """What the file holds, or standard input, up to one byte more than the programs would read; all where there is no most."""
+    """What the file holds, or standard input, up to one byte more than the programs would read; all where there is no
+    most."""
     if path == DASH:
         return read_input(None)
     try:
@@ -82,7 +83,8 @@ def guard(outputs: Sequence[str | None], inputs: Mapping[str, str]) -> None:
 
 
 def must_be_like(path: str | None, begin: bytes, what: str) -> None:
-    """Tells before anything is done that a file which would be replaced is none of its kind, but a plan, for example."""
+    """Tells before anything is done that a file which would be replaced is none of its kind, but a plan, for
+    example."""
     there = read_bytes(path) if path is not None and os.path.isfile(path) else b""
     if there.strip() and not there.removeprefix(MARK).startswith(begin):
         raise BadInput(f"{path} is there, and no {what}, and would be lost; name another file")
@@ -161,8 +163,8 @@ class Saves:
         self.seen: dict[str, Stamp] = {}
 
     def look(self, paths: Iterable[str]) -> bool:
-        """Whether a file is to be read again, since it differs from when it was read, and not from the last look. It has been
-        read then."""
+        """Whether a file is to be read again, since it differs from when it was read, and not from the last look. It
+        has been read then."""
         now = {path: stamp(path) for path in paths}
         rests, self.seen = now == self.seen, now
         if not rests or now == self.read:

@@ -1,4 +1,5 @@
-"""What is known of a project while it is searched: the incumbent, which is the best schedule so far, and the lower bound."""
+"""What is known of a project while it is searched: the incumbent, which is the best schedule so far, and the lower
+bound."""
 from collections.abc import Callable, Sequence
 from dataclasses import dataclass
 

@@ -100,7 +100,8 @@ class Program:
             raise TimeUp
         with given_file(given) as source, tempfile.TemporaryFile() as out, tempfile.TemporaryFile() as told:
             try:
-                child = subprocess.Popen([self.path, *arguments], stdin=source, stdout=out, stderr=told, start_new_session=True)
+                child = subprocess.Popen([self.path, *arguments], stdin=source, stdout=out, stderr=told,
+                                         start_new_session=True)
             except OSError as fault:
                 raise Failed(f"cannot start {self.path}: {fault.strerror}") from None
             running, lines = Running(child, out, until), Lines(told)

@@ -1,6 +1,6 @@
-"""A project as a text of psmax's, and back (docs/FORMAT.md). An absence is a fixed activity that nobody sees. The end of the
-text starts `offset` after what is minimized, so that neither an absence beyond the last activity nor a negative lateness
-changes what is shortest:
+"""A project as a text of psmax's, and back (docs/FORMAT.md). An absence is a fixed activity that nobody sees. The end
+of the text starts `offset` after what is minimized, so that neither an absence beyond the last activity nor a negative
+lateness changes what is shortest:
 
     the start of the text's end = offset + the makespan, or offset + the greatest lateness
 
@@ -90,7 +90,8 @@ class Spelled:
 
     @cached_property
     def horizon(self) -> int:
-        """A schedule with a gap before which all lags are over can be pushed together there, so a shortest one has none."""
+        """A schedule with a gap before which all lags are over can be pushed together there, so a shortest one has
+        none."""
         longest = [*self.project.durations]
         for tail, _, lag in self.project.arcs:
             longest[tail] = max(longest[tail], lag)
@@ -99,7 +100,8 @@ class Spelled:
 
     @cached_property
     def absences(self) -> list[tuple[int, int]]:
-        """When each begins and ends. What is away for ever is away up to the horizon, and nobody needs it behind that."""
+        """When each begins and ends. What is away for ever is away up to the horizon, and nobody needs it behind
+        that."""
         return [(one.begins, one.ends if one.ends is not None else max(one.begins, self.horizon))
                 for one in self.project.absences]
 

@@ -1,9 +1,9 @@
 """Searches of a project, which run until everything is known or the time is over.
 
-What psprove's book holds is known as soon as psprove tells it, so whatever ends the search loses none. psmax answers only at
-its end, so it searches in slices of nodes, each from the best schedule so far: what a search that is stopped knows is what
-the slices before know. The first slice goes depth first, which finds a schedule soon; the others raise the bound, and have a
-record."""
+What psprove's book holds is known as soon as psprove tells it, so whatever ends the search loses none. psmax answers
+only at its end, so it searches in slices of nodes, each from the best schedule so far: what a search that is stopped
+knows is what the slices before know. The first slice goes depth first, which finds a schedule soon; the others raise
+the bound, and have a record."""
 from collections.abc import Sequence
 from contextlib import suppress
 

@@ -1,5 +1,5 @@
-"""The table of a batch: a row for each project, kept in a file; several tables made one; and tables of published bounds, which
-its rows must not contradict."""
+"""The table of a batch: a row for each project, kept in a file; several tables made one; and tables of published
+bounds, which its rows must not contradict."""
 import os
 import re
 from collections.abc import Sequence

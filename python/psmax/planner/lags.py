@@ -1,4 +1,5 @@
-"""The lags of a table: what its columns `after`, `at least`, `at most` and `predecessors` say, as arcs from start to start."""
+"""The lags of a table: what its columns `after`, `at least`, `at most` and `predecessors` say, as arcs from start to
+start."""
 import datetime
 import difflib
 import re
@@ -28,8 +29,8 @@ DAY = datetime.timedelta(days=1)
 
 @dataclass(frozen=True)
 class CalendarLag:
-    """So many calendar days from the end or the start of one activity to the start of another, at least or at most, for what
-    goes on over days off. They become the periods that keep them wherever they begin."""
+    """So many calendar days from the end or the start of one activity to the start of another, at least or at most, for
+    what goes on over days off. They become the periods that keep them wherever they begin."""
 
     place: int  # of its arc in the project
     days: int
@@ -59,8 +60,8 @@ def periods(calendar: Calendar, days: int, from_end: bool, is_least: bool, time:
 
 
 def everywhere(calendar: Calendar, days: int, from_end: bool, is_least: bool) -> tuple[int, int]:
-    """The periods that keep the lag wherever it begins, and those where it begins on the best of days. Far from holidays one
-    week is like another."""
+    """The periods that keep the lag wherever it begins, and those where it begins on the best of days. Far from
+    holidays one week is like another."""
     plain, least = calendar.without_holidays(), int(from_end)
     found = {periods(plain, days, from_end, is_least, time) for time in range(least, plain.round() + 1)}
     for holiday in calendar.holidays_of():
@@ -125,7 +126,8 @@ class Lags:
                 self.add(row, Column.AT_MOST, before, activity, base, high, False)
 
     def add(self, row: Row, column: Column, before: int, activity: int, base: int, length: Length, is_least: bool) -> None:
-        """One arc: the activity starts so long after `base` periods after the start of the other, at least or at most."""
+        """One arc: the activity starts so long after `base` periods after the start of the other, at least or at
+        most."""
         column = column if column in row.terms.columns.places else Column.AFTER
         if length.unit is Unit.CALENDAR_DAYS:
             periods = self.from_calendar(row, column, before, base, length, is_least)

@@ -1,4 +1,5 @@
-"""The command `plan`: runs what its arguments say, and turns whatever goes wrong into a line each and an exit status."""
+"""The command `plan`: runs what its arguments say, and turns whatever goes wrong into a line each and an exit
+status."""
 import io
 import os
 import sys

@@ -1,5 +1,5 @@
-"""A page of HTML: what it shows of a schedule, each part by the name of its place in `page.html`; and its file, which has
-these parts, its style and its script, and nothing from elsewhere."""
+"""A page of HTML: what it shows of a schedule, each part by the name of its place in `page.html`; and its file, which
+has these parts, its style and its script, and nothing from elsewhere."""
 import base64
 import hashlib
 import json
@@ -235,8 +235,8 @@ def held(words: Words, starts: tuple[int, ...], activity: int) -> list[str]:
 
 @dataclass(frozen=True)
 class More:
-    """What a page has that follows a table: markup above the schedule and below its chart, style, script, and whom it may
-    ask."""
+    """What a page has that follows a table: markup above the schedule and below its chart, style, script, and whom it
+    may ask."""
 
     above: str = ""
     below: str = ""

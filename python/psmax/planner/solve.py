@@ -1,4 +1,5 @@
-"""`plan solve`: a search by psprove with names, dates and files, or many of its cubes. What it says psprove has proved."""
+"""`plan solve`: a search by psprove with names, dates and files, or many of its cubes. What it says psprove has
+proved."""
 import json
 import platform
 import sys
@@ -88,7 +89,8 @@ def give(known: Known, opened: ProjectFile, options: Options, kept: AnswerFile |
 
 
 def as_json(known: Known, opened: ProjectFile) -> str:
-    """What is known as one line, with the keys of psmax first. Where the lateness is minimized, the bound is one of it."""
+    """What is known as one line, with the keys of psmax first. Where the lateness is minimized, the bound is one of
+    it."""
     starts = None if known.starts is None else opened.project.plain(known.starts)
     lateness = {"lateness": known.value} if known.goal is Goal.LATENESS else {}
     told: dict[str, object] = {
@@ -117,9 +119,9 @@ def versions() -> dict[str, str]:
 
 
 def once_more(known: Known, opened: ProjectFile, project: Project) -> None:
-    """What one more run would give, where calendar days ask for fewer periods at the dates of the schedule than they do on the
-    worst of days. Each lag that holds something back gets what the schedule's dates ask for, and what it begins with keeps its
-    date, so the dates stay true."""
+    """What one more run would give, where calendar days ask for fewer periods at the dates of the schedule than they do
+    on the worst of days. Each lag that holds something back gets what the schedule's dates ask for, and what it begins
+    with keeps its date, so the dates stay true."""
     calendar, starts = opened.calendar, known.starts
     if opened.table is None or calendar is None or starts is None or not known.settled or known.clock.stopped:
         return

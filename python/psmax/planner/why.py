@@ -24,8 +24,8 @@ MANY = 4  # times those of the first proof
 
 @dataclass
 class Core:
-    """A smallest set of maximum lags, resources and absences that contradict each other: without any one of them there is a
-    schedule."""
+    """A smallest set of maximum lags, resources and absences that contradict each other: without any one of them there
+    is a schedule."""
 
     project: Project  # which has no schedule
     fixed: set[Part]  # that nobody asks about: a deadline, and what has started
@@ -37,8 +37,8 @@ class Core:
         return [part for part in parts(self.project) if part not in self.fixed and part not in self.gone]
 
     def shrink(self, psprove: Psprove, conflicts: int) -> None:
-        """Leaves out one part after the other where psprove proves that there is still no schedule. The first proof took
-        so many conflicts. What is left when the time is over may have parts that are not needed."""
+        """Leaves out one part after the other where psprove proves that there is still no schedule. The first proof
+        took so many conflicts. What is left when the time is over may have parts that are not needed."""
         for part in self.parts():
             limits = Limits(psprove.clock.left(), conflicts=max(LEAST, MANY * conflicts))
             answer = psprove.ask(without(self.project, {*self.gone, part}), limits)
