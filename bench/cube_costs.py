@@ -30,11 +30,10 @@ from psmax.cubes import cube  # noqa: E402
 from psmax.cubes.driver import Driver, used  # noqa: E402
 from psmax.cubes.machines import Machines  # noqa: E402
 from psmax.cubes.tree import Driven  # noqa: E402
-from psmax.known import Known  # noqa: E402
-from psmax.project import parse  # noqa: E402
+from psmax.incumbent import Known  # noqa: E402
+from psmax.project_text import Spelled, parse  # noqa: E402
 from psmax.psmax import starts_text  # noqa: E402
 from psmax.psprove import Psprove  # noqa: E402
-from psmax.spelled import Spelled  # noqa: E402
 
 HEADS = ("project", "one: s", "conflicts", "machines", "cubes", "s", "conflicts", "longest", "takes", "speed-up", "logs, MB",
          "record, MB", "join, s", "verify, s", "proved")

@@ -77,7 +77,7 @@ class Driver:
             found = Psprove(clock, f"{self.tree.folder}").solve(self.spelled.project, limits, None, self.known.hear)
         except TimeUp:  # what it told is known
             return
-        self.known.learn(replace(found, record=b""), " ".join(["psprove solve", *limits.words()]))
+        self.known.learn(replace(found, record=b""), " ".join(["psprove solve", *limits.arguments()]))
         self.tree.keep_first(found.record, state="refuted" if found.settled else "open", starts=self.best(),
                              conflicts=found.conflicts, record_bytes=len(found.record), seconds=round(used() - before, 3))
 
