@@ -11,7 +11,7 @@ import harness
 from harness import TOP, Verdicts
 
 TOOLS: dict[str, list[str]] = {
-    "mypy": [], "flake8": [], "shellcheck": ["--severity=warning", "psmax", "psprove", "bench/slurm-local"]}
+    "mypy": [], "flake8": [], "shellcheck": ["psmax", "psprove", "bench/slurm-local"]}
 SECONDS = 600
 
 
