@@ -11,7 +11,7 @@ use std::sync::atomic::{AtomicU64, Ordering};
 use std::sync::ledger::Ledger;
 use std::sync::{Arc, Mutex, Wait};
 use std::thread;
-use worker::{Gate, Moment, Shared};
+use worker::{Gate, Key, Moment, Shared};
 
 /// Whom a gate holds.
 #[derive(Clone, Copy, Debug, PartialEq, Eq)]
@@ -25,6 +25,8 @@ pub(crate) enum Holds {
     Ended(u64),
     /// It has no memory for any node.
     WithoutMemory,
+    /// It makes each report under a ceiling of 1, of which the book knows nothing.
+    Low,
     /// The workers with the nodes 5 and 6 until both are taken. This one of them makes reports under a ceiling of 1,
     /// and there is no memory for the other.
     Fails(usize),
@@ -228,6 +230,7 @@ impl Gate for Watch {
         }
         match self.holds {
             Holds::WithoutMemory => return Err(AllocError),
+            Holds::Low => return searcher.expand_here(alloc, node, Some(1)),
             Holds::Fails(refused) => return self.fail(alloc, refused, searcher, node),
             Holds::Second if call == 1 => self.wait_for(&self.accepted, 2),
             _ => {}
@@ -244,8 +247,9 @@ fn answer(is: bool) -> u64 {
 /// A gate that acts once the root is taken: it gives the root back behind its worker's back, or offers a schedule. It
 /// makes the first reports under a ceiling of its own.
 #[derive(Drop)]
-pub(crate) struct Meddler<'a, L: Ledger> {
-    pub(crate) shared: &'a Shared<L>,
+pub(crate) struct Meddler<'a, L: Ledger, S: Ledger> {
+    pub(crate) shared: &'a Shared<L, S>,
+    pub(crate) key: Mutex<Key<S>>,
     /// The node that is given back.
     pub(crate) gives_back: Option<u64>,
     pub(crate) start: Mutex<Option<Schedule>>,
@@ -260,7 +264,7 @@ pub(crate) struct Meddler<'a, L: Ledger> {
     pub(crate) given_back: AtomicU64,
 }
 
-impl<'a, L: Ledger> Meddler<'a, L> {
+impl<'a, L: Ledger, S: Ledger> Meddler<'a, L, S> {
     /// What it was answered, and how often it was called.
     pub(crate) fn heard(&self, alloc: Global) -> Result<String, AllocError> {
         let offered = self.offered.load(Ordering::SeqCst);
@@ -270,18 +274,19 @@ impl<'a, L: Ledger> Meddler<'a, L> {
     }
 }
 
-impl<'a, L: Ledger + Sync> Gate for Meddler<'a, L> {
+impl<'a, L: Ledger + Sync, S: Ledger + Send + Sync> Gate for Meddler<'a, L, S> {
     fn pass<R: Wait>(&self, rt: &R, _worker: usize, moment: Moment) {
         let Moment::Taken { name } = moment else {
             return;
         };
+        let mut key = self.key.lock(rt);
         if self.gives_back == Some(name) {
-            let given = self.shared.give_back(rt, name).is_ok();
+            let given = self.shared.give_back(rt, &mut *key, name).is_ok();
             self.given_back.store(answer(given), Ordering::SeqCst);
         }
         let start = self.start.lock(rt).take();
         if let Some(start) = start {
-            let improved = matches!(self.shared.offer(rt, start), Ok(true));
+            let improved = matches!(self.shared.offer(rt, &mut *key, start), Ok(true));
             self.offered.store(answer(improved), Ordering::SeqCst);
         }
     }
@@ -310,13 +315,14 @@ impl<'a, L: Ledger + Sync> Gate for Meddler<'a, L> {
 /// A gate that gives the root back behind the back of its first worker, once the other had turns to wait for a node,
 /// and holds that worker until a report was accepted.
 #[derive(Drop)]
-pub(crate) struct Waker<'a, L: Ledger> {
-    pub(crate) shared: &'a Shared<L>,
+pub(crate) struct Waker<'a, L: Ledger, S: Ledger> {
+    pub(crate) shared: &'a Shared<L, S>,
+    pub(crate) key: Mutex<Key<S>>,
     pub(crate) taken: AtomicU64,
     pub(crate) watch: Watch,
 }
 
-impl<'a, L: Ledger + Sync> Gate for Waker<'a, L> {
+impl<'a, L: Ledger + Sync, S: Ledger + Send + Sync> Gate for Waker<'a, L, S> {
     fn pass<R: Wait>(&self, rt: &R, worker: usize, moment: Moment) {
         self.watch.pass(rt, worker, moment);
         let Moment::Taken { name: 0 } = moment else {
@@ -328,7 +334,7 @@ impl<'a, L: Ledger + Sync> Gate for Waker<'a, L> {
         for _ in 0..100_000u32 {
             thread::yield_now();
         }
-        let _ = self.shared.give_back(rt, 0);
+        let _ = self.shared.give_back(rt, &mut *self.key.lock(rt), 0);
         self.watch.wait_for(&self.watch.accepted, 1);
     }
 }

@@ -166,6 +166,20 @@ fn workers_are_as_many_as_asked_for(rt: HostRuntime) -> Result<(), Fail> {
     plays(&rt, rt.alloc(), &rows, Holds::Ended(8))
 }
 
+#[test]
+fn faults_are_those_of_the_workers(rt: HostRuntime) -> Result<(), Fail> {
+    let without = [
+        "solve --workers 1; two jobs \
+        -> 2 moments, 1 calls, gave up 0: 1 out of memory|||",
+    ];
+    plays(&rt, rt.alloc(), &without, Holds::WithoutMemory)?;
+    let refused = [
+        "solve --workers 1; two jobs \
+        -> 2 moments, 2 calls, gave up 0: 1 search refused|||",
+    ];
+    plays(&rt, rt.alloc(), &refused, Holds::Low)
+}
+
 /// Two threads that expand at the same time give a record that proves their answer.
 #[test]
 fn records_of_two_threads_are_right(rt: HostRuntime) -> Result<(), Fail> {

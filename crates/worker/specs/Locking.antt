@@ -1,11 +1,61 @@
--- What a locked section does to the book when a worker ends before the search is over.
-use Rattle.std.specs.Prelude.{◌≡◌, ◌≢◌, ℕ, true, Result}
+-- What is done under the lock, and how the holder of a key counts it.
+use Rattle.std.specs.Prelude.{◌≡◌, ◌≢◌, ◌+◌, ◌≤◌, ℕ, true, Option, Some, None, Result}
 use Rattle.book.specs.State.{BookState}
 use Rattle.book.specs.Steps.{GivesBack}
 use Rattle.book.specs.declared.answers.CheckFault.{CheckFault}
 use Rattle.book.specs.declared.answers.CheckFault.TheVariants as fault
+use Rattle.book.specs.declared.answers.Take.{Take}
+use Rattle.book.specs.declared.answers.Take.TheVariants as answer
 use Rattle.worker.specs.declared.fault.WorkFault.{WorkFault}
 use Rattle.worker.specs.declared.fault.WorkFault.TheVariants as work_fault
+
+-- ---- What was done with one key.
+
+pub record Steps : Type 0 where
+  -- nodes taken
+  pub tickets : ℕ
+  -- how often a worker was told that there is no node for it any more
+  pub dismissals : ℕ
+  -- all else: reports that were judged, nodes given back, schedules offered, and ends of the search
+  pub others : ℕ
+
+abbrev pub steps_of_none : Steps
+steps_of_none = record { tickets = 0; dismissals = 0; others = 0 }
+
+abbrev pub IsTicketMore : Steps → Steps → Type 0
+IsTicketMore old new = new ≡ record old { tickets = old.tickets + 1 }
+
+abbrev pub IsDismissalMore : Steps → Steps → Type 0
+IsDismissalMore old new = new ≡ record old { dismissals = old.dismissals + 1 }
+
+-- one step more, which is no take
+abbrev pub IsOneMore : Steps → Steps → Type 0
+IsOneMore old new = new ≡ record old { others = old.others + 1 }
+
+-- two steps more, which are no takes
+abbrev pub IsTwoMore : Steps → Steps → Type 0
+IsTwoMore old new = new ≡ record old { others = old.others + 2 }
+
+-- any steps more, none of which is a take
+abbrev pub TakesNone : Steps → Steps → Type 0
+TakesNone old new = (old.others ≤ new.others) × (new ≡ record old { others = new.others })
+
+-- at most so many steps more, none of which is a take
+abbrev pub MakesAtMost : ℕ → Steps → Steps → Type 0
+MakesAtMost most old new = (new.others ≤ old.others + most) × TakesNone old new
+
+-- a take counts as what it was answered with; a worker that has to wait has not been answered
+abbrev pub CountsTake : Steps → Take → Steps → Type 0
+CountsTake old (answer.Ticket ticket) new = IsTicketMore old new
+CountsTake old answer.Idle new = new ≡ old
+CountsTake old other new = IsDismissalMore old new
+
+-- a node was taken, or there is none any more
+abbrev pub CountsAnswer : {A : Type 0} → Steps → Option A → Steps → Type 0
+CountsAnswer old (Some ticket) new = IsTicketMore old new
+CountsAnswer old None new = IsDismissalMore old new
+
+-- ---- What a locked section does to the book when a worker ends before the search is over.
 
 -- the search is ended
 abbrev pub Halts : BookState → BookState → Type 0
@@ -28,3 +78,8 @@ pub record Stops (old : BookState) (name : ℕ) (why : CheckFault) (ended : Work
   pub memory : why ≡ fault.Memory → GivesBackAndHalts old name new
   pub refused : why ≢ fault.Memory → Halts old new
   pub end : IsEndFor why ended
+
+-- the two steps of a worker without memory, or the one of a worker whose report was refused
+pub record CountsStop (old : Steps) (why : CheckFault) (new : Steps) : Type 0 where
+  pub memory : why ≡ fault.Memory → IsTwoMore old new
+  pub refused : why ≢ fault.Memory → IsOneMore old new

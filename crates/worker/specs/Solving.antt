@@ -1,5 +1,7 @@
 -- What a search by workers says in the end.
-use Rattle.std.specs.Prelude.{◌≡◌, ◌+◌, ◌<◌, ◌≤ℤ◌, ◌↔◌, ℕ, ℤ, [], Option, None, Some, IfSome, IsSomeAnd, length, sum, vec_len, ◌≢◌, ◌⊎◌, Result, Ok, Err}
+use Rattle.std.specs.Prelude.{◌≡◌, ◌+◌, ◌<◌, ◌≤ℤ◌, ◌↔◌, ℕ, ℤ, Bool, true, false, List, [], ◌∷◌, Option, None, Some, IfSome, IsSomeAnd, length, sum, vec_len, ◌≢◌, ◌⊎◌, Result, Ok, Err}
+use Rattle.std.specs.Option.{option_or}
+use Rattle.std.specs.Result.{result_err}
 use Rattle.network.specs.Problem.{Problem}
 use Rattle.network.specs.Schedule.{ScheduleOf, makespan}
 use Rattle.branching.specs.Fair.{ceiling_of}
@@ -12,7 +14,7 @@ use Rattle.trail.specs.Trail.{TrailOf}
 use Rattle.book.specs.Sound.{known_bounds}
 use Rattle.trail.specs.RightTrail.{IsWholeTree}
 use Rattle.worker.specs.declared.solution.Solved.{Solved}
-use Rattle.book.specs.Steps.{AreAllowed}
+use Rattle.book.specs.Steps.{AreAllowed, Improves}
 use Rattle.book.specs.declared.answers.BookFault.{BookFault}
 use Rattle.book.specs.declared.answers.BookFault.TheVariants as book_fault
 use Rattle.book.specs.declared.answers.CheckFault.{CheckFault}
@@ -38,6 +40,15 @@ IsOutcomeOf s (Optimal best) = (live s ≡ []) × (s.best ≡ Some best)
 IsOutcomeOf s NoSchedule = (live s ≡ []) × (s.best ≡ None)
 IsOutcomeOf s (Stopped best bound) =
     (0 < length (live s)) × (s.best ≡ best) × IsLeast (known_bounds s) (Some bound)
+
+-- the best of a book to which a schedule was offered, if there was one
+abbrev pub IsBestAfter : BookState → Option ScheduleOf → Option ScheduleOf → Type 0
+IsBestAfter s start best = (improved : Bool) × Improves s.best start improved best
+
+-- what a book says in the end to which a schedule was offered, if there was one
+abbrev pub IsOutcomeAfter : BookState → Option ScheduleOf → Outcome → Type 0
+IsOutcomeAfter s start outcome =
+    (best : Option ScheduleOf) × IsBestAfter s start best × IsOutcomeOf (record s { best = best }) outcome
 
 -- The outcome is true of the project, and tells no longer schedule than the start, if there was one. The counts of the
 -- book add up. The outcome is Stopped exactly where nodes are left open or in hand, and then as many were taken as may
@@ -77,6 +88,17 @@ IsWorkFault (work_fault.Refused why) found = found ≡ fault.Refused why
 -- a fault of a worker: want of memory, or a refusal of the book
 abbrev pub IsOfWork : SolveFault → Type 0
 IsOfWork found = (why : WorkFault) × IsWorkFault why found
+
+-- the fault of the first worker that had one, where each stands beside how it ended
+abbrev pub first_fault : {D : Type 0} → List (D × Result (Unit {0}) WorkFault) → Option WorkFault
+first_fault [] = None
+first_fault (e ∷ ends) = option_or (result_err e.1) (first_fault ends)
+
+-- a search of which a thread could not be started ends with Thread, any other with the first fault of its workers
+abbrev pub EndsSearch : Bool → Option WorkFault → Result (Unit {0}) SolveFault → Type 0
+EndsSearch false first ended = ended ≡ Err fault.Thread
+EndsSearch true None ended = ended ≡ Ok tt
+EndsSearch true (Some why) ended = (found : SolveFault) × (ended ≡ Err found) × IsWorkFault why found
 
 -- why a node can't be given back
 abbrev pub IsOfGivingBack : CheckFault → Type 0

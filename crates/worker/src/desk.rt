@@ -2,18 +2,20 @@
 
 ghost use Rattle.std.specs.Prelude.{◌≡◌, ◌≤◌};
 
+use crate::key::Key;
 use best_word::BestSeat;
 use branching::Searcher;
 use std::sync::ledger::{Ledger, Share};
 
 /// One worker's place at a [`Shared`](crate::Shared) book. It has the worker's number and counts, its share of the
-/// nodes checked in, and its seat at the best word.
+/// nodes checked in, its key to the lock, and its seat at the best word.
 #[derive(Drop)]
-pub struct Desk<L: Ledger> {
+pub struct Desk<L: Ledger, S: Ledger> {
     pub(crate) number: usize,
     pub(crate) accepted: u64,
     pub(crate) ahead: u64,
     pub(crate) share: Share<L>,
+    pub(crate) key: Key<S>,
     pub(crate) seat: BestSeat,
     /// Made with the first node that is taken.
     pub(crate) searcher: Option<Searcher>,
@@ -22,7 +24,7 @@ pub struct Desk<L: Ledger> {
     ghost fits: { accepted ≤ 1000000000 },
 }
 
-impl<L: Ledger> Desk<L> {
+impl<L: Ledger, S: Ledger> Desk<L, S> {
     /// The number of its worker.
     pub fn number(&self) -> usize
         ensures { result ≡ self.now.number }

@@ -9,18 +9,22 @@
 //! best word tells it of shorter schedules that others found meanwhile.
 #![tactic(auto)]
 
+mod blanks;
 mod desk;
 mod fault;
 mod gate;
+mod key;
 mod locked;
 mod serving;
 mod shared;
 mod solution;
 mod threads;
 
+pub use blanks::Blanks;
 pub use desk::{Desk, Tally};
 pub use fault::SolveFault;
 pub use gate::{Gate, Moment, OpenGate};
+pub use key::Key;
 pub use serving::work;
 pub use shared::Shared;
 pub use solution::{Solved, search};

@@ -3,7 +3,8 @@
 ghost use Rattle.std.specs.Prelude.{◌≡◌, ◌≤◌, IfOk, IfErr};
 ghost use Rattle.std.specs.Arc.{arc_value};
 ghost use Rattle.branching.specs.Path.{IsAt};
-ghost use Rattle.worker.specs.Desks.{SeatedAt, StaysAt, CountsAccepted};
+ghost use Rattle.worker.specs.Desks.{SeatedAt, StaysAt, CountsAccepted, CountsEnd};
+ghost use Rattle.worker.specs.Locking.{MakesAtMost, TakesNone};
 ghost use Rattle.worker.specs.Solving.{IsOfWork};
 
 use crate::desk::Desk;
@@ -37,19 +38,20 @@ fn searcher_at(alloc: Global, kept: Option<Searcher>, node: &Lean) -> Result<Sea
     Ok(searcher)
 }
 
-impl<L: Ledger> Shared<L> {
+impl<L: Ledger, S: Ledger> Shared<L, S> {
     /// Expands a node without the lock, and checks the report in: the makespan that it found.
     fn attempt<G: Gate, R: Wait>(
         &self,
         rt: &R,
         alloc: Global,
-        desk: &mut Desk<L>,
+        desk: &mut Desk<L, S>,
         gate: &G,
         searcher: &mut Searcher,
         ticket: &Ticket,
     ) -> Result<Option<i64>, CheckFault>
         requires { IsAt searcher.old (arc_value ticket.now.node) }
         ensures stays { searcher.new ≡ searcher.old }
+        ensures one_report { MakesAtMost 1 desk.old.key desk.new.key }
         ensures same { (desk.new.number ≡ desk.old.number) × (desk.new.seat ≡ desk.old.seat) }
         ensures counts { CountsAccepted desk.old result desk.new }
     {
@@ -72,11 +74,12 @@ impl<L: Ledger> Shared<L> {
         &self,
         rt: &R,
         alloc: Global,
-        desk: &mut Desk<L>,
+        desk: &mut Desk<L, S>,
         gate: &G,
         mut ticket: Ticket,
     ) -> Result<Option<i64>, CheckFault>
         requires { SeatedAt self.now desk.old }
+        ensures two_reports { MakesAtMost 2 desk.old.key desk.new.key }
         ensures stays { StaysAt self.now desk.old desk.new }
         ensures counts { CountsAccepted desk.old result desk.new }
     {
@@ -99,11 +102,12 @@ impl<L: Ledger> Shared<L> {
         &self,
         rt: &R,
         alloc: Global,
-        desk: &mut Desk<L>,
+        desk: &mut Desk<L, S>,
         gate: &G,
         ticket: Ticket,
     ) -> Result<(), WorkFault>
         requires { SeatedAt self.now desk.old }
+        ensures takes_none { TakesNone desk.old.key desk.new.key }
         ensures stays { StaysAt self.now desk.old desk.new }
         ensures counts { CountsAccepted desk.old result desk.new }
     {
@@ -111,7 +115,7 @@ impl<L: Ledger> Shared<L> {
         gate.pass(rt, desk.number, Moment::Taken { name });
         let found = match self.settle(rt, alloc, desk, gate, ticket) {
             Ok(found) => found,
-            Err(fault) => return Err(self.stop(rt, name, fault)),
+            Err(fault) => return Err(self.stop(rt, &mut desk.key, name, fault)),
         };
         if let Some(makespan) = found.and_then(|makespan| u64::try_from(makespan).ok()) {
             self.best.offer(&mut desk.seat, makespan);
@@ -120,29 +124,42 @@ impl<L: Ledger> Shared<L> {
         Ok(())
     }
 
-    /// The loop of one worker: serves one node after the other, until the book has none for it any more. It passes the
-    /// gate once more at its end.
+    /// Serves one node after the other, until the book has none for this worker any more.
+    fn serve_all<G: Gate, R: Wait>(
+        &self,
+        rt: &R,
+        alloc: Global,
+        desk: &mut Desk<L, S>,
+        gate: &G,
+    ) -> Result<(), WorkFault>
+        requires { SeatedAt self.now desk.old }
+        ensures end { CountsEnd desk.old result desk.new }
+        ensures stays { StaysAt self.now desk.old desk.new }
+        ensures counts { desk.old.accepted ≤ desk.new.accepted }
+    {
+        for _ in rt.forever() {
+            let Some(ticket) = self.next_ticket(rt, &mut desk.key, desk.number) else {
+                return Ok(());
+            };
+            self.serve(rt, alloc, desk, gate, ticket)?;
+        }
+        unreachable!()
+    }
+
+    /// The loop of one worker, which passes the gate once more at its end.
     pub(crate) fn serve_to_end<G: Gate, R: Wait>(
         &self,
         rt: &R,
         alloc: Global,
-        desk: &mut Desk<L>,
+        desk: &mut Desk<L, S>,
         gate: &G,
     ) -> Result<(), WorkFault>
         requires { SeatedAt self.now desk.old }
+        ensures end { CountsEnd desk.old result desk.new }
         ensures stays { StaysAt self.now desk.old desk.new }
         ensures counts { desk.old.accepted ≤ desk.new.accepted }
     {
-        let mut ended = Ok(());
-        for _ in rt.forever() {
-            let Some(ticket) = self.next_ticket(rt, desk.number) else {
-                break;
-            };
-            ended = self.serve(rt, alloc, desk, gate, ticket);
-            if ended.is_err() {
-                break;
-            }
-        }
+        let ended = self.serve_all(rt, alloc, desk, gate);
         gate.pass(rt, desk.number, Moment::Ended);
         ended
     }
@@ -151,14 +168,15 @@ impl<L: Ledger> Shared<L> {
 /// The loop of one worker, at a desk of this shared book. It takes nodes, expands them and checks their reports in,
 /// until the search is over or stopped. It ends with [`SolveFault::Memory`] or [`SolveFault::Refused`], and the book is
 /// then halted. At the end it passes the gate with [`Moment::Ended`].
-pub fn work<L: Ledger, G: Gate, R: Wait>(
+pub fn work<L: Ledger, S: Ledger, G: Gate, R: Wait>(
     rt: &R,
     alloc: Global,
-    shared: &Shared<L>,
-    desk: &mut Desk<L>,
+    shared: &Shared<L, S>,
+    desk: &mut Desk<L, S>,
     gate: &G,
 ) -> Result<(), SolveFault>
     requires { SeatedAt shared.now desk.old }
+    ensures end { CountsEnd desk.old result desk.new }
     ensures stays { StaysAt shared.now desk.old desk.new }
     ensures counts { desk.old.accepted ≤ desk.new.accepted }
     ensures fault { IfErr result IsOfWork }

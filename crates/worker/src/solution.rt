@@ -6,11 +6,13 @@ ghost use Rattle.std.specs.Bool.{OnTrue};
 ghost use Rattle.network.specs.Schedule.{makespan};
 ghost use Rattle.plain_search.specs.Verdicts.{IsTrueOf};
 ghost use Rattle.worker.specs.Desks.{HasTold, IsRow};
-ghost use Rattle.worker.specs.Solving.{IsNotLimit, RefusesLimits, HasBestWithin, IsOutcomeOf, IsSolution, IsTrailOf};
+ghost use Rattle.worker.specs.Solving.{IsNotLimit, RefusesLimits, HasBestWithin, IsBestAfter, IsOutcomeAfter, IsOutcomeOf, IsSolution, IsTrailOf};
 
+use crate::blanks::Blanks;
 use crate::desk::{Desk, Tally};
 use crate::fault::SolveFault;
 use crate::gate::Gate;
+use crate::key::Key;
 use crate::shared::Shared;
 use crate::threads::run_workers;
 use book::{Book, Counts, NodesLeft, Verdict, are_allowed};
@@ -18,7 +20,7 @@ use network::{Project, Schedule};
 use plain_search::Outcome;
 use std::alloc::{AllocError, Global};
 use std::marker::Brand;
-use std::sync::ledger::{Blank, Ledger};
+use std::sync::ledger::Ledger;
 use std::sync::{Arc, Wait};
 use std::thread;
 use std::thread::Threads;
@@ -39,7 +41,11 @@ fn accepted(alloc: Global, tallies: &[Tally]) -> Result<Vec<u64>, AllocError>
 }
 
 /// Offers a makespan to the best word, through the first desk.
-fn tell_first<L: Ledger>(shared: &Shared<L>, desks: &mut Vec<Desk<L>>, makespan: i64)
+fn tell_first<L: Ledger, S: Ledger>(
+    shared: &Shared<L, S>,
+    desks: &mut Vec<Desk<L, S>>,
+    makespan: i64,
+)
     requires { IsRow shared.now desks.old.items }
     ensures row { IsRow shared.now desks.new.items }
     ensures count { vec_len desks.new ≡ vec_len desks.old }
@@ -51,10 +57,11 @@ fn tell_first<L: Ledger>(shared: &Shared<L>, desks: &mut Vec<Desk<L>>, makespan:
 }
 
 /// Offers a schedule to the book, and its makespan to the best word.
-fn offer_start<L: Ledger, R: Wait>(
+fn offer_start<L: Ledger, S: Ledger, R: Wait>(
     rt: &R,
-    shared: &Shared<L>,
-    desks: &mut Vec<Desk<L>>,
+    shared: &Shared<L, S>,
+    key: &mut Key<S>,
+    desks: &mut Vec<Desk<L, S>>,
     start: Schedule,
 ) -> Result<(), SolveFault>
     requires { IsRow shared.now desks.old.items }
@@ -64,7 +71,7 @@ fn offer_start<L: Ledger, R: Wait>(
     ensures fault { IfErr result IsNotLimit }
 {
     let makespan = start.makespan();
-    if shared.offer(rt, start).is_err() {
+    if shared.offer(rt, key, start).is_err() {
         return Err(SolveFault::OtherProject);
     }
     tell_first(shared, desks, makespan);
@@ -84,6 +91,7 @@ fn copy_of(alloc: Global, start: &Option<Schedule>) -> Result<Option<Schedule>, 
 /// Offers the start to the book once more, of which nobody can tell what workers did to it under its lock.
 fn offer_again(book: &mut Book, start: Option<Schedule>) -> Result<(), SolveFault>
     ensures best { OnOk result (IfSome start (λ s. HasBestWithin (makespan s.starts) book.new)) }
+    ensures offered { OnOk result (IsBestAfter book.old start book.new.best) }
     ensures only { book.new ≡ record book.old { best = book.new.best } }
     ensures fault { IfErr result IsNotLimit }
 {
@@ -138,6 +146,7 @@ fn conclude<R: Threads>(
 ) -> Result<(Solved, Option<Trail>), SolveFault>
     requires { sum_by (λ t. t.accepted) tallies.now ≡ book.checked }
     ensures solution { IfOk result (λ r. IsSolution project.now (length tallies.now) takes start r.0) }
+    ensures told { IfOk result (λ r. IsOutcomeAfter book start r.0.outcome) }
     ensures trail { IfOk result (λ r. IfSome r.1 (IsTrailOf project.now r.0.outcome)) }
     ensures fault { IfErr result IsNotLimit }
 {
@@ -160,10 +169,10 @@ fn conclude<R: Threads>(
 }
 
 /// Searches with a book that has checked nothing in, and that allows so many workers and takes.
-fn search_with<L: Ledger + Send + Sync, G: Gate, R: Threads + Wait + Sync>(
+fn search_with<L: Ledger + Send + Sync, S: Ledger + Send + Sync, G: Gate, R: Threads + Wait + Sync>(
     rt: &R,
     alloc: Global,
-    blank: Blank,
+    blanks: Blanks,
     project: &Project,
     book: Book,
     workers: usize,
@@ -171,20 +180,20 @@ fn search_with<L: Ledger + Send + Sync, G: Gate, R: Threads + Wait + Sync>(
     start: Option<Schedule>,
     gate: &G,
 ) -> Result<(Solved, Option<Trail>), SolveFault>
-    requires name { blank.name ≡ L.name }
-    requires parts { blank.parts ≡ L.parts }
-    requires one_each { blank.parts ≡ workers }
+    requires accepted { (blanks.accepted.name ≡ L.name) × (blanks.accepted.parts ≡ L.parts) }
+    requires steps { (blanks.steps.name ≡ S.name) × (blanks.steps.parts ≡ S.parts) }
+    requires one_each { blanks.accepted.parts ≡ workers }
     requires unused { book.checked ≡ 0 }
     ensures solution { IfOk result (λ r. IsSolution project.now workers takes start r.0) }
     ensures trail { IfOk result (λ r. IfSome r.1 (IsTrailOf project.now r.0.outcome)) }
     ensures fault { IfErr result IsNotLimit }
 {
     let again = copy_of(alloc, &start)?;
-    let (shared, mut desks) = Shared::<L>::open(alloc, blank, book, workers)?;
+    let (shared, mut desks, mut key) = Shared::<L, S>::open(alloc, blanks, book, workers)?;
     if let Some(start) = start {
-        offer_start(rt, &shared, &mut desks, start)?;
+        offer_start(rt, &shared, &mut key, &mut desks, start)?;
     }
-    let desks = run_workers(rt, alloc, &shared, desks, gate)?;
+    let desks = run_workers(rt, alloc, &shared, key, desks, gate)?;
     let (book, tallies) = shared.close(alloc, desks)?;
     conclude(rt, alloc, project, takes, again, book, tallies.as_slice())
 }
@@ -220,9 +229,9 @@ pub fn search<G: Gate, R: Threads + Wait + Sync>(
     } else {
         Book::open(alloc, again, workers, takes)?
     };
-    let blank = Blank::new(workers as u64);
-    let (solved, trail) = search_with::<Brand, G, R>(
-        rt, alloc, blank, &project, book, workers, takes, start, gate,
+    let blanks = Blanks::new(workers);
+    let (solved, trail) = search_with::<Brand, Brand, G, R>(
+        rt, alloc, blanks, &project, book, workers, takes, start, gate,
     )?;
     if trail.is_some() != recorded {
         return Err(SolveFault::Thread);

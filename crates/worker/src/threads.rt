@@ -2,11 +2,12 @@
 
 ghost use Rattle.std.specs.Prelude.{◌≡◌, ◌≤◌, IfOk, IfErr, vec_len, vec_capacity, []};
 ghost use Rattle.worker.specs.Desks.{IsRow};
-ghost use Rattle.worker.specs.Solving.{IsNotLimit};
+ghost use Rattle.worker.specs.Solving.{EndsSearch, IsNotLimit, first_fault};
 
 use crate::desk::Desk;
 use crate::fault::{SolveFault, WorkFault};
 use crate::gate::Gate;
+use crate::key::Key;
 use crate::shared::Shared;
 use std::alloc::Global;
 use std::sync::Wait;
@@ -15,61 +16,98 @@ use std::thread;
 use std::thread::{JoinHandle, Threads};
 
 /// A worker's desk after its end, and how it ended.
-type Ended<L> = (Desk<L>, Result<(), WorkFault>);
+type Ended<L, S> = (Desk<L, S>, Result<(), WorkFault>);
 
-/// Joins the threads: their desks, in order, and the fault of the first of them that had one.
-fn join_all<L: Ledger, R: Threads>(
+/// Joins the threads: their ends, in order.
+fn join_all<L: Ledger, S: Ledger, R: Threads>(
     rt: &R,
-    running: Vec<JoinHandle<Ended<L>>>,
-    places: Vec<Desk<L>>,
-) -> (Vec<Desk<L>>, Option<WorkFault>)
+    running: Vec<JoinHandle<Ended<L, S>>>,
+    places: Vec<Ended<L, S>>,
+) -> Vec<Ended<L, S>>
     requires empty { places.items ≡ [] }
     requires room { vec_len running ≤ vec_capacity places }
-    ensures { vec_len result.0 ≡ vec_len running }
+    ensures { vec_len result ≡ vec_len running }
+{
+    let mut ends = places;
+    for handle in running {
+        ends.push_reserved(handle.join(rt));
+    }
+    ends
+}
+
+/// The desks of these ends, and the fault of the first of them that has one.
+fn parted<L: Ledger, S: Ledger>(
+    ends: Vec<Ended<L, S>>,
+    places: Vec<Desk<L, S>>,
+) -> (Vec<Desk<L, S>>, Option<WorkFault>)
+    requires empty { places.items ≡ [] }
+    requires room { vec_len ends ≤ vec_capacity places }
+    ensures desks { vec_len result.0 ≡ vec_len ends }
+    ensures fault { result.1 ≡ first_fault ends.items }
 {
     let mut desks = places;
     let mut fault = None;
-    for handle in running {
-        let (desk, ended) = handle.join(rt);
+    for (desk, ended) in ends {
         desks.push_reserved(desk);
-        if fault.is_none() {
-            fault = ended.err();
-        }
+        fault = fault.or(ended.err());
     }
     (desks, fault)
 }
 
+/// How a search ends whose workers had this first fault, or not all of which could be started.
+fn end_of(started: bool, fault: Option<WorkFault>) -> Result<(), SolveFault>
+    ensures { EndsSearch started fault result }
+{
+    if !started {
+        return Err(SolveFault::Thread);
+    }
+    match fault {
+        Some(fault) => Err(fault.into()),
+        None => Ok(()),
+    }
+}
+
 /// Runs a worker at each desk in its own thread, and gives the desks back in their order. Where a thread can't be
 /// started, the book is halted and the others are joined.
-pub(crate) fn run_workers<L: Ledger + Send + Sync, G: Gate, R: Threads + Wait + Sync>(
+pub(crate) fn run_workers<
+    L: Ledger + Send + Sync,
+    S: Ledger + Send + Sync,
+    G: Gate,
+    R: Threads + Wait + Sync,
+>(
     rt: &R,
     alloc: Global,
-    shared: &Shared<L>,
-    desks: Vec<Desk<L>>,
+    shared: &Shared<L, S>,
+    key: Key<S>,
+    desks: Vec<Desk<L, S>>,
     gate: &G,
-) -> Result<Vec<Desk<L>>, SolveFault>
+) -> Result<Vec<Desk<L, S>>, SolveFault>
     requires { IsRow shared.now desks.items }
     ensures count { IfOk result (λ back. vec_len back ≡ vec_len desks) }
     ensures fault { IfErr result IsNotLimit }
 {
     let room = Vec::with_capacity(alloc, desks.len())?;
+    let ends = Vec::with_capacity(alloc, desks.len())?;
     let places = Vec::with_capacity(alloc, desks.len())?;
     thread::scope(
         thread::scope_env(),
         rt,
-        move |scope| -> Result<Vec<Desk<L>>, SolveFault>
+        move |scope| -> Result<Vec<Desk<L, S>>, SolveFault>
             requires row { IsRow shared.now desks.items }
             requires room { room.items ≡ [] }
+            requires ends { ends.items ≡ [] }
             requires places { places.items ≡ [] }
             requires room_for_all { vec_len desks ≤ vec_capacity room }
+            requires ends_for_all { vec_len desks ≤ vec_capacity ends }
             requires places_for_all { vec_len desks ≤ vec_capacity places }
             ensures count { IfOk result (λ back. vec_len back ≡ vec_len desks) }
             ensures fault { IfErr result IsNotLimit }
         {
-            let mut running: Vec<JoinHandle<Ended<L>>> = room;
+            let mut running: Vec<JoinHandle<Ended<L, S>>> = room;
+            let mut key = key;
             let mut started = true;
             for desk in desks {
-                let worker = move || -> Ended<L>
+                let worker = move || -> Ended<L, S>
                     requires { desk.seat.word ≡ shared.now.best }
                 {
                     let mut desk = desk;
@@ -79,20 +117,15 @@ pub(crate) fn run_workers<L: Ledger + Send + Sync, G: Gate, R: Threads + Wait + 
                 match scope.spawn(worker) {
                     Ok(handle) => running.push_reserved(handle),
                     Err(_) => {
-                        shared.halt(rt);
+                        shared.halt(rt, &mut key);
                         started = false;
                         break;
                     }
                 }
             }
-            let (back, ended) = join_all(rt, running, places);
-            if !started {
-                return Err(SolveFault::Thread);
-            }
-            match ended {
-                Some(fault) => Err(fault.into()),
-                None => Ok(back),
-            }
+            let (back, fault) = parted(join_all(rt, running, ends), places);
+            end_of(started, fault)?;
+            Ok(back)
         },
     )
 }

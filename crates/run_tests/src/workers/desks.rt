@@ -10,13 +10,13 @@ use book::{Book, CheckFault, Take};
 use std::alloc::Global;
 use std::marker::Brand;
 use std::sync::atomic::{AtomicU64, Ordering};
-use std::sync::ledger::{Blank, Ledger};
+use std::sync::ledger::Ledger;
 use std::sync::{Arc, Mutex, Wait};
 use std::test::Fail;
 use std::thread;
 use std::thread::Threads;
 use test_projects::one_machine;
-use worker::{Shared, SolveFault, Tally, work};
+use worker::{Blanks, Shared, SolveFault, Tally, work};
 
 /// How a worker ended, what its desk counted, and whether the desk tells that; the counts of the book, its best starts,
 /// and what it answers to the next take; what the gate heard, and how often it was called.
@@ -55,23 +55,24 @@ impl Left {
 }
 
 /// What one worker on one machine leaves.
-fn left_by<L: Ledger + Sync, R: Wait>(
+fn left_by<L: Ledger + Sync, S: Ledger + Send + Sync, R: Wait>(
     rt: &R,
     alloc: Global,
-    blank: Blank,
+    blanks: Blanks,
     asked: &Asked<'_>,
 ) -> Result<Left, Fail>
-    requires name { blank.name ≡ L.name }
-    requires parts { blank.parts ≡ L.parts }
-    requires one { blank.parts ≡ 1 }
+    requires accepted { (blanks.accepted.name ≡ L.name) × (blanks.accepted.parts ≡ L.parts) }
+    requires steps { (blanks.steps.name ≡ S.name) × (blanks.steps.parts ≡ S.parts) }
+    requires one { blanks.accepted.parts ≡ 1 }
 {
     let start = schedule_of(alloc, asked.starts)?;
     let project = Arc::new(alloc, one_machine(alloc, &[])?)?;
     let book = Book::open(alloc, project, 1, 100)?;
-    let (shared, mut desks) = Shared::<L>::open(alloc, blank, book, 1)?;
+    let (shared, mut desks, key) = Shared::<L, S>::open(alloc, blanks, book, 1)?;
     shared.tell(&mut desks[0], asked.tells);
     let gate = Meddler {
         shared: &shared,
+        key: Mutex::new(key),
         gives_back: asked.gives_back,
         start: Mutex::new(start),
         ceiling: asked.ceiling,
@@ -117,7 +118,7 @@ fn end_of(alloc: Global, left: &Left, asked: &Asked<'_>) -> Result<String, Fail>
 /// meanwhile, and so on.
 pub(super) fn told<R: Wait>(rt: &R, alloc: Global, row: &str) -> Result<String, Fail> {
     let asked = asked_by(row)?;
-    let left = left_by::<Brand, _>(rt, alloc, Blank::new(1), &asked)?;
+    let left = left_by::<Brand, Brand, _>(rt, alloc, Blanks::new(1), &asked)?;
     let end = end_of(alloc, &left, &asked)?;
     let Tally { accepted, ahead } = left.tally;
     let (counts, then) = (left.counts, &left.then);
@@ -131,18 +132,18 @@ pub(super) fn told<R: Wait>(rt: &R, alloc: Global, row: &str) -> Result<String, 
 
 /// How two workers on one machine end, of which the first to take the root loses it to the other, and how often the
 /// gate gave up to wait for that one.
-fn ends_of_two<L: Ledger + Send + Sync, R: Threads + Wait + Sync>(
+fn ends_of_two<L: Ledger + Send + Sync, S: Ledger + Send + Sync, R: Threads + Wait + Sync>(
     rt: &R,
     alloc: Global,
-    blank: Blank,
+    blanks: Blanks,
 ) -> Result<([Result<(), SolveFault>; 2], u64), Fail>
-    requires name { blank.name ≡ L.name }
-    requires parts { blank.parts ≡ L.parts }
-    requires two { blank.parts ≡ 2 }
+    requires accepted { (blanks.accepted.name ≡ L.name) × (blanks.accepted.parts ≡ L.parts) }
+    requires steps { (blanks.steps.name ≡ S.name) × (blanks.steps.parts ≡ S.parts) }
+    requires two { blanks.accepted.parts ≡ 2 }
 {
     let project = Arc::new(alloc, one_machine(alloc, &[])?)?;
     let book = Book::open(alloc, project, 2, 100)?;
-    let (shared, mut desks) = Shared::<L>::open(alloc, blank, book, 2)?;
+    let (shared, mut desks, key) = Shared::<L, S>::open(alloc, blanks, book, 2)?;
     let Some(second) = desks.pop() else {
         unreachable!()
     };
@@ -151,6 +152,7 @@ fn ends_of_two<L: Ledger + Send + Sync, R: Threads + Wait + Sync>(
     };
     let gate = Waker {
         shared: &shared,
+        key: Mutex::new(key),
         taken: AtomicU64::new(0),
         watch: Watch::new(Holds::Nobody),
     };
@@ -176,7 +178,7 @@ fn ends_of_two<L: Ledger + Send + Sync, R: Threads + Wait + Sync>(
 /// What is told of two workers. Want of memory ends the test, and so does want of a thread: then one worker waits in
 /// vain.
 pub(super) fn two_told<R: Threads + Wait + Sync>(rt: &R, alloc: Global) -> Result<String, Fail> {
-    let (ends, gave_up) = ends_of_two::<Brand, _>(rt, alloc, Blank::new(2))?;
+    let (ends, gave_up) = ends_of_two::<Brand, Brand, _>(rt, alloc, Blanks::new(2))?;
     let lost = Err(SolveFault::Refused(CheckFault::NotInHand));
     if ends.contains(&Err(SolveFault::Memory)) {
         return Err(SolveFault::Memory.into());
