@@ -82,7 +82,7 @@ class Parts:
         faults = [row["says"] for row in self.rows.values() if not row["is_right"]]
         if faults:
             return min(faults, key=event_of), True
-        says = {said_by(number, self.count, row["says"]) for number, row in self.rows.items()}
+        says = {said_by(number, self.count, row["says"]) for number, row in sorted(self.rows.items())}
         if len(says) > 1:
             raise Failed(f"parts of {self.path} contradict each other: {', '.join(sorted(says))}")
         return says.pop(), False
