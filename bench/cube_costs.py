@@ -6,7 +6,10 @@ seconds (600 by default).
 
 Machines are simulated: searches run one after another, each when the driver gives it out, with the lemmas of those that
 have ended by then. A search ends when its processor seconds are over. Each number of machines (4, 16, 64 and 256 by default)
-is a run of its own. Seconds are of a processor, as the system counts them of children. In brackets stands what all cubes take
+is a run of its own. Where PROJECT is a folder that `plan solve --out` left, nothing is searched again: the searches that it
+has are replayed on each number of machines, and its record is made anew, once.
+
+Seconds are of a processor, as the system counts them of children. In brackets stands what all cubes take
 to what the undivided search does. `takes` is the simulated time of all searches, without the join, and `speed-up` the seconds
 of the undivided search to it."""
 import argparse
@@ -17,7 +20,8 @@ import os
 import pathlib
 import sys
 import tempfile
-from collections.abc import Callable
+from collections import defaultdict, deque
+from collections.abc import Callable, Iterator, Sequence
 from contextlib import closing
 from typing import NamedTuple
 
@@ -29,7 +33,7 @@ from psmax.clock import Clock  # noqa: E402
 from psmax.cubes import cube  # noqa: E402
 from psmax.cubes.driver import Driver, used  # noqa: E402
 from psmax.cubes.machines import Machines  # noqa: E402
-from psmax.cubes.tree import Driven  # noqa: E402
+from psmax.cubes.tree import ROWS, Driven, Tree, read_rows  # noqa: E402
 from psmax.incumbent import Known  # noqa: E402
 from psmax.project_text import Spelled, parse  # noqa: E402
 from psmax.psmax import starts_text  # noqa: E402
@@ -76,8 +80,8 @@ class One(NamedTuple):
     """The undivided search."""
 
     seconds: float
-    conflicts: int | None  # none where it was ended
-    says: str
+    conflicts: int
+    says: str | None  # what it knew, where it was ended
 
 
 class Cubes(NamedTuple):
@@ -103,12 +107,13 @@ def timed(job: Job) -> float:
 
 def undivided(psprove: str, path: str, most: float) -> One:
     with tempfile.TemporaryDirectory() as folder:
-        words = [psprove, "solve", "--json", "--progress", "json", "--seconds", "1000000", "--record", f"{folder}/record"]
+        until = pathlib.Path(folder, "until")
+        words = [psprove, "solve", "--json", "--seconds", "1000000", "--until", f"{until}", "--record", f"{folder}/record"]
         before = used()
-        found = watching.watch(words, path, most)
-        told = json.loads([line for _, line in found.lines if line.startswith("{")][-1])
-        makespan = (told["starts"] or [None])[-1]
-        return One(used() - before, None if found.stopped else told["conflicts"], f"{makespan}, bound {told['bound']}")
+        found = watching.watch(words, path, most, until=until)
+        told = json.loads(found.lines[-1][1])
+        says = f"open: {told['makespan']}, bound {told['bound']}" if found.stopped else None
+        return One(used() - before, told["conflicts"], says)
 
 
 def in_cubes(psprove: str, path: str, machines: int) -> Cubes:
@@ -124,7 +129,42 @@ def in_cubes(psprove: str, path: str, machines: int) -> Cubes:
                      (tree.folder / "record").stat().st_size, join, verify, says)
 
 
-def joined(tree: Driven, clock: Clock) -> tuple[float, float, str]:
+def of_folder(folder: pathlib.Path, counts: Sequence[int]) -> Iterator[tuple[int, Cubes]]:
+    """The searches that a driver has left there, on each number of machines, and what became of their logs."""
+    tree, rows = Tree(folder), [*read_rows(folder / ROWS)]
+    join, verify, says = joined(tree, Clock(says=lambda *_: None))
+    longest = max(row["seconds"] for row in rows if row["step"] == "ended")
+    logs = sum(tree.file(number, "log").stat().st_size for number in tree.logs)
+    record = (folder / "record").stat().st_size
+    for machines in counts:
+        yield machines, Cubes(tree.number, tree.spent, tree.conflicts, longest, replayed(rows, machines), logs, record,
+                              join, verify, says)
+
+
+def replayed(rows: Sequence[cube.Row], machines: int) -> float:
+    """When the searches of these rows end on so many machines. Each takes as long there, and begins as a driver would give
+    it out."""
+    names = {row["number"]: row["cube"] for row in rows if row["step"] == "given"}
+    ended: defaultdict[str, deque[cube.Row]] = defaultdict(deque)
+    for row in rows:
+        if row["step"] == "ended":
+            ended[names[row["number"]]].append(row)
+    time: float = sum(row["seconds"] for row in rows if row["step"] == "first")
+    with tempfile.TemporaryDirectory() as folder:
+        pathlib.Path(folder, ROWS).touch()
+        tree, coming = Tree(pathlib.Path(folder)), list[tuple[float, int, cube.Row]]()
+        while tree.waiting or coming:
+            while tree.waiting and len(coming) < machines:
+                name, number = tree.next(), tree.number + 1
+                row = ended[name].popleft() | {"number": number}
+                tree.take({"step": "given", "at": time, "number": number, "cube": name})
+                heapq.heappush(coming, (time + row["seconds"], number, row))
+            time, _, row = heapq.heappop(coming)
+            tree.take(row)
+    return time
+
+
+def joined(tree: Tree, clock: Clock) -> tuple[float, float, str]:
     """The seconds of the join and of its check, and what that says."""
     program, begun, record = Psprove(clock), tree.folder / "start", tree.folder / "record"
     begun.write_bytes(starts_text(tree.starts or ()))
@@ -138,11 +178,12 @@ def joined(tree: Driven, clock: Clock) -> tuple[float, float, str]:
 
 
 def print_row(name: str, one: One, machines: int, found: Cubes) -> None:
-    ratios = [f"{found.spent / one.seconds:.2f}", "-" if one.conflicts is None else f"{found.conflicts / one.conflicts:.2f}"]
-    counted = one.says if one.conflicts is None else f"{one.conflicts:,}"
+    below, above = ("", "") if one.says is None else ("< ", "> ")  # what they were if the undivided search went on
+    ratios = f"{below}{found.spent / one.seconds:.2f}", f"{below}{found.conflicts / one.conflicts:.2f}"
+    counted = f"{one.conflicts:,}" if one.says is None else f"{one.conflicts:,}, {one.says}"
     measuring.row(name, f"{one.seconds:.1f}", counted, machines, found.searches, f"{found.spent:.1f} ({ratios[0]})",
                   f"{found.conflicts:,} ({ratios[1]})", f"{found.longest:.1f}", f"{found.takes:.1f}",
-                  f"{one.seconds / found.takes:.1f}", f"{found.logs / 1e6:.0f}", f"{found.record / 1e6:.0f}",
+                  f"{above}{one.seconds / found.takes:.1f}", f"{found.logs / 1e6:.0f}", f"{found.record / 1e6:.0f}",
                   f"{found.join:.1f}", f"{found.verify:.1f}", found.says)
 
 
@@ -155,10 +196,12 @@ def main() -> None:
     o = parser.parse_args()
     os.environ["PSPROVE"] = o.psprove
     measuring.heads(*HEADS)
-    for path in o.projects:
-        one = undivided(o.psprove, path, o.seconds)
-        for machines in o.machines:
-            print_row(pathlib.Path(path).stem, one, machines, in_cubes(o.psprove, path, machines))
+    for path in map(pathlib.Path, o.projects):
+        one = undivided(o.psprove, f"{path / 'project.sch' if path.is_dir() else path}", o.seconds)
+        found = of_folder(path, o.machines) if path.is_dir() else (
+            (machines, in_cubes(o.psprove, f"{path}", machines)) for machines in o.machines)
+        for machines, costs in found:
+            print_row(path.stem, one, machines, costs)
 
 
 if __name__ == "__main__":

@@ -67,9 +67,11 @@ def feed(stream: IO[bytes], texts: Texts) -> None:
                 return
 
 
-def watch(command: list[str], source: str, seconds: float, reply: Reply | None = None) -> Watched:
-    """Runs a command on a file as its input. After so many seconds of processor time it is asked to end. `reply` gives
-    for each line what is written to the program then, and none to end its input; without it the file is all."""
+def watch(command: list[str], source: str, seconds: float, reply: Reply | None = None,
+          until: pathlib.Path | None = None) -> Watched:
+    """Runs a command on a file as its input. After so many seconds of processor time it is asked to end, by the file
+    `until` where it looks for one. `reply` gives for each line what is written to the program then, and none to end its
+    input; without it the file is all."""
     with open(source, "rb") as given:
         child = subprocess.Popen(command, stdin=subprocess.PIPE if reply else given, stdout=subprocess.PIPE,
                                  stderr=subprocess.STDOUT, start_new_session=True)
@@ -79,14 +81,15 @@ def watch(command: list[str], source: str, seconds: float, reply: Reply | None =
             threading.Thread(target=feed, args=(child.stdin, texts), daemon=True).start()
     watched = Watched()
     try:
-        follow(child, watched, seconds, lambda line: texts.put(reply(line)) if reply else None)
+        follow(child, watched, seconds, until, lambda line: texts.put(reply(line)) if reply else None)
     finally:
         texts.put(None)
         end(child)
     return watched
 
 
-def follow(child: subprocess.Popen[bytes], watched: Watched, seconds: float, take: Callable[[str], None]) -> None:
+def follow(child: subprocess.Popen[bytes], watched: Watched, seconds: float, until: pathlib.Path | None,
+           take: Callable[[str], None]) -> None:
     """Reads lines until the program ends, or is not in time once it was asked to end."""
     assert child.stdout is not None
     rest, asked = b"", None
@@ -103,7 +106,10 @@ def follow(child: subprocess.Popen[bytes], watched: Watched, seconds: float, tak
                 take(watched.lines[-1][1])
         if asked is None and watched.seconds >= seconds:
             asked, watched.stopped = time.monotonic(), True
-            child.send_signal(signal.SIGTERM)
+            if until:
+                until.touch()
+            else:
+                child.send_signal(signal.SIGTERM)
 
 
 def end(child: subprocess.Popen[bytes]) -> None:
