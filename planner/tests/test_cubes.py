@@ -20,7 +20,7 @@ from psmax.cubes.driver import MOST_LEMMAS, Lemmas
 from psmax.cubes.machines import Cluster
 from psmax.planner.status import seconds_left
 
-from .helpers import PROJECTS, PSPROVE, TOP, InFolder, plan, psmax, started
+from .helpers import PROJECTS, PSPROVE, TOP, InFolder, plan, psmax, started, told_until
 
 STAND_IN = pathlib.Path(__file__).with_name("cube_stand_in.py")
 SECONDS = 300.0  # that something may take on a machine that does other work too
@@ -293,7 +293,8 @@ class OnDask(InCubes):
         self.workers = [self.worker() for _ in range(2)]
 
     def dask(self, *words: str) -> subprocess.Popen[bytes]:
-        child = subprocess.Popen([sys.executable, "-m", "distributed.cli.dask_" + words[0], *words[1:], "--no-dashboard"],
+        page = "--no-dashboard", "--dashboard-address", "127.0.0.1:0"  # without the address it is open to other machines
+        child = subprocess.Popen([sys.executable, "-m", "distributed.cli.dask_" + words[0], *words[1:], *page],
                                  env={**os.environ, "PSPROVE": self.psprove(0.3)}, cwd=self.folder,
                                  stdout=subprocess.DEVNULL, stderr=subprocess.DEVNULL)
         self.addCleanup(child.wait)
@@ -327,6 +328,20 @@ class OnDask(InCubes):
             out, told = verify.communicate()
         self.assertIn("is shorter than 9, and has one that long.\n", out, told)
         self.assertIn("has judged it in 2 parts", out)
+
+    def test_parts_without_a_worker(self) -> None:
+        """All are killed while they check a wrong record. A worker that comes later finds its fault."""
+        record = self.file("four.log", "record 3\noptimal 8\n")
+        with contextlib.closing(Cluster(self.address)) as cluster:
+            until(lambda: cluster.threads() == 2)
+        with started("verify", self.project, record, "--cluster", self.address) as verify:
+            until(lambda: self.searches(self.workers[0].pid) or verify.poll() is not None)
+            for worker in self.workers:
+                worker.kill()
+            told = told_until(verify, "the cluster has no worker yet")
+            self.worker()
+            out, rest = verify.communicate()
+        self.assertEqual((verify.returncode, out.partition(": ")[2]), (4, "event 1: claim\n"), told + rest)
 
     def test_no_scheduler(self) -> None:
         with mock.patch("psmax.cubes.machines.CONNECT", 1.0):

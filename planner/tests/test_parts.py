@@ -6,6 +6,7 @@ import zlib
 from unittest import mock
 
 from psmax.cubes import cube, part
+from psmax.cubes.machines import Machines
 
 from .helpers import PROJECTS, PSMAX, PSPROVE, TWO_JOBS, Ran, plan
 from .test_cubes import InCubes
@@ -57,6 +58,22 @@ class InParts(InCubes):
         ran = self.verify("case $3 in 2/2) kill -9 $$;; esac", "--jobs", "2")
         self.assertEqual((ran.returncode, ran.stdout), (1, ""))
         self.assertIn("plan: part 2/2 failed 3 times: psprove verify ended with status -9\n", ran.stderr)
+
+    def test_machines_that_go(self) -> None:
+        """All go when one part is right, and come back: the other part is not left out, and has a fault."""
+        gone = self.folder / "gone"
+
+        def threads(machines: Machines) -> int:
+            if not gone.exists():
+                return 2
+            gone.unlink()
+            return 0
+
+        with mock.patch("psmax.cubes.machines.Processes.threads", threads):
+            ran = self.verify("cat > /dev/null\ncase $3 in 1/2) touch gone; echo part $3 of proved optimal 9; exit 0;; esac\n"
+                              "sleep 1; echo psprove: event 7: lemma >&2; exit 4", "--jobs", "2")
+        self.assertEqual((ran.returncode, ran.stdout.partition(": ")[2]), (4, "event 7: lemma\n"), ran.stderr)
+        self.assertIn("the cluster has no worker yet\n", ran.stderr)
 
     def test_odd_answers(self) -> None:
         odd = "psprove verify --part gave an answer that plan does not know: "

@@ -32,11 +32,12 @@ class Parts:
     def check(self) -> tuple[str, bool]:
         """What `psprove verify` says of the record, and whether that is a fault."""
         try:
-            self.wait_for_machines()
+            self.count = self.wait_for_machines()
             self.machines.tell(None)
             for number in range(1, self.count + 1):
                 self.give(number)
-            while len(self.rows) < self.count and self.machines.room():
+            while len(self.rows) < self.count:  # also where no machine is left for a while
+                self.wait_for_machines()
                 found = self.machines.next(GLANCE)
                 if found is not None:
                     self.take(*found)
@@ -44,11 +45,12 @@ class Parts:
             self.machines.close()
         return self.verdict()
 
-    def wait_for_machines(self) -> None:
+    def wait_for_machines(self) -> int:
+        """How many threads they have, once they have one."""
         while not (threads := self.machines.threads()):
             tell(self.clock, "the cluster has no worker yet")
             time.sleep(1.0)
-        self.count = threads
+        return threads
 
     def give(self, number: int) -> None:
         self.machines.give({**self.task, "count": self.count, "number": number})
