@@ -54,6 +54,11 @@ def until(is_so: Callable[[], object]) -> None:
         time.sleep(0.05)
 
 
+def is_open(port: int) -> bool:
+    with socket.socket() as caller:
+        return caller.connect_ex(("127.0.0.1", port)) == 0
+
+
 class InCubes(InFolder):
     def setUp(self) -> None:
         super().setUp()
@@ -290,6 +295,7 @@ class OnDask(InCubes):
             port = free.getsockname()[1]
         self.address = f"tcp://127.0.0.1:{port}"
         self.dask("scheduler", "--host", "127.0.0.1", "--port", str(port))
+        until(lambda: is_open(port))
         self.workers = [self.worker() for _ in range(2)]
 
     def dask(self, *words: str) -> subprocess.Popen[bytes]:
@@ -302,7 +308,8 @@ class OnDask(InCubes):
         return child
 
     def worker(self) -> subprocess.Popen[bytes]:
-        return self.dask("worker", self.address, "--nworkers", "1", "--nthreads", "1", "--no-nanny", "--memory-limit", "0")
+        return self.dask("worker", self.address, "--host", "127.0.0.1", "--nworkers", "1", "--nthreads", "1", "--no-nanny",
+                         "--memory-limit", "0")
 
     def test_killed_and_restarted(self) -> None:
         """A worker is killed, and then the driver. The other worker ends what that driver asked for, and goes on."""

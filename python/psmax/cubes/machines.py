@@ -7,6 +7,7 @@ import queue
 import secrets
 import site
 import sys
+import warnings
 from collections.abc import Callable, Iterator
 from concurrent.futures import CancelledError, Future, ThreadPoolExecutor
 from contextlib import contextmanager
@@ -142,6 +143,7 @@ class Cluster(Machines):
             raise Failed(MISSING.format(fault)) from None
         for name in ("distributed.client", "asyncio"):  # what they tell, this module says in a line
             logging.getLogger(name).setLevel(logging.CRITICAL)
+        warnings.filterwarnings("ignore", "Large object", module="distributed")  # of a record that a machine doesn't see
         for module in (cube, part):
             cloudpickle.register_pickle_by_value(module)
         self.variable = distributed.Variable
