@@ -1,10 +1,10 @@
 #!/usr/bin/env python3
 """tests/options.py PSPROVE
 
-Looks at what each option of `psprove solve` does to a search that no contract tells: how many jobs there are and that each
-searches, that each limit ends a search, that a seed changes it and that lemmas may take what --memory says; that the figures
-are those of the search; that a search goes on from the starts that it is given, and that what it has found is told at a
-limit. The last line counts what was looked at."""
+Looks at what each option of `psprove solve` does to a search that no contract tells: that a search answers at all, how many
+jobs there are and that each searches, that each limit ends a search, that a seed changes it, that the same words give the same
+log, and that lemmas may take what --memory says; that the figures are those of the search; that a search goes on from the
+starts that it is given, and that what it has found is told at a limit. The last line counts what was looked at."""
 import json
 import pathlib
 import subprocess
@@ -19,6 +19,7 @@ from harness import Verdicts
 
 HARD = networks.project(100, 1, 0).text()  # takes some thousand conflicts
 LONG = shutdown.project(300, 1).text()  # has long lemmas
+EASY = harness.seeded(10, 1)[1]  # is solved within a second
 CONFLICTS = 400
 JOBS = 3
 PROGRESS = "--progress", "json"
@@ -59,6 +60,13 @@ class Search:
         return most
 
 
+def searches_answer(search: Search) -> Looked:
+    """This comes first: whatever follows needs answers."""
+    for what, text, wanted in ("stopped", HARD, 3), ("ended", EASY, 0):
+        status, _, faults = Search(search.program, search.folder, text).ended("--conflicts", CONFLICTS)
+        yield f"a search that {what} answers", (status, faults) == (wanted, b""), (status, faults)
+
+
 def each_job_searches(search: Search) -> Looked:
     for jobs in (1, 2, JOBS, 9):
         found = search.threads(jobs)
@@ -73,6 +81,8 @@ def each_job_searches(search: Search) -> Looked:
 def seeds_differ(search: Search) -> Looked:
     records = {search.record("--conflicts", CONFLICTS, "--seed", seed) for seed in range(4)}
     yield "each of four seeds gives another log", len(records) == 4, len(records)
+    same = [search.record("--conflicts", CONFLICTS, "--seed", 1) for _ in range(2)]
+    yield "the same words give the same log", same[0] == same[1], [len(log) for log in same]
     told = search.answer("--conflicts", CONFLICTS, "--record", "record")["record_bytes"]
     is_so = (search.folder / "record").stat().st_size
     yield "the bytes of the log are told", told == is_so, (told, is_so)
@@ -116,7 +126,8 @@ def starts_are_gone_on_from(search: Search) -> Looked:
 
 
 LOOKS: Sequence[Callable[[Search], Looked]] = (
-    each_job_searches, seeds_differ, limits_end, lemmas_fit_the_memory, what_is_found_is_told, starts_are_gone_on_from,
+    searches_answer, each_job_searches, seeds_differ, limits_end, lemmas_fit_the_memory, what_is_found_is_told,
+    starts_are_gone_on_from,
 )
 
 
