@@ -34,8 +34,8 @@ from psmax.cubes import cube  # noqa: E402
 from psmax.cubes.driver import Driver, used  # noqa: E402
 from psmax.cubes.machines import Machines  # noqa: E402
 from psmax.cubes.tree import ROWS, Driven, Tree, read_rows  # noqa: E402
-from psmax.incumbent import Known  # noqa: E402
-from psmax.project_text import Spelled, parse  # noqa: E402
+from psmax.incumbent import Incumbent  # noqa: E402
+from psmax.project_text import ProjectText, parse  # noqa: E402
 from psmax.psmax import starts_text  # noqa: E402
 from psmax.psprove import Psprove  # noqa: E402
 
@@ -119,7 +119,7 @@ def undivided(psprove: str, path: str, most: float) -> One:
 def in_cubes(psprove: str, path: str, machines: int) -> Cubes:
     clock = Clock(says=lambda *_: None)
     project = parse(pathlib.Path(path).read_bytes())
-    spelled, known, simulated = Spelled(project), Known(clock, project), Simulated(machines, psprove)
+    spelled, known, simulated = ProjectText(project), Incumbent(clock, project), Simulated(machines, psprove)
     with tempfile.TemporaryDirectory() as folder, closing(Driven(pathlib.Path(folder), spelled.text)) as tree:
         Driver(tree, known, spelled).refute(simulated)
         begin = tree.spent - simulated.spent

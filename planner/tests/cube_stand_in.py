@@ -86,9 +86,9 @@ def solve(options: dict[str, str], data: bytes, seconds: float) -> int:
                         "starts": starts, "lemmas": lemmas, "import": numbers(options.get("--import"))})
     lines = (" ".join(map(str, [2, *sum(lemma, list[int]())])) + "\n" for lemma in lemmas)
     pathlib.Path(options["--export"]).write_text("".join(lines))
-    kids = [] if refuted else [*pieces(project, arcs, int(options["--pieces"]))]
+    children = [] if refuted else [*pieces(project, arcs, int(options["--pieces"]))]
     print(json.dumps({"cube": "refuted" if refuted else "open", "makespan": search.starts and search.starts[-1],
-                      "starts": search.starts, "pieces": kids, "conflicts": 1, "decisions": 1, "record_bytes": 1,
+                      "starts": search.starts, "pieces": children, "conflicts": 1, "decisions": 1, "record_bytes": 1,
                       "seconds": 1}))
     return 0 if refuted else 3
 

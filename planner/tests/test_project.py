@@ -3,7 +3,7 @@ from dataclasses import replace
 
 from psmax.planner.circles import positive_cycle
 from psmax.project import Arc, Kind, Part, in_order, lags_only, parts, with_lag, within, without
-from psmax.project_text import Spelled, parse
+from psmax.project_text import ProjectText, parse
 
 from .helpers import EXAMPLES, INPUTS, TWO_JOBS
 
@@ -14,7 +14,7 @@ class Arcs(unittest.TestCase):
         limited = within(parse(TWO_JOBS.encode()), 6)
         assert limited is not None
         by_hand = (INPUTS / "two-jobs-deadline-6.sch").read_bytes()
-        self.assertEqual(Spelled(limited).text.split(), by_hand.split())
+        self.assertEqual(ProjectText(limited).text.split(), by_hand.split())
         self.assertEqual(limited.arcs, (Arc(3, 0, -6),))
 
     def test_no_arc_beyond_the_format(self) -> None:
@@ -29,7 +29,7 @@ class Arcs(unittest.TestCase):
         for path in sorted(INPUTS.glob("*.sch")):
             with self.subTest(path.name):
                 project = parse(path.read_bytes())
-                self.assertEqual(parse(Spelled(project).text), project)
+                self.assertEqual(parse(ProjectText(project).text), project)
 
 
 class Parts(unittest.TestCase):

@@ -7,7 +7,7 @@ from . import formats, solver
 from .answer import Answer, Changed, Checked, Float, Progress, Schedule, Starts
 from .files import read_bytes, write_whole
 from .model import Activity, Parts
-from .project_text import Spelled
+from .project_text import ProjectText
 from .record import Proof, Record
 
 SECONDS = 60.0
@@ -56,7 +56,7 @@ class Project(Parts):
     def verify(self, record: bytes | str | os.PathLike[str], minimize: str = "makespan") -> Proof:
         """What a record of this project proves, in a file or as its bytes; its first wrong line or event is a fault."""
         data = record if isinstance(record, bytes) else read_bytes(os.fspath(record), None)
-        return Record(data, Spelled(self.numbers(minimize))).verify()
+        return Record(data, ProjectText(self.numbers(minimize))).verify()
 
     def whatif(self, seconds: float = SECONDS, jobs: int | None = None, minimize: str = "makespan") -> list[Changed]:
         """What one unit more of each resource, each absence less, and each maximum lag longer or dropped gives, proved by

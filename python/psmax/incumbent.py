@@ -7,7 +7,7 @@ from .clock import Clock, tell
 from .errors import Failed
 from .outcome import Claim, Solved
 from .project import Project
-from .project_text import Spelled
+from .project_text import ProjectText
 from .psmax import starts_text
 
 
@@ -21,13 +21,13 @@ class News:
     starts: tuple[int, ...] | None
 
 
-class Known(Claim):
+class Incumbent(Claim):
     def __init__(self, clock: Clock, project: Project) -> None:
         self.clock = clock
         self.goal, self.project = project.goal, project
         self.better: Callable[[], None] = lambda: None  # what is done each time the schedule gets shorter
         self.listener: Callable[[News], None] = lambda _: None  # what is done with each
-        self.bound = Spelled(project).value(0)
+        self.bound = ProjectText(project).value(0)
         self.value = None
         self.starts: tuple[int, ...] | None = None
         self.record = b""  # that proves the bound, or that there is no schedule; none while that is searched

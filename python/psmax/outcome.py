@@ -5,7 +5,7 @@ from dataclasses import dataclass
 
 from .files import read_bytes
 from .project import Goal
-from .project_text import Spelled
+from .project_text import ProjectText
 
 
 class Claim:
@@ -54,7 +54,7 @@ class Solved(Claim):
     found: str = ""  # how psprove came by the schedule, where it tells that while it searches
 
 
-def of_answer(out: bytes, record: str, spelled: Spelled) -> Solved:
+def of_answer(out: bytes, record: str, spelled: ProjectText) -> Solved:
     """What a program answers in JSON, with the record in this file. Any other answer raises one of `ODD`."""
     answer = json.loads(out)
     starts = None if answer["starts"] is None else spelled.outward(tuple(answer["starts"]))
@@ -63,7 +63,7 @@ def of_answer(out: bytes, record: str, spelled: Spelled) -> Solved:
     return Solved(value, starts, bound, answer.get("conflicts", 0), data, spelled.project.goal)
 
 
-def of_report(line: str, spelled: Spelled) -> Solved:
+def of_report(line: str, spelled: ProjectText) -> Solved:
     """What psprove's book holds while it searches, in JSON. Any other line raises one of `ODD`."""
     told = json.loads(line)
     starts = spelled.outward(tuple(told["starts"])) if "starts" in told else None
@@ -74,6 +74,6 @@ def of_report(line: str, spelled: Spelled) -> Solved:
 ODD = (ValueError, LookupError, TypeError)
 
 
-def not_asked(spelled: Spelled) -> Solved:
+def not_asked(spelled: ProjectText) -> Solved:
     """What is known of a project where there is no time left."""
     return Solved(None, None, spelled.value(0), 0, b"", spelled.project.goal, was_asked=False)

@@ -28,7 +28,7 @@ class Lines:
 
 
 @dataclass
-class Running:
+class Process:
     """A program that runs until it has ended by itself, or until there is the file by which it is asked to. It is killed where
     it takes no such file, or doesn't end in time."""
 

@@ -13,7 +13,7 @@ from typing import IO
 
 from .clock import Clock
 from .errors import BadInput, Failed, TimeUp
-from .process import Lines, Running
+from .process import Lines, Process
 
 SECONDS = 600.0  # the most that a program may take for an answer that no search is needed for
 INSIDE = "bin"  # the folder of the programs in the package, where it was installed from a wheel
@@ -104,7 +104,7 @@ class Program:
                                          start_new_session=True)
             except OSError as fault:
                 raise Failed(f"cannot start {self.path}: {fault.strerror}") from None
-            running, lines = Running(child, out, until), Lines(told)
+            running, lines = Process(child, out, until), Lines(told)
             atexit.register(running.end)
             try:
                 has_ended = self._wait(running, lines, time.monotonic() + seconds, hear)
@@ -119,7 +119,7 @@ class Program:
             told.seek(0)
             return child.returncode, out.read(), told.read()
 
-    def _wait(self, running: Running, lines: Lines, end: float, hear: Callable[[str], None]) -> bool:
+    def _wait(self, running: Process, lines: Lines, end: float, hear: Callable[[str], None]) -> bool:
         """Hears lines as they come. Whether the program has ended by itself, or when it was asked to."""
         while not running.has_ended():
             if (self.clock.stopped or time.monotonic() > end) and not running.ask():

@@ -83,7 +83,7 @@ def parse(data: bytes) -> Project:
     return Project(tuple(found["duration"]), tuple(demands), tuple(found["capacity"]), tuple(arcs))
 
 
-class Spelled:
+class ProjectText:
     def __init__(self, project: Project) -> None:
         self.project = project
         self.end = project.end + len(project.absences)  # of the text: absences stand before it

@@ -10,7 +10,7 @@ from .errors import Failed
 from .outcome import ODD, Solved, of_answer
 from .programs import Program
 from .project import Goal, Project
-from .project_text import Spelled
+from .project_text import ProjectText
 
 
 @dataclass(frozen=True)
@@ -30,11 +30,11 @@ class Violation(NamedTuple):
 
 class Psmax(Program):
     name = "psmax"
-    asked: Spelled | None = None  # the project of the last check, of which there may be many
+    asked: ProjectText | None = None  # the project of the last check, of which there may be many
 
     def earliest(self, project: Project) -> int | None:
         """What is minimized, by the lags alone; none where they contradict each other."""
-        spelled = Spelled(project)
+        spelled = ProjectText(project)
         found = self.earliest_of_text(spelled.text)
         return None if found is None else spelled.value(found)
 
@@ -52,7 +52,7 @@ class Psmax(Program):
     def solve(self, project: Project, nodes: int, workers: int | None, start: tuple[int, ...] | None = None) -> Solved:
         """A search of so many nodes, until the clock is over, from starts that are feasible where there are some. Without
         workers it goes depth first, and has neither a start nor a record."""
-        spelled = Spelled(project)
+        spelled = ProjectText(project)
         with tempfile.TemporaryDirectory(prefix="plan-") as folder:
             record, first = os.path.join(folder, "record"), os.path.join(folder, "start")
             arguments = ["solve", "--json", "--nodes", f"{nodes}"]
@@ -73,7 +73,7 @@ class Psmax(Program):
             known = self.check(replace(project, goal=Goal.MAKESPAN), project.plain(starts))
             return known if known.value is None else Checked(starts[-1], ())
         if self.asked is None or self.asked.project != project:
-            self.asked = Spelled(project)
+            self.asked = ProjectText(project)
         spelled = self.asked
         status, out = self.judge("check", spelled.text, starts_text(spelled.inward(starts)))
         found = re.fullmatch(rb"feasible (-?\d+)\n", out)
@@ -85,7 +85,7 @@ class Psmax(Program):
         raise self.odd("check")
 
 
-def violation(line: str, spelled: Spelled) -> Violation:
+def violation(line: str, spelled: ProjectText) -> Violation:
     """A line of `check`, in the numbers of the project."""
     found = re.fullmatch(r"(start|lag|overload)((?: -?\d+)+)", line)
     numbers = tuple(int(word) for word in found[2].split()) if found else ()

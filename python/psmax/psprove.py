@@ -10,7 +10,7 @@ from .errors import TimeUp
 from .outcome import ODD, Solved, not_asked, of_answer, of_report
 from .programs import Program
 from .project import Project
-from .project_text import Spelled
+from .project_text import ProjectText
 from .psmax import starts_text
 
 Hear = Callable[[Solved], object]
@@ -40,7 +40,7 @@ class Psprove(Program):
         heard. Where the clock stops, the answer is what it holds then."""
         if limits.seconds <= 0:
             raise TimeUp
-        spelled = Spelled(project)
+        spelled = ProjectText(project)
         with tempfile.TemporaryDirectory(prefix="plan-") as folder:
             record, first, end = (os.path.join(folder, name) for name in ("record", "start", "end"))
             arguments = ["solve", "--json", "--progress", "json", *limits.arguments(), "--until", end, "--record", record]
@@ -56,13 +56,13 @@ class Psprove(Program):
 
     def ask(self, project: Project, limits: Limits, start: tuple[int, ...] | None = None) -> Solved:
         """The same where the time may be over: what is known then is what psprove told last."""
-        told = [not_asked(Spelled(project))]
+        told = [not_asked(ProjectText(project))]
         try:
             return self.solve(project, limits, start, told.append)
         except TimeUp:
             return told[-1]
 
-    def heard(self, line: str, spelled: Spelled, hear: Hear) -> None:
+    def heard(self, line: str, spelled: ProjectText, hear: Hear) -> None:
         """What the book holds, or why a search stopped."""
         if line.startswith(STOPPED):
             tell(self.clock, line)

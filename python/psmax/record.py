@@ -6,7 +6,7 @@ from .clock import Clock
 from .errors import BadInput, Failed
 from .files import write_whole
 from .programs import Program
-from .project_text import Spelled
+from .project_text import ProjectText
 from .psmax import Psmax
 from .psprove import Psprove
 
@@ -32,7 +32,7 @@ class Record:
     """A record of a project. It needs no trust in the search that wrote it."""
 
     data: bytes
-    spelled: Spelled
+    spelled: ProjectText
 
     def judge(self, called: str = "the record") -> Program:
         """The program that judges it, with what it is called in faults."""

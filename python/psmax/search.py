@@ -9,7 +9,7 @@ from contextlib import suppress
 
 from .clock import tell
 from .errors import TimeUp
-from .incumbent import Known
+from .incumbent import Incumbent
 from .project import Project
 from .psmax import Psmax
 from .psprove import Limits, Psprove
@@ -20,7 +20,7 @@ GROWTH = 10  # each one takes so many times the nodes of the one before
 MOST = 1_000_000  # nodes of the last slice, which stay in memory: a million take some 1,600 MB
 
 
-def search(project: Project, psprove: Psprove, known: Known, jobs: int, repairs: Sequence[Project] = (),
+def search(project: Project, psprove: Psprove, known: Incumbent, jobs: int, repairs: Sequence[Project] = (),
            called: str = "") -> None:
     """A search by psprove; what is known stands in `known`."""
     if known.starts is None:
@@ -37,7 +37,7 @@ def search(project: Project, psprove: Psprove, known: Known, jobs: int, repairs:
         tell(clock, clock.why_over())
 
 
-def repair(psprove: Psprove, known: Known, projects: Sequence[Project], called: str) -> None:
+def repair(psprove: Psprove, known: Incumbent, projects: Sequence[Project], called: str) -> None:
     """A schedule of the first of these that has one. Each is the project with more lags."""
     for project in projects:
         answer = psprove.ask(project, Limits(min(SECONDS, psprove.clock.left()), conflicts=CONFLICTS))
@@ -48,7 +48,7 @@ def repair(psprove: Psprove, known: Known, projects: Sequence[Project], called: 
 class TreeSearch:
     """A search by psmax; what is known stands in `known`."""
 
-    def __init__(self, project: Project, psmax: Psmax, known: Known, jobs: int) -> None:
+    def __init__(self, project: Project, psmax: Psmax, known: Incumbent, jobs: int) -> None:
         self.project = project
         self.psmax = psmax
         self.known = known

@@ -7,7 +7,7 @@ from .answer import Answer, Changed, Checked, Float, Progress, Schedule, Starts,
 from .clock import Clock
 from .errors import BadInput, Failed
 from .files import guard
-from .incumbent import Known, News
+from .incumbent import Incumbent, News
 from .letters import at_most, short
 from .model import Absence, Activity, Lag, Parts, Resource, whole
 from .project import MOST_UNITS, Kind, least_end
@@ -16,7 +16,7 @@ from .psmax import Psmax
 from .psprove import Psprove
 from .record import Record
 from .search import TreeSearch, search
-from .project_text import Spelled
+from .project_text import ProjectText
 from .total import TotalFloat
 
 MOST_JOBS = 64  # of both programs
@@ -69,7 +69,7 @@ def solve(project: Parts, seconds: float, jobs: int | None, on_progress: Hear, s
         raise BadInput(f"proved_by {short(str(proved_by))}: neither {' nor '.join(PROVED_BY)}")
     guard([record], {})
     numbers, clock, count = project.numbers(minimize), clock_of(seconds), jobs_of(jobs)
-    known, listener = Known(clock, numbers), Listener(project, clock, on_progress)
+    known, listener = Incumbent(clock, numbers), Listener(project, clock, on_progress)
     known.listener = listener.news
     if start is not None:
         known.offer(feasible(project, numbers, start), "the start")
@@ -87,10 +87,10 @@ def solve(project: Parts, seconds: float, jobs: int | None, on_progress: Hear, s
     return answer
 
 
-def answer_of(project: Parts, known: Known, path: str | None) -> Answer:
+def answer_of(project: Parts, known: Incumbent, path: str | None) -> Answer:
     """What is known; its record goes into the file, however the search ended."""
     schedule = None if known.starts is None else Schedule(project, known.starts)
-    record = Record(known.record, Spelled(known.project)) if known.record else None
+    record = Record(known.record, ProjectText(known.project)) if known.record else None
     if path is not None and record is not None:
         record.write(path)
     return Answer(project, Status(known.status()), schedule, known.bound, record, known.goal, known.clock.elapsed(),
@@ -152,7 +152,7 @@ def violation(project: Parts, numbers: Numbers, starts: tuple[int, ...], one: ps
 
 
 def earliest(project: Parts) -> Schedule | None:
-    spelled = Spelled(project.numbers())
+    spelled = ProjectText(project.numbers())
     starts = Psmax(Clock(), CALLED).earliest_starts(spelled.text)
     return None if starts is None else Schedule(project, spelled.outward(starts))
 

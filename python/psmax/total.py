@@ -10,7 +10,7 @@ from dataclasses import dataclass, field, replace
 from .clock import tell
 from .files import write_whole
 from .project import Arc, Goal, Project
-from .project_text import Spelled
+from .project_text import ProjectText
 from .psmax import starts_text
 from .psprove import Limits, Psprove
 
@@ -128,13 +128,13 @@ class TotalFloat:
     def write(self, folder: str) -> None:
         """The project of all schedules that are no longer. For each activity one of them with the latest start that is known,
         and the project that asks for a later start with the record that it has none."""
-        spelled = Spelled(self.limited())
+        spelled = ProjectText(self.limited())
         files = {PROJECT: spelled.text}
         for activity, latest in self.found.items():
             if not latest.has_started:
                 files[f"{activity}.starts"] = starts_text(spelled.inward(latest.schedule))
             if latest.proved is not None:
-                files[f"{activity}.sch"] = Spelled(self.limited((Arc(0, activity, latest.proved + 1),))).text
+                files[f"{activity}.sch"] = ProjectText(self.limited((Arc(0, activity, latest.proved + 1),))).text
                 files[f"{activity}.record"] = latest.record
         for name, data in files.items():
             write_whole(os.path.join(folder, name), data)

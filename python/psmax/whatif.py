@@ -6,7 +6,7 @@ from concurrent.futures import ThreadPoolExecutor
 from dataclasses import dataclass, replace
 from enum import Enum
 
-from .incumbent import Known
+from .incumbent import Incumbent
 from .outcome import Solved
 from .project import MOST_UNITS, Kind, Part, Project, parts, with_lag, without
 from .psprove import Limits, Psprove
@@ -61,7 +61,7 @@ def changes(project: Project, changeable: int | None = None) -> list[Change]:
     return found
 
 
-def outcomes(found: Sequence[Change], base: Known, psprove: Psprove, jobs: int) -> list[Outcome]:
+def outcomes(found: Sequence[Change], base: Incumbent, psprove: Psprove, jobs: int) -> list[Outcome]:
     """What becomes known of each change by one job beside others, each in its share of the time that is left. The shortest
     schedule comes first."""
     clock = psprove.clock
@@ -75,11 +75,11 @@ def outcomes(found: Sequence[Change], base: Known, psprove: Psprove, jobs: int) 
         return sorted(pool.map(outcome, range(len(found))), key=Outcome.rank)
 
 
-def whatif(project: Project, psprove: Psprove, jobs: int, changeable: int | None = None) -> tuple[Known, list[Outcome]]:
+def whatif(project: Project, psprove: Psprove, jobs: int, changeable: int | None = None) -> tuple[Incumbent, list[Outcome]]:
     """What is known of the project as it is, which gets a share of the time, and of its changes."""
     clock = psprove.clock
     seconds, clock.seconds = clock.seconds, clock.seconds / SHARE
-    base = Known(clock, project)
+    base = Incumbent(clock, project)
     search(project, psprove, base, jobs)
     clock.seconds = seconds
     return base, outcomes(changes(project, changeable), base, psprove, jobs)

@@ -8,8 +8,8 @@ from dataclasses import replace
 
 from ..clock import Clock, tell
 from ..errors import Failed, TimeUp
-from ..incumbent import Known
-from ..project_text import Spelled
+from ..incumbent import Incumbent
+from ..project_text import ProjectText
 from ..psmax import Psmax, starts_text
 from ..psprove import Limits, Psprove
 from .cube import SECONDS, Row
@@ -62,7 +62,7 @@ def length(arcs: str) -> tuple[int, str]:
 
 
 class Driver:
-    def __init__(self, tree: Driven, known: Known, spelled: Spelled) -> None:
+    def __init__(self, tree: Driven, known: Incumbent, spelled: ProjectText) -> None:
         self.tree, self.known, self.spelled = tree, known, spelled
         self.tries: Counter[str] = Counter()
         self.told = -TOLD

@@ -88,12 +88,12 @@ class Tree:
         self.count(row)
         if row["state"] == "refuted":
             self.refute(name)
-        kids = {name + one["name"]: Cube(cube.arcs + tuple(map(tuple, one["arcs"])), cube.age + 1)
-                for one in row["pieces"] if one["name"]}
-        if kids or row["state"] == "refuted":
+        children = {name + one["name"]: Cube(cube.arcs + tuple(map(tuple, one["arcs"])), cube.age + 1)
+                    for one in row["pieces"] if one["name"]}
+        if children or row["state"] == "refuted":
             self.logs[row["number"]] = name
-            self.cubes |= kids
-            self.waiting |= {*kids}
+            self.cubes |= children
+            self.waiting |= {*children}
         else:  # it can't be split: searched again, for longer
             self.cubes[name] = replace(cube, age=cube.age + 1)
             self.waiting.add(name)

@@ -3,7 +3,7 @@ import re
 
 from ..clock import Clock
 from ..model import Parts
-from ..project_text import Spelled, parse
+from ..project_text import ProjectText, parse
 from ..psmax import Psmax
 
 SUFFIX = ".sch"
@@ -33,4 +33,4 @@ def read(text: str, project: Parts) -> None:
 
 
 def write(project: Parts) -> str:
-    return Spelled(project.numbers()).text.decode()
+    return ProjectText(project.numbers()).text.decode()

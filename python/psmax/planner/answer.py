@@ -9,7 +9,7 @@ from ..errors import BadInput
 from ..letters import at_most, printable, short
 from ..project import Project, least_end
 from ..psmax import Psmax
-from .answer_text import Begin, Given
+from .answer_text import AnswerText, Begin
 from .project_file import ProjectFile
 from .wording import Words
 
@@ -41,7 +41,7 @@ class Tied:
     pairs: dict[int, int]  # the project's number of each activity of the answer that it has
 
 
-def judged(opened: ProjectFile, given: Given, psmax: Psmax) -> Answer:
+def judged(opened: ProjectFile, given: AnswerText, psmax: Psmax) -> Answer:
     """The starts of this answer, judged by psmax. What is no project, or has no start for an activity, is told."""
     given = counted(opened, given.must_have_starts())
     project, tied, words = opened.project, tie(opened, given), Words(opened)
@@ -54,7 +54,7 @@ def judged(opened: ProjectFile, given: Given, psmax: Psmax) -> Answer:
     return Answer(project, starts, given.said, found.value, tuple(words.violation(one, starts) for one in found.violations))
 
 
-def feasible(opened: ProjectFile, given: Given, psmax: Psmax) -> Answer:
+def feasible(opened: ProjectFile, given: AnswerText, psmax: Psmax) -> Answer:
     """The same where psmax finds it feasible; whatever else is told as a fault."""
     known = judged(opened, given, psmax)
     if known.value is None:
@@ -62,7 +62,7 @@ def feasible(opened: ProjectFile, given: Given, psmax: Psmax) -> Answer:
     return known
 
 
-def counted(opened: ProjectFile, given: Given) -> Given:
+def counted(opened: ProjectFile, given: AnswerText) -> AnswerText:
     """The same in today's periods, where the answer counts others. Rows that don't say what they count count what a bare number
     of the table does."""
     unit, scale = opened.names.unit, opened.table.scale if opened.table is not None else None
@@ -88,7 +88,7 @@ def counted(opened: ProjectFile, given: Given) -> Given:
     return replace(given, starts=starts, takes=takes)
 
 
-def tie(opened: ProjectFile, given: Given) -> Tied:
+def tie(opened: ProjectFile, given: AnswerText) -> Tied:
     """Finds the activities of an answer by their names; by their numbers where the answer or the project has none. The end
     starts when the others let it, but where starts without names say more."""
     project = opened.project
@@ -108,7 +108,7 @@ def tie(opened: ProjectFile, given: Given) -> Tied:
     return Tied(starts, [number for number in inner if number not in starts], gone, pairs)
 
 
-def end_of(opened: ProjectFile, given: Given, starts: dict[int, int]) -> int:
+def end_of(opened: ProjectFile, given: AnswerText, starts: dict[int, int]) -> int:
     """An answer of psmax says when the end starts, which is later where somebody wants it so."""
     least, said = least_end(opened.project, starts), given.starts.get(opened.project.end)
     by_number_alone = not given.is_table and not (given.names and opened.names.activities)
@@ -116,7 +116,7 @@ def end_of(opened: ProjectFile, given: Given, starts: dict[int, int]) -> int:
     return said.period if is_whole and said is not None and said.period is not None else least
 
 
-def by_number(opened: ProjectFile, given: Given) -> None:
+def by_number(opened: ProjectFile, given: AnswerText) -> None:
     """An answer without names has a start for each activity, and is no older than the project."""
     numbers = range(1, opened.project.end) if given.is_table else range(opened.project.end + 1)
     is_whole = sorted(given.starts) == [*range(numbers.start, numbers.start + len(given.starts))]
@@ -129,7 +129,7 @@ def by_number(opened: ProjectFile, given: Given) -> None:
             print("plan: " + printable(text), file=sys.stderr)
 
 
-def time(opened: ProjectFile, activity: int, begin: Begin, given: Given) -> int:
+def time(opened: ProjectFile, activity: int, begin: Begin, given: AnswerText) -> int:
     """When an activity starts, where the number of its period and its date say the same."""
     if not begin.date:
         return begin.period or 0

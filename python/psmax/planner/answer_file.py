@@ -5,7 +5,7 @@ import os
 from ..clock import Clock, tell
 from ..errors import BadInput, Failed
 from ..files import read_bytes, write_whole
-from ..incumbent import Known
+from ..incumbent import Incumbent
 from ..psmax import Psmax
 from .answer import Answer, feasible
 from .answer_text import answer_of
@@ -42,7 +42,7 @@ class AnswerFile:
             told = f"{self.path} is no schedule of {self.opened.path}, and would be lost; name another file with --out"
             raise BadInput(told, *fault.args) from None
 
-    def put(self, known: Known) -> bool:
+    def put(self, known: Incumbent) -> bool:
         """Writes the best schedule, unless another one has put a shorter one there meanwhile. Says whether it is there."""
         if known.starts is None:
             return False
@@ -56,7 +56,7 @@ class AnswerFile:
         self.written, self.there = data, None
         return True
 
-    def put_if_possible(self, known: Known) -> None:
+    def put_if_possible(self, known: Incumbent) -> None:
         """The same while the search goes on; where it fails, that is told, and is tried again at the end."""
         try:
             self.put(known)
@@ -64,7 +64,7 @@ class AnswerFile:
             tell(known.clock, f"{fault.args[0]}")
 
 
-def answer_text(known: Known, opened: ProjectFile, as_table: bool) -> bytes:
+def answer_text(known: Incumbent, opened: ProjectFile, as_table: bool) -> bytes:
     """What is known, with the names of the activities: as a table, or in the lines of psmax, the first of which, which
     psmax passes over, has the names."""
     if as_table and known.starts is not None:

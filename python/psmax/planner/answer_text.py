@@ -52,7 +52,7 @@ class Begin:
 
 
 @dataclass(frozen=True)
-class Given:
+class AnswerText:
     """Starts by the numbers that the activities had then, and by the same numbers their names, where it has them."""
 
     called: str  # in faults
@@ -64,18 +64,18 @@ class Given:
     instead: str = ""  # a sentence for an answer without starts
     is_table: bool = False  # which has neither the start nor the end of the project
 
-    def must_have_starts(self) -> "Given":
+    def must_have_starts(self) -> "AnswerText":
         if self.instead:
             raise BadInput(f"{self.called}: {self.instead}")
         return self
 
 
-def read_answer(path: str | None) -> Given:
+def read_answer(path: str | None) -> AnswerText:
     """The answer in a file, or on standard input where none is named."""
     return answer_of(read_input(path), path or "standard input")
 
 
-def answer_of(data: bytes, called: str) -> Given:
+def answer_of(data: bytes, called: str) -> AnswerText:
     if len(data) > LARGEST:
         raise BadInput(f"{called}: too long")
     text = data.decode("utf-8-sig", "replace")
@@ -89,15 +89,15 @@ def answer_of(data: bytes, called: str) -> Given:
     return from_lines(text, called, {})
 
 
-def from_lines(text: str, called: str, activities: Mapping[str, object]) -> Given:
+def from_lines(text: str, called: str, activities: Mapping[str, object]) -> AnswerText:
     """The lines of psmax, or of a file of starts. What else is known of the activities stands in the first line, as JSON."""
     lines = text.split("\n")
     said, brace, told = lines[0].strip().partition(" {")
     instead = sentence(text.strip(), called)
     if instead:
-        return Given(called, instead=instead)
+        return AnswerText(called, instead=instead)
     if not text.startswith(WITH_STARTS):
-        return Given(called, begins(starts_in(lines, 1, called)))
+        return AnswerText(called, begins(starts_in(lines, 1, called)))
     if brace:
         activities = json_object("{" + told)
     names, durations = activities.get("names", []), activities.get("durations", [])
@@ -106,7 +106,7 @@ def from_lines(text: str, called: str, activities: Mapping[str, object]) -> Give
     starts = starts_in(lines[1:], 2, called)
     named = {i: f"{name}" for i, name in enumerate(names, 1)} if any(names) else {}
     takes, period = {i: length for i, length in enumerate(durations, 1)}, str(activities.get(PERIOD) or "")
-    return Given(called, begins(starts), named, takes, period, short(said))
+    return AnswerText(called, begins(starts), named, takes, period, short(said))
 
 
 def begins(starts: dict[int, int]) -> dict[int, Begin]:
@@ -145,7 +145,7 @@ def sentence(text: str, called: str) -> str:
     return meaning and f"The answer is `{short(first)}`: {meaning}."
 
 
-def from_json(text: str, called: str) -> Given:
+def from_json(text: str, called: str) -> AnswerText:
     """An answer of `psmax solve --json` or `plan solve --json`, as the lines that it stands for."""
     told = json_object(text)
     starts = told.get("starts") or []
@@ -201,12 +201,12 @@ def is_answer_head(row: list[str]) -> bool:
     return bool(NAMED & heads) and "start" in heads
 
 
-def from_sheet(sheet: Sheet, called: str) -> Given:
+def from_sheet(sheet: Sheet, called: str) -> AnswerText:
     """A table with a row for each activity. A column `activity` has numbers, or names where there is no other. The end is not
     read: it follows from the start."""
     heads = [head.lower() for head in sheet.heads]
     columns = {kind: heads.index(head) for kind, known in HEADS.items() for head in known if head in heads}
-    given = Given(called, is_table=True, period=period_of(sheet, called, columns))
+    given = AnswerText(called, is_table=True, period=period_of(sheet, called, columns))
     for number, row in sheet.numbered():
         key = cell(row, columns.get("activity"))
         has_number = re.fullmatch("[0-9]{1,4}", key) is not None

@@ -7,7 +7,7 @@ from ..letters import at_most
 from ..project import MOST_ARCS, Arc, Project, in_order
 from ..psmax import Psmax
 from .answer import Answer, Tied, counted, feasible, tie
-from .answer_text import Given, read_answer
+from .answer_text import AnswerText, read_answer
 from .circles import circles, in_words
 from .progress import Progress
 from .project_file import ProjectFile
@@ -60,7 +60,7 @@ def begin_with(opened: ProjectFile, start: Start) -> Beginning:
     return begin_near(opened, given, start.frozen)
 
 
-def begin_near(opened: ProjectFile, given: Given, day: str | None) -> Beginning:
+def begin_near(opened: ProjectFile, given: AnswerText, day: str | None) -> Beginning:
     """The schedules near to one of the project before it was changed. What starts in that before the day stays, or what the
     status date says has started."""
     given = counted(opened, given)
@@ -76,7 +76,7 @@ def frozen(opened: ProjectFile, tied: Tied, day: str) -> Progress:
     return Progress(now, {i: tied.starts[i] for i in range(1, opened.project.end) if tied.starts.get(i, now) < now})
 
 
-def from_old(opened: ProjectFile, given: Given, tied: Tied, progress: Progress, day: str) -> Beginning:
+def from_old(opened: ProjectFile, given: AnswerText, tied: Tied, progress: Progress, day: str) -> Beginning:
     """What has started stays, and the rest is planned from the status date on, as near as can be to the old schedule."""
     project, words, now = opened.project, Words(opened), progress.now or 0
     arcs = () if opened.progress.now is not None else tuple(progress.arcs(project.end - 1))

@@ -6,7 +6,7 @@ from ..errors import BadInput
 from ..letters import short
 from ..project import Goal
 from .answer import Tied, counted, same_names, tie
-from .answer_text import Given, read_answer
+from .answer_text import AnswerText, read_answer
 from .project_file import ProjectFile
 
 
@@ -15,7 +15,7 @@ class Side:
     says that an activity took, else by how long it takes today. Dates are those of the project before it was changed, where it
     had the same periods."""
 
-    def __init__(self, given: Given, opened: ProjectFile, before: ProjectFile | None = None) -> None:
+    def __init__(self, given: AnswerText, opened: ProjectFile, before: ProjectFile | None = None) -> None:
         self.opened = opened
         self.before = before if before is not None and before.names.unit == opened.names.unit else None
         given = counted(opened, given.must_have_starts())

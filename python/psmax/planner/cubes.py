@@ -10,10 +10,10 @@ from ..cubes.driver import TRIES, Driver
 from ..cubes.machines import Cluster, Machines, Processes
 from ..cubes.tree import WHOLE, Driven
 from ..errors import Failed, TimeUp
-from ..incumbent import Known
+from ..incumbent import Incumbent
 from ..outcome import Solved
 from ..programs import find_program
-from ..project_text import Spelled
+from ..project_text import ProjectText
 from ..psprove import Psprove
 from ..record import PROVED
 from .beginning import Beginning
@@ -33,9 +33,9 @@ class Places:
         return Cluster(self.cluster) if self.cluster else Processes(self.jobs, find_program(Psprove.name))
 
 
-def search(beginning: Beginning, known: Known, places: Places) -> None:
+def search(beginning: Beginning, known: Incumbent, places: Places) -> None:
     """Runs until everything is known or the time is over. Cubes whose logs are wrong are searched again."""
-    spelled, record = Spelled(beginning.project), place_of(places.folder, places.record)
+    spelled, record = ProjectText(beginning.project), place_of(places.folder, places.record)
     with closing(Driven(pathlib.Path(places.folder), spelled.text)) as tree:
         driver, wrong = Driver(tree, known, spelled), Counter[str]()
         while True:
@@ -54,7 +54,7 @@ def search(beginning: Beginning, known: Known, places: Places) -> None:
         tell(known.clock, f"{known.clock.why_over()}; the same command goes on from here")
 
 
-def learn(tree: Driven, record: str, known: Known, spelled: Spelled) -> dict[str, str]:
+def learn(tree: Driven, record: str, known: Incumbent, spelled: ProjectText) -> dict[str, str]:
     """Takes what the logs prove together. The faults of those that are wrong, by the names of their cubes."""
     clock = Clock()
     clock.listen()

@@ -5,7 +5,7 @@ from dataclasses import dataclass
 
 from ..clock import Clock
 from ..files import write_whole
-from ..incumbent import Known
+from ..incumbent import Incumbent
 from ..project import Arc
 from ..psmax import Psmax
 from ..psprove import STOPPED, Psprove
@@ -72,8 +72,8 @@ class PlanSearch(threading.Thread):
         finally:
             self.learn(stage="")
 
-    def search(self) -> Known:
-        known = Known(self.clock, self.beginning.project)
+    def search(self) -> Incumbent:
+        known = Incumbent(self.clock, self.beginning.project)
         known.listener = lambda news: self.learn(value=news.value, bound=news.bound, starts=news.starts)
         for starts, called in self.beginning.schedules:
             known.offer(starts, called)

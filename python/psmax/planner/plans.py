@@ -11,12 +11,12 @@ from ..errors import BadInput, Failed
 from ..files import read_bytes, write_new
 from ..outcome import Claim
 from ..project import Arc, Goal, Project
-from ..project_text import Spelled
+from ..project_text import ProjectText
 from ..psmax import Psmax
 from ..record import Record
 from ..total import TotalFloat
 from .answer import feasible
-from .answer_text import Begin, Given, answer_of
+from .answer_text import AnswerText, Begin, answer_of
 from .compare import Move, Side, as_before, moves, totals
 from .csv_text import write_sheet
 from .page import View
@@ -39,12 +39,12 @@ class Schedule:
         opened = self.opened
         return [(opened.names.activities.get(i, ""), opened.times(i, self.starts[i])) for i in range(1, opened.project.end)]
 
-    def given(self) -> Given:
+    def given(self) -> AnswerText:
         """The same as an answer with names, which a table that has changed since can take."""
         opened, inner = self.opened, range(1, self.opened.project.end)
-        return Given("the plan before", {i: Begin(self.starts[i], "") for i in inner},
-                     {i: opened.names.activities.get(i, "") for i in inner}, {i: opened.project.durations[i] for i in inner},
-                     opened.names.unit, is_table=True)
+        return AnswerText("the plan before", {i: Begin(self.starts[i], "") for i in inner},
+                          {i: opened.names.activities.get(i, "") for i in inner},
+                          {i: opened.project.durations[i] for i in inner}, opened.names.unit, is_table=True)
 
 
 @dataclass(frozen=True, eq=False)
@@ -128,7 +128,7 @@ def contents(plan: Plan, stem: str) -> dict[str, bytes]:
     table = write_sheet(rows(opened, starts, with_dates=False)).encode()
     answer, found, files = feasible(opened, answer_of(table, f"{stem}.csv"), psmax), None, {f"{stem}.csv": table}
     if plan.record is not None:
-        record = Record(read_bytes(plan.record, None), Spelled(plan.project))
+        record = Record(read_bytes(plan.record, None), ProjectText(plan.project))
         which = opened.path if plan.project == opened.project else f"{opened.path} that keeps what has started"
         with suppress(Failed):
             judgement = judged(record, os.path.basename(f"{stem}.record"), which)

@@ -15,7 +15,7 @@ from ..project import Goal
 from ..project import Project as Numbers
 from ..api import Project
 from ..psmax import Psmax
-from ..project_text import Spelled, parse
+from ..project_text import ProjectText, parse
 from .columns import is_head
 from .csv_text import read_sheet
 from .answer_text import KEYS, LINE, WITH_STARTS, answer_sheet, json_object
@@ -207,7 +207,7 @@ def made_of(path: str, data: bytes, names: Names, told: Settings, words: Setting
         raise BadInput(f"{path} is older than its table {table}, which was changed; {advice}")
     text, folder = read_text(table), os.path.dirname(table)
     found = read_table(table, text, Settings(), folder, told)
-    if Spelled(found.project).text.split() != data.split():
+    if ProjectText(found.project).text.split() != data.split():
         raise BadInput(f"{path} is not what `plan read` makes of {table} today; {advice}")
     project = found.project
     if words != Settings():

@@ -11,7 +11,7 @@ from ..errors import BadInput
 from ..files import DASH, guard, read_bytes, read_text, write_whole
 from ..letters import printable
 from ..project import Goal, too_needy
-from ..project_text import Spelled
+from ..project_text import ProjectText
 from ..psmax import Psmax
 from .answer_text import answer_sheet
 from .names import MADE, page, read_page
@@ -82,7 +82,7 @@ def read_activities(path: str, out: str | None, words: Settings) -> int:
     words = words.over(told)
     found = read_table(path, text, words, os.path.dirname(path))
     opened = of_table(path, found, {}, ",")
-    spelled = Spelled(opened.project)
+    spelled = ProjectText(opened.project)
     names = found.names
     names.source, names.digest = source, hashlib.sha256(read_bytes(path)).hexdigest()
     names.settings = (found.settings if words.first is not None else words).rows(os.path.dirname(named))
@@ -101,7 +101,7 @@ def many(count: int, what: str) -> str:
     return f"{count} {what}" + ("" if count == 1 else "s")
 
 
-def said_of_text(spelled: Spelled) -> list[str]:
+def said_of_text(spelled: ProjectText) -> list[str]:
     """What its own numbers mean, where they aren't those of the table."""
     hidden, goal = len(spelled.project.absences), spelled.project.goal.value
     told = [f"Its last {many(hidden, 'activity') if hidden == 1 else f'{hidden} activities'} before the end are absences."]

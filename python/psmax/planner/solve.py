@@ -10,7 +10,7 @@ from .. import __version__
 from ..clock import Clock, tell
 from ..errors import Failed
 from ..files import guard, must_be_like, write_whole
-from ..incumbent import Known
+from ..incumbent import Incumbent
 from ..project import Arc, Goal, Project
 from ..psmax import Psmax
 from ..psprove import Limits, Psprove
@@ -53,7 +53,7 @@ def solve(opened: ProjectFile, start: Start, options: Options) -> int:
     clock.listen()
     for line in [*opened.notes, *beginning.told]:
         tell(clock, line)
-    known = Known(clock, beginning.project)
+    known = Incumbent(clock, beginning.project)
     if kept is not None:
         known.better = partial(kept.put_if_possible, known)
     for starts, called in schedules:
@@ -73,7 +73,7 @@ def solve(opened: ProjectFile, start: Start, options: Options) -> int:
     return 0 if known.settled else 3
 
 
-def give(known: Known, opened: ProjectFile, options: Options, kept: AnswerFile | None) -> None:
+def give(known: Incumbent, opened: ProjectFile, options: Options, kept: AnswerFile | None) -> None:
     """Prints what is known, and writes what was asked for. A schedule that can't be written is printed."""
     plain = known.answer().decode()
     try:
@@ -88,7 +88,7 @@ def give(known: Known, opened: ProjectFile, options: Options, kept: AnswerFile |
         write_whole(options.svg, svg.draw(drawing.make(opened, known.starts, known.first_line())).encode())
 
 
-def as_json(known: Known, opened: ProjectFile) -> str:
+def as_json(known: Incumbent, opened: ProjectFile) -> str:
     """What is known as one line, with the keys of psmax first. Where the lateness is minimized, the bound is one of
     it."""
     starts = None if known.starts is None else opened.project.plain(known.starts)
@@ -118,7 +118,7 @@ def versions() -> dict[str, str]:
     return found | {"python": platform.python_version()}
 
 
-def once_more(known: Known, opened: ProjectFile, project: Project) -> None:
+def once_more(known: Incumbent, opened: ProjectFile, project: Project) -> None:
     """What one more run would give, where calendar days ask for fewer periods at the dates of the schedule than they do
     on the worst of days. Each lag that holds something back gets what the schedule's dates ask for, and what it begins
     with keeps its date, so the dates stay true."""
@@ -152,7 +152,7 @@ def before(one: CalendarLag, arc: Arc) -> int:
     return arc.tail if one.is_least else arc.head
 
 
-def said(value: int | None, first_line: str, known: Known) -> str:
+def said(value: int | None, first_line: str, known: Incumbent) -> str:
     if value is None:
         return "one more run with these gave no schedule in its time"
     shorter = (known.value or 0) - value

@@ -8,7 +8,7 @@ from ..cubes.parts import Parts
 from ..files import read_bytes
 from ..programs import find_program
 from ..project import Goal
-from ..project_text import Spelled
+from ..project_text import ProjectText
 from ..psmax import Psmax
 from ..psprove import Psprove
 from ..record import OF_PSMAX, WRONG, Record
@@ -71,7 +71,7 @@ class Shares:
 def verdict(opened: ProjectFile, path: str, start: Start, shares: Shares | None = None) -> Verdict:
     """The verdict on a record of the project, or of it with what has started kept."""
     keeps = "" if start.frozen is None else f" that keeps what {start.answer} starts before {start.frozen}"
-    spelled, which = Spelled(begin_with(opened, start).project), f"{opened.path}{keeps}"
+    spelled, which = ProjectText(begin_with(opened, start).project), f"{opened.path}{keeps}"
     begin = b"" if shares is None else read_bytes(path, len(OF_PSMAX) - 1)
     if shares is None or begin == OF_PSMAX:
         return judged(Record(read_bytes(path, None), spelled), path, which)

@@ -16,9 +16,9 @@ from dataclasses import dataclass
 from ..clock import Clock
 from ..errors import BadInput, Failed, Fault
 from ..files import DASH, Saves, guard, must_be_like, read_bytes, read_text
-from ..project_text import Spelled
+from ..project_text import ProjectText
 from .answer import tie
-from .answer_text import Given, read_answer
+from .answer_text import AnswerText, read_answer
 from .beginning import Beginning, Start, begin_near, must_be_possible
 from .columns import is_head
 from .csv_text import read_sheet
@@ -82,7 +82,7 @@ class Watch:
         except Exception as fault:
             self.screen.tell(explained(fault)[1])
 
-    def begin(self, opened: ProjectFile, given: Given | None) -> Beginning:
+    def begin(self, opened: ProjectFile, given: AnswerText | None) -> Beginning:
         """Near to the plan on the screen, or anew where nothing of that can be taken over."""
         must_be_possible(opened, opened.path, opened.progress.started)
         if self.frozen is not None and opened.progress.now is not None:
@@ -98,7 +98,7 @@ class Watch:
             anew.told.extend([f"{fault}", "the plan before is not taken over"])
             return anew
 
-    def plan(self, opened: ProjectFile, beginning: Beginning, schedule: Schedule | None, given: Given | None) -> None:
+    def plan(self, opened: ProjectFile, beginning: Beginning, schedule: Schedule | None, given: AnswerText | None) -> None:
         """Where the project is the same, the plan and its search stay, perhaps with other names or dates."""
         now, notes = self.screen.plans.get(self.screen.latest), (*opened.notes, *beginning.told)
         if now is not None and now.project == beginning.project and now.opened.project == opened.project:
@@ -108,7 +108,7 @@ class Watch:
         self.stop()
         number = self.screen.add(Plan(
             opened, beginning.project, f"{datetime.datetime.now():%H:%M:%S}", schedule, shadow(opened, given),
-            opened.project.goal, None, Spelled(beginning.project).value(0), notes=notes))
+            opened.project.goal, None, ProjectText(beginning.project).value(0), notes=notes))
         limits = Limits(self.options.seconds, self.options.jobs, self.options.record)
         self.search = PlanSearch(self.screen, number, beginning, limits, self.folder)
         self.search.start()
@@ -163,7 +163,7 @@ def named_in(path: str, settings: Settings) -> set[str]:
     return set()
 
 
-def shadow(opened: ProjectFile, given: Given | None) -> tuple[int, ...]:
+def shadow(opened: ProjectFile, given: AnswerText | None) -> tuple[int, ...]:
     """Where a table's activities were in the plan before; at 0 what was not there."""
     found: dict[int, int] = {}
     if given is not None:

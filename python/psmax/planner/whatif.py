@@ -2,7 +2,7 @@
 psprove."""
 from ..clock import Clock
 from ..files import guard
-from ..incumbent import Known
+from ..incumbent import Incumbent
 from ..project import Goal
 from ..psprove import Psprove
 from ..whatif import Change, ChangeKind, Outcome
@@ -16,7 +16,7 @@ from .write import Sheet
 HEADS = ["kind", "change", "status", "makespan", "bound", "shorter", "seconds"]
 
 
-def row(one: Outcome, base: Known, words: Words) -> list[object]:
+def row(one: Outcome, base: Incumbent, words: Words) -> list[object]:
     known = one.known
     shorter = base.value - known.value if base.value is not None and known.value is not None else None
     told = ["" if value is None else value for value in (known.value, known.bound, shorter)]
@@ -46,7 +46,7 @@ def whatif(opened: ProjectFile, seconds: float, jobs: int, sheet: Sheet) -> int:
     return 0 if base.settled and all(one.known.settled for one in outcomes) else 3
 
 
-def text(base: Known, outcomes: list[Outcome], words: Words) -> list[str]:
+def text(base: Incumbent, outcomes: list[Outcome], words: Words) -> list[str]:
     """What gives a shorter schedule, then what may, and how many do not."""
     better = [one for one in outcomes if one.known.value is not None
               and (base.value is None or one.known.value < base.value)]

@@ -8,7 +8,7 @@ from ..errors import BadInput, TimeUp
 from ..files import must_be_empty, write_whole
 from ..outcome import Solved
 from ..project import MOST_UNITS, Arc, Goal, Kind, Part, Project, parts, too_needy, with_lag, within, without
-from ..project_text import Spelled
+from ..project_text import ProjectText
 from ..psmax import Psmax, starts_text
 from ..psprove import Limits, Psprove
 from .beginning import Start, begin_with
@@ -51,10 +51,10 @@ class Core:
     def write(self, folder: str) -> None:
         """What is left and the record, and for each part what is left without it and a schedule."""
         os.makedirs(folder, exist_ok=True)
-        files = {"core.sch": Spelled(without(self.project, self.gone)).text, "core.record": self.record}
+        files = {"core.sch": ProjectText(without(self.project, self.gone)).text, "core.record": self.record}
         for place, part in enumerate(self.parts(), 1):
             if part in self.schedules:
-                spelled = Spelled(without(self.project, {*self.gone, part}))
+                spelled = ProjectText(without(self.project, {*self.gone, part}))
                 files[f"without-{place}.sch"] = spelled.text
                 files[f"without-{place}.starts"] = starts_text(spelled.inward(self.schedules[part]))
         for name, data in files.items():
