@@ -22,13 +22,12 @@ all: build/psmax
 build/psmax: $(SOURCES)
 	@command -v rt > /dev/null || { echo "make needs the Rattle toolchain: its command rt is not on the PATH"; exit 1; }
 	rt all check --jobs $(JOBS)
-	cd crates/solver_cli && rt run --jobs $(JOBS) -- --help < /dev/null > /dev/null
+	cd crates/psmax && rt run --jobs $(JOBS) -- --help < /dev/null > /dev/null
 	cd crates/psprove && rt run --jobs $(JOBS) -- --help < /dev/null > /dev/null
 	cd crates/book_events && rt run --jobs $(JOBS) < stdin > /dev/null
-	cd crates/book_bench && rt run --jobs $(JOBS) -- 1 < stdin > /dev/null
 	mkdir -p build
-	cp crates/psprove/out/psprove crates/book_events/out/book_events crates/book_bench/out/book_bench build
-	cp crates/solver_cli/out/solver_cli build/psmax.new
+	cp crates/psprove/out/psprove crates/book_events/out/book_events build
+	cp crates/psmax/out/psmax build/psmax.new
 	mv build/psmax.new build/psmax
 
 test prove gate:
@@ -42,7 +41,7 @@ bench: build/psmax
 	python3 bench/counts.py build/psmax $(OTHER)
 	python3 bench/worker_speed.py build/psmax
 	python3 bench/record_speed.py build/psmax
-	python3 bench/book.py build/book_bench
+	python3 bench/book.py build/book_events
 
 reference:
 	python3 -m reference.make

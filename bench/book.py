@@ -1,11 +1,11 @@
 #!/usr/bin/env python3
 """bench/book.py PROGRAM
 
-Measures the search book with the program of crates/book_bench, and prints a table: how many bytes an open node takes, with
-all that it keeps alive, which is the peak memory with a million open nodes less that with a thousand, over their difference;
-and how long a take and a check-in take with so many nodes open, with how many nodes were opened by a check-in. Each
-project has 30 equal activities. All kids of a node share its list of pairs, so a node takes less where there are many: where
-seven activities fit at once, sets of eight are split, which gives 56 kids; where four do, sets of five, which gives 20."""
+Measures the search book with book_events, and prints a table: how many bytes an open node takes, with all that it keeps
+alive, which is the peak memory with a million open nodes less that with a thousand, over their difference; and how long
+a take and a check-in take with so many nodes open, with how many nodes were opened by a check-in. Each project has 30
+equal activities. All children of a node share its list of pairs, so a node takes less where there are many: where seven
+activities fit at once, sets of eight are split, which gives 56 children; where four do, sets of five, which gives 20."""
 import sys
 
 import measuring
@@ -23,14 +23,14 @@ def equal(capacity: int) -> bytes:
 
 
 PROJECTS = (
-    ("seven fit at once, 56 kids a node", equal(7)),
-    ("four fit at once, 20 kids a node", equal(4)),
+    ("seven fit at once, 56 children a node", equal(7)),
+    ("four fit at once, 20 children a node", equal(4)),
 )
 
 
 def measured(program: str, project: bytes, *words: int) -> tuple[list[int], float]:
     """What the program prints, as the list of its numbers, and its peak memory in bytes."""
-    ran = measuring.run([program, *words], project)
+    ran = measuring.run([program, "bench", *words], project)
     if ran.status != 0:
         sys.exit(f"{program}: exit {ran.status}")
     return [int(word) for word in ran.out.replace(",", "").split() if word.isdigit()], ran.memory * 1024 * 1024

@@ -51,7 +51,7 @@ from harness import TOP, Counts, Verdicts
 from planner.tests import run as planner_tests
 
 BUILD, RELEASE = TOP / "build", TOP / "release"
-PROGRAMS = {"psmax": "solver_cli", "psprove": "psprove", "book_events": "book_events"}
+PROGRAMS = {"psmax": "psmax", "psprove": "psprove", "book_events": "book_events"}
 # What a proof tells as it goes.
 STEP = re.compile(r"^rt: .*( proved$|NOT PROVED|trying its must-fail edits|NOT REFUSED|BAD EDIT)")
 KIT = re.compile(r"^    (rattle-kit-.+)$", re.M)

@@ -25,7 +25,8 @@ TOLD = (
     rb"1 (?:(?:out of memory|cannot start a thread)\|\|\||cannot write\|(?:.*\n)*.*\|)"
 )
 WANT = (
-    rb"(?:AllocError|AllocFailed \{ \.\. \}|Memory|Thread|RecordFault \{ line: 0, why: Memory \}|\"no memory\"|\""
+    rb"(?:AllocError|AllocFailed \{ \.\. \}|Memory|Thread|RecordFault \{ line: 0, why: Memory \}"
+    rb"|EventFault \{ event: \d+, wrong: Memory \}|\"no memory\"|\""
     + TOLD + rb"\")"
 )
 ENDS = re.compile(
@@ -34,7 +35,7 @@ ENDS = re.compile(
     rb"|(?:.*\n)*.* -> (?:.*\n)*.*: " + TOLD + rb"\n"
 )
 # The crates whose tests hold so.
-CRATES = ("words", "best_word", "node_tests", "run_tests")
+CRATES = ("words", "node_tests", "run_tests")
 SECONDS = 10  # so long may the runs of one test take together
 
 

@@ -37,7 +37,7 @@ def read(path: pathlib.Path) -> Wrong:
     """What has to refuse an edit, and its changes."""
     test: list[str] = []
     changes: list[Change] = []
-    program, file, old = "solver_cli", "", ""
+    program, file, old = "psmax", "", ""
     for line in path.read_text().splitlines():
         key, _, value = line.partition(": ")
         if key == "test":

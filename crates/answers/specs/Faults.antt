@@ -5,8 +5,8 @@ use Rattle.sch_reader.specs.declared.fault.SchFault.TheVariants as texts
 use Rattle.schedule_check.specs.declared.fault.StartsFault.{StartsFault}
 use Rattle.schedule_check.specs.declared.fault.StartsFault.TheVariants as starts
 use Rattle.record_text.specs.declared.fault.RecordFault.{RecordFault}
-use Rattle.record_text.specs.declared.fault.Why.{Why}
-use Rattle.record_text.specs.declared.fault.Why.TheVariants as why
+use Rattle.record_text.specs.declared.fault.RecordFaultKind.{RecordFaultKind}
+use Rattle.record_text.specs.declared.fault.RecordFaultKind.TheVariants as why
 use Rattle.answers.specs.declared.fault.Fault.{Fault}
 use Rattle.answers.specs.declared.fault.Fault.TheVariants as faults
 
@@ -34,7 +34,7 @@ starts_fault_of (starts.Missing activity) = faults.Missing activity
 starts_fault_of starts.Memory = faults.Memory
 
 -- what is wrong with a line of a record
-abbrev pub line_fault : ℕ → Why → Fault
+abbrev pub line_fault : ℕ → RecordFaultKind → Fault
 line_fault line why.Form = faults.RecordForm line
 line_fault line why.Short = faults.RecordShort line
 line_fault line why.Trailing = faults.RecordTrailing line

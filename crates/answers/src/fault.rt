@@ -4,7 +4,7 @@ ghost use Rattle.std.specs.Prelude.{◌≡◌};
 ghost use Rattle.answers.specs.Faults.{exit_of, fault_of, starts_fault_of, record_fault_of};
 ghost use Rattle.answers.specs.declared.fault.Fault.TheVariants as faults;
 
-use record_text::{RecordFault, Why};
+use record_text::{RecordFault, RecordFaultKind};
 use sch_reader::SchFault;
 use schedule_check::StartsFault;
 use std::alloc::{AllocError, AllocFailed};
@@ -157,18 +157,18 @@ impl From<RecordFault> for Fault {
     fn from(cause: RecordFault) -> Fault {
         let line = cause.line;
         match cause.why {
-            Why::Form => Fault::RecordForm { line },
-            Why::Short => Fault::RecordShort { line },
-            Why::Trailing => Fault::RecordTrailing { line },
-            Why::Start => Fault::RecordStart { line },
-            Why::Force => Fault::RecordForce { line },
-            Why::Set => Fault::RecordSet { line },
-            Why::Leaf => Fault::RecordLeaf { line },
-            Why::Lemma => Fault::RecordLemma { line },
-            Why::Add => Fault::RecordAdd { line },
-            Why::End => Fault::RecordEnd { line },
-            Why::Memory => Fault::Memory,
-            Why::TooLong => Fault::TooLong,
+            RecordFaultKind::Form => Fault::RecordForm { line },
+            RecordFaultKind::Short => Fault::RecordShort { line },
+            RecordFaultKind::Trailing => Fault::RecordTrailing { line },
+            RecordFaultKind::Start => Fault::RecordStart { line },
+            RecordFaultKind::Force => Fault::RecordForce { line },
+            RecordFaultKind::Set => Fault::RecordSet { line },
+            RecordFaultKind::Leaf => Fault::RecordLeaf { line },
+            RecordFaultKind::Lemma => Fault::RecordLemma { line },
+            RecordFaultKind::Add => Fault::RecordAdd { line },
+            RecordFaultKind::End => Fault::RecordEnd { line },
+            RecordFaultKind::Memory => Fault::Memory,
+            RecordFaultKind::TooLong => Fault::TooLong,
         }
     }
 }

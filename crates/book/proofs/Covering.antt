@@ -1,5 +1,5 @@
 -- A book's nodes go on to cover what is shorter than its best, as they move, as they are cut, and as one gives way to
--- its kids.
+-- its children.
 use Rattle.std.proofs.Common.{◌≡◌, ◌∙◌, ◌<ℤ◌, ℕ, ℤ, Bool, true, false, cond, List, [], ◌∷◌, ◌++◌, Option, Some, None, refl, sym, ap, subst, length, inl, inr, ⊎_elim, ◌⊎◌, arith, IfSome}
 use Rattle.std.specs.List.{All, Contains, filter}
 use Rattle.std.specs.List.Sorted.{IsPermutation}
@@ -17,7 +17,7 @@ use Rattle.branching.proofs.Covers.{covered_still, expansion_keeps}
 use Rattle.book.specs.State.{Named}
 use Rattle.book.specs.Sound.{nodes_of}
 use Rattle.book.specs.Steps.{Improves, named_from}
-use Rattle.trail.specs.RightTrail.{kids_below}
+use Rattle.search_log.specs.RightTrail.{children_below}
 use Rattle.book.proofs.Names.{all_left, all_right, nodes_of_named}
 
 -- nodes may change places
@@ -98,7 +98,7 @@ covered_improved p best found new improved nodes improves of_found covered =
         (λ (now : Some s ≡ found). subst (λ (o : Option ScheduleOf). IfSome o (IsScheduleFor p)) (sym now) of_found)
         from
 
--- ---- a node that gives way to its kids
+-- ---- a node that gives way to its children
 
 in_time_below : (ceiling : Option ℤ) (best : Option ScheduleOf) (s : List ℤ) → IsInTime ceiling (ceiling_of best) → IsShorterThan best s → IsBelow ceiling s
 in_time_below None best s in_time shorter = tt
@@ -126,28 +126,28 @@ stays p (y ∷ ys) x passes among =
     others true later = there y (filter p ys) x later
     others false later = later
 
--- a kid that may lead to a shorter schedule is opened
-kid_stays : (limit : Option ℤ) (kids : List Subproblem) (kid : Subproblem) → Contains kids kid → IsUnder limit kid.bound → Contains (kids_below limit kids) kid
-kid_stays limit kids kid among under = stays (λ (k : Subproblem). is_below limit k.bound) kids kid (under_is_below limit kid.bound under) among
+-- a child that may lead to a shorter schedule is opened
+child_stays : (limit : Option ℤ) (children : List Subproblem) (child : Subproblem) → Contains children child → IsUnder limit child.bound → Contains (children_below limit children) child
+child_stays limit children child among under = stays (λ (k : Subproblem). is_below limit k.bound) children child (under_is_below limit child.bound under) among
 
--- the node gives way to those of its kids that are below the new best
-pub covered_expanded : (p : Problem) (best new : Option ScheduleOf) (improved : Bool) (first : ℕ) (held : Named) (rest : List Named) (report : Expansion) → IsFair report → report.node.project ≡ p → held.node.pairs ≡ report.node.pairs → IsInTime report.ceiling (ceiling_of best) → Improves best report.found improved new → IsCovered p best (nodes_of (held ∷ rest)) → IsCovered p new (nodes_of (named_from first (kids_below (ceiling_of new) report.kids) ++ rest))
+-- the node gives way to those of its children that are below the new best
+pub covered_expanded : (p : Problem) (best new : Option ScheduleOf) (improved : Bool) (first : ℕ) (held : Named) (rest : List Named) (report : Expansion) → IsFair report → report.node.project ≡ p → held.node.pairs ≡ report.node.pairs → IsInTime report.ceiling (ceiling_of best) → Improves best report.found improved new → IsCovered p best (nodes_of (held ∷ rest)) → IsCovered p new (nodes_of (named_from first (children_below (ceiling_of new) report.children) ++ rest))
 covered_expanded p best new improved first held rest report fair project pairs in_time improves covered =
     let shorter_of = improved_is_shorter best report.found new improved improves in
-    let kids = kids_below (ceiling_of new) report.kids in
+    let children = children_below (ceiling_of new) report.children in
     let others = nodes_of rest in
     let last : IsPermutation (nodes_of (held ∷ rest)) (others ++ held.node ∷ []) = IsPermutation-append_comm (held.node ∷ []) others in
     let turned : IsCovered p best (others ++ held.node ∷ []) =
     covered_still p best (nodes_of (held ∷ rest)) (others ++ held.node ∷ []) (All-permutation (IsNodeOf p) _ _ last covered.of_nodes) (λ node among _. Contains-permutation _ _ node last among) covered in
-    let expanded : IsCovered p new (others ++ report.kids) = expansion_keeps p best new others held.node report fair project pairs (λ s shorter. in_time_below report.ceiling best s in_time shorter) shorter_of turned in
-    let all_kids : All (IsNodeOf p) kids = All-filter (λ (kid : Subproblem). is_below (ceiling_of new) kid.bound) (IsNodeOf p) report.kids (all_right (IsNodeOf p) others report.kids expanded.of_nodes) in
-    let opened : IsCovered p new (kids ++ others) =
-    covered_still p new (others ++ report.kids) (kids ++ others) (All-append (IsNodeOf p) kids others all_kids (all_left (IsNodeOf p) others report.kids expanded.of_nodes))
+    let expanded : IsCovered p new (others ++ report.children) = expansion_keeps p best new others held.node report fair project pairs (λ s shorter. in_time_below report.ceiling best s in_time shorter) shorter_of turned in
+    let all_children : All (IsNodeOf p) children = All-filter (λ (child : Subproblem). is_below (ceiling_of new) child.bound) (IsNodeOf p) report.children (all_right (IsNodeOf p) others report.children expanded.of_nodes) in
+    let opened : IsCovered p new (children ++ others) =
+    covered_still p new (others ++ report.children) (children ++ others) (All-append (IsNodeOf p) children others all_children (all_left (IsNodeOf p) others report.children expanded.of_nodes))
     (λ node among under.
     ⊎_elim
-    (λ (other : Contains others node). Contains-append_right kids others node other)
-    (λ (kid : Contains report.kids node). Contains-append_left kids others node (kid_stays (ceiling_of new) report.kids node kid under))
-    (Contains-append_cases others report.kids node among))
+    (λ (other : Contains others node). Contains-append_right children others node other)
+    (λ (child : Contains report.children node). Contains-append_left children others node (child_stays (ceiling_of new) report.children node child under))
+    (Contains-append_cases others report.children node among))
     expanded in
-    let names : nodes_of (named_from first kids ++ rest) ≡ kids ++ others = map-append (λ (n : Named). n.node) (named_from first kids) rest ∙ ap (λ (ks : List Subproblem). ks ++ others) (nodes_of_named first kids) in
+    let names : nodes_of (named_from first children ++ rest) ≡ children ++ others = map-append (λ (n : Named). n.node) (named_from first children) rest ∙ ap (λ (ks : List Subproblem). ks ++ others) (nodes_of_named first children) in
     subst (λ (ns : List Subproblem). IsCovered p new ns) (sym names) opened

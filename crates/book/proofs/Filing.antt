@@ -12,7 +12,7 @@ use Rattle.std.specs.BTreeMap.Range.{IsLeBy, IsLtBy}
 use Rattle.std.proofs.lemmas.List.Elements.{All-nil, All-cons, All-head, All-tail, All-weaker, filter-append}
 use Rattle.book.specs.Steps.{GoesBefore, named_from}
 use Rattle.book.specs.Sound.{bounds_of, AreNamedBelow}
-use Rattle.book.specs.OpenNodes.{open_node, IsFiled, IsNamedOtherThan, is_older, Inserts, InsertsKids, Rank, OpenNode}
+use Rattle.book.specs.OpenNodes.{open_node, IsFiled, IsNamedOtherThan, is_older, Inserts, InsertsChildren, Rank, NodeOwners}
 use Rattle.std.specs.Arc.{arc_value}
 use Rattle.std.specs.BTreeMap.{insert_entry}
 use Rattle.std.specs.List.Sorted.{IsPermutation}
@@ -20,7 +20,7 @@ use Rattle.std.proofs.lemmas.List.Sorted.{IsPermutation-refl, IsPermutation-tran
 use Rattle.branching.specs.Subproblem.{Subproblem}
 use Rattle.book.specs.State.{Named, BookState, in_hand, live, hand_of, Held}
 use Rattle.branching.specs.Right.{is_below, IsLeast}
-use Rattle.trail.specs.RightTrail.{kids_below}
+use Rattle.search_log.specs.RightTrail.{children_below}
 use Rattle.book.proofs.Names.{named_from_more}
 use Rattle.std.specs.Option.{is_some}
 use Rattle.std.proofs.Math.ListN.{set, replicate}
@@ -50,7 +50,7 @@ before a b h =
     ]) (int_ranks a.bound b.bound) h
 
 -- the first open node goes before each other
-pub goes_before_others : (first : Rank × OpenNode) (es : List (Rank × OpenNode)) → IsFiled first → All (IsLtBy rank_cmp first.0) (keys_of es) → All IsFiled es → All (GoesBefore (open_node first)) (map open_node es)
+pub goes_before_others : (first : Rank × NodeOwners) (es : List (Rank × NodeOwners)) → IsFiled first → All (IsLtBy rank_cmp first.0) (keys_of es) → All IsFiled es → All (GoesBefore (open_node first)) (map open_node es)
 goes_before_others first [] f lt filed = All-nil (GoesBefore (open_node first))
 goes_before_others first (e ∷ es) f lt filed =
     let this = All-head IsFiled e es filed in
@@ -60,7 +60,7 @@ goes_before_others first (e ∷ es) f lt filed =
     (subst (λ (x : ℤ). (first.0.bound <ℤ x) ⊎ ((first.0.bound ≡ x) × (e.0.name.0 < first.0.name.0))) this.bound goes))
     (goes_before_others first es f (All-tail (IsLtBy rank_cmp first.0) e.0 (keys_of es) lt) (All-tail IsFiled e es filed))
 
-each_above : (rank : Rank) (es : List (Rank × OpenNode)) → All (IsLeBy rank_cmp rank) (keys_of es) → All IsFiled es → All (λ n. rank.bound ≤ℤ n) (bounds_of (map open_node es))
+each_above : (rank : Rank) (es : List (Rank × NodeOwners)) → All (IsLeBy rank_cmp rank) (keys_of es) → All IsFiled es → All (λ n. rank.bound ≤ℤ n) (bounds_of (map open_node es))
 each_above rank [] le filed = All-nil (λ n. rank.bound ≤ℤ n)
 each_above rank (e ∷ es) le filed =
     All-cons (λ n. rank.bound ≤ℤ n) (open_node e).node.bound (bounds_of (map open_node es))
@@ -68,11 +68,11 @@ each_above rank (e ∷ es) le filed =
     (each_above rank es (All-tail (IsLeBy rank_cmp rank) e.0 (keys_of es) le) (All-tail IsFiled e es filed))
 
 -- the first open node has the least bound
-pub first_is_least : (es : List (Rank × OpenNode)) (rank : Rank) (opened : OpenNode) → slice_get es 0 ≡ Some (rank, opened) → All (IsLeBy rank_cmp rank) (keys_of es) → All IsFiled es → IsLeast (bounds_of (map open_node es)) (Some rank.bound)
+pub first_is_least : (es : List (Rank × NodeOwners)) (rank : Rank) (opened : NodeOwners) → slice_get es 0 ≡ Some (rank, opened) → All (IsLeBy rank_cmp rank) (keys_of es) → All IsFiled es → IsLeast (bounds_of (map open_node es)) (Some rank.bound)
 first_is_least [] rank opened first le filed = absurd (cc)
 first_is_least (e ∷ es) rank opened first le filed =
     let same : e ≡ (rank, opened) = cc in
-    let bound : (open_node e).node.bound ≡ rank.bound = sym (All-head IsFiled e es filed).bound ∙ ap (λ (p : Rank × OpenNode). p.0.bound) same in
+    let bound : (open_node e).node.bound ≡ rank.bound = sym (All-head IsFiled e es filed).bound ∙ ap (λ (p : Rank × NodeOwners). p.0.bound) same in
     ((0, omega arith, bound), each_above rank (e ∷ es) le filed)
 
 -- ranks that tie have one name
@@ -85,7 +85,7 @@ same_name a b h =
     ]) h
 
 -- by the place of a new name
-by_place : (Q : List (Rank × OpenNode) → Type 0) (e : Rank × OpenNode) (es : List (Rank × OpenNode)) (k : Rank) (o : OpenNode) → IsNamedOtherThan k.name.0 (open_node e) → Q ((k, o) ∷ e ∷ es) → Q (e ∷ insert_entry rank_cmp es k o) → Q (insert_entry rank_cmp (e ∷ es) k o)
+by_place : (Q : List (Rank × NodeOwners) → Type 0) (e : Rank × NodeOwners) (es : List (Rank × NodeOwners)) (k : Rank) (o : NodeOwners) → IsNamedOtherThan k.name.0 (open_node e) → Q ((k, o) ∷ e ∷ es) → Q (e ∷ insert_entry rank_cmp es k o) → Q (insert_entry rank_cmp (e ∷ es) k o)
 by_place Q e es k o other first later =
     (elim (rank_cmp k e.0) as (λ r. rank_cmp k e.0 ≡ r → Q (match_ordering r ((k, o) ∷ e ∷ es) ((e.0, o) ∷ es) (e ∷ insert_entry rank_cmp es k o))) [
       | Less ↦ λ _. first
@@ -93,7 +93,7 @@ by_place Q e es k o other first later =
       | Greater ↦ λ _. later
     ]) refl
 
-nodes_after : (es : List (Rank × OpenNode)) (k : Rank) (o : OpenNode) → All (IsNamedOtherThan k.name.0) (map open_node es) → IsPermutation (open_node (k, o) ∷ map open_node es) (map open_node (insert_entry rank_cmp es k o))
+nodes_after : (es : List (Rank × NodeOwners)) (k : Rank) (o : NodeOwners) → All (IsNamedOtherThan k.name.0) (map open_node es) → IsPermutation (open_node (k, o) ∷ map open_node es) (map open_node (insert_entry rank_cmp es k o))
 nodes_after [] k o fresh = IsPermutation-refl _
 nodes_after (e ∷ es) k o fresh =
     by_place (λ new. IsPermutation (open_node (k, o) ∷ map open_node (e ∷ es)) (map open_node new)) e es k o (All-head (IsNamedOtherThan k.name.0) (open_node e) (map open_node es) fresh)
@@ -101,7 +101,7 @@ nodes_after (e ∷ es) k o fresh =
     (IsPermutation-trans _ _ _ (IsPermutation-middle (open_node (k, o) ∷ []) (open_node e) (map open_node es))
     (IsPermutation-cons (open_node e) _ _ (nodes_after es k o (All-tail (IsNamedOtherThan k.name.0) (open_node e) (map open_node es) fresh))))
 
-pub filed_after : (es : List (Rank × OpenNode)) (k : Rank) (o : OpenNode) → All (IsNamedOtherThan k.name.0) (map open_node es) → IsFiled (k, o) → All IsFiled es → All IsFiled (insert_entry rank_cmp es k o)
+pub filed_after : (es : List (Rank × NodeOwners)) (k : Rank) (o : NodeOwners) → All (IsNamedOtherThan k.name.0) (map open_node es) → IsFiled (k, o) → All IsFiled es → All IsFiled (insert_entry rank_cmp es k o)
 filed_after [] k o fresh this filed = All-cons IsFiled (k, o) [] this (All-nil IsFiled)
 filed_after (e ∷ es) k o fresh this filed =
     by_place (λ new. All IsFiled new) e es k o (All-head (IsNamedOtherThan k.name.0) (open_node e) (map open_node es) fresh)
@@ -109,7 +109,7 @@ filed_after (e ∷ es) k o fresh this filed =
     (All-cons IsFiled e (insert_entry rank_cmp es k o) (All-head IsFiled e es filed)
     (filed_after es k o (All-tail (IsNamedOtherThan k.name.0) (open_node e) (map open_node es) fresh) this (All-tail IsFiled e es filed)))
 
-older_after : (p : Named → Bool) (es : List (Rank × OpenNode)) (k : Rank) (o : OpenNode) → All (IsNamedOtherThan k.name.0) (map open_node es) → p (open_node (k, o)) ≡ false → filter p (map open_node (insert_entry rank_cmp es k o)) ≡ filter p (map open_node es)
+older_after : (p : Named → Bool) (es : List (Rank × NodeOwners)) (k : Rank) (o : NodeOwners) → All (IsNamedOtherThan k.name.0) (map open_node es) → p (open_node (k, o)) ≡ false → filter p (map open_node (insert_entry rank_cmp es k o)) ≡ filter p (map open_node es)
 older_after p [] k o fresh fails = ap (λ b. let xs : List Named = cond b (open_node (k, o) ∷ []) [] in xs) fails
 older_after p (e ∷ es) k o fresh fails =
     by_place (λ new. filter p (map open_node new) ≡ filter p (map open_node (e ∷ es))) e es k o (All-head (IsNamedOtherThan k.name.0) (open_node e) (map open_node es) fresh)
@@ -117,7 +117,7 @@ older_after p (e ∷ es) k o fresh fails =
     (ap (λ xs. let ys : List Named = cond (p (open_node e)) (open_node e ∷ xs) xs in ys) (older_after p es k o (All-tail (IsNamedOtherThan k.name.0) (open_node e) (map open_node es) fresh) fails))
 
 -- a node goes in
-pub inserted : (es new : List (Rank × OpenNode)) (k : Rank) (o : OpenNode) (node : Subproblem) → All (IsNamedOtherThan k.name.0) (map open_node es) → new ≡ insert_entry rank_cmp es k o → arc_value o.node ≡ node → Inserts k.name.0 node (map open_node es) (map open_node new)
+pub inserted : (es new : List (Rank × NodeOwners)) (k : Rank) (o : NodeOwners) (node : Subproblem) → All (IsNamedOtherThan k.name.0) (map open_node es) → new ≡ insert_entry rank_cmp es k o → arc_value o.node ≡ node → Inserts k.name.0 node (map open_node es) (map open_node new)
 inserted es new k o node fresh is owner = record {
   nodes =
       subst (λ ns. IsPermutation (record { name = k.name.0; node = node } ∷ map open_node es) (map open_node ns)) (sym is)
@@ -125,12 +125,12 @@ inserted es new k o node fresh is owner = record {
   older = λ first l. ap (λ ns. filter (is_older first) (map open_node ns)) is ∙ older_after (is_older first) es k o fresh (grind (arith, l));
 }
 
--- ---- the loop over kids
+-- ---- the loop over children
 
--- the kids so far went in, and what stood before is what is named below the first
-pub record KidsSoFar (first : ℕ) (limit : Option ℤ) (kids : List Subproblem) (next : ℕ) (old new : List Named) : Type 0 where
-  pub nodes : IsPermutation (named_from first (kids_below limit kids) ++ old) new
-  pub names : next ≡ first + length (kids_below limit kids)
+-- the children so far went in, and what stood before is what is named below the first
+pub record ChildrenSoFar (first : ℕ) (limit : Option ℤ) (children : List Subproblem) (next : ℕ) (old new : List Named) : Type 0 where
+  pub nodes : IsPermutation (named_from first (children_below limit children) ++ old) new
+  pub names : next ≡ first + length (children_below limit children)
   pub older : filter (is_older first) new ≡ old
   pub fresh : AreNamedBelow next new
 
@@ -140,16 +140,16 @@ all_older first (n ∷ ns) all =
     let here : is_older first n ≡ true = let l = All-head (λ (n : Named). n.name < first) n ns all in grind (arith, l) in
     ap (λ b. let xs : List Named = cond b (n ∷ filter (is_older first) ns) (filter (is_older first) ns) in xs) here ∙ ap (λ (xs : List Named). n ∷ xs) (all_older first ns (All-tail (λ (n : Named). n.name < first) n ns all))
 
-pub so_far_none : (first : ℕ) (limit : Option ℤ) (nodes : List Named) → AreNamedBelow first nodes → KidsSoFar first limit [] first nodes nodes
+pub so_far_none : (first : ℕ) (limit : Option ℤ) (nodes : List Named) → AreNamedBelow first nodes → ChildrenSoFar first limit [] first nodes nodes
 so_far_none first limit nodes all = record { nodes = IsPermutation-refl _; names = omega arith; older = all_older first nodes all; fresh = all }
 
-kids_more : (limit : Option ℤ) (kids : List Subproblem) (kid : Subproblem) → kids_below limit (kids ++ kid ∷ []) ≡ kids_below limit kids ++ cond (is_below limit kid.bound) (kid ∷ []) []
-kids_more limit kids kid = filter-append (λ (k : Subproblem). is_below limit k.bound) kids (kid ∷ [])
+children_more : (limit : Option ℤ) (children : List Subproblem) (child : Subproblem) → children_below limit (children ++ child ∷ []) ≡ children_below limit children ++ cond (is_below limit child.bound) (child ∷ []) []
+children_more limit children child = filter-append (λ (k : Subproblem). is_below limit k.bound) children (child ∷ [])
 
-pub so_far_skipped : (first : ℕ) (limit : Option ℤ) (kids : List Subproblem) (kid : Subproblem) (next : ℕ) (old new : List Named) → is_below limit kid.bound ≡ false → KidsSoFar first limit kids next old new → KidsSoFar first limit (kids ++ kid ∷ []) next old new
-so_far_skipped first limit kids kid next old new over so =
-    let skipped : kids_below limit kids ++ cond (is_below limit kid.bound) (kid ∷ []) [] ≡ kids_below limit kids ++ [] = ap (λ b. kids_below limit kids ++ (let xs : List Subproblem = cond b (kid ∷ []) [] in xs)) over in
-    let same : kids_below limit (kids ++ kid ∷ []) ≡ kids_below limit kids = kids_more limit kids kid ∙ (skipped ∙ append_none (kids_below limit kids)) in
+pub so_far_skipped : (first : ℕ) (limit : Option ℤ) (children : List Subproblem) (child : Subproblem) (next : ℕ) (old new : List Named) → is_below limit child.bound ≡ false → ChildrenSoFar first limit children next old new → ChildrenSoFar first limit (children ++ child ∷ []) next old new
+so_far_skipped first limit children child next old new over so =
+    let skipped : children_below limit children ++ cond (is_below limit child.bound) (child ∷ []) [] ≡ children_below limit children ++ [] = ap (λ b. children_below limit children ++ (let xs : List Subproblem = cond b (child ∷ []) [] in xs)) over in
+    let same : children_below limit (children ++ child ∷ []) ≡ children_below limit children = children_more limit children child ∙ (skipped ∙ append_none (children_below limit children)) in
     record {
       nodes = subst (λ (ks : List Subproblem). IsPermutation (named_from first ks ++ old) new) (sym same) so.nodes;
       names = so.names ∙ ap (λ (ks : List Subproblem). first + length ks) (sym same);
@@ -161,33 +161,33 @@ so_far_skipped first limit kids kid next old new over so =
     append_none [] = refl
     append_none (x ∷ xs) = ap (λ ys. x ∷ ys) (append_none xs)
 
-pub so_far_inserted : (first : ℕ) (limit : Option ℤ) (kids : List Subproblem) (kid : Subproblem) (next : ℕ) (old between new : List Named) → is_below limit kid.bound ≡ true → KidsSoFar first limit kids next old between → Inserts next kid between new → KidsSoFar first limit (kids ++ kid ∷ []) (next + 1) old new
-so_far_inserted first limit kids kid next old between new under so goes_in =
-    let ks = kids_below limit kids in
-    let node : Named = record { name = next; node = kid } in
-    let same : kids_below limit (kids ++ kid ∷ []) ≡ ks ++ kid ∷ [] = kids_more limit kids kid ∙ ap (λ b. ks ++ (let xs : List Subproblem = cond b (kid ∷ []) [] in xs)) under in
-    let last : named_from first (ks ++ kid ∷ []) ≡ named_from first ks ++ node ∷ [] = named_from_more first ks kid ∙ ap (λ (n : ℕ). named_from first ks ++ record { name = n; node = kid } ∷ []) (sym so.names) in
+pub so_far_inserted : (first : ℕ) (limit : Option ℤ) (children : List Subproblem) (child : Subproblem) (next : ℕ) (old between new : List Named) → is_below limit child.bound ≡ true → ChildrenSoFar first limit children next old between → Inserts next child between new → ChildrenSoFar first limit (children ++ child ∷ []) (next + 1) old new
+so_far_inserted first limit children child next old between new under so goes_in =
+    let ks = children_below limit children in
+    let node : Named = record { name = next; node = child } in
+    let same : children_below limit (children ++ child ∷ []) ≡ ks ++ child ∷ [] = children_more limit children child ∙ ap (λ b. ks ++ (let xs : List Subproblem = cond b (child ∷ []) [] in xs)) under in
+    let last : named_from first (ks ++ child ∷ []) ≡ named_from first ks ++ node ∷ [] = named_from_more first ks child ∙ ap (λ (n : ℕ). named_from first ks ++ record { name = n; node = child } ∷ []) (sym so.names) in
     record {
       nodes =
           subst (λ (xs : List Named). IsPermutation (xs ++ old) new) (sym (ap (named_from first) same ∙ last))
           (IsPermutation-trans _ _ _ (IsPermutation-append_left old _ _ (IsPermutation-to_front (named_from first ks) node))
           (IsPermutation-trans _ _ _ (IsPermutation-cons node _ _ so.nodes) goes_in.nodes));
-      names = let longer : length (kids_below limit (kids ++ kid ∷ [])) ≡ length ks + 1 = ap length same ∙ length-append ks (kid ∷ []) in omega (arith, so.names, longer);
+      names = let longer : length (children_below limit (children ++ child ∷ [])) ≡ length ks + 1 = ap length same ∙ length-append ks (child ∷ []) in omega (arith, so.names, longer);
       older = goes_in.older first (omega (arith, so.names)) ∙ so.older;
       fresh =
           All-permutation (λ (n : Named). n.name < next + 1) (node ∷ between) new goes_in.nodes
           (All-cons (λ (n : Named). n.name < next + 1) node between (omega arith) (All-weaker (λ (n : Named). n.name < next) (λ (n : Named). n.name < next + 1) (λ n h. omega (arith, h)) between so.fresh));
     }
 
-pub all_inserted : (first : ℕ) (limit : Option ℤ) (kids : List Subproblem) (next : ℕ) (old new : List Named) → KidsSoFar first limit kids next old new → InsertsKids first limit kids (next - first) old new
-all_inserted first limit kids next old new so = record { count_is = omega (arith, so.names); nodes = so.nodes; older = so.older }
+pub all_inserted : (first : ℕ) (limit : Option ℤ) (children : List Subproblem) (next : ℕ) (old new : List Named) → ChildrenSoFar first limit children next old new → InsertsChildren first limit children (next - first) old new
+all_inserted first limit children next old new so = record { count_is = omega (arith, so.names); nodes = so.nodes; older = so.older }
 
 -- ---- taking out all but the older ones
 
-abbrev pub is_older_entry : ℕ → Rank × OpenNode → Bool
+abbrev pub is_older_entry : ℕ → Rank × NodeOwners → Bool
 is_older_entry first e = is_older first (open_node e)
 
-pub older_nodes : (first : ℕ) (es : List (Rank × OpenNode)) → map open_node (filter (is_older_entry first) es) ≡ filter (is_older first) (map open_node es)
+pub older_nodes : (first : ℕ) (es : List (Rank × NodeOwners)) → map open_node (filter (is_older_entry first) es) ≡ filter (is_older first) (map open_node es)
 older_nodes first [] = refl
 older_nodes first (e ∷ es) =
     (elim (is_older first (open_node e)) as (λ b. map open_node (cond b (e ∷ filter (is_older_entry first) es) (filter (is_older_entry first) es)) ≡ cond b (open_node e ∷ filter (is_older first) (map open_node es)) (filter (is_older first) (map open_node es))) [

@@ -1,4 +1,4 @@
--- Names of nodes: how often each stands, as nodes move and kids are opened.
+-- Names of nodes: how often each stands, as nodes move and children are opened.
 use Rattle.std.proofs.Common.{◌≡◌, ◌<◌, ◌≤◌, ◌+◌, ◌==◌, ℕ, Bool, true, false, cond, List, [], ◌∷◌, ◌++◌, length, refl, ap, ◌∙◌, arith, ⊎_elim, map, ℤ, Option, Some, None}
 use Rattle.std.specs.List.{All, count_by, Any, filter}
 use Rattle.std.specs.List.Sorted.{IsPermutation}
@@ -60,14 +60,14 @@ count_above name opened (node ∷ nodes) l below =
     let other : (node.name == name) ≡ false = grind (arith, l, here) in
     omega (arith, more, has_none (node.name == name) other, count_above name opened nodes l (All-tail (λ (n : Named). n.name < opened) node nodes below))
 
--- kids that are opened get names of their own
-pub named_once_opened : (held : Named) (rest : List Named) (kids : List Subproblem) (first : ℕ) → AreNamedOnce (held ∷ rest) → AreNamedBelow first (held ∷ rest) → AreNamedOnce (named_from first kids ++ rest)
-named_once_opened held rest kids first once below name =
-    let parts = sum_by-append (has name) (named_from first kids) rest in
+-- children that are opened get names of their own
+pub named_once_opened : (held : Named) (rest : List Named) (children : List Subproblem) (first : ℕ) → AreNamedOnce (held ∷ rest) → AreNamedBelow first (held ∷ rest) → AreNamedOnce (named_from first children ++ rest)
+named_once_opened held rest children first once below name =
+    let parts = sum_by-append (has name) (named_from first children) rest in
     let whole = sum_by-cons (has name) held rest in
     ⊎_elim
-    (λ (l : name < first). omega (arith, parts, whole, once name, count_before name first kids l))
-    (λ (l : first ≤ name). omega (arith, parts, whole, count_from name first kids, count_above name first (held ∷ rest) l below))
+    (λ (l : name < first). omega (arith, parts, whole, once name, count_before name first children l))
+    (λ (l : first ≤ name). omega (arith, parts, whole, count_from name first children, count_above name first (held ∷ rest) l below))
     (cases_lt name first)
 
 pub length_named : (first : ℕ) (nodes : List Subproblem) → length (named_from first nodes) ≡ length nodes

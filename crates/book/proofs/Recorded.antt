@@ -1,4 +1,4 @@
--- The trail of a book, as nodes end and kids are opened.
+-- The trail of a book, as nodes end and children are opened.
 use Rattle.std.proofs.Common.{◌≡◌, ◌≢◌, ℕ, ◌+◌, ◌<◌, List, [], ◌∷◌, ◌++◌, length, map, refl, sym, ap, ◌∙◌, subst, arith, append_assoc, append-nil, length-append, Option, ⊎_elim, Bool, true, false, get_or, Some, None, slice_get, ℤ, IfSome, option_map}
 use Rattle.std.specs.List.{All, count_by}
 use Rattle.std.proofs.Math.Seq.{get_or-append_seam}
@@ -7,19 +7,19 @@ use Rattle.std.proofs.lemmas.List.Elements.{All-nil, All-cons, All-head, All-tai
 use Rattle.network.specs.Problem.{Problem}
 use Rattle.network.specs.declared.parts.Pair.{Pair}
 use Rattle.branching.specs.Subproblem.{Subproblem}
-use Rattle.branching.specs.Fair.{IsNodeOf, IsKidOf, ceiling_of, Expansion, IsReport}
+use Rattle.branching.specs.Fair.{IsNodeOf, IsChildOf, ceiling_of, Expansion, IsReport}
 use Rattle.branching.specs.Right.{Reaches, IsCutUnder, is_below, IsInTime}
 use Rattle.branching.proofs.Together.{node_cut}
 use Rattle.book.specs.State.{Named, BookState, in_hand, live, best_makespan}
 use Rattle.book.specs.Sound.{AreNamedOnce, nodes_of, note_cut, IsNoted, IsSound, IsRecorded}
 use Rattle.book.specs.Steps.{named_from, Improves, MayCheckIn, Accepts, CheckedIn}
 use Rattle.book.specs.OpenNodes.{IsNamedOtherThan}
-use Rattle.trail.specs.Trail.{Ending, was_cut, Entry, no_entry, entry_at, path_to, not_ended, TrailOf, with_entries}
-use Rattle.trail.specs.RightTrail.{IsRightTrail, IsRightEnding, has_ended, kids_below, IsWholeTree}
-use Rattle.trail.specs.Recording.{ended_as, kid_entry, fates_under, ending_of, checked_in}
+use Rattle.search_log.specs.SearchLog.{Ending, was_cut, Entry, no_entry, entry_at, path_to, not_ended, TrailOf, with_entries}
+use Rattle.search_log.specs.RightTrail.{IsRightTrail, IsRightEnding, has_ended, children_below, IsWholeTree}
+use Rattle.search_log.specs.Recording.{ended_as, child_entry, fates_under, ending_of, checked_in}
 use Rattle.book.proofs.Names.{named_once_right, others_named, named_once_moved}
-use Rattle.trail.proofs.TrailGrowing.{path_kept, path_opens, kid_forced, kid_entry_is, ended_paths, trail_falls}
-use Rattle.trail.proofs.TrailSteps.{ended_cases, length_ended, extends_grown, trail_grown, count_ended, ending_right, ending_ends, kids_open, one_ended, count_kids, all_ended}
+use Rattle.search_log.proofs.TrailGrowing.{path_kept, path_opens, child_forced, child_entry_is, ended_paths, trail_falls}
+use Rattle.search_log.proofs.TrailSteps.{ended_cases, length_ended, extends_grown, trail_grown, count_ended, ending_right, ending_ends, children_open, one_ended, count_children, all_ended}
 use Rattle.std.specs.List.Sorted.{IsPermutation}
 use Rattle.std.proofs.Math.ListN.{set}
 use Rattle.std.proofs.lemmas.Int.{ints}
@@ -28,7 +28,7 @@ use Rattle.std.proofs.lemmas.List.Sorted.{IsPermutation-append_left, All-permuta
 use Rattle.network.specs.Schedule.{ScheduleOf, makespan}
 use Rattle.book.proofs.Filing.{held_first}
 
--- a node that goes on is noted as before where another ends and kids come
+-- a node that goes on is noted as before where another ends and children come
 noted_kept : (entries : List Entry) (name : ℕ) (ending : Ending) (more : List Entry) (n : Named) → n.name ≢ name → n.name < length entries → IsNoted entries n → IsNoted (ended_as entries name ending ++ more) n
 noted_kept entries name ending more n other known noted = record {
   going =
@@ -80,35 +80,35 @@ nodes_cut p limit (n ∷ nodes) rest entries right known noted once of_nodes rea
       ended = omega (arith, later.ended, count_ended entries n.name was_cut here this.going refl);
     }
 
--- ---- kids that are opened
+-- ---- children that are opened
 
--- a kid's entry tells its pairs
-kid_noted : (node kid : Subproblem) (name : ℕ) (before later : List Entry) → name < length before → path_to before name ≡ node.pairs → IsKidOf node kid → IsNoted (before ++ kid_entry name (length node.pairs) kid ∷ later) (record { name = length before; node = kid })
-kid_noted node kid name before later known path kid_of =
-    let entry = kid_entry name (length node.pairs) kid in
+-- a child's entry tells its pairs
+child_noted : (node child : Subproblem) (name : ℕ) (before later : List Entry) → name < length before → path_to before name ≡ node.pairs → IsChildOf node child → IsNoted (before ++ child_entry name (length node.pairs) child ∷ later) (record { name = length before; node = child })
+child_noted node child name before later known path child_of =
+    let entry = child_entry name (length node.pairs) child in
     let here : entry_at (before ++ entry ∷ later) (length before) ≡ entry = get_or-append_seam before entry later no_entry in
-    let is = kid_entry_is node kid kid_of.first name kid_of.adds in
-    let own = path_opens before later entry (record { parent = name; pair = kid_of.first }) (ap (λ (e : Entry). e.origin) is) known in
+    let is = child_entry_is node child child_of.first name child_of.adds in
+    let own = path_opens before later entry (record { parent = name; pair = child_of.first }) (ap (λ (e : Entry). e.origin) is) known in
     let parent : path_to (before ++ entry ∷ later) name ≡ node.pairs = path_kept before (entry ∷ later) name known ∙ path in
-    let forced : entry.forced ≡ kid_of.adds.forced = kid_forced node kid kid_of.first kid_of.adds in
+    let forced : entry.forced ≡ child_of.adds.forced = child_forced node child child_of.first child_of.adds in
     record {
       going = ap (λ (e : Entry). e.ending) here;
       pairs =
-          kid_of.adds.pairs ∙ sym (append_assoc node.pairs (kid_of.first ∷ []) kid_of.adds.forced)
-          ∙ sym (own ∙ (ap (λ (ps : List Pair). (ps ++ kid_of.first ∷ []) ++ entry.forced) parent ∙ ap (λ (fs : List Pair). (node.pairs ++ kid_of.first ∷ []) ++ fs) forced));
+          child_of.adds.pairs ∙ sym (append_assoc node.pairs (child_of.first ∷ []) child_of.adds.forced)
+          ∙ sym (own ∙ (ap (λ (ps : List Pair). (ps ++ child_of.first ∷ []) ++ entry.forced) parent ∙ ap (λ (fs : List Pair). (node.pairs ++ child_of.first ∷ []) ++ fs) forced));
     }
 
-pub kids_noted : (node : Subproblem) (name : ℕ) (kids : List Subproblem) (before : List Entry) → name < length before → path_to before name ≡ node.pairs → All (IsKidOf node) kids → All (IsNoted (before ++ map (kid_entry name (length node.pairs)) kids)) (named_from (length before) kids)
-kids_noted node name [] before known path kids_of = All-nil (IsNoted (before ++ []))
-kids_noted node name (kid ∷ kids) before known path kids_of =
-    let entry = kid_entry name (length node.pairs) kid in
-    let later = map (kid_entry name (length node.pairs)) kids in
+pub children_noted : (node : Subproblem) (name : ℕ) (children : List Subproblem) (before : List Entry) → name < length before → path_to before name ≡ node.pairs → All (IsChildOf node) children → All (IsNoted (before ++ map (child_entry name (length node.pairs)) children)) (named_from (length before) children)
+children_noted node name [] before known path children_of = All-nil (IsNoted (before ++ []))
+children_noted node name (child ∷ children) before known path children_of =
+    let entry = child_entry name (length node.pairs) child in
+    let later = map (child_entry name (length node.pairs)) children in
     let longer : length (before ++ entry ∷ []) ≡ length before + 1 = length-append before (entry ∷ []) in
-    All-cons (IsNoted (before ++ entry ∷ later)) (record { name = length before; node = kid }) (named_from (length before + 1) kids)
-    (kid_noted node kid name before later known path (All-head (IsKidOf node) kid kids kids_of))
-    (subst (λ (es : List Entry). All (IsNoted es) (named_from (length before + 1) kids)) (append_assoc before (entry ∷ []) later)
-    (subst (λ (next : ℕ). All (IsNoted ((before ++ entry ∷ []) ++ later)) (named_from next kids)) longer
-    (kids_noted node name kids (before ++ entry ∷ []) (omega (arith, known, longer)) (path_kept before (entry ∷ []) name known ∙ path) (All-tail (IsKidOf node) kid kids kids_of))))
+    All-cons (IsNoted (before ++ entry ∷ later)) (record { name = length before; node = child }) (named_from (length before + 1) children)
+    (child_noted node child name before later known path (All-head (IsChildOf node) child children children_of))
+    (subst (λ (es : List Entry). All (IsNoted es) (named_from (length before + 1) children)) (append_assoc before (entry ∷ []) later)
+    (subst (λ (next : ℕ). All (IsNoted ((before ++ entry ∷ []) ++ later)) (named_from next children)) longer
+    (children_noted node name children (before ++ entry ∷ []) (omega (arith, known, longer)) (path_kept before (entry ∷ []) name known ∙ path) (All-tail (IsChildOf node) child children children_of))))
 
 -- ---- Each step of a book leaves its trail right.
 
@@ -181,11 +181,11 @@ recorded_cut s reach sound =
 pub recorded_after : (p : Problem) (old new : Option ℤ) (report : Expansion) (name : ℕ) (held : Named) (rest : List Named) (entries : List Entry) (opened ended : ℕ) → IsReport report → report.node.project ≡ p → IsInTime old new → IsInTime report.ceiling old
     → IfSome report.found (λ f. Reaches new (makespan f.starts)) → held.name ≡ name → held.node.pairs ≡ report.node.pairs → AreNamedOnce (held ∷ rest) → All (λ (n : Named). n.name < length entries) (held ∷ rest) → All (IsNoted entries) (held ∷ rest)
     → IsRightTrail p old entries → length entries ≡ opened → count_by (λ (e : Entry). has_ended e.ending) entries ≡ ended
-    → IsRightTrail p new (checked_in new name report entries) × (length (checked_in new name report entries) ≡ opened + length (kids_below new report.kids)) × All (IsNoted (checked_in new name report entries)) (named_from opened (kids_below new report.kids) ++ rest) × (count_by (λ (e : Entry). has_ended e.ending) (checked_in new name report entries) ≡ ended + 1)
+    → IsRightTrail p new (checked_in new name report entries) × (length (checked_in new name report entries) ≡ opened + length (children_below new report.children)) × All (IsNoted (checked_in new name report entries)) (named_from opened (children_below new report.children) ++ rest) × (count_by (λ (e : Entry). has_ended e.ending) (checked_in new name report entries) ≡ ended + 1)
 recorded_after p old new report name held rest entries opened ended told same falls less reach is_name pairs once known noted right count so_far =
     let depth = length report.node.pairs in
-    let kids = kids_below new report.kids in
-    let more = map (kid_entry name depth) kids in
+    let children = children_below new report.children in
+    let more = map (child_entry name depth) children in
     let ending = ending_of new (length entries) report in
     let before = ended_as entries name ending in
     let longer : length before ≡ length entries = length_ended entries name ending in
@@ -197,13 +197,13 @@ recorded_after p old new report name held rest entries opened ended told same fa
     let own : IsRightEnding p new (before ++ more) name ending = subst (λ (next : ℕ). IsRightEnding p new (before ++ more) name (ending_of new next report)) longer (ending_right p new report name before told same (in_time_trans report.ceiling old new less falls) there path reach) in
     let others : All (IsNamedOtherThan name) rest = subst (λ (n : ℕ). All (IsNamedOtherThan n) rest) is_name (others_named held rest once) in
     let going = subst (λ (n : ℕ). (entry_at entries n).ending ≡ not_ended) is_name this.going in
-    let new_names : named_from (length before) kids ≡ named_from opened kids = ap (λ (n : ℕ). named_from n kids) (longer ∙ count) in (
-      trail_grown p new entries name ending more here (trail_falls p old new entries falls right) own (kids_open name depth kids),
-      omega (arith, length-append before more, longer, count, length-map kids (kid_entry name depth)),
-      All-append (IsNoted (before ++ more)) (named_from opened kids) rest
-          (subst (λ (ns : List Named). All (IsNoted (before ++ more)) ns) new_names (kids_noted report.node name kids before there path (All-filter (λ (kid : Subproblem). is_below new kid.bound) (IsKidOf report.node) report.kids told.fair.of_kids)))
+    let new_names : named_from (length before) children ≡ named_from opened children = ap (λ (n : ℕ). named_from n children) (longer ∙ count) in (
+      trail_grown p new entries name ending more here (trail_falls p old new entries falls right) own (children_open name depth children),
+      omega (arith, length-append before more, longer, count, length-map children (child_entry name depth)),
+      All-append (IsNoted (before ++ more)) (named_from opened children) rest
+          (subst (λ (ns : List Named). All (IsNoted (before ++ more)) ns) new_names (children_noted report.node name children before there path (All-filter (λ (child : Subproblem). is_below new child.bound) (IsChildOf report.node) report.children told.fair.of_children)))
           (all_noted entries name ending more rest others (All-tail (λ (n : Named). n.name < length entries) held rest known) (All-tail (IsNoted entries) held rest noted)),
-      omega (arith, sum_by-append one_ended before more, count_ended entries name ending here going (ending_ends report.split report.found (fates_under new depth (length entries) report.fates report.kids)), count_kids name depth kids, so_far),
+      omega (arith, sum_by-append one_ended before more, count_ended entries name ending here going (ending_ends report.split report.found (fates_under new depth (length entries) report.fates report.children)), count_children name depth children, so_far),
     )
   where
     path_before : (entries : List Entry) (name : ℕ) (ending : Ending) → name < length entries → path_to (ended_as entries name ending) name ≡ path_to entries name
@@ -216,10 +216,10 @@ recorded_accepted old worker name report done new told may accepts sound recorde
     let limit = best_makespan new in
     let hands = set old.hands worker None in
     let rest = old.waiting ++ in_hand hands in
-    let kids = named_from old.opened (kids_below limit report.kids) in
+    let children = named_from old.opened (children_below limit report.children) in
     let left : BookState = record old { best = new.best; waiting = new.waiting; hands = hands; opened = old.opened + done.opened; checked = old.checked + 1; trail = new.trail } in
     let before : IsPermutation (live old) (may.held ∷ rest) = held_first old worker may.held may.holds in
-    let after : IsPermutation (kids ++ rest) (new.waiting ++ in_hand hands) = subst (λ ns. IsPermutation ns (new.waiting ++ in_hand hands)) (append_assoc kids old.waiting (in_hand hands)) (IsPermutation-append_left (in_hand hands) _ _ accepts.opened) in
+    let after : IsPermutation (children ++ rest) (new.waiting ++ in_hand hands) = subst (λ ns. IsPermutation ns (new.waiting ++ in_hand hands)) (append_assoc children old.waiting (in_hand hands)) (IsPermutation-append_left (in_hand hands) _ _ accepts.opened) in
     let once : AreNamedOnce (may.held ∷ rest) = named_once_moved (live old) (may.held ∷ rest) before sound.named_once in
     let below = All-permutation (λ (n : Named). n.name < old.opened) (live old) (may.held ∷ rest) before sound.named_below in
     subst (λ (t : Option (List Entry)). IfSome t (IsRecorded left)) (sym accepts.noted)
@@ -231,7 +231,7 @@ recorded_accepted old worker name report done new told may accepts sound recorde
     record {
       right = step.0;
       all_named = omega (arith, step.1, accepts.count);
-      noted = All-permutation (IsNoted (checked_in limit name report entries)) (kids ++ rest) (new.waiting ++ in_hand hands) after step.2;
+      noted = All-permutation (IsNoted (checked_in limit name report entries)) (children ++ rest) (new.waiting ++ in_hand hands) after step.2;
       ended = omega (arith, step.3);
     })
     recorded)

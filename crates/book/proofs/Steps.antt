@@ -11,22 +11,22 @@ use Rattle.branching.specs.Right.{Reaches, is_below, IsUnder}
 use Rattle.branching.specs.Fair.{IsScheduleFor, Expansion, IsFair, IsReport, ceiling_of, IsNodeOf, IsRootOf, IsCovered}
 use Rattle.book.specs.State.{Named, BookState, in_hand, live, best_makespan}
 use Rattle.book.specs.Sound.{AreNamedOnce, AreNamedBelow, nodes_of, IsSound}
-use Rattle.book.specs.Steps.{Improves, IsFull, HandsOut, named_from, MayCheckIn, Accepts, ReturnsNode, IsShorterFound, AreAllowed, AreFirst, new_state, MayTake, Cuts, Takes, CheckedIn, Ticket}
-use Rattle.trail.specs.RightTrail.{kids_below}
+use Rattle.book.specs.Steps.{Improves, IsFull, HandsOut, named_from, MayCheckIn, Accepts, ReturnsNode, IsShorterFound, AreAllowed, AreRoots, new_state, MayTake, Cuts, Takes, CheckedIn, Ticket}
+use Rattle.search_log.specs.RightTrail.{children_below}
 use Rattle.book.specs.Views.{IsKept}
-use Rattle.book.specs.OpenNodes.{IsNamedOtherThan, InsertsKids}
+use Rattle.book.specs.OpenNodes.{IsNamedOtherThan, InsertsChildren}
 use Rattle.book.proofs.Names.{all_left, all_right, filter_at_most, named_once_moved, named_once_right, named_once_opened, length_named, below_named, others_named}
 use Rattle.book.proofs.Filing.{in_hand_filled, in_hand_emptied, held_first, in_hand_none}
 use Rattle.book.proofs.Recorded.{cut_state, recorded_moved, recorded_cut, recorded_improved, recorded_accepted}
 use Rattle.book.proofs.Covering.{covered_moved, covered_cut, covered_improved, covered_expanded}
 use Rattle.std.specs.Option.{is_some, option_or}
-use Rattle.trail.specs.Recording.{checked_in}
+use Rattle.search_log.specs.Recording.{checked_in}
 use Rattle.std.proofs.lemmas.List.Sums.{count_by-le-length}
 use Rattle.network.specs.Problem.{Problem, arcs_of}
 use Rattle.network.specs.Walk.{HasPositiveCycle}
 use Rattle.branching.proofs.Covers.{root_covers, none_on_cycle}
-use Rattle.book.specs.Events.{Step, Run, Reply}
-use Rattle.book.specs.declared.events.Event.{Event}
+use Rattle.book.specs.Events.{Step, Run, Response}
+use Rattle.book.specs.declared.events.Request.{Request}
 use Rattle.book.specs.declared.answers.Take.TheVariants as answer
 
 -- ---- nodes that move
@@ -113,34 +113,34 @@ kept_improved s found new improved improves of_found kept = record {
   recorded = recorded_improved s found new improved improves kept.recorded;
 }
 
--- ---- a node gives way to its kids
+-- ---- a node gives way to its children
 
 pub kept_accepted : (old : BookState) (worker name : ℕ) (report : Expansion) (done : CheckedIn) (new : BookState) → IsReport report → MayCheckIn old worker name report → Accepts old worker name report done new → IsKept old → IsKept new
 kept_accepted old worker name report done new told may accepts kept =
     let fair : IsFair report = told.fair in
-    let opened = kids_below (best_makespan new) report.kids in
-    let kids = named_from old.opened opened in
+    let opened = children_below (best_makespan new) report.children in
+    let children = named_from old.opened opened in
     let hands = set old.hands worker None in
     let rest = old.waiting ++ in_hand hands in
     let emptied = in_hand_emptied old.hands worker may.held may.holds in
     let before : IsPermutation (live old) (may.held ∷ rest) = held_first old worker may.held may.holds in
-    let after : IsPermutation (kids ++ rest) (new.waiting ++ in_hand hands) = subst (λ ns. IsPermutation ns (new.waiting ++ in_hand hands)) (append_assoc kids old.waiting (in_hand hands)) (IsPermutation-append_left (in_hand hands) _ _ accepts.opened) in
+    let after : IsPermutation (children ++ rest) (new.waiting ++ in_hand hands) = subst (λ ns. IsPermutation ns (new.waiting ++ in_hand hands)) (append_assoc children old.waiting (in_hand hands)) (IsPermutation-append_left (in_hand hands) _ _ accepts.opened) in
     let once : AreNamedOnce (may.held ∷ rest) = named_once_moved (live old) (may.held ∷ rest) before kept.sound.named_once in
     let below = All-permutation (λ (n : Named). n.name < old.opened) (live old) (may.held ∷ rest) before kept.sound.named_below in
     let covered = covered_moved old.project old.best (live old) (may.held ∷ rest) before kept.sound.covered in
-    let few : length opened ≤ length report.kids = filter_at_most (λ (kid : Subproblem). is_below (best_makespan new) kid.bound) report.kids in
+    let few : length opened ≤ length report.children = filter_at_most (λ (child : Subproblem). is_below (best_makespan new) child.bound) report.children in
     let P = λ (n : Named). n.name < old.opened + done.opened in
-    let names : length kids ≡ done.opened = length_named old.opened opened ∙ sym accepts.count in
-    let new_names : AreNamedBelow (old.opened + done.opened) kids = subst (λ (n : ℕ). AreNamedBelow (old.opened + n) kids) (sym accepts.count) (below_named old.opened opened) in
+    let names : length children ≡ done.opened = length_named old.opened opened ∙ sym accepts.count in
+    let new_names : AreNamedBelow (old.opened + done.opened) children = subst (λ (n : ℕ). AreNamedBelow (old.opened + n) children) (sym accepts.count) (below_named old.opened opened) in
     subst IsKept (sym accepts.others)
     (record {
       sound = record {
-        covered = covered_moved old.project new.best (kids ++ rest) (new.waiting ++ in_hand hands) after (covered_expanded old.project old.best new.best done.improved old.opened may.held rest report fair may.project may.pairs may.in_time accepts.best covered);
-        named_once = named_once_moved (kids ++ rest) (new.waiting ++ in_hand hands) after (named_once_opened may.held rest opened old.opened once below);
+        covered = covered_moved old.project new.best (children ++ rest) (new.waiting ++ in_hand hands) after (covered_expanded old.project old.best new.best done.improved old.opened may.held rest report fair may.project may.pairs may.in_time accepts.best covered);
+        named_once = named_once_moved (children ++ rest) (new.waiting ++ in_hand hands) after (named_once_opened may.held rest opened old.opened once below);
         named_below =
-            All-permutation P (kids ++ rest) (new.waiting ++ in_hand hands) after
-            (All-append P kids rest new_names (All-weaker (λ (n : Named). n.name < old.opened) P (λ n h. omega (arith, h)) rest (All-tail (λ (n : Named). n.name < old.opened) may.held rest below)));
-        counted = omega (arith, kept.sound.counted, length_permutation _ _ before, length_permutation _ _ after, length-append kids rest, names);
+            All-permutation P (children ++ rest) (new.waiting ++ in_hand hands) after
+            (All-append P children rest new_names (All-weaker (λ (n : Named). n.name < old.opened) P (λ n h. omega (arith, h)) rest (All-tail (λ (n : Named). n.name < old.opened) may.held rest below)));
+        counted = omega (arith, kept.sound.counted, length_permutation _ _ before, length_permutation _ _ after, length-append children rest, names);
       };
       within = record {
         tickets = omega (arith, kept.within.tickets, length_permutation _ _ emptied);
@@ -151,7 +151,7 @@ kept_accepted old worker name report done new told may accepts kept =
       recorded = recorded_accepted old worker name report done new told may accepts kept.sound kept.recorded;
     })
 
--- ---- What is found in a report is counted, and a report's kids are opened.
+-- ---- What is found in a report is counted, and a report's children are opened.
 
 -- nothing shorter was found
 pub not_improved : (old found : Option ScheduleOf) (shorter limit : Option ℤ) → limit ≡ ceiling_of old → IsShorterFound found limit shorter → is_some shorter ≡ false → Improves old found false old × (option_or shorter limit ≡ ceiling_of old)
@@ -166,12 +166,12 @@ improved old found new (Some length) limit is (s, f, l, below) e same = (
   ap (λ (n : ℤ). let o : Option ℤ = Some n in o) l ∙ sym (ap ceiling_of (same ∙ f)),
 )
 
--- the kids were opened
-pub accepts : (old : BookState) (worker name : ℕ) (report : Expansion) (better : Bool) (limit : Option ℤ) (count : ℕ) (new : BookState) → Improves old.best report.found better new.best → limit ≡ best_makespan new → InsertsKids old.opened limit report.kids count old.waiting new.waiting → new.trail ≡ option_map (checked_in limit name report) old.trail → new ≡ record old { best = new.best; waiting = new.waiting; hands = set old.hands worker None; opened = old.opened + count; checked = old.checked + 1; trail = new.trail } → Accepts old worker name report (record { opened = count; improved = better }) new
+-- the children were opened
+pub accepts : (old : BookState) (worker name : ℕ) (report : Expansion) (better : Bool) (limit : Option ℤ) (count : ℕ) (new : BookState) → Improves old.best report.found better new.best → limit ≡ best_makespan new → InsertsChildren old.opened limit report.children count old.waiting new.waiting → new.trail ≡ option_map (checked_in limit name report) old.trail → new ≡ record old { best = new.best; waiting = new.waiting; hands = set old.hands worker None; opened = old.opened + count; checked = old.checked + 1; trail = new.trail } → Accepts old worker name report (record { opened = count; improved = better }) new
 accepts old worker name report better limit count new improves is inserts noted others = record {
   best = improves;
-  count = inserts.count_is ∙ ap (λ (l : Option ℤ). length (kids_below l report.kids)) is;
-  opened = subst (λ (l : Option ℤ). IsPermutation (named_from old.opened (kids_below l report.kids) ++ old.waiting) new.waiting) is inserts.nodes;
+  count = inserts.count_is ∙ ap (λ (l : Option ℤ). length (children_below l report.children)) is;
+  opened = subst (λ (l : Option ℤ). IsPermutation (named_from old.opened (children_below l report.children) ++ old.waiting) new.waiting) is inserts.nodes;
   noted = subst (λ (l : Option ℤ). new.trail ≡ option_map (checked_in l name report) old.trail) is noted;
   others = others;
 }
@@ -181,11 +181,11 @@ pub older_than_next : (s : BookState) → IsKept s → AreNamedBelow s.opened s.
 older_than_next s kept = all_left (λ (n : Named). n.name < s.opened) s.waiting (in_hand s.hands) kept.sound.named_below
 
 -- names do not run out
-pub names_last : (s : BookState) (report : Expansion) → IsKept s → IsFair report → s.opened + length report.kids < 2 ^ 64
+pub names_last : (s : BookState) (report : Expansion) → IsKept s → IsFair report → s.opened + length report.children < 2 ^ 64
 names_last s report kept fair = omega (arith, kept.within.opened, kept.within.tickets, kept.within.taken, kept.within.limit, fair.few)
 
-pub names_last_opened : (s : BookState) (report : Expansion) (limit : Option ℤ) (count : ℕ) → IsKept s → IsFair report → count ≡ length (kids_below limit report.kids) → s.opened + count < 2 ^ 64
-names_last_opened s report limit count kept fair is = omega (arith, is, names_last s report kept fair, filter_at_most (λ (kid : Subproblem). is_below limit kid.bound) report.kids)
+pub names_last_opened : (s : BookState) (report : Expansion) (limit : Option ℤ) (count : ℕ) → IsKept s → IsFair report → count ≡ length (children_below limit report.children) → s.opened + count < 2 ^ 64
+names_last_opened s report limit count kept fair is = omega (arith, is, names_last s report kept fair, filter_at_most (λ (child : Subproblem). is_below limit child.bound) report.children)
 
 -- ---- A book that is opened is sound.
 
@@ -205,7 +205,7 @@ no_nodes_cover p cycle = record {
   covers = λ s feasible shorter. absurd (none_on_cycle p cycle s feasible);
 }
 
-first_covers : (p : Problem) (nodes : List Named) → AreFirst p nodes → IsCovered p None (nodes_of nodes)
+first_covers : (p : Problem) (nodes : List Named) → AreRoots p nodes → IsCovered p None (nodes_of nodes)
 first_covers p nodes first =
     ⊎_elim
     (λ (opened : (root : Subproblem) × IsRootOf p root × (nodes ≡ record { name = 0; node = root } ∷ [])).
@@ -214,7 +214,7 @@ first_covers p nodes first =
     first
 
 -- the root's name is 0, and there is one root at most
-first_names : (p : Problem) (nodes : List Named) → AreFirst p nodes → (length nodes ≤ 1) × All (λ (n : Named). n.name < length nodes) nodes
+first_names : (p : Problem) (nodes : List Named) → AreRoots p nodes → (length nodes ≤ 1) × All (λ (n : Named). n.name < length nodes) nodes
 first_names p nodes first =
     ⊎_elim
     (λ (opened : (root : Subproblem) × IsRootOf p root × (nodes ≡ record { name = 0; node = root } ∷ [])).
@@ -225,7 +225,7 @@ first_names p nodes first =
     subst (λ (ns : List Named). (length ns ≤ 1) × All (λ (n : Named). n.name < length ns) ns) (sym none.1) (omega arith, All-nil (λ (n : Named). n.name < 0)))
     first
 
-pub kept_opened : (p : Problem) (workers takes : ℕ) (nodes : List Named) → AreAllowed workers takes → AreFirst p nodes → IsKept (new_state p workers takes nodes)
+pub kept_opened : (p : Problem) (workers takes : ℕ) (nodes : List Named) → AreAllowed workers takes → AreRoots p nodes → IsKept (new_state p workers takes nodes)
 kept_opened p workers takes nodes allowed first =
     let names = first_names p nodes first in
     let hands : List (Option Named) = replicate workers None in
@@ -251,7 +251,7 @@ kept_opened p workers takes nodes allowed first =
 
 -- ---- A run goes on by one step.
 
-pub run_more : (old between new : BookState) (events : List Event) (replies : List Reply) (event : Event) (reply : Reply) → Run old events replies between → Step between event reply new → Run old (events ++ event ∷ []) (replies ++ reply ∷ []) new
+pub run_more : (old between new : BookState) (events : List Request) (replies : List Response) (event : Request) (reply : Response) → Run old events replies between → Step between event reply new → Run old (events ++ event ∷ []) (replies ++ reply ∷ []) new
 run_more old between new [] [] event reply run step = (new, subst (λ (s : BookState). Step s event reply new) run step, refl)
 run_more old between new (e ∷ events) (r ∷ replies) event reply run step = (run.0, run.1, run_more run.0 between new events replies event reply run.2 step)
 run_more old between new [] (r ∷ replies) event reply run step = absurd run

@@ -5,16 +5,16 @@ use Rattle.std.specs.List.{filter}
 use Rattle.std.specs.List.Sorted.{IsPermutation}
 use Rattle.branching.specs.Subproblem.{Subproblem}
 use Rattle.book.specs.State.{Named, node_named}
-use Rattle.trail.specs.RightTrail.{kids_below}
+use Rattle.search_log.specs.RightTrail.{children_below}
 use Rattle.book.specs.Steps.{named_from}
 pub use Rattle.book.specs.declared.open_nodes.Rank.{Rank}
-pub use Rattle.book.specs.declared.open_nodes.OpenNode.{OpenNode}
+pub use Rattle.book.specs.declared.open_nodes.NodeOwners.{NodeOwners}
 
-abbrev pub open_node : Rank × OpenNode → Named
+abbrev pub open_node : Rank × NodeOwners → Named
 open_node e = record { name = e.0.name.0; node = arc_value e.1.node }
 
 -- a node is kept under its bound, and both owners lead to it
-pub record IsFiled (e : Rank × OpenNode) : Type 0 where
+pub record IsFiled (e : Rank × NodeOwners) : Type 0 where
   pub bound : e.0.bound ≡ (arc_value e.1.node).bound
   pub twin : arc_value e.1.twin ≡ arc_value e.1.node
 
@@ -29,9 +29,9 @@ pub record Inserts (name : ℕ) (node : Subproblem) (old new : List Named) : Typ
   pub nodes : IsPermutation (node_named name node ∷ old) new
   pub older : (first : ℕ) → first ≤ name → filter (is_older first) new ≡ filter (is_older first) old
 
--- so many kids go in: those below the limit, under the names from the first on
-pub record InsertsKids
-    (first : ℕ) (limit : Option ℤ) (kids : List Subproblem) (count : ℕ) (old new : List Named) : Type 0 where
-  pub count_is : count ≡ length (kids_below limit kids)
-  pub nodes : IsPermutation (named_from first (kids_below limit kids) ++ old) new
+-- so many children go in: those below the limit, under the names from the first on
+pub record InsertsChildren
+    (first : ℕ) (limit : Option ℤ) (children : List Subproblem) (count : ℕ) (old new : List Named) : Type 0 where
+  pub count_is : count ≡ length (children_below limit children)
+  pub nodes : IsPermutation (named_from first (children_below limit children) ++ old) new
   pub older : filter (is_older first) new ≡ old

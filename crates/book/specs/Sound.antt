@@ -4,12 +4,12 @@ use Rattle.std.specs.List.{All, count_by, Contains}
 use Rattle.branching.specs.Subproblem.{Subproblem}
 use Rattle.branching.specs.Fair.{IsCovered}
 use Rattle.branching.specs.Right.{IsLeast}
-use Rattle.branching.specs.declared.report.TheConstants.{MAX_KIDS}
-use Rattle.plain_search.specs.declared.search.TheConstants.{MAX_TAKES}
+use Rattle.branching.specs.declared.report.TheConstants.{MAX_CHILDREN}
+use Rattle.plain_search.specs.declared.search.TheConstants.{MAX_EXPANDED}
 use Rattle.book.specs.State.{Named, BookState, in_hand, live, best_makespan}
-use Rattle.trail.specs.Trail.{Entry, not_ended, was_cut, entry_at, path_to}
-use Rattle.trail.specs.Recording.{ended_as}
-use Rattle.trail.specs.RightTrail.{IsRightTrail, IsWholeTree, has_ended}
+use Rattle.search_log.specs.SearchLog.{Entry, not_ended, was_cut, entry_at, path_to}
+use Rattle.search_log.specs.Recording.{ended_as}
+use Rattle.search_log.specs.RightTrail.{IsRightTrail, IsWholeTree, has_ended}
 use Rattle.std.specs.Option.{option_to_list}
 use Rattle.network.specs.Problem.{Problem}
 use Rattle.network.specs.Schedule.{IsFeasible, makespan, IsShortest, IsLowerBound, HasNoSchedule}
@@ -36,12 +36,12 @@ pub record IsSound (s : BookState) : Type 0 where
   pub named_below : AreNamedBelow s.opened (live s)
   pub counted : s.opened ≡ s.checked + s.cut + length (live s)
 
--- no count passes its limit: each node that was checked in or is in hand was taken, and has few kids
+-- no count passes its limit: each node that was checked in or is in hand was taken, and has few children
 pub record IsWithinLimits (s : BookState) : Type 0 where
   pub tickets : s.checked + length (in_hand s.hands) ≤ s.taken
   pub taken : s.taken ≤ s.limit
-  pub limit : s.limit ≤ MAX_TAKES
-  pub opened : s.opened ≤ 1 + MAX_KIDS * s.checked
+  pub limit : s.limit ≤ MAX_EXPANDED
+  pub opened : s.opened ≤ 1 + MAX_CHILDREN * s.checked
 
 -- ---- What a book notes in its trail when nodes are cut, and what is true of the trail whenever nobody is changing it.
 

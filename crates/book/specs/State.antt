@@ -4,7 +4,7 @@ use Rattle.network.specs.Problem.{Problem}
 use Rattle.network.specs.Schedule.{ScheduleOf}
 use Rattle.branching.specs.Subproblem.{Subproblem}
 use Rattle.branching.specs.Fair.{ceiling_of}
-use Rattle.trail.specs.Trail.{Entry}
+use Rattle.search_log.specs.SearchLog.{Entry}
 use Rattle.std.specs.Arc.{arc_value}
 use Rattle.book.specs.declared.counts.Counts.{Counts}
 pub use Rattle.book.specs.declared.hands.Held.{Held}

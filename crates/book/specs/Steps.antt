@@ -9,15 +9,15 @@ use Rattle.std.specs.List.{All, Any}
 use Rattle.std.specs.List.Sorted.{IsPermutation}
 use Rattle.branching.specs.Subproblem.{Subproblem}
 use Rattle.branching.specs.declared.branches.Branches.{Branches}
-use Rattle.trail.specs.RightTrail.{kids_below}
-use Rattle.trail.specs.Recording.{checked_in}
+use Rattle.search_log.specs.RightTrail.{children_below}
+use Rattle.search_log.specs.Recording.{checked_in}
 pub use Rattle.book.specs.declared.answers.CheckedIn.{CheckedIn}
 use Rattle.book.specs.declared.answers.CheckFault.{CheckFault}
 use Rattle.book.specs.declared.answers.CheckFault.TheVariants as fault
 use Rattle.network.specs.Problem.{Problem, arcs_of}
 use Rattle.network.specs.Walk.{HasPositiveCycle}
-use Rattle.plain_search.specs.declared.search.TheConstants.{MAX_TAKES}
-use Rattle.trail.specs.Trail.{Entry, no_entry}
+use Rattle.plain_search.specs.declared.search.TheConstants.{MAX_EXPANDED}
+use Rattle.search_log.specs.SearchLog.{Entry, no_entry}
 use Rattle.book.specs.declared.answers.TheConstants.{MAX_WORKERS}
 use Rattle.book.specs.declared.answers.BookFault.{BookFault}
 use Rattle.book.specs.declared.answers.BookFault.TheVariants as refused
@@ -78,14 +78,14 @@ pub record MayCheckIn (s : BookState) (worker : ℕ) (name : ℕ) (report : Expa
   pub project : report.node.project ≡ s.project
   pub in_time : IsInTime report.ceiling (best_makespan s)
 
--- the node leaves the hand; what was found counts; the kids below the best are opened under the next names; and the
+-- the node leaves the hand; what was found counts; the children below the best are opened under the next names; and the
 -- trail, if one is kept, tells how the node ended
 pub record Accepts
     (old : BookState) (worker : ℕ) (name : ℕ) (report : Expansion) (done : CheckedIn) (new : BookState) : Type 0 where
   pub best : Improves old.best report.found done.improved new.best
-  pub count : done.opened ≡ length (kids_below (best_makespan new) report.kids)
+  pub count : done.opened ≡ length (children_below (best_makespan new) report.children)
   pub opened :
-      IsPermutation (named_from old.opened (kids_below (best_makespan new) report.kids) ++ old.waiting) new.waiting
+      IsPermutation (named_from old.opened (children_below (best_makespan new) report.children) ++ old.waiting) new.waiting
   pub noted : new.trail ≡ option_map (checked_in (best_makespan new) name report) old.trail
   pub others : new ≡ record old {
     best = new.best;
@@ -155,7 +155,7 @@ pub record AreAllowed (workers takes : ℕ) : Type 0 where
   pub some_worker : 1 ≤ workers
   pub few_workers : workers ≤ MAX_WORKERS
   pub some_take : 1 ≤ takes
-  pub few_takes : takes ≤ MAX_TAKES
+  pub few_takes : takes ≤ MAX_EXPANDED
 
 -- a book with these open nodes, with empty hands and without a schedule
 abbrev pub new_state : Problem → ℕ → ℕ → List Named → BookState
@@ -175,14 +175,14 @@ new_state p workers takes nodes =
     }
 
 -- the root under name 0; where a closed walk of the project's rules has positive weight, no node
-abbrev pub AreFirst : Problem → List Named → Type 0
-AreFirst p nodes =
+abbrev pub AreRoots : Problem → List Named → Type 0
+AreRoots p nodes =
     ((root : Subproblem) × IsRootOf p root × (nodes ≡ node_named 0 root ∷ []))
     ⊎ (HasPositiveCycle (arcs_of p []) × (nodes ≡ []))
 
 -- the first nodes are open
 abbrev pub IsOpened : Problem → ℕ → ℕ → BookState → Type 0
-IsOpened p workers takes new = (nodes : List Named) × AreFirst p nodes × (new ≡ new_state p workers takes nodes)
+IsOpened p workers takes new = (nodes : List Named) × AreRoots p nodes × (new ≡ new_state p workers takes nodes)
 
 abbrev pub Opens : Problem → ℕ → ℕ → Result BookState BookFault → Type 0
 Opens p workers takes (Ok new) = AreAllowed workers takes × IsOpened p workers takes new
@@ -196,7 +196,7 @@ first_entries nodes = replicate (length nodes) no_entry
 -- the same book with a trail of the first nodes
 abbrev pub IsOpenedRecorded : Problem → ℕ → ℕ → BookState → Type 0
 IsOpenedRecorded p workers takes new =
-    (nodes : List Named) × AreFirst p nodes
+    (nodes : List Named) × AreRoots p nodes
     × (new ≡ record (new_state p workers takes nodes) { trail = Some (first_entries nodes) })
 
 abbrev pub OpensRecorded : Problem → ℕ → ℕ → Result BookState BookFault → Type 0

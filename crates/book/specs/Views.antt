@@ -3,7 +3,7 @@ use Rattle.std.specs.Prelude.{◌≡◌, option_map, IfSome}
 use Rattle.std.specs.Arc.{arc_value}
 use Rattle.book.specs.State.{BookState}
 use Rattle.book.specs.Sound.{IsSound, IsWithinLimits, IsRecorded}
-use Rattle.trail.specs.Trail.{TrailOf}
+use Rattle.search_log.specs.SearchLog.{TrailOf}
 use Rattle.book.specs.declared.book.Book.TheInside.{Inside}
 
 abbrev pub state_of : Inside → BookState

@@ -1,6 +1,6 @@
 //! What the methods of a book answer.
 
-use branching::Lean;
+use branching::OpenNode;
 use std::alloc::AllocError;
 use std::sync::Arc;
 
@@ -10,7 +10,7 @@ pub const MAX_WORKERS: usize = 64;
 /// Why a book can't be opened.
 #[derive(Clone, Copy, Debug, PartialEq, Eq)]
 pub enum BookFault {
-    /// There are not 1 to [`MAX_WORKERS`] workers, or not 1 to [`MAX_TAKES`](plain_search::MAX_TAKES) takes.
+    /// There are not 1 to [`MAX_WORKERS`] workers, or not 1 to [`MAX_EXPANDED`](plain_search::MAX_EXPANDED) takes.
     Limit,
     /// Memory ran out.
     Memory,
@@ -32,7 +32,7 @@ impl From<AllocError> for BookFault {
 pub struct Ticket {
     /// The name that its report is checked in under.
     pub name: u64,
-    pub node: Arc<Lean>,
+    pub node: Arc<OpenNode>,
     /// The best makespan, in periods, when it was taken.
     pub ceiling: Option<i64>,
 }
@@ -48,7 +48,7 @@ pub enum Take {
     Halted,
     /// No node is open or in hand: the search is over.
     Done,
-    /// No node is open, but some are in hand: their kids may be taken later.
+    /// No node is open, but some are in hand: their children may be taken later.
     Idle,
     /// As many nodes were taken as the book allows.
     LimitReached,
@@ -58,7 +58,7 @@ pub enum Take {
 /// What an accepted report did.
 #[derive(Clone, Copy, Debug, PartialEq, Eq)]
 pub struct CheckedIn {
-    /// How many of its kids were opened.
+    /// How many of its children were opened.
     pub opened: u64,
     /// Whether what it found is the new best.
     pub improved: bool,

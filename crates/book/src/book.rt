@@ -5,9 +5,9 @@ ghost use Rattle.std.specs.Arc.{arc_value};
 ghost use Rattle.branching.specs.Fair.{AreListsOf};
 ghost use Rattle.branching.specs.Right.{IsLeast};
 ghost use Rattle.book.specs.Sound.{IsSound, IsWithinLimits, IsRecorded, EndsWhole, known_bounds, IsBoundFor, IsTrueOf, IsVerdictOf};
-ghost use Rattle.book.specs.Steps.{AreAllowed, AreFirst, Opens, OpensRecorded, Offers, IsFull, Cuts, HandsOut, Takes, MayCheckIn, Judges, Accepts, ChecksIn, ChecksInForReuse, GivesBack};
+ghost use Rattle.book.specs.Steps.{AreAllowed, AreRoots, Opens, OpensRecorded, Offers, IsFull, Cuts, HandsOut, Takes, MayCheckIn, Judges, Accepts, ChecksIn, ChecksInForReuse, GivesBack};
 ghost use Rattle.book.specs.State.{counts_of, AddUp};
-ghost use Rattle.trail.specs.Trail.{trail_for};
+ghost use Rattle.search_log.specs.SearchLog.{trail_for};
 
 use crate::answers::{
     BookFault, CheckFault, CheckedIn, MAX_WORKERS, OtherProject, Take, Ticket, Verdict,
@@ -16,15 +16,15 @@ use crate::counts::Counts;
 use crate::hands::Hands;
 use crate::nodes_left::NodesLeft;
 use crate::open_nodes::OpenNodes;
-use crate::recording::{clear_open, open_kids, shorter_found};
-use branching::{Branches, Report, is_below, is_in_time, lean_root, lesser, makespan_of};
+use crate::recording::{clear_open, open_children, shorter_found};
+use branching::{Branches, Report, is_below, is_in_time, lesser, makespan_of, open_root};
 use longest_path::PathFault;
 use network::{Project, Schedule};
-use plain_search::MAX_TAKES;
+use plain_search::MAX_EXPANDED;
+use search_log::SearchLog;
 use std::alloc::{AllocError, Global};
 use std::marker::Model;
 use std::sync::Arc;
-use trail::Trail;
 
 /// The book of a search. Its workers are numbered from 0. Its nodes have the names 0, 1, 2 and so on, in the order in
 /// which it opened them.
@@ -40,7 +40,7 @@ pub struct Book {
     taken: u64,
     limit: u64,
     halted: bool,
-    trail: Option<Trail>,
+    trail: Option<SearchLog>,
 }
 
 impl Model for Book {
@@ -55,18 +55,18 @@ impl Model for Book {
     ghost invariant = { KeepsBook };
 }
 
-/// Whether a book may have so many workers and takes: 1 to [`MAX_WORKERS`] and 1 to [`MAX_TAKES`].
+/// Whether a book may have so many workers and takes: 1 to [`MAX_WORKERS`] and 1 to [`MAX_EXPANDED`].
 pub fn are_allowed(workers: usize, takes: u64) -> bool
     ensures { IsTrue result ↔ AreAllowed workers takes }
 {
-    (1..=MAX_WORKERS).contains(&workers) && (1..=MAX_TAKES).contains(&takes)
+    (1..=MAX_WORKERS).contains(&workers) && (1..=MAX_EXPANDED).contains(&takes)
 }
 
 /// The root of a project under name 0. No node if a closed walk of the project's rules has positive weight.
 fn first_nodes(alloc: Global, project: &Arc<Project>) -> Result<OpenNodes, AllocError>
-    ensures { IfOk result (AreFirst (arc_value project.now)) }
+    ensures { IfOk result (AreRoots (arc_value project.now)) }
 {
-    let root = match lean_root(alloc, Arc::try_clone(project)?) {
+    let root = match open_root(alloc, Arc::try_clone(project)?) {
         Ok(root) => root,
         Err(PathFault::PositiveCycle { .. }) => return Ok(OpenNodes::new(alloc)),
         Err(PathFault::Memory) => return Err(AllocError),
@@ -77,7 +77,7 @@ fn first_nodes(alloc: Global, project: &Arc<Project>) -> Result<OpenNodes, Alloc
 }
 
 impl Book {
-    /// A book for a project, with 1 to [`MAX_WORKERS`] workers, that allows 1 to [`MAX_TAKES`] takes. Its root is open.
+    /// A book for a project, with 1 to [`MAX_WORKERS`] workers, that allows 1 to [`MAX_EXPANDED`] takes. Its root is open.
     /// If the project's rules have a closed walk of positive weight, there is no schedule and no open node.
     pub fn open(
         alloc: Global,
@@ -122,7 +122,7 @@ impl Book {
         let mut book = Book::open(alloc, project, workers, takes)?;
         let project = Arc::try_clone(book.project())?;
         let roots = book.waiting.len();
-        let trail = Trail::new(alloc, project, roots)?;
+        let trail = SearchLog::new(alloc, project, roots)?;
         book.trail = Some(trail);
         Ok(book)
     }
@@ -237,7 +237,7 @@ impl Book {
         Ok(worker)
     }
 
-    /// Takes the node out of the worker's hand and opens its kids. Where memory runs out, the report comes back.
+    /// Takes the node out of the worker's hand and opens its children. Where memory runs out, the report comes back.
     fn accept(
         &mut self,
         worker: usize,
@@ -254,7 +254,7 @@ impl Book {
         let shorter = shorter_found(&report, best);
         let limit = shorter.or(best);
         let first = self.opened;
-        let Ok(opened) = open_kids(
+        let Ok(opened) = open_children(
             &mut self.waiting,
             &mut self.trail,
             name,
@@ -278,7 +278,7 @@ impl Book {
     }
 
     /// Checks in the report on the node in hand under a name, whichever worker holds it. The schedule found becomes the
-    /// best if it is strictly shorter. Then the kids whose bounds are below the best are opened, in their order.
+    /// best if it is strictly shorter. Then the children whose bounds are below the best are opened, in their order.
     ///
     /// A refused report is handed back, and the book is as it was. Faults are tested in the order of [`CheckFault`].
     pub fn check_in(&mut self, name: u64, report: Report) -> Result<CheckedIn, (Report, CheckFault)>
@@ -363,7 +363,7 @@ impl Book {
 
     /// What became of each node, where the book was opened by [`Book::open_recorded`]. Once no node is open or in hand,
     /// it is a whole tree.
-    pub fn trail(&self) -> Option<&Trail>
+    pub fn trail(&self) -> Option<&SearchLog>
         ensures trail { option_map (λ trail. trail.now) result
             ≡ option_map (trail_for self.now.project) self.now.trail }
         ensures recorded { IfSome self.now.trail (IsRecorded self.now) }
@@ -373,7 +373,7 @@ impl Book {
     }
 
     /// The trail of a book that is given up.
-    pub fn into_trail(self) -> Option<Trail>
+    pub fn into_trail(self) -> Option<SearchLog>
         ensures trail { result ≡ option_map (trail_for self.project) self.trail }
         ensures recorded { IfSome self.trail (IsRecorded self) }
         ensures whole { EndsWhole self }
@@ -383,7 +383,7 @@ impl Book {
     }
 
     /// The best schedule and the trail of a book that is given up, and the nodes that were left.
-    pub fn into_parts(self) -> (Option<Schedule>, Option<Trail>, NodesLeft)
+    pub fn into_parts(self) -> (Option<Schedule>, Option<SearchLog>, NodesLeft)
         ensures best { result.0 ≡ self.best }
         ensures trail { result.1 ≡ option_map (trail_for self.project) self.trail }
         ensures left { (result.2.waiting ≡ self.waiting) × (result.2.hands ≡ self.hands) }

@@ -12,7 +12,7 @@ use std::alloc::{AllocError, Global};
 
 /// What may be asked of a book.
 #[derive(Drop, Debug)]
-pub enum Event {
+pub enum Request {
     /// A worker asks for a node.
     Take(usize),
     /// The report on the node of this name is checked in.
@@ -27,7 +27,7 @@ pub enum Event {
 
 /// What a book answers to an event: a variant for each kind.
 #[derive(Drop, Debug)]
-pub enum Reply {
+pub enum Response {
     Taken(Take),
     CheckedIn(Result<CheckedIn, (Report, CheckFault)>),
     GivenBack(Result<(), CheckFault>),
@@ -36,18 +36,18 @@ pub enum Reply {
 }
 
 /// One event, and its reply.
-fn apply(book: &mut Book, event: Event) -> Reply
+fn apply(book: &mut Book, event: Request) -> Response
     ensures step { Step book.old event result book.new }
     ensures sound { IsSound book.new }
 {
     match event {
-        Event::Take(worker) => Reply::Taken(book.take(worker)),
-        Event::CheckIn(name, report) => Reply::CheckedIn(book.check_in(name, report)),
-        Event::GiveBack(name) => Reply::GivenBack(book.give_back(name)),
-        Event::Offer(schedule) => Reply::Offered(book.offer(schedule)),
-        Event::Halt => {
+        Request::Take(worker) => Response::Taken(book.take(worker)),
+        Request::CheckIn(name, report) => Response::CheckedIn(book.check_in(name, report)),
+        Request::GiveBack(name) => Response::GivenBack(book.give_back(name)),
+        Request::Offer(schedule) => Response::Offered(book.offer(schedule)),
+        Request::Halt => {
             book.halt();
-            Reply::Halted
+            Response::Halted
         }
     }
 }
@@ -57,8 +57,8 @@ fn apply(book: &mut Book, event: Event) -> Reply
 pub fn run_events(
     alloc: Global,
     book: &mut Book,
-    events: Vec<Event>,
-) -> Result<Vec<Reply>, AllocError>
+    events: Vec<Request>,
+) -> Result<Vec<Response>, AllocError>
     ensures run { IfOk result (λ replies. Run book.old events.items replies.items book.new) }
     ensures unchanged { OnErr result (book.new ≡ book.old) }
     ensures sound { IsSound book.new }

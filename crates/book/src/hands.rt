@@ -8,7 +8,7 @@ ghost use Rattle.book.specs.Steps.{IsFull};
 ghost use Rattle.branching.specs.Right.{IsLeast};
 ghost use Rattle.book.specs.Sound.{bounds_of};
 
-use branching::{Lean, lesser};
+use branching::{OpenNode, lesser};
 use std::alloc::{AllocError, Global};
 use std::marker::Model;
 use std::sync::Arc;
@@ -17,7 +17,7 @@ use std::sync::Arc;
 #[derive(Drop, Debug)]
 pub(crate) struct Held {
     pub(crate) name: u64,
-    pub(crate) node: Arc<Lean>,
+    pub(crate) node: Arc<OpenNode>,
 }
 
 /// What each worker has in hand.
@@ -36,7 +36,7 @@ impl Model for Hands {
 }
 
 /// The node in a hand, where it has this name.
-fn node_named(hand: &Option<Held>, name: u64) -> Option<&Arc<Lean>>
+fn node_named(hand: &Option<Held>, name: u64) -> Option<&Arc<OpenNode>>
     ensures found { IfSome result (λ node. hand_of hand.now ≡ Some (node_named name (arc_value node.now))) }
     ensures none { IfNone result (All (λ (held : Named). held.name ≢ name) (in_hand (hand_of hand.now ∷ []))) }
 {
@@ -82,7 +82,7 @@ impl Hands {
     }
 
     /// The worker that has the node of this name in hand, and the node.
-    pub(crate) fn find(&self, name: u64) -> Option<(usize, &Arc<Lean>)>
+    pub(crate) fn find(&self, name: u64) -> Option<(usize, &Arc<OpenNode>)>
         ensures found { IfSome result (λ found. Holds self.now found.0 (node_named name (arc_value found.1.now))) }
         ensures none { IfNone result (All (λ (held : Named). held.name ≢ name) (in_hand self.now)) }
     {

@@ -20,5 +20,5 @@ pub use answers::{
 };
 pub use book::{Book, are_allowed};
 pub use counts::Counts;
-pub use events::{Event, Reply, run_events};
+pub use events::{Request, Response, run_events};
 pub use nodes_left::NodesLeft;

@@ -7,10 +7,10 @@ ghost use Rattle.book.specs.State.{Named, held_node};
 ghost use Rattle.branching.specs.Right.{IsLeast};
 ghost use Rattle.book.specs.Sound.{AreNamedBelow, bounds_of};
 ghost use Rattle.book.specs.Steps.{GoesBefore};
-ghost use Rattle.book.specs.OpenNodes.{IsNamedOtherThan, Inserts, InsertsKids, is_older};
+ghost use Rattle.book.specs.OpenNodes.{IsNamedOtherThan, Inserts, InsertsChildren, is_older};
 
 use crate::hands::Held;
-use branching::{Lean, is_below};
+use branching::{OpenNode, is_below};
 use std::alloc::{AllocError, Global};
 use std::cmp::Reverse;
 use std::collections::BTreeMap;
@@ -26,13 +26,13 @@ struct Rank {
 
 /// An open node. It has two owners, one for the hand and one for the ticket. So to take it needs no memory.
 #[derive(Drop, Debug)]
-struct OpenNode {
-    node: Arc<Lean>,
-    twin: Arc<Lean>,
+struct NodeOwners {
+    node: Arc<OpenNode>,
+    twin: Arc<OpenNode>,
 }
 
-impl OpenNode {
-    fn into_owners(self) -> (Arc<Lean>, Arc<Lean>)
+impl NodeOwners {
+    fn into_owners(self) -> (Arc<OpenNode>, Arc<OpenNode>)
         ensures { result ≡ (self.node, self.twin) }
     {
         (self.node, self.twin)
@@ -42,7 +42,7 @@ impl OpenNode {
 /// The open nodes, in the order in which they are taken.
 #[derive(Drop, Debug)]
 pub(crate) struct OpenNodes {
-    nodes: BTreeMap<Rank, OpenNode>,
+    nodes: BTreeMap<Rank, NodeOwners>,
 }
 
 impl Model for OpenNodes {
@@ -83,13 +83,13 @@ impl OpenNodes {
     }
 
     /// Puts a node in under a name of its own. Where memory runs out, nothing changes.
-    pub(crate) fn insert(&mut self, name: u64, node: &Arc<Lean>) -> Result<(), AllocError>
+    pub(crate) fn insert(&mut self, name: u64, node: &Arc<OpenNode>) -> Result<(), AllocError>
         requires { All (IsNamedOtherThan name) self.old }
         ensures ok { OnOk result (Inserts name (arc_value node.now) self.old self.new) }
         ensures err { OnErr result (self.new ≡ self.old) }
     {
         let bound = node.bound();
-        let opened = OpenNode {
+        let opened = NodeOwners {
             node: Arc::try_clone(node)?,
             twin: Arc::try_clone(node)?,
         };
@@ -98,25 +98,25 @@ impl OpenNodes {
         Ok(())
     }
 
-    /// Puts in the kids whose bounds are below the limit, in their order, under the names from the first on. Where
+    /// Puts in the children whose bounds are below the limit, in their order, under the names from the first on. Where
     /// memory runs out, nothing changes.
-    pub(crate) fn insert_kids(
+    pub(crate) fn insert_children(
         &mut self,
-        kids: &[Arc<Lean>],
+        children: &[Arc<OpenNode>],
         limit: Option<i64>,
         first: u64,
     ) -> Result<u64, AllocError>
         requires older { AreNamedBelow first self.old }
-        requires names { first + length kids.now < 2 ^ 64 }
-        ensures ok { IfOk result (λ count. InsertsKids first limit (map arc_value kids.now) count self.old self.new) }
+        requires names { first + length children.now < 2 ^ 64 }
+        ensures ok { IfOk result (λ count. InsertsChildren first limit (map arc_value children.now) count self.old self.new) }
         ensures err { OnErr result (self.new ≡ self.old) }
     {
         let mut next = first;
-        for kid in kids {
-            if !is_below(kid.bound(), limit) {
+        for child in children {
+            if !is_below(child.bound(), limit) {
                 continue;
             }
-            if self.insert(next, kid).is_err() {
+            if self.insert(next, child).is_err() {
                 self.keep_older(first);
                 return Err(AllocError);
             }
@@ -133,7 +133,7 @@ impl OpenNodes {
     }
 
     /// Takes out the first node: once for a hand, and once for a ticket.
-    pub(crate) fn pop_first(&mut self) -> Option<(Held, Arc<Lean>)>
+    pub(crate) fn pop_first(&mut self) -> Option<(Held, Arc<OpenNode>)>
         ensures popped { IfSome result (λ first. self.old ≡ held_node first.0 ∷ self.new) }
         ensures before { IfSome result (λ first. All (GoesBefore (held_node first.0)) self.new) }
         ensures twin { IfSome result (λ first. arc_value first.1 ≡ arc_value first.0.node) }

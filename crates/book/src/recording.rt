@@ -3,14 +3,14 @@
 ghost use Rattle.book.specs.Steps.{IsShorterFound};
 ghost use Rattle.std.specs.Prelude.{◌≡◌, ◌+◌, ◌^◌, ◌<◌, [], length, IfOk, OnOk, OnErr, IfSome, option_map};
 ghost use Rattle.book.specs.Sound.{AreNamedBelow, note_cut};
-ghost use Rattle.book.specs.OpenNodes.{InsertsKids};
-ghost use Rattle.trail.specs.Recording.{checked_in, MayNote};
-ghost use Rattle.trail.specs.Trail.{with_entries};
+ghost use Rattle.book.specs.OpenNodes.{InsertsChildren};
+ghost use Rattle.search_log.specs.Recording.{checked_in, MayNote};
+ghost use Rattle.search_log.specs.SearchLog.{with_entries};
 
 use crate::open_nodes::OpenNodes;
 use branching::{Report, is_below};
+use search_log::{NodeEnding, SearchLog};
 use std::alloc::AllocError;
-use trail::{NodeEnding, Trail};
 
 /// The makespan of what a report found, where that is below the limit.
 pub(crate) fn shorter_found(report: &Report, limit: Option<i64>) -> Option<i64>
@@ -24,7 +24,7 @@ pub(crate) fn shorter_found(report: &Report, limit: Option<i64>) -> Option<i64>
 }
 
 /// Takes out all nodes, and ends them as cut.
-fn cut_all(nodes: &mut OpenNodes, trail: &mut Trail)
+fn cut_all(nodes: &mut OpenNodes, trail: &mut SearchLog)
     ensures nodes { nodes.new ≡ [] }
     ensures trail { trail.new ≡ with_entries (note_cut nodes.old) trail.old }
 {
@@ -34,7 +34,7 @@ fn cut_all(nodes: &mut OpenNodes, trail: &mut Trail)
 }
 
 /// Takes out all nodes, and ends them as cut where a trail is kept. It takes no memory.
-pub(crate) fn clear_open(nodes: &mut OpenNodes, trail: &mut Option<Trail>)
+pub(crate) fn clear_open(nodes: &mut OpenNodes, trail: &mut Option<SearchLog>)
     ensures nodes { nodes.new ≡ [] }
     ensures trail { trail.new ≡ option_map (with_entries (note_cut nodes.old)) trail.old }
 {
@@ -46,7 +46,7 @@ pub(crate) fn clear_open(nodes: &mut OpenNodes, trail: &mut Option<Trail>)
 
 /// Notes a report on the node under a name where a trail is kept. Where memory runs out, nothing changes.
 pub(crate) fn note_report(
-    trail: &mut Option<Trail>,
+    trail: &mut Option<SearchLog>,
     name: u64,
     limit: Option<i64>,
     report: &Report,
@@ -61,24 +61,24 @@ pub(crate) fn note_report(
     }
 }
 
-/// Opens the kids of a report that are below the limit, under the names from the first on, and notes the report. Where
+/// Opens the children of a report that are below the limit, under the names from the first on, and notes the report. Where
 /// memory runs out, nothing changes.
-pub(crate) fn open_kids(
+pub(crate) fn open_children(
     nodes: &mut OpenNodes,
-    trail: &mut Option<Trail>,
+    trail: &mut Option<SearchLog>,
     name: u64,
     first: u64,
     limit: Option<i64>,
     report: &Report,
 ) -> Result<u64, AllocError>
     requires older { AreNamedBelow first nodes.old }
-    requires names { first + length report.now.kids < 2 ^ 64 }
+    requires names { first + length report.now.children < 2 ^ 64 }
     requires known { IfSome trail.old (λ trail. (name < length trail.entries) × (length trail.entries ≡ first)) }
-    ensures opened { IfOk result (λ count. InsertsKids first limit report.now.kids count nodes.old nodes.new) }
+    ensures opened { IfOk result (λ count. InsertsChildren first limit report.now.children count nodes.old nodes.new) }
     ensures noted { OnOk result (trail.new ≡ option_map (with_entries (checked_in limit name report.now)) trail.old) }
     ensures err { OnErr result ((nodes.new ≡ nodes.old) × (trail.new ≡ trail.old)) }
 {
-    let opened = nodes.insert_kids(report.kids(), limit, first)?;
+    let opened = nodes.insert_children(report.children(), limit, first)?;
     if note_report(trail, name, limit, report).is_err() {
         nodes.keep_older(first);
         return Err(AllocError);

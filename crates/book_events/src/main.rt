@@ -1,13 +1,17 @@
 //! Plays lists of events on search books. Tests compare the replies with those of a model.
 //!
+//! `book_events bench NODES [ROUNDS]` measures a book: one worker searches the project of standard input until so many
+//! nodes are open. It prints the counts. ROUNDS is how many nodes to take after that; then it also prints the mean
+//! nanoseconds of a take and of a check-in among those. All other words are played:
+//!
 //! Standard input is two projects, with a semicolon between. Each word is a step. The nodes are numbered: 0 and 1 are
 //! the roots, and `expand` adds what it finds from them. The book is one of the first project.
 //!
 //! | Step | Does | Prints |
 //! |---|---|---|
-//! | `expand:NODE` | expands a node without a ceiling | its bound and pairs; the starts that it finds, if any; and the bound and pairs of each kid |
+//! | `expand:NODE` | expands a node without a ceiling | its bound and pairs; the starts that it finds, if any; and the bound and pairs of each child |
 //! | `starts:NODE` | rebuilds a node | its least starts |
-//! | `open:WORKERS:TAKES`, `record:WORKERS:TAKES` | opens a new book, without and with a trail | `open` or `limit`, and the book's counts |
+//! | `open:WORKERS:EXPANDED`, `record:WORKERS:EXPANDED` | opens a new book, without and with a trail | `open` or `limit`, and the book's counts |
 //! | `take:WORKER`, `check:NAME:NODE:CEILING`, `back:NAME`, `offer:STARTS`, `other:STARTS`, `halt` | one event | the reply, and the book's counts |
 //! | `reuse:NAME:NODE:CEILING` | the same as `check` | the reply with the sizes of the lists that come back, and the book's counts |
 //! | `search` | takes, expands and checks in until no node is handed out | what the worker 0 is told then, and the book's counts |
@@ -19,14 +23,15 @@
 //! lower bound.
 #![tactic(auto)]
 
+mod bench;
 mod replies;
 mod trails;
 
 use anyhow::{Context, anyhow, bail};
-use book::{Book, BookFault, Event, Take, run_events};
-use branching::{Lean, Report, expand, lean_root, rebuild};
-use earliest::least_starts;
-use longest_path::PathFault;
+use bench::bench;
+use book::{Book, BookFault, Request, Take, run_events};
+use branching::{OpenNode, Report, expand, open_root, rebuild};
+use longest_path::{PathFault, least_starts};
 use network::{Project, Schedule};
 use replies::{accepted_text, pairs_text, reply_text, starts_text, take_text, told, verdict_text};
 use sch_reader::read_sch;
@@ -40,9 +45,9 @@ use words::split_once;
 
 /// Two projects, the nodes that were found of both, and the book of the first.
 #[derive(Drop)]
-struct Table {
+struct EventPlayer {
     projects: [Arc<Project>; 2],
-    nodes: Vec<Arc<Lean>>,
+    nodes: Vec<Arc<OpenNode>>,
     book: Book,
 }
 
@@ -55,8 +60,8 @@ fn project(alloc: Global, text: &[u8]) -> anyhow::Result<Arc<Project>> {
 }
 
 /// The root of a project; none where a closed walk of its rules has positive weight.
-fn root_of(alloc: Global, project: &Arc<Project>) -> anyhow::Result<Option<Arc<Lean>>> {
-    match lean_root(alloc, Arc::try_clone(project)?) {
+fn root_of(alloc: Global, project: &Arc<Project>) -> anyhow::Result<Option<Arc<OpenNode>>> {
+    match open_root(alloc, Arc::try_clone(project)?) {
         Ok(root) => Ok(Some(root)),
         Err(PathFault::PositiveCycle { .. }) => Ok(None),
         Err(PathFault::Memory) => bail!("there is no memory for a root"),
@@ -93,7 +98,7 @@ fn smallest(alloc: Global, project: &Arc<Project>) -> anyhow::Result<Book> {
 /// The report on a node.
 fn report_on(
     alloc: Global,
-    nodes: &[Arc<Lean>],
+    nodes: &[Arc<OpenNode>],
     place: &str,
     ceiling: Option<i64>,
 ) -> anyhow::Result<Report> {
@@ -117,7 +122,7 @@ fn schedule(alloc: Global, project: &Arc<Project>, text: &str) -> anyhow::Result
 }
 
 /// The check-in that a step asks for: a name, a node and a ceiling.
-fn check_in(alloc: Global, nodes: &[Arc<Lean>], rest: &str) -> anyhow::Result<(u64, Report)> {
+fn check_in(alloc: Global, nodes: &[Arc<OpenNode>], rest: &str) -> anyhow::Result<(u64, Report)> {
     let (name, rest) = rest.split_once(':').context("which node?")?;
     let (node, ceiling) = rest.split_once(':').context("which ceiling?")?;
     let ceiling = if ceiling.is_empty() {
@@ -130,24 +135,24 @@ fn check_in(alloc: Global, nodes: &[Arc<Lean>], rest: &str) -> anyhow::Result<(u
 }
 
 /// The event that a step asks for.
-fn event_of(alloc: Global, table: &Table, kind: &str, rest: &str) -> anyhow::Result<Event> {
+fn event_of(alloc: Global, table: &EventPlayer, kind: &str, rest: &str) -> anyhow::Result<Request> {
     let [own, other] = &table.projects;
     match kind {
-        "take" => Ok(Event::Take(rest.parse::<usize>()?)),
+        "take" => Ok(Request::Take(rest.parse::<usize>()?)),
         "check" => {
             let (name, report) = check_in(alloc, &table.nodes, rest)?;
-            Ok(Event::CheckIn(name, report))
+            Ok(Request::CheckIn(name, report))
         }
-        "back" => Ok(Event::GiveBack(rest.parse::<u64>()?)),
-        "offer" => Ok(Event::Offer(schedule(alloc, own, rest)?)),
-        "other" => Ok(Event::Offer(schedule(alloc, other, rest)?)),
-        "halt" => Ok(Event::Halt),
+        "back" => Ok(Request::GiveBack(rest.parse::<u64>()?)),
+        "offer" => Ok(Request::Offer(schedule(alloc, own, rest)?)),
+        "other" => Ok(Request::Offer(schedule(alloc, other, rest)?)),
+        "halt" => Ok(Request::Halt),
         _ => Err(anyhow!("an unknown step")),
     }
 }
 
-/// Expands a node, prints what comes of it, and keeps its kids.
-fn explore(rt: &HostRuntime, table: &mut Table, place: &str) -> anyhow::Result<()> {
+/// Expands a node, prints what comes of it, and keeps its children.
+fn explore(rt: &HostRuntime, table: &mut EventPlayer, place: &str) -> anyhow::Result<()> {
     let alloc = rt.alloc();
     let report = report_on(alloc, &table.nodes, place, None)?;
     let (pairs, bound) = (pairs_text(alloc, report.node())?, report.node().bound());
@@ -156,23 +161,23 @@ fn explore(rt: &HostRuntime, table: &mut Table, place: &str) -> anyhow::Result<(
         let starts = starts_text(alloc, found.starts())?;
         println!(rt; "found {starts}")?;
     }
-    for kid in report.kids() {
-        let (pairs, bound) = (pairs_text(alloc, kid)?, kid.bound());
+    for child in report.children() {
+        let (pairs, bound) = (pairs_text(alloc, child)?, child.bound());
         println!(rt; "kid {bound}{pairs}")?;
-        table.nodes.push(Arc::try_clone(kid)?)?;
+        table.nodes.push(Arc::try_clone(child)?)?;
     }
     Ok(())
 }
 
 /// The least starts of a node.
-fn least(alloc: Global, nodes: &[Arc<Lean>], place: &str) -> anyhow::Result<String> {
+fn least(alloc: Global, nodes: &[Arc<OpenNode>], place: &str) -> anyhow::Result<String> {
     let node = nodes.get(place.parse::<usize>()?).context("no such node")?;
     let node = rebuild(alloc, node)?;
     Ok(starts_text(alloc, &least_starts(alloc, node.matrix())?)?)
 }
 
 /// What a book replies to one event.
-fn replied(alloc: Global, book: &mut Book, event: Event) -> anyhow::Result<String> {
+fn replied(alloc: Global, book: &mut Book, event: Request) -> anyhow::Result<String> {
     let mut events = Vec::new(alloc);
     events.push(event)?;
     let replies = run_events(alloc, book, events)?;
@@ -184,9 +189,9 @@ fn replied(alloc: Global, book: &mut Book, event: Event) -> anyhow::Result<Strin
 fn reused(alloc: Global, book: &mut Book, name: u64, report: Report) -> anyhow::Result<String> {
     match book.check_in_for_reuse(name, report) {
         Ok((done, made)) => {
-            let (kids, fates) = (made.kids.len(), made.fates.len());
+            let (children, fates) = (made.children.len(), made.fates.len());
             let done = accepted_text(alloc, &done)?;
-            Ok(format!(in alloc; "{done}, {kids} kids and {fates} fates come back")?)
+            Ok(format!(in alloc; "{done}, {children} kids and {fates} fates come back")?)
         }
         Err(_) => bail!("the report is refused"),
     }
@@ -208,7 +213,12 @@ fn searched(alloc: Global, book: &mut Book) -> anyhow::Result<Take> {
 }
 
 /// Opens the book that a step asks for, in the place of the table's: whether it is within the limits.
-fn open(alloc: Global, table: &mut Table, kind: &str, rest: &str) -> anyhow::Result<&'static str> {
+fn open(
+    alloc: Global,
+    table: &mut EventPlayer,
+    kind: &str,
+    rest: &str,
+) -> anyhow::Result<&'static str> {
     let [own, _] = &table.projects;
     match opened(alloc, own, kind == "record", rest)? {
         Some(book) => {
@@ -220,7 +230,7 @@ fn open(alloc: Global, table: &mut Table, kind: &str, rest: &str) -> anyhow::Res
 }
 
 /// Gives the table's book up for a new one: its trail.
-fn closed(alloc: Global, table: &mut Table) -> anyhow::Result<String> {
+fn closed(alloc: Global, table: &mut EventPlayer) -> anyhow::Result<String> {
     let [own, _] = &table.projects;
     let new = smallest(alloc, own)?;
     let old = mem::replace(&mut table.book, new);
@@ -238,7 +248,12 @@ fn asked(alloc: Global, book: &Book, kind: &str) -> anyhow::Result<String> {
 }
 
 /// The reply to a step that changes the book or asks it.
-fn answered(alloc: Global, table: &mut Table, kind: &str, rest: &str) -> anyhow::Result<String> {
+fn answered(
+    alloc: Global,
+    table: &mut EventPlayer,
+    kind: &str,
+    rest: &str,
+) -> anyhow::Result<String> {
     match kind {
         "starts" => least(alloc, &table.nodes, rest),
         "open" | "record" => Ok(String::from_str(alloc, open(alloc, table, kind, rest)?)?),
@@ -257,7 +272,7 @@ fn answered(alloc: Global, table: &mut Table, kind: &str, rest: &str) -> anyhow:
 }
 
 /// One step.
-fn step(rt: &HostRuntime, table: &mut Table, word: &str) -> anyhow::Result<()> {
+fn step(rt: &HostRuntime, table: &mut EventPlayer, word: &str) -> anyhow::Result<()> {
     let (kind, rest) = word.split_once(':').unwrap_or((word, ""));
     if kind == "expand" {
         return explore(rt, table, rest);
@@ -268,12 +283,10 @@ fn step(rt: &HostRuntime, table: &mut Table, word: &str) -> anyhow::Result<()> {
     Ok(())
 }
 
-fn main(rt: HostRuntime) -> anyhow::Result<()> {
+/// Plays the words on a book of the first of two projects.
+fn play(rt: &HostRuntime, text: &[u8], words: &[String]) -> anyhow::Result<()> {
     let alloc = rt.alloc();
-    let words = env::args(&rt)?.collect::<Vec<String>>(alloc)?;
-    let mut text = Vec::new(alloc);
-    rt.reader().read_to_end(&mut text)?;
-    let (own, other) = split_once(&text, b';').context("there is one project")?;
+    let (own, other) = split_once(text, b';').context("there is one project")?;
     let (own, other) = (project(alloc, own)?, project(alloc, other)?);
     let mut nodes = Vec::new(alloc);
     for project in [&own, &other] {
@@ -282,13 +295,28 @@ fn main(rt: HostRuntime) -> anyhow::Result<()> {
         }
     }
     let book = smallest(alloc, &own)?;
-    let mut table = Table {
+    let mut table = EventPlayer {
         projects: [own, other],
         nodes,
         book,
     };
-    for word in words.iter().skip(1) {
-        step(&rt, &mut table, word)?;
+    for word in words {
+        step(rt, &mut table, word)?;
     }
     Ok(())
+}
+
+fn main(rt: HostRuntime) -> anyhow::Result<()> {
+    let alloc = rt.alloc();
+    let words = env::args(&rt)?.collect::<Vec<String>>(alloc)?;
+    let mut text = Vec::new(alloc);
+    rt.reader().read_to_end(&mut text)?;
+    match words.as_slice() {
+        [_, word, nodes, rounds @ ..] if word.as_str() == "bench" => {
+            let rounds = rounds.first().map(|word| word.as_str());
+            bench(&rt, project(alloc, &text)?, nodes, rounds)
+        }
+        [_, words @ ..] => play(&rt, &text, words),
+        [] => bail!("there is no name"),
+    }
 }

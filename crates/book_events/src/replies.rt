@@ -1,7 +1,7 @@
 //! What a book answers, as words.
 
-use book::{Book, CheckFault, CheckedIn, Reply, Take, Ticket, Verdict};
-use branching::Lean;
+use book::{Book, CheckFault, CheckedIn, Response, Take, Ticket, Verdict};
+use branching::OpenNode;
 use network::Pair;
 use std::alloc::{AllocError, Global};
 
@@ -35,7 +35,7 @@ pub fn starts_text(alloc: Global, starts: &[i64]) -> Result<String, AllocError> 
 }
 
 /// The pairs of a node, with a blank before each.
-pub fn pairs_text(alloc: Global, node: &Lean) -> Result<String, AllocError> {
+pub fn pairs_text(alloc: Global, node: &OpenNode) -> Result<String, AllocError> {
     list_text(alloc, &node.pairs().to_vec(alloc)?)
 }
 
@@ -88,20 +88,20 @@ pub fn accepted_text(alloc: Global, done: &CheckedIn) -> Result<String, AllocErr
 }
 
 /// What a book replies to an event.
-pub fn reply_text(alloc: Global, reply: &Reply) -> Result<String, AllocError> {
+pub fn reply_text(alloc: Global, reply: &Response) -> Result<String, AllocError> {
     let word = match reply {
-        Reply::Taken(answer) => return take_text(alloc, answer),
-        Reply::CheckedIn(Ok(done)) => return accepted_text(alloc, done),
-        Reply::CheckedIn(Err((_, fault))) => return fault_text(alloc, fault),
-        Reply::GivenBack(Err(fault)) => return fault_text(alloc, fault),
-        Reply::GivenBack(Ok(())) => "back",
-        Reply::Offered(Ok(true)) => "shorter",
-        Reply::Offered(Ok(false)) => "kept",
-        Reply::Offered(Err((back, _))) => {
+        Response::Taken(answer) => return take_text(alloc, answer),
+        Response::CheckedIn(Ok(done)) => return accepted_text(alloc, done),
+        Response::CheckedIn(Err((_, fault))) => return fault_text(alloc, fault),
+        Response::GivenBack(Err(fault)) => return fault_text(alloc, fault),
+        Response::GivenBack(Ok(())) => "back",
+        Response::Offered(Ok(true)) => "shorter",
+        Response::Offered(Ok(false)) => "kept",
+        Response::Offered(Err((back, _))) => {
             let starts = starts_text(alloc, back.starts())?;
             return format!(in alloc; "other project {starts}");
         }
-        Reply::Halted => "halt",
+        Response::Halted => "halt",
     };
     String::from_str(alloc, word)
 }

@@ -2,8 +2,8 @@
 
 use crate::replies::list_text;
 use branching::Fate;
+use search_log::{NodeEnding, NodeEntry, Origin, SearchLog};
 use std::alloc::{AllocError, Global};
-use trail::{NodeEnding, Origin, Trail, TrailEntry};
 
 /// Where a node came from.
 fn origin_text(alloc: Global, origin: Option<Origin>) -> Result<String, AllocError> {
@@ -18,8 +18,8 @@ fn origin_text(alloc: Global, origin: Option<Origin>) -> Result<String, AllocErr
 /// What became of a pair of a split set.
 fn fate_text(alloc: Global, fate: &Fate<u64>) -> Result<String, AllocError> {
     let (word, forced) = match fate {
-        Fate::Kid(name) => return format!(in alloc; " opened {name}"),
-        Fate::Dead { forced } => ("dead", forced),
+        Fate::Child(name) => return format!(in alloc; " opened {name}"),
+        Fate::Infeasible { forced } => ("dead", forced),
         Fate::Cut { forced } => ("cut", forced),
     };
     let forced = list_text(alloc, forced)?;
@@ -46,7 +46,7 @@ fn ending_text(alloc: Global, ending: &NodeEnding) -> Result<String, AllocError>
 }
 
 /// One node: where it came from, its forced pairs, and how it ended.
-fn entry_text(alloc: Global, entry: &TrailEntry) -> Result<String, AllocError> {
+fn entry_text(alloc: Global, entry: &NodeEntry) -> Result<String, AllocError> {
     let origin = origin_text(alloc, entry.origin)?;
     let forced = list_text(alloc, &entry.forced)?;
     let ending = ending_text(alloc, &entry.ending)?;
@@ -54,7 +54,7 @@ fn entry_text(alloc: Global, entry: &TrailEntry) -> Result<String, AllocError> {
 }
 
 /// How many activities the project of a trail has, and its nodes.
-pub fn trail_text(alloc: Global, trail: Option<&Trail>) -> Result<String, AllocError> {
+pub fn trail_text(alloc: Global, trail: Option<&SearchLog>) -> Result<String, AllocError> {
     let Some(trail) = trail else {
         return String::from_str(alloc, "no trail");
     };

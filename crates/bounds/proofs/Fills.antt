@@ -7,7 +7,7 @@ use Rattle.std.proofs.lemmas.List.{get_or_default}
 use Rattle.std.proofs.lemmas.List.Sums.{sum_by-cons, sum_by-take-le, sum_by-le-sum_by}
 use Rattle.std.proofs.Math.Nat.{mul-le-mul_left}
 use Rattle.bounds.specs.declared.limits.TheConstants.{MAX_CAPACITY, MAX_END, MAX_WORK}
-use Rattle.bounds.specs.Loads.{IsSmall, AreLoads, work_after, envelope, IsReached, IsAbove, line_of, width_before, IsFilled, Load}
+use Rattle.bounds.specs.Loads.{IsSmall, AreLoads, work_after, envelope, IsEnvelopeUpTo, IsAbove, line_of, width_before, IsFilled, Load}
 use Rattle.bounds.proofs.Widths.{width_more}
 use Rattle.bounds.proofs.LateWork.{line_marks, line_far, sum_small, product_small, late_work, late_work-late, late_work-early, late_work-le, work_after-low, work_after-early, work_after-le, IsTop, sum_more, passed, work_reaches}
 
@@ -106,7 +106,7 @@ pub record Filled (c : ℕ) (tails : List ℕ) (loads : List Load) (line : List 
   pub tops : (q : ℕ) → q ≤ length tails → IsTop (end_from line loads i) q (top_at line loads i widths q)
   pub held : (filled ≡ 0) ⊎ IsHeld line loads i filled
   pub over : (q : ℕ) (y : Load) → Contains (take i loads) y → q < y.rank → end_from line loads i q ≤ filled
-  pub reached : (n ≡ 0) ⊎ IsReached c tails loads n
+  pub reached : (n ≡ 0) ⊎ IsEnvelopeUpTo c tails loads n
   pub above : IsAbove c tails (take i loads) n
 
 -- what is known of the line and the loads
@@ -160,7 +160,7 @@ pub record IsNext (c : ℕ) (tails : List ℕ) (loads : List Load) (line : List 
   pub small : IsSmall tails x
 
 -- the envelope of a load's head and where the fill ends
-new_reached : (c : ℕ) (tails : List ℕ) (loads : List Load) (line : List ℕ) (i m : ℕ) (x : Load) → AreOnLine c tails loads line → i < length loads → x ≡ get_or loads i x → IsHeld line loads (i + 1) m → IsReached c tails loads (c * x.head + m)
+new_reached : (c : ℕ) (tails : List ℕ) (loads : List Load) (line : List ℕ) (i m : ℕ) (x : Load) → AreOnLine c tails loads line → i < length loads → x ≡ get_or loads i x → IsHeld line loads (i + 1) m → IsEnvelopeUpTo c tails loads (c * x.head + m)
 new_reached c tails loads line i m x on inside at h =
     let index : h.index < i + 1 = h.passed in
     let lt : h.index < length loads = omega arith in

@@ -6,7 +6,7 @@ use Rattle.std.proofs.lemmas.Bool.Decides.{nat_tests}
 use Rattle.std.proofs.lemmas.List.{take_more, length-take-le, get_or-take, length-map, get_or_default, get_or_append_left, get_or_push, get_or-map, get_or-set_same, get_or-set_other, length-set, ext_get_or}
 use Rattle.std.proofs.lemmas.List.Elements.{All-from_get_or, Contains-push_cases, All-map, All-contains, Contains-get_or}
 use Rattle.std.proofs.lemmas.List.Sums.{sum_by_more, sum_by-take-le, sum_by-le}
-use Rattle.bounds.specs.Loads.{AreLoads, work_after, tail_of, load, IsSmall, AreTailsOf, AreLoadsOf, IsReached, line_of, Load}
+use Rattle.bounds.specs.Loads.{AreLoads, work_after, tail_of, load, IsSmall, AreTailsOf, AreLoadsOf, IsEnvelopeUpTo, line_of, Load}
 use Rattle.bounds.proofs.Tasks.{sum_by-le-each, Contains-map, made_from}
 use Rattle.std.proofs.lemmas.Int.{ints}
 use Rattle.std.proofs.lemmas.List.Sorted.{All-permutation, length_permutation}
@@ -132,11 +132,11 @@ sum_small f tails loads are part =
 pub product_small : (c a : ℕ) → c ≤ MAX_CAPACITY → a ≤ MAX_END → c * a ≤ 1003000000000000
 product_small c a small low = omega (arith, mul-le-mul small low)
 
-pub reached_small : (c : ℕ) (tails : List ℕ) (loads : List Load) (n : ℕ) → AreLoads tails loads → c ≤ MAX_CAPACITY → All (λ b. b ≤ MAX_END) tails → (n ≡ 0) ⊎ IsReached c tails loads n → n ≤ MAX_ENVELOPE
+pub reached_small : (c : ℕ) (tails : List ℕ) (loads : List Load) (n : ℕ) → AreLoads tails loads → c ≤ MAX_CAPACITY → All (λ b. b ≤ MAX_END) tails → (n ≡ 0) ⊎ IsEnvelopeUpTo c tails loads n → n ≤ MAX_ENVELOPE
 reached_small c tails loads n are few low =
     ⊎_elim
     (λ (none : n ≡ 0). omega arith)
-    (λ (r : IsReached c tails loads n).
+    (λ (r : IsEnvelopeUpTo c tails loads n).
     let small : IsSmall tails r.load = All-contains (IsSmall tails) loads r.load are.small r.there in
     let head : r.load.head ≤ MAX_END = small.head_limit in
     let rank : r.load.rank ≤ length tails = small.rank_limit in

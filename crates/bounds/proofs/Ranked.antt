@@ -16,7 +16,7 @@ use Rattle.network.specs.declared.limits.TheConstants.{MAX_WALK_WEIGHT}
 use Rattle.network.specs.Schedule.{start}
 use Rattle.network.proofs.Schedules.{range_below}
 use Rattle.bounds.specs.Energy.{AreEnds, Task}
-use Rattle.orders.specs.Orders.{IsOrder, key_at, HaveKeys, Rises}
+use Rattle.profile.specs.Orders.{IsOrder, key_at, HaveKeys, Rises}
 use Rattle.bounds.specs.Loads.{tail_of, rank_of, load, AreTailsOf, AreFalling, AreLoadsOf, IsRank, IsRanked, task_at, AreKeysOf, keyed_load, AreRanked, AreRankedLoads, Load}
 use Rattle.bounds.proofs.Tasks.{range_there, Contains-map}
 use Rattle.bounds.proofs.Greatest.{end_above, abs_le}

@@ -7,7 +7,7 @@ use Rattle.std.proofs.lemmas.List.Elements.{All-contains, All-filter, filter_pas
 use Rattle.network.proofs.Schedules.{range_below}
 use Rattle.network.specs.Problem.{Problem, activity_count, activities, resource_count, duration, demand, IsAmount, IsProject}
 use Rattle.network.specs.Schedule.{start}
-use Rattle.earliest.specs.Ends.{tail}
+use Rattle.longest_path.specs.Ends.{tail}
 use Rattle.bounds.specs.Energy.{between, work, task, has_work, tasks_of, AreTasks, Task, MAX_WORK}
 use Rattle.std.proofs.lemmas.Bool.{cases_lt, lt-ltb, ltb-true}
 use Rattle.std.proofs.lemmas.List.{get_or-map, length-map}

@@ -14,8 +14,8 @@ use Rattle.longest_path.specs.Matrix.{joined}
 use Rattle.longest_path.specs.Insert.{entry_over, rows_over, ClosesNone, AddsArc}
 use Rattle.longest_path.proofs.Bound.{one_matrix}
 use Rattle.longest_path.proofs.Inserted.{length-rows_over, entry-rows_over, AddsArc-rows_over}
-use Rattle.earliest.specs.Ends.{tail_weight, tail_weights}
-use Rattle.earliest.proofs.Ends.{AreEarliest-weights, AreTails-weights}
+use Rattle.longest_path.specs.Ends.{tail_weight, tail_weights}
+use Rattle.longest_path.proofs.Ends.{AreEarliest-weights, AreTails-weights}
 use Rattle.bounds.specs.Energy.{IsEnergyValue, AreEnds, IsWithinTerm, IsEnergyTerm, IsEnergyUnder}
 use Rattle.bounds.specs.Bound.{critical_weight, IsEnergyOf, IsBoundOf, IsBoundBetween, IsBoundWith, IsTrueBoundWith, IsBoundUnder}
 use Rattle.bounds.proofs.Ranked.{made_by}

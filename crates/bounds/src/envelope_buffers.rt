@@ -9,7 +9,7 @@ ghost use Rattle.bounds.specs.Loads.{AreBuffers, AreRanked, AreRankedLoads};
 
 use crate::load::{Load, list_loads, rank_keys, sort_tasks};
 use crate::task::Task;
-use orders::first_order;
+use profile::first_order;
 use std::alloc::{AllocError, Global};
 
 /// Two orders of the tasks, and a place for each task in each list.

@@ -7,8 +7,7 @@ ghost use Rattle.bounds.specs.Energy.{IsResourceEnergy, IsEnergyUnder, AreEnds, 
 
 use crate::limits::MAX_ENVELOPE;
 use crate::task_buffers::TaskBuffers;
-use earliest::{heads, tails};
-use longest_path::Matrix;
+use longest_path::{Matrix, heads, tails};
 use network::Project;
 use std::alloc::{AllocError, Global};
 use std::marker::Model;

@@ -4,7 +4,7 @@ ghost use Rattle.std.specs.Prelude.{◌≡◌, [], ◌<◌, ◌∷◌, length};
 ghost use Rattle.network.specs.Problem.{activity_count, NameActivities, pair_arc, IsWithin};
 ghost use Rattle.network.specs.declared.limits.TheConstants.{MAX_LAG_WEIGHT};
 ghost use Rattle.network.specs.Walk.{weights_from};
-ghost use Rattle.earliest.specs.Ends.{tail_weights};
+ghost use Rattle.longest_path.specs.Ends.{tail_weights};
 ghost use Rattle.longest_path.specs.Insert.{rows_over, ClosesNone};
 ghost use Rattle.bounds.specs.Bound.{IsMatrixFor, IsBoundUnder};
 ghost use Rattle.bounds.specs.Energy.{all_tasks};

@@ -10,10 +10,10 @@ use Rattle.network.specs.Schedule.{start, Keeps, IsFeasible, ScheduleOf, makespa
 use Rattle.branching.specs.Subproblem.{ordered_pairs, Subproblem, NodeStandsFor}
 use Rattle.branching.specs.Right.{IsRightSet, IsBelow, IsUnder, Reaches}
 use Rattle.branching.proofs.OrderedPairs.{here, there, contains_pair, any_cases, any_left, any_right}
-use Rattle.rivals.proofs.Apart.{StartsLast, starts_last, not_all_run}
+use Rattle.forbidden_sets.proofs.Apart.{StartsLast, starts_last, not_all_run}
 use Rattle.network.specs.Walk.{HasPositiveCycle}
 use Rattle.network.proofs.Schedules.{no_schedule_on_cycle}
-use Rattle.branching.specs.Fair.{Expansion, IsFair, IsShorterThan, IsFoundFor, IsKidOf, IsNodeOf, IsRootOf, IsScheduleFor, IsCovered, IsShorterOf, ceiling_of}
+use Rattle.branching.specs.Fair.{Expansion, IsFair, IsShorterThan, IsFoundFor, IsChildOf, IsNodeOf, IsRootOf, IsScheduleFor, IsCovered, IsShorterOf, ceiling_of}
 
 -- ---- members that end before
 
@@ -92,8 +92,8 @@ covered_still p best old new nodes stays covered = record {
         let kept = stays node (k, l, e) (under_best best node.bound s (is.is_node.true_bound s stands) shorter) in
         (kept.0, node, kept.1, kept.2, stands)
 
-kid_is_node : (p : Problem) (node kid : Subproblem) → node.project ≡ p → IsKidOf node kid → IsNodeOf p kid
-kid_is_node p node kid e kid_of = record { project = kid_of.adds.project ∙ e; is_node = kid_of.adds.is_node }
+child_is_node : (p : Problem) (node child : Subproblem) → node.project ≡ p → IsChildOf node child → IsNodeOf p child
+child_is_node p node child e child_of = record { project = child_of.adds.project ∙ e; is_node = child_of.adds.is_node }
 
 best_after : (p : Problem) (best after : Option ScheduleOf) (found : Option ScheduleOf) (node : Subproblem) → node.project ≡ p → IfSome best (IsScheduleFor p) → IfSome found (IsFoundFor node) → IfSome after (λ s. (Some s ≡ best) ⊎ (Some s ≡ found)) → IfSome after (IsScheduleFor p)
 best_after p best None found node e of_best of_found from = tt
@@ -106,17 +106,17 @@ best_after p best (Some s) found node e of_best of_found from =
     as_schedule : IsFoundFor node s → IsScheduleFor p s
     as_schedule f = record { project = f.project ∙ e; feasible = subst (λ (q : Problem). IsFeasible q s.starts) e f.stands.feasible }
 
--- a node may be replaced by the kids of a fair report on it, once what was found is counted, where each schedule that is
+-- a node may be replaced by the children of a fair report on it, once what was found is counted, where each schedule that is
 -- then still looked for is below the report's ceiling
-pub expansion_keeps : (p : Problem) (best after : Option ScheduleOf) (nodes : List Subproblem) (node : Subproblem) (report : Expansion) → IsFair report → report.node.project ≡ p → node.pairs ≡ report.node.pairs → ((s : List ℤ) → IsShorterThan best s → IsBelow report.ceiling s) → IsShorterOf best report.found after → IsCovered p best (nodes ++ node ∷ []) → IsCovered p after (nodes ++ report.kids)
+pub expansion_keeps : (p : Problem) (best after : Option ScheduleOf) (nodes : List Subproblem) (node : Subproblem) (report : Expansion) → IsFair report → report.node.project ≡ p → node.pairs ≡ report.node.pairs → ((s : List ℤ) → IsShorterThan best s → IsBelow report.ceiling s) → IsShorterOf best report.found after → IsCovered p best (nodes ++ node ∷ []) → IsCovered p after (nodes ++ report.children)
 expansion_keeps p best after nodes node report fair project pairs below shorter_of covered = record {
   of_best = best_after p best after report.found report.node project covered.of_best fair.of_found shorter_of.from;
-  of_nodes = All-append (IsNodeOf p) nodes report.kids (all_left (IsNodeOf p) nodes (node ∷ []) covered.of_nodes) (All-weaker (IsKidOf report.node) (IsNodeOf p) (λ kid k. kid_is_node p report.node kid project k) report.kids fair.of_kids);
+  of_nodes = All-append (IsNodeOf p) nodes report.children (all_left (IsNodeOf p) nodes (node ∷ []) covered.of_nodes) (All-weaker (IsChildOf report.node) (IsNodeOf p) (λ child k. child_is_node p report.node child project k) report.children fair.of_children);
   covers = λ s feasible shorter.
       let before : IsShorterThan best s = shorter_of.than_best s shorter in
       ⊎_elim
-      (λ (early : Any (λ n. NodeStandsFor n s) nodes). any_left (λ n. NodeStandsFor n s) nodes report.kids early)
-      (λ (last : NodeStandsFor node s). any_right (λ n. NodeStandsFor n s) nodes report.kids (fair.covers s (of_report s last) (below s before) (shorter_of.than_found s shorter)))
+      (λ (early : Any (λ n. NodeStandsFor n s) nodes). any_left (λ n. NodeStandsFor n s) nodes report.children early)
+      (λ (last : NodeStandsFor node s). any_right (λ n. NodeStandsFor n s) nodes report.children (fair.covers s (of_report s last) (below s before) (shorter_of.than_found s shorter)))
       (any_cases (λ n. NodeStandsFor n s) nodes node (covered.covers s feasible before));
 }
   where

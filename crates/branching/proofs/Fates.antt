@@ -1,4 +1,4 @@
--- What right fates of the ordered pairs give: kids of the node, which stand for all that keeps one of
+-- What right fates of the ordered pairs give: children of the node, which stand for all that keeps one of
 -- the pairs.
 use Rattle.std.proofs.Common.{◌≡◌, sym, zero, suc, ◌≤◌, List, [], ◌∷◌, ◌++◌, length, ◌⊎◌, inl, inr, ⊎_elim, arith, append_assoc, append-nil, subst, Option, Some, None, ℤ, ◌≤ℤ◌, ◌<ℤ◌}
 use Rattle.std.specs.List.{All, Any}
@@ -11,8 +11,8 @@ use Rattle.network.proofs.Schedules.{no_schedule_on_cycle}
 use Rattle.bounds.proofs.TrueBounds.{IsTrueBoundFor-bound}
 use Rattle.branching.specs.Subproblem.{Subproblem, NodeStandsFor, IsBoundOfPairs}
 use Rattle.branching.specs.Right.{IsCut, IsBelow, IsUnder}
-use Rattle.branching.specs.Fates.{Fates, is_kid, is_dead, is_cut, IsKidBy, IsDeadBy, IsCutBy, AreFates}
-use Rattle.branching.specs.Fair.{IsNewTo, IsKidOf}
+use Rattle.branching.specs.Fates.{Fates, is_child, is_infeasible, is_cut, IsChildBy, IsInfeasibleBy, IsCutBy, AreFates}
+use Rattle.branching.specs.Fair.{IsNewTo, IsChildOf}
 use Rattle.branching.proofs.OrderedPairs.{here, any_right}
 use Rattle.branching.proofs.Forcings.{all_forced_hold}
 
@@ -23,18 +23,18 @@ more_fates node ceiling [] [] [] qs gs ls first then = then
 more_fates node ceiling [] [] (k ∷ ks) qs gs ls first then = absurd first
 more_fates node ceiling [] (f ∷ fs) ks qs gs ls first then = absurd first
 more_fates node ceiling (p ∷ ps) [] ks qs gs ls first then = absurd first
-more_fates node ceiling (p ∷ ps) (is_kid u ∷ fs) [] qs gs ls first then = absurd first
-more_fates node ceiling (p ∷ ps) (is_kid u ∷ fs) (k ∷ ks) qs gs ls first then = (first.0, first.1, more_fates node ceiling ps fs ks qs gs ls first.2 then)
-more_fates node ceiling (p ∷ ps) (is_dead forced ∷ fs) ks qs gs ls first then = (first.0, more_fates node ceiling ps fs ks qs gs ls first.1 then)
+more_fates node ceiling (p ∷ ps) (is_child u ∷ fs) [] qs gs ls first then = absurd first
+more_fates node ceiling (p ∷ ps) (is_child u ∷ fs) (k ∷ ks) qs gs ls first then = (first.0, first.1, more_fates node ceiling ps fs ks qs gs ls first.2 then)
+more_fates node ceiling (p ∷ ps) (is_infeasible forced ∷ fs) ks qs gs ls first then = (first.0, more_fates node ceiling ps fs ks qs gs ls first.1 then)
 more_fates node ceiling (p ∷ ps) (is_cut forced ∷ fs) ks qs gs ls first then = (first.0, more_fates node ceiling ps fs ks qs gs ls first.1 then)
 
 -- one pair more
-pub fate_kid : (node : Subproblem) (ceiling : Option ℤ) (ps : List Pair) (fs : Fates) (ks : List Subproblem) (pair : Pair) (kid : Subproblem) → AreFates node ceiling ps fs ks → IsKidBy node pair kid → IsUnder ceiling kid.bound → AreFates node ceiling (ps ++ pair ∷ []) (fs ++ is_kid tt ∷ []) (ks ++ kid ∷ [])
-fate_kid node ceiling ps fs ks pair kid so_far by under = more_fates node ceiling ps fs ks (pair ∷ []) (is_kid tt ∷ []) (kid ∷ []) so_far (by, under, tt)
+pub fate_child : (node : Subproblem) (ceiling : Option ℤ) (ps : List Pair) (fs : Fates) (ks : List Subproblem) (pair : Pair) (child : Subproblem) → AreFates node ceiling ps fs ks → IsChildBy node pair child → IsUnder ceiling child.bound → AreFates node ceiling (ps ++ pair ∷ []) (fs ++ is_child tt ∷ []) (ks ++ child ∷ [])
+fate_child node ceiling ps fs ks pair child so_far by under = more_fates node ceiling ps fs ks (pair ∷ []) (is_child tt ∷ []) (child ∷ []) so_far (by, under, tt)
 
-pub fate_dead : (node : Subproblem) (ceiling : Option ℤ) (ps : List Pair) (fs : Fates) (ks : List Subproblem) (pair : Pair) (forced : List Pair) → AreFates node ceiling ps fs ks → IsDeadBy node pair forced → AreFates node ceiling (ps ++ pair ∷ []) (fs ++ is_dead forced ∷ []) ks
-fate_dead node ceiling ps fs ks pair forced so_far dead =
-    let all : AreFates node ceiling (ps ++ pair ∷ []) (fs ++ is_dead forced ∷ []) (ks ++ []) = more_fates node ceiling ps fs ks (pair ∷ []) (is_dead forced ∷ []) [] so_far (dead, tt) in
+pub fate_infeasible : (node : Subproblem) (ceiling : Option ℤ) (ps : List Pair) (fs : Fates) (ks : List Subproblem) (pair : Pair) (forced : List Pair) → AreFates node ceiling ps fs ks → IsInfeasibleBy node pair forced → AreFates node ceiling (ps ++ pair ∷ []) (fs ++ is_infeasible forced ∷ []) ks
+fate_infeasible node ceiling ps fs ks pair forced so_far dead =
+    let all : AreFates node ceiling (ps ++ pair ∷ []) (fs ++ is_infeasible forced ∷ []) (ks ++ []) = more_fates node ceiling ps fs ks (pair ∷ []) (is_infeasible forced ∷ []) [] so_far (dead, tt) in
     rw (append-nil ks) at all
 
 pub fate_cut : (node : Subproblem) (ceiling : Option ℤ) (ps : List Pair) (fs : Fates) (ks : List Subproblem) (pair : Pair) (forced : List Pair) → AreFates node ceiling ps fs ks → IsCutBy node ceiling pair forced → AreFates node ceiling (ps ++ pair ∷ []) (fs ++ is_cut forced ∷ []) ks
@@ -49,47 +49,47 @@ fates_few node ceiling [] [] [] are = omega arith
 fates_few node ceiling [] [] (k ∷ ks) are = absurd are
 fates_few node ceiling [] (f ∷ fs) ks are = absurd are
 fates_few node ceiling (p ∷ ps) [] ks are = absurd are
-fates_few node ceiling (p ∷ ps) (is_kid u ∷ fs) [] are = absurd are
-fates_few node ceiling (p ∷ ps) (is_kid u ∷ fs) (k ∷ ks) are = omega (arith, fates_few node ceiling ps fs ks are.2)
-fates_few node ceiling (p ∷ ps) (is_dead forced ∷ fs) ks are = omega (arith, fates_few node ceiling ps fs ks are.1)
+fates_few node ceiling (p ∷ ps) (is_child u ∷ fs) [] are = absurd are
+fates_few node ceiling (p ∷ ps) (is_child u ∷ fs) (k ∷ ks) are = omega (arith, fates_few node ceiling ps fs ks are.2)
+fates_few node ceiling (p ∷ ps) (is_infeasible forced ∷ fs) ks are = omega (arith, fates_few node ceiling ps fs ks are.1)
 fates_few node ceiling (p ∷ ps) (is_cut forced ∷ fs) ks are = omega (arith, fates_few node ceiling ps fs ks are.1)
 
-pub fates_under : (node : Subproblem) (ceiling : Option ℤ) (ps : List Pair) (fs : Fates) (ks : List Subproblem) → AreFates node ceiling ps fs ks → All (λ kid. IsUnder ceiling kid.bound) ks
-fates_under node ceiling [] [] [] are = All-nil (λ (kid : Subproblem). IsUnder ceiling kid.bound)
+pub fates_under : (node : Subproblem) (ceiling : Option ℤ) (ps : List Pair) (fs : Fates) (ks : List Subproblem) → AreFates node ceiling ps fs ks → All (λ child. IsUnder ceiling child.bound) ks
+fates_under node ceiling [] [] [] are = All-nil (λ (child : Subproblem). IsUnder ceiling child.bound)
 fates_under node ceiling [] [] (k ∷ ks) are = absurd are
 fates_under node ceiling [] (f ∷ fs) ks are = absurd are
 fates_under node ceiling (p ∷ ps) [] ks are = absurd are
-fates_under node ceiling (p ∷ ps) (is_kid u ∷ fs) [] are = absurd are
-fates_under node ceiling (p ∷ ps) (is_kid u ∷ fs) (k ∷ ks) are = All-cons (λ (kid : Subproblem). IsUnder ceiling kid.bound) k ks are.1 (fates_under node ceiling ps fs ks are.2)
-fates_under node ceiling (p ∷ ps) (is_dead forced ∷ fs) ks are = fates_under node ceiling ps fs ks are.1
+fates_under node ceiling (p ∷ ps) (is_child u ∷ fs) [] are = absurd are
+fates_under node ceiling (p ∷ ps) (is_child u ∷ fs) (k ∷ ks) are = All-cons (λ (child : Subproblem). IsUnder ceiling child.bound) k ks are.1 (fates_under node ceiling ps fs ks are.2)
+fates_under node ceiling (p ∷ ps) (is_infeasible forced ∷ fs) ks are = fates_under node ceiling ps fs ks are.1
 fates_under node ceiling (p ∷ ps) (is_cut forced ∷ fs) ks are = fates_under node ceiling ps fs ks are.1
 
-pub fates_kids : (node : Subproblem) (ceiling : Option ℤ) (ps : List Pair) (fs : Fates) (ks : List Subproblem) → AreFates node ceiling ps fs ks → All (IsNewTo node) ps → All (IsKidOf node) ks
-fates_kids node ceiling [] [] [] are new = All-nil (IsKidOf node)
-fates_kids node ceiling [] [] (k ∷ ks) are new = absurd are
-fates_kids node ceiling [] (f ∷ fs) ks are new = absurd are
-fates_kids node ceiling (p ∷ ps) [] ks are new = absurd are
-fates_kids node ceiling (p ∷ ps) (is_kid u ∷ fs) [] are new = absurd are
-fates_kids node ceiling (p ∷ ps) (is_kid u ∷ fs) (k ∷ ks) are new =
-    All-cons (IsKidOf node) k ks (record { first = p; is_new = All-head (IsNewTo node) p ps new; adds = are.0 }) (fates_kids node ceiling ps fs ks are.2 (All-tail (IsNewTo node) p ps new))
-fates_kids node ceiling (p ∷ ps) (is_dead forced ∷ fs) ks are new = fates_kids node ceiling ps fs ks are.1 (All-tail (IsNewTo node) p ps new)
-fates_kids node ceiling (p ∷ ps) (is_cut forced ∷ fs) ks are new = fates_kids node ceiling ps fs ks are.1 (All-tail (IsNewTo node) p ps new)
+pub fates_children : (node : Subproblem) (ceiling : Option ℤ) (ps : List Pair) (fs : Fates) (ks : List Subproblem) → AreFates node ceiling ps fs ks → All (IsNewTo node) ps → All (IsChildOf node) ks
+fates_children node ceiling [] [] [] are new = All-nil (IsChildOf node)
+fates_children node ceiling [] [] (k ∷ ks) are new = absurd are
+fates_children node ceiling [] (f ∷ fs) ks are new = absurd are
+fates_children node ceiling (p ∷ ps) [] ks are new = absurd are
+fates_children node ceiling (p ∷ ps) (is_child u ∷ fs) [] are new = absurd are
+fates_children node ceiling (p ∷ ps) (is_child u ∷ fs) (k ∷ ks) are new =
+    All-cons (IsChildOf node) k ks (record { first = p; is_new = All-head (IsNewTo node) p ps new; adds = are.0 }) (fates_children node ceiling ps fs ks are.2 (All-tail (IsNewTo node) p ps new))
+fates_children node ceiling (p ∷ ps) (is_infeasible forced ∷ fs) ks are new = fates_children node ceiling ps fs ks are.1 (All-tail (IsNewTo node) p ps new)
+fates_children node ceiling (p ∷ ps) (is_cut forced ∷ fs) ks are new = fates_children node ceiling ps fs ks are.1 (All-tail (IsNewTo node) p ps new)
 
 -- ---- one pair, and the schedules that keep it
 
 with_first : (node : Subproblem) (first : Pair) (s : List ℤ) → NodeStandsFor node s → Keeps node.project s first → StandsFor node.project (node.pairs ++ first ∷ []) s
 with_first node first s stands keeps = record { feasible = stands.feasible; keeps = All-push (Keeps node.project s) node.pairs first stands.keeps keeps }
 
--- the kid stands for what the node stands for and keeps the pair
-pub kid_stands : (node kid : Subproblem) (first : Pair) (s : List ℤ) → IsKidBy node first kid → NodeStandsFor node s → Keeps node.project s first → NodeStandsFor kid s
-kid_stands node kid first s by stands keeps =
+-- the child stands for what the node stands for and keeps the pair
+pub child_stands : (node child : Subproblem) (first : Pair) (s : List ℤ) → IsChildBy node first child → NodeStandsFor node s → Keeps node.project s first → NodeStandsFor child s
+child_stands node child first s by stands keeps =
     let all : StandsFor node.project ((node.pairs ++ first ∷ []) ++ by.forced) s = all_forced_hold node.project (node.pairs ++ first ∷ []) by.forced s by.all_forced (with_first node first s stands keeps) in
     let same : (node.pairs ++ first ∷ []) ++ by.forced ≡ node.pairs ++ first ∷ by.forced = append_assoc node.pairs (first ∷ []) by.forced in
     rw (by.pairs, by.project) (rw same at all)
 
 -- nothing keeps a dead pair
-pub dead_has_none : (node : Subproblem) (first : Pair) (forced : List Pair) (s : List ℤ) → IsDeadBy node first forced → NodeStandsFor node s → Keeps node.project s first → ⊥
-dead_has_none node first forced s dead stands keeps =
+pub infeasible_has_none : (node : Subproblem) (first : Pair) (forced : List Pair) (s : List ℤ) → IsInfeasibleBy node first forced → NodeStandsFor node s → Keeps node.project s first → ⊥
+infeasible_has_none node first forced s dead stands keeps =
     let all : StandsFor node.project ((node.pairs ++ first ∷ []) ++ forced) s = all_forced_hold node.project (node.pairs ++ first ∷ []) forced s dead.all_forced (with_first node first s stands keeps) in
     no_schedule_on_cycle node.project ((node.pairs ++ first ∷ []) ++ forced) s dead.dead all.feasible.schedule all.keeps
 
@@ -122,22 +122,22 @@ any_here P x xs p = let at = here x xs in (at.0, x, at.1, at.2, p)
 none_any : {X : Type 0} (P : X → Type 0) → Any P [] → ⊥
 none_any P (k, y, l, e, p) = omega arith
 
--- each schedule below the ceiling that keeps one of the pairs is one that some kid stands for
+-- each schedule below the ceiling that keeps one of the pairs is one that some child stands for
 pub fates_cover : (node : Subproblem) (ceiling : Option ℤ) (ps : List Pair) (fs : Fates) (ks : List Subproblem) → AreFates node ceiling ps fs ks →
-    (s : List ℤ) → NodeStandsFor node s → IsBelow ceiling s → Any (Keeps node.project s) ps → Any (λ kid. NodeStandsFor kid s) ks
+    (s : List ℤ) → NodeStandsFor node s → IsBelow ceiling s → Any (Keeps node.project s) ps → Any (λ child. NodeStandsFor child s) ks
 fates_cover node ceiling [] [] [] are s stands below kept = absurd (none_any (Keeps node.project s) kept)
 fates_cover node ceiling [] [] (k ∷ ks) are s stands below kept = absurd are
 fates_cover node ceiling [] (f ∷ fs) ks are s stands below kept = absurd are
 fates_cover node ceiling (p ∷ ps) [] ks are s stands below kept = absurd are
-fates_cover node ceiling (p ∷ ps) (is_kid u ∷ fs) [] are s stands below kept = absurd are
-fates_cover node ceiling (p ∷ ps) (is_kid u ∷ fs) (k ∷ ks) are s stands below kept =
+fates_cover node ceiling (p ∷ ps) (is_child u ∷ fs) [] are s stands below kept = absurd are
+fates_cover node ceiling (p ∷ ps) (is_child u ∷ fs) (k ∷ ks) are s stands below kept =
     ⊎_elim
-    (λ (now : Keeps node.project s p). any_here (λ kid. NodeStandsFor kid s) k ks (kid_stands node k p s are.0 stands now))
-    (λ (later : Any (Keeps node.project s) ps). any_right (λ kid. NodeStandsFor kid s) (k ∷ []) ks (fates_cover node ceiling ps fs ks are.2 s stands below later))
+    (λ (now : Keeps node.project s p). any_here (λ child. NodeStandsFor child s) k ks (child_stands node k p s are.0 stands now))
+    (λ (later : Any (Keeps node.project s) ps). any_right (λ child. NodeStandsFor child s) (k ∷ []) ks (fates_cover node ceiling ps fs ks are.2 s stands below later))
     (first_or_later (Keeps node.project s) p ps kept)
-fates_cover node ceiling (p ∷ ps) (is_dead forced ∷ fs) ks are s stands below kept =
+fates_cover node ceiling (p ∷ ps) (is_infeasible forced ∷ fs) ks are s stands below kept =
     ⊎_elim
-    (λ (now : Keeps node.project s p). absurd (dead_has_none node p forced s are.0 stands now))
+    (λ (now : Keeps node.project s p). absurd (infeasible_has_none node p forced s are.0 stands now))
     (λ (later : Any (Keeps node.project s) ps). fates_cover node ceiling ps fs ks are.1 s stands below later)
     (first_or_later (Keeps node.project s) p ps kept)
 fates_cover node ceiling (p ∷ ps) (is_cut forced ∷ fs) ks are s stands below kept =

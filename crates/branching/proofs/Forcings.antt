@@ -8,8 +8,8 @@ use Rattle.network.specs.Problem.{Problem, duration, arcs_of, pair_of, activity_
 use Rattle.network.specs.Schedule.{start, Keeps, StandsFor}
 use Rattle.network.specs.Walk.{weight, Rows, entry, IsProjectMatrix, IsGreatestWeight, HasPositiveCycle}
 use Rattle.network.proofs.Schedules.{walk_holds, arcs_met}
-use Rattle.branching.specs.Right.{IsForced, AllForced, IsDead, IsUnder, Reaches}
-use Rattle.rivals.proofs.Apart.{apart}
+use Rattle.branching.specs.Right.{IsForced, AllForced, IsInfeasible, IsUnder, Reaches}
+use Rattle.forbidden_sets.proofs.Apart.{apart}
 use Rattle.std.specs.Bool.{IsTrue}
 use Rattle.std.specs.Int.Signed.{le_z, lt_z}
 use Rattle.std.specs.List.{All, Any, Contains}
@@ -18,8 +18,8 @@ use Rattle.std.proofs.lemmas.Grind.{flat_map-append}
 use Rattle.std.proofs.lemmas.List.{map-append, take_more, take-append-drop}
 use Rattle.longest_path.specs.Matrix.{greater, joined}
 use Rattle.longest_path.proofs.Reach.{same_some}
-use Rattle.rivals.specs.Incompatible.{AreIncompatible, AllIncompatible, pairs_before, pairs_of, IsRowOf, AreRowsOf}
-use Rattle.rivals.specs.declared.incompatible.Incompatible.{Incompatible}
+use Rattle.forbidden_sets.specs.Incompatible.{AreIncompatible, AllIncompatible, pairs_before, pairs_of, IsRowOf, AreRowsOf}
+use Rattle.forbidden_sets.specs.declared.incompatible.Incompatible.{Incompatible}
 use Rattle.branching.specs.Forcing.{IsForcedAt, IsForcedIn, IsForcedWith, IsFirstForced, way_over, IsForcedMatrix}
 use Rattle.branching.proofs.OrderedPairs.{here, contains_map, any_left, any_right}
 use Rattle.longest_path.specs.Insert.{AddsArc, ClosesCycle}
@@ -27,7 +27,7 @@ use Rattle.bounds.specs.Bound.{critical_weight, IsBoundOf}
 use Rattle.bounds.proofs.Energies.{IsBoundOf-exists}
 use Rattle.bounds.proofs.TrueBounds.{IsTrueBoundFor-bound}
 use Rattle.branching.specs.Subproblem.{Subproblem, IsNode}
-use Rattle.branching.specs.Fates.{IsKidBy, IsDeadBy, IsCutBy}
+use Rattle.branching.specs.Fates.{IsChildBy, IsInfeasibleBy, IsCutBy}
 use Rattle.branching.proofs.Paths.{matrix_more, closes_with}
 
 -- a forced pair is kept by every schedule that the node stands for
@@ -258,8 +258,8 @@ one_forced p pairs forced pair old new so_far apart by adds =
     }
 
 -- or it closes a walk of positive weight
-pub dead_forced : (node : Subproblem) (first : Pair) (forced : List Pair) (pair : Pair) (old : Rows) → IsForcedMatrix node.project (node.pairs ++ first ∷ []) forced old → AreIncompatible node.project pair → IsForcedIn node.project old pair → ClosesCycle (pair_arc node.project pair) old → IsDeadBy node first (forced ++ pair ∷ [])
-dead_forced node first forced pair old so_far apart by closes =
+pub infeasible_forced : (node : Subproblem) (first : Pair) (forced : List Pair) (pair : Pair) (old : Rows) → IsForcedMatrix node.project (node.pairs ++ first ∷ []) forced old → AreIncompatible node.project pair → IsForcedIn node.project old pair → ClosesCycle (pair_arc node.project pair) old → IsInfeasibleBy node first (forced ++ pair ∷ [])
+infeasible_forced node first forced pair old so_far apart by closes =
     let pairs : List Pair = node.pairs ++ first ∷ [] in
     let same : (pairs ++ forced) ++ pair ∷ [] ≡ pairs ++ (forced ++ pair ∷ []) = append_assoc pairs forced (pair ∷ []) in
     let dead : HasPositiveCycle (arcs_of node.project ((pairs ++ forced) ++ pair ∷ [])) = closes_with node.project (pairs ++ forced) pair old so_far.matrix closes in
@@ -271,8 +271,8 @@ dead_forced node first forced pair old so_far apart by closes =
 -- ---- what the matrix with the forced pairs gives
 
 -- the pair alone closes a walk of positive weight
-pub dead_at_once : (node : Subproblem) (first : Pair) → IsDead node.project (node.pairs ++ first ∷ []) → IsDeadBy node first []
-dead_at_once node first dead = record { all_forced = tt; dead = rw (append-nil (node.pairs ++ first ∷ [])) dead }
+pub infeasible_at_once : (node : Subproblem) (first : Pair) → IsInfeasible node.project (node.pairs ++ first ∷ []) → IsInfeasibleBy node first []
+infeasible_at_once node first dead = record { all_forced = tt; dead = rw (append-nil (node.pairs ++ first ∷ [])) dead }
 
 -- its bound is at least a number that is at least the ceiling
 pub cut_from : (node : Subproblem) (ceiling : Option ℤ) (first : Pair) (forced : List Pair) (rows : Rows) (bound least : ℤ) → IsForcedMatrix node.project (node.pairs ++ first ∷ []) forced rows → IsBoundOf node.project rows bound → least ≤ℤ bound → Reaches ceiling least → IsCutBy node ceiling first forced
@@ -308,10 +308,10 @@ node_at node first forced rows bound forced_by of =
       true_bound = IsTrueBoundFor-bound node.project rows bound of (node.pairs ++ first ∷ forced) m;
     }
 
--- it is the kid
-pub kid_at : (node kid : Subproblem) (ceiling : Option ℤ) (first : Pair) (forced : List Pair) (rows : Rows) (bound : ℤ) → IsForcedMatrix node.project (node.pairs ++ first ∷ []) forced rows → IsBoundOf node.project rows bound → IsUnder ceiling bound →
-    kid ≡ record { project = node.project; pairs = node.pairs ++ first ∷ forced; bound = bound } → IsKidBy node first kid × IsUnder ceiling kid.bound
-kid_at node kid ceiling first forced rows bound forced_by of under is = (
+-- it is the child
+pub child_at : (node child : Subproblem) (ceiling : Option ℤ) (first : Pair) (forced : List Pair) (rows : Rows) (bound : ℤ) → IsForcedMatrix node.project (node.pairs ++ first ∷ []) forced rows → IsBoundOf node.project rows bound → IsUnder ceiling bound →
+    child ≡ record { project = node.project; pairs = node.pairs ++ first ∷ forced; bound = bound } → IsChildBy node first child × IsUnder ceiling child.bound
+child_at node child ceiling first forced rows bound forced_by of under is = (
   record {
     project = ap (λ (k : Subproblem). k.project) is;
     forced = forced;

@@ -16,7 +16,7 @@ use Rattle.longest_path.specs.Insert.{entry_over, rows_over, ClosesNone}
 use Rattle.longest_path.specs.Matrix.{greater, joined}
 use Rattle.longest_path.proofs.Inserted.{length-rows_over, entry-rows_over, closes}
 use Rattle.longest_path.proofs.Reach.{joined-some, same_some}
-use Rattle.earliest.proofs.Ends.{from_start, to_end, reached}
+use Rattle.longest_path.proofs.Ends.{from_start, to_end, reached}
 use Rattle.bounds.specs.Bound.{critical_weight, IsBoundOf, IsTrueBoundFor}
 use Rattle.bounds.proofs.WithLaws.{matrix_more}
 use Rattle.branching.specs.Right.{IsLeast}

@@ -9,8 +9,8 @@ use Rattle.network.specs.Problem.{Problem, activity_count, duration, pair_arc, a
 use Rattle.network.specs.Walk.{IsProjectMatrix, Rows, weight, entry, IsWalk, IsMatrixOf, IsGreatestWeight}
 use Rattle.network.proofs.Schedules.{arcs_of-push}
 use Rattle.longest_path.specs.Matrix.{Reaches}
-use Rattle.earliest.proofs.Ends.{reached}
-use Rattle.rivals.specs.Incompatible.{AreIncompatible}
+use Rattle.longest_path.proofs.Ends.{reached}
+use Rattle.forbidden_sets.specs.Incompatible.{AreIncompatible}
 use Rattle.branching.specs.Forcing.{IsForcedIn}
 use Rattle.branching.proofs.OrderedPairs.{contains_cases}
 

@@ -13,14 +13,14 @@ use Rattle.network.specs.declared.limits.TheConstants.{MAX_ACTIVITIES}
 use Rattle.network.proofs.Schedules.{running_below}
 use Rattle.forbidden_sets.specs.MinimalSet.{MinimalSet}
 use Rattle.branching.specs.Subproblem.{Subproblem, NodeStandsFor, IsNode, ordered_pairs}
-use Rattle.branching.specs.declared.report.TheConstants.{MAX_KIDS}
+use Rattle.branching.specs.declared.report.TheConstants.{MAX_CHILDREN}
 use Rattle.branching.specs.Right.{IsRightSet, IsCutUnder, IsBelow, Reaches}
 use Rattle.branching.specs.Fates.{Fates, AreFates}
-use Rattle.branching.specs.Fair.{IsNewTo, IsKidOf, IsReport}
+use Rattle.branching.specs.Fair.{IsNewTo, IsChildOf, IsReport}
 use Rattle.branching.proofs.OrderedPairs.{here, all_pairs, count_pairs}
-use Rattle.rivals.proofs.Apart.{BeginsFrom, rising_length}
+use Rattle.forbidden_sets.proofs.Apart.{BeginsFrom, rising_length}
 use Rattle.branching.proofs.Covers.{some_kept}
-use Rattle.branching.proofs.Fates.{fates_kids, fates_cover, fates_few}
+use Rattle.branching.proofs.Fates.{fates_children, fates_cover, fates_few}
 
 -- ---- the running activities
 
@@ -98,7 +98,7 @@ lies_between p i is known long =
     let not_end : i ≡ end_of p → ⊥ = λ e. let same : duration p i ≡ duration p (end_of p) = ap (duration p) e in omega (arith, ints) in
     (omega (arith, not_start), omega (arith, not_end))
 
-pub few_pairs : (p : Problem) (k : ℕ) (set : List ℕ) → IsProject p → IsRightSet p k set → length (ordered_pairs set) ≤ MAX_KIDS
+pub few_pairs : (p : Problem) (k : ℕ) (set : List ℕ) → IsProject p → IsRightSet p k set → length (ordered_pairs set) ≤ MAX_CHILDREN
 few_pairs p k set is together =
     let between : (i : ℕ) → Contains set i → (1 ≤ i) × (i < 1001) = λ i c.
     lies_between p i is (All-contains (λ a. a < activity_count p) set i together.named c) (All-contains (λ a. pos 0 <ℤ duration p a) set i together.take_time c) in
@@ -118,25 +118,25 @@ node_cut node None is reaches = reaches
 node_cut node (Some limit) is reaches = record { is_live = is.is_live; bound = node.bound; bound_of = is.bound_of; reaches = reaches }
 
 pub report_cut : (node : Subproblem) (ceiling : Option ℤ) → IsNode node → Reaches ceiling node.bound → ((s : List ℤ) → NodeStandsFor node s → ¬ IsBelow ceiling s) →
-    IsReport (record { node = node; ceiling = ceiling; found = None; split = None; fates = []; kids = [] })
+    IsReport (record { node = node; ceiling = ceiling; found = None; split = None; fates = []; children = [] })
 report_cut node ceiling is reaches none = record {
   is_node = is;
   fair = record {
     of_found = tt;
-    of_kids = All-nil (IsKidOf node);
+    of_children = All-nil (IsChildOf node);
     covers = λ s stands below shorter. absurd (none s stands below);
     few = omega arith;
   };
-  told = record { no_fates = refl; no_kids = refl; of_found = node_cut node ceiling is reaches };
+  told = record { no_fates = refl; no_children = refl; of_found = node_cut node ceiling is reaches };
 }
 
 pub report_found : (node : Subproblem) (ceiling : Option ℤ) (found : ScheduleOf) → IsNode node → found.project ≡ node.project → IsLeastSchedule node.project node.pairs found.starts → IsWithinCapacities node.project found.starts →
-    IsReport (record { node = node; ceiling = ceiling; found = Some found; split = None; fates = []; kids = [] })
+    IsReport (record { node = node; ceiling = ceiling; found = Some found; split = None; fates = []; children = [] })
 report_found node ceiling found is project least within = record {
   is_node = is;
   fair = record {
     of_found = record { project = project; stands = record { feasible = record { schedule = least.schedule; within = within }; keeps = least.keeps } };
-    of_kids = All-nil (IsKidOf node);
+    of_children = All-nil (IsChildOf node);
     covers = λ s stands below shorter.
         let two : 2 ≤ activity_count node.project = is.limits.two_dummies in
         let last : end_of node.project < activity_count node.project = omega arith in
@@ -146,23 +146,23 @@ report_found node ceiling found is project least within = record {
         absurd (omega (arith, ints, shorter));
     few = omega arith;
   };
-  told = record { no_fates = refl; no_kids = refl; of_found = least };
+  told = record { no_fates = refl; no_children = refl; of_found = least };
 }
 
 -- fates of the ordered pairs of a set make a fair report, since some pair is always kept
-pub report_split : (node : Subproblem) (ceiling : Option ℤ) (set : MinimalSet) (fates : Fates) (kids : List Subproblem) → IsNode node → IsRightSet node.project set.resource set.members → All (IsNewTo node) (ordered_pairs set.members) →
-    AreFates node ceiling (ordered_pairs set.members) fates kids →
-    IsReport (record { node = node; ceiling = ceiling; found = None; split = Some set; fates = fates; kids = kids })
-report_split node ceiling set fates kids is right new are =
+pub report_split : (node : Subproblem) (ceiling : Option ℤ) (set : MinimalSet) (fates : Fates) (children : List Subproblem) → IsNode node → IsRightSet node.project set.resource set.members → All (IsNewTo node) (ordered_pairs set.members) →
+    AreFates node ceiling (ordered_pairs set.members) fates children →
+    IsReport (record { node = node; ceiling = ceiling; found = None; split = Some set; fates = fates; children = children })
+report_split node ceiling set fates children is right new are =
     let pairs : List Pair = ordered_pairs set.members in
-    let most : length pairs ≤ MAX_KIDS = few_pairs node.project set.resource set.members is.limits right in
+    let most : length pairs ≤ MAX_CHILDREN = few_pairs node.project set.resource set.members is.limits right in
     record {
       is_node = is;
       fair = record {
         of_found = tt;
-        of_kids = fates_kids node ceiling pairs fates kids are new;
-        covers = λ s stands below shorter. fates_cover node ceiling pairs fates kids are s stands below (some_kept node.project set.resource set.members right s stands.feasible);
-        few = omega (arith, fates_few node ceiling pairs fates kids are, most);
+        of_children = fates_children node ceiling pairs fates children are new;
+        covers = λ s stands below shorter. fates_cover node ceiling pairs fates children are s stands below (some_kept node.project set.resource set.members right s stands.feasible);
+        few = omega (arith, fates_few node ceiling pairs fates children are, most);
       };
       told = record { right_set = right; none_found = refl; fates = are };
     }

@@ -8,9 +8,9 @@ use Rattle.longest_path.specs.Matrix.{greater, joined}
 use Rattle.longest_path.specs.Insert.{weight_over}
 use Rattle.branching.specs.Subproblem.{Subproblem}
 use Rattle.branching.specs.Right.{AllForced}
-use Rattle.branching.specs.Fates.{IsDeadBy}
+use Rattle.branching.specs.Fates.{IsInfeasibleBy}
 use Rattle.branching.specs.declared.forcing.Forcing.{Forcing}
-use Rattle.branching.specs.declared.forcing.Forcing.TheVariants.{Live, Dead}
+use Rattle.branching.specs.declared.forcing.Forcing.TheVariants.{Live, Infeasible}
 
 -- by this greatest weight from the pair's first activity to its second, the second can't end before the
 -- first starts, and doesn't wait yet until the first has ended
@@ -56,4 +56,4 @@ pub record IsForcedMatrix (p : Problem) (pairs forced : List Pair) (rows : Rows)
 -- what forcing made of a node and a pair, and these are the rows where it lives
 abbrev pub IsForcingOf : Subproblem → Pair → Rows → Forcing → Type 0
 IsForcingOf node first rows (Live forced) = IsForcedMatrix node.project (node.pairs ++ first ∷ []) forced.items rows
-IsForcingOf node first rows (Dead forced) = IsDeadBy node first forced.items
+IsForcingOf node first rows (Infeasible forced) = IsInfeasibleBy node first forced.items

@@ -1,11 +1,11 @@
--- What kids have of a node.
+-- What children have of a node.
 use Rattle.std.specs.Prelude.{◌≡◌, ℤ, List, ◌++◌, Option}
 use Rattle.std.specs.Option.{option_to_list}
 use Rattle.std.specs.Arc.{arc_value}
 use Rattle.network.specs.declared.parts.Pair.{Pair}
 use Rattle.branching.specs.Subproblem.{Subproblem}
-use Rattle.branching.specs.declared.lean.Parent.{Parent}
-use Rattle.branching.specs.declared.lean.Lean.TheInside.{Inside}
+use Rattle.branching.specs.declared.open_node.Parent.{Parent}
+use Rattle.branching.specs.declared.open_node.OpenNode.TheInside.{Inside}
 
 -- its project and its pairs
 pub record IsParent (node : Subproblem) (parent : Parent) : Type 0 where
@@ -20,7 +20,7 @@ node_under parent added forced bound = record {
   bound = bound;
 }
 
--- ---- The fields of a `Lean`, as a caller sees them.
+-- ---- The fields of an `OpenNode`, as a caller sees them.
 
-abbrev pub lean_of : Inside → Subproblem
-lean_of n = node_under (arc_value n.parent) n.added n.forced.items n.bound
+abbrev pub open_node_of : Inside → Subproblem
+open_node_of n = node_under (arc_value n.parent) n.added n.forced.items n.bound

@@ -9,7 +9,7 @@ use Rattle.longest_path.specs.declared.fault.PathFault.TheVariants.{PositiveCycl
 use Rattle.branching.specs.Subproblem.{Subproblem}
 use Rattle.profile.specs.Overloads.{IsSweepFor}
 use Rattle.bounds.specs.Bound.{IsWorkspaceFor}
-use Rattle.branching.specs.declared.workspace.Workspace.{Workspace}
+use Rattle.branching.specs.declared.workspace.ExpansionWorkspace.{ExpansionWorkspace}
 
 -- a project, and the pairs that were added
 pub record Path : Type 0 where
@@ -59,11 +59,11 @@ pub record IsShared (count : ℕ) (left right : List Pair) : Type 0 where
 -- ---- The memory that expansions share, and what a searcher keeps.
 
 -- it has room for the project's nodes
-pub record HasRoomFor (p : Problem) (workspace : Workspace) : Type 0 where
+pub record HasRoomFor (p : Problem) (workspace : ExpansionWorkspace) : Type 0 where
   pub bounds : IsWorkspaceFor p workspace.bounds
   pub overloads : IsSweepFor p workspace.overloads
 
 -- the matrix goes back along the pairs, and there is room for the project's nodes
-pub record IsSearcher (p : Problem) (s : PairRows) (workspace : Workspace) : Type 0 where
+pub record IsSearcher (p : Problem) (s : PairRows) (workspace : ExpansionWorkspace) : Type 0 where
   pub path : IsPath p s
   pub room : HasRoomFor p workspace

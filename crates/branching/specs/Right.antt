@@ -6,7 +6,7 @@ use Rattle.network.specs.declared.parts.Pair.{Pair}
 use Rattle.network.specs.Schedule.{IsForbidden, IsLeastSchedule, IsFeasible, makespan}
 use Rattle.network.specs.Problem.{Problem, activity_count, resource_count, duration, arcs_of}
 use Rattle.network.specs.Walk.{IsGreatestWeight, HasPositiveCycle}
-use Rattle.rivals.specs.Incompatible.{AreIncompatible}
+use Rattle.forbidden_sets.specs.Incompatible.{AreIncompatible}
 use Rattle.branching.specs.Subproblem.{IsLive, IsBoundOfPairs}
 
 -- the second activity can't end before the first starts: the greatest weight of a walk from the first to
@@ -37,8 +37,8 @@ pub record IsRightSet (p : Problem) (resource : ℕ) (members : List ℕ) : Type
   pub forbidden : IsForbidden p resource members
 
 -- a closed walk over the rules and the pairs has positive weight
-abbrev pub IsDead : Problem → List Pair → Type 0
-IsDead p pairs = HasPositiveCycle (arcs_of p pairs)
+abbrev pub IsInfeasible : Problem → List Pair → Type 0
+IsInfeasible p pairs = HasPositiveCycle (arcs_of p pairs)
 
 -- not dead, and the bound of the pairs' matrix is at least the limit
 pub record IsCut (p : Problem) (pairs : List Pair) (limit : ℤ) : Type 0 where

@@ -5,8 +5,8 @@ use Rattle.network.specs.Problem.{Problem, arcs_of, NameActivities, IsProject, p
 use Rattle.network.specs.Walk.{IsProjectMatrix, Rows, HasNoPositiveCycle}
 use Rattle.network.specs.Schedule.{StandsFor, IsTrueBound}
 use Rattle.bounds.specs.Bound.{IsBoundOf}
-use Rattle.rivals.specs.Incompatible.{AreRowsOf}
-use Rattle.rivals.specs.declared.incompatible.Incompatible.{Incompatible}
+use Rattle.forbidden_sets.specs.Incompatible.{AreRowsOf}
+use Rattle.forbidden_sets.specs.declared.incompatible.Incompatible.{Incompatible}
 use Rattle.std.specs.List.{flat_map}
 
 pub record Subproblem : Type 0 where
@@ -19,8 +19,8 @@ abbrev pub root_node : Problem → ℤ → Subproblem
 root_node p bound = record { project = p; pairs = []; bound = bound }
 
 -- the node with a pair, pairs that this forced, and a bound
-abbrev pub kid_of : Subproblem → Pair → List Pair → ℤ → Subproblem
-kid_of node first forced bound = record { project = node.project; pairs = node.pairs ++ first ∷ forced; bound = bound }
+abbrev pub child_of : Subproblem → Pair → List Pair → ℤ → Subproblem
+child_of node first forced bound = record { project = node.project; pairs = node.pairs ++ first ∷ forced; bound = bound }
 
 -- the node stands for the feasible schedules that keep its pairs
 abbrev pub NodeStandsFor : Subproblem → List ℤ → Type 0

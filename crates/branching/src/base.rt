@@ -4,11 +4,11 @@ ghost use Rattle.std.specs.Prelude.{◌≡◌, [], IfOk};
 ghost use Rattle.std.specs.Arc.{arc_value};
 ghost use Rattle.network.specs.Problem.{IsProject};
 ghost use Rattle.network.specs.Walk.{IsProjectMatrix};
-ghost use Rattle.rivals.specs.Incompatible.{AreRowsOf};
+ghost use Rattle.forbidden_sets.specs.Incompatible.{AreRowsOf};
 
+use forbidden_sets::{Incompatible, incompatible_activities};
 use longest_path::Matrix;
 use network::Project;
-use rivals::{Incompatible, incompatible_activities};
 use std::alloc::{AllocError, Global};
 use std::marker::Model;
 use std::sync::Arc;

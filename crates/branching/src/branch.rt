@@ -7,31 +7,31 @@ ghost use Rattle.network.specs.Walk.{IsProjectMatrix};
 ghost use Rattle.longest_path.specs.Insert.{ClosesNone, rows_over};
 ghost use Rattle.bounds.specs.Bound.{critical_weight, IsWorkspaceFor};
 ghost use Rattle.branching.specs.Subproblem.{IsTiedTo};
-ghost use Rattle.branching.specs.Right.{IsDead};
+ghost use Rattle.branching.specs.Right.{IsInfeasible};
 ghost use Rattle.branching.specs.Forcing.{IsForcedMatrix};
 ghost use Rattle.branching.specs.Fates.{IsBranchOf};
 
 use crate::ceiling::is_below;
 use crate::fate::Fate;
 use crate::forcing::{Forcing, force, forces_some};
-use crate::lean::Lean;
+use crate::open_node::OpenNode;
 use bounds::Workspace;
 use longest_path::{MarkedMatrix, Matrix, PathFault};
 use network::Pair;
 use std::alloc::{AllocError, Global};
 
-/// A kid that was found: the pairs that its own pair forced, and its bound.
+/// A child that was found: the pairs that its own pair forced, and its bound.
 #[derive(Drop)]
-pub(crate) struct FoundKid {
+pub(crate) struct FoundChild {
     pub(crate) forced: Vec<Pair>,
     pub(crate) bound: i64,
 }
 
 /// Whether the pair closes a walk of positive weight, by one entry of the node's matrix.
-fn is_dead_with(node: &Lean, matrix: &Matrix, pair: Pair) -> bool
+fn is_infeasible_with(node: &OpenNode, matrix: &Matrix, pair: Pair) -> bool
     requires tied { IsTiedTo node.now matrix.now }
     requires named { NameActivities node.now.project (pair ∷ []) }
-    ensures dead { OnTrue result (IsDead node.now.project (node.now.pairs ++ pair ∷ [])) }
+    ensures infeasible { OnTrue result (IsInfeasible node.now.project (node.now.pairs ++ pair ∷ [])) }
     ensures live { OnFalse result (ClosesNone (pair_arc node.now.project pair) matrix.now) }
 {
     let duration = node.project().duration(pair.before);
@@ -43,7 +43,7 @@ fn is_dead_with(node: &Lean, matrix: &Matrix, pair: Pair) -> bool
 
 /// How long a schedule that keeps the pair lasts at least, by the walks to its first activity and from its second.
 /// These are two entries of the node's matrix. It is at most the critical weight with the pair.
-fn least_with(node: &Lean, matrix: &Matrix, pair: Pair) -> i64
+fn least_with(node: &OpenNode, matrix: &Matrix, pair: Pair) -> i64
     requires tied { IsTiedTo node.now matrix.now }
     requires named { NameActivities node.now.project (pair ∷ []) }
     ensures { result ≤ℤ critical_weight (rows_over (pair_arc node.now.project pair) matrix.now) }
@@ -54,15 +54,15 @@ fn least_with(node: &Lean, matrix: &Matrix, pair: Pair) -> i64
     head + node.project().duration(pair.before) + rest
 }
 
-/// What a pair gives once its forced pairs were added: a kid, or nothing if its bound is at least the ceiling.
+/// What a pair gives once its forced pairs were added: a child, or nothing if its bound is at least the ceiling.
 fn bounded(
-    node: &Lean,
+    node: &OpenNode,
     matrix: &Matrix,
     bounds: &mut Workspace,
     ceiling: Option<i64>,
     first: Pair,
     forced: Vec<Pair>,
-) -> Fate<FoundKid>
+) -> Fate<FoundChild>
     requires bounds { IsWorkspaceFor node.now.project bounds.old }
     requires named { NameActivities node.now.project (first ∷ []) }
     requires matrix { IsForcedMatrix node.now.project (node.now.pairs ++ first ∷ []) forced.items matrix.now }
@@ -74,18 +74,18 @@ fn bounded(
     if !is_below(bound, ceiling) {
         return Fate::Cut { forced };
     }
-    Fate::Kid(FoundKid { forced, bound })
+    Fate::Child(FoundChild { forced, bound })
 }
 
 /// What a pair gives by the matrix with its arc. The matrix is left as the last forced pair makes it.
 fn branch_at(
     alloc: Global,
-    node: &Lean,
+    node: &OpenNode,
     matrix: &mut MarkedMatrix,
     bounds: &mut Workspace,
     ceiling: Option<i64>,
     first: Pair,
-) -> Result<Fate<FoundKid>, AllocError>
+) -> Result<Fate<FoundChild>, AllocError>
     requires bounds { IsWorkspaceFor node.now.project bounds.old }
     requires named { NameActivities node.now.project (first ∷ []) }
     requires matrix { IsProjectMatrix node.now.project (node.now.pairs ++ first ∷ []) matrix.old.rows }
@@ -94,7 +94,7 @@ fn branch_at(
     ensures branch { IfOk result (IsBranchOf node.now ceiling first) }
 {
     match force(alloc, node, first, matrix)? {
-        Forcing::Dead(forced) => Ok(Fate::Dead { forced }),
+        Forcing::Infeasible(forced) => Ok(Fate::Infeasible { forced }),
         Forcing::Live(forced) => {
             let matrix = matrix.matrix();
             Ok(bounded(node, matrix, bounds, ceiling, first, forced))
@@ -105,12 +105,12 @@ fn branch_at(
 /// What a pair gives that forces others. It adds their arcs to the matrix, which then goes back.
 fn branch_with_forced(
     alloc: Global,
-    node: &Lean,
+    node: &OpenNode,
     matrix: &mut MarkedMatrix,
     bounds: &mut Workspace,
     ceiling: Option<i64>,
     first: Pair,
-) -> Result<Fate<FoundKid>, AllocError>
+) -> Result<Fate<FoundChild>, AllocError>
     requires tied { IsTiedTo node.now matrix.old.rows }
     requires bounds { IsWorkspaceFor node.now.project bounds.old }
     requires named { NameActivities node.now.project (first ∷ []) }
@@ -120,7 +120,7 @@ fn branch_with_forced(
 {
     match matrix.insert_under_mark(node.project().pair_arc(first)) {
         Ok(()) => {}
-        Err(PathFault::PositiveCycle { .. }) => return Ok(Fate::Dead {
+        Err(PathFault::PositiveCycle { .. }) => return Ok(Fate::Infeasible {
             forced: Vec::new(alloc),
         }),
         Err(PathFault::Memory) => return Err(AllocError),
@@ -134,12 +134,12 @@ fn branch_with_forced(
 /// all pairs that its matrix forces were added, so only ways over the pair's arc can force more.
 pub(crate) fn branch_of(
     alloc: Global,
-    node: &Lean,
+    node: &OpenNode,
     matrix: &mut MarkedMatrix,
     bounds: &mut Workspace,
     ceiling: Option<i64>,
     pair: Pair,
-) -> Result<Fate<FoundKid>, AllocError>
+) -> Result<Fate<FoundChild>, AllocError>
     requires tied { IsTiedTo node.now matrix.old.rows }
     requires bounds { IsWorkspaceFor node.now.project bounds.old }
     requires named { NameActivities node.now.project (pair ∷ []) }
@@ -148,8 +148,8 @@ pub(crate) fn branch_of(
     ensures branch { IfOk result (IsBranchOf node.now ceiling pair) }
 {
     let rows = matrix.matrix();
-    if is_dead_with(node, rows, pair) {
-        return Ok(Fate::Dead {
+    if is_infeasible_with(node, rows, pair) {
+        return Ok(Fate::Infeasible {
             forced: Vec::new(alloc),
         });
     }
@@ -170,5 +170,5 @@ pub(crate) fn branch_of(
         });
     }
     let forced = Vec::new(alloc);
-    Ok(Fate::Kid(FoundKid { forced, bound }))
+    Ok(Fate::Child(FoundChild { forced, bound }))
 }

@@ -1,4 +1,4 @@
-//! The fates of the pairs of a forbidden set, and the kids among them.
+//! The fates of the pairs of a forbidden set, and the children among them.
 
 ghost use Rattle.std.specs.Prelude.{◌≡◌, [], IfOk};
 ghost use Rattle.network.specs.Problem.{NameActivities};
@@ -8,7 +8,7 @@ ghost use Rattle.branching.specs.Fates.{AreBranches};
 
 use crate::branch::branch_of;
 use crate::fate::Fate;
-use crate::lean::{Lean, parent_of};
+use crate::open_node::{OpenNode, parent_of};
 use bounds::Workspace;
 use longest_path::MarkedMatrix;
 use network::Pair;
@@ -19,8 +19,8 @@ use std::sync::Arc;
 /// again.
 #[derive(Drop, Debug)]
 pub struct Branches {
-    /// The kids, by rising pairs.
-    pub kids: Vec<Arc<Lean>>,
+    /// The children, by rising pairs.
+    pub children: Vec<Arc<OpenNode>>,
     /// What became of each pair.
     pub fates: Vec<Fate<()>>,
 }
@@ -28,34 +28,34 @@ pub struct Branches {
 impl Branches {
     /// Nothing, and no memory yet.
     pub(crate) fn new(alloc: Global) -> Branches
-        ensures kids { result.kids.items ≡ [] }
+        ensures children { result.children.items ≡ [] }
         ensures fates { result.fates.items ≡ [] }
     {
         Branches {
-            kids: Vec::new(alloc),
+            children: Vec::new(alloc),
             fates: Vec::new(alloc),
         }
     }
 
     /// The same lists with nothing in them.
     pub(crate) fn emptied(self) -> Branches
-        ensures kids { result.kids.items ≡ [] }
+        ensures children { result.children.items ≡ [] }
         ensures fates { result.fates.items ≡ [] }
     {
         let Branches {
-            mut kids,
+            mut children,
             mut fates,
         } = self;
-        kids.clear();
+        children.clear();
         fates.clear();
-        Branches { kids, fates }
+        Branches { children, fates }
     }
 }
 
 /// What the pairs give under a ceiling, in their order, in the memory of lists whatever those held.
 pub(crate) fn branches_of(
     alloc: Global,
-    node: &Lean,
+    node: &OpenNode,
     matrix: &mut MarkedMatrix,
     bounds: &mut Workspace,
     ceiling: Option<i64>,
@@ -70,21 +70,21 @@ pub(crate) fn branches_of(
     ensures fates { IfOk result (AreBranches node.now ceiling pairs.now) }
 {
     let Branches {
-        mut kids,
+        mut children,
         mut fates,
     } = lists.emptied();
     let mut made = None;
     for pair in pairs {
         let fate = match branch_of(alloc, node, matrix, bounds, ceiling, *pair)? {
-            Fate::Kid(kid) => {
+            Fate::Child(child) => {
                 let parent = parent_of(alloc, node, &mut made)?;
-                kids.push(node.with_pairs(alloc, parent, *pair, kid.forced, kid.bound)?)?;
-                Fate::Kid(())
+                children.push(node.with_pairs(alloc, parent, *pair, child.forced, child.bound)?)?;
+                Fate::Child(())
             }
-            Fate::Dead { forced } => Fate::Dead { forced },
+            Fate::Infeasible { forced } => Fate::Infeasible { forced },
             Fate::Cut { forced } => Fate::Cut { forced },
         };
         fates.push(fate)?;
     }
-    Ok(Branches { kids, fates })
+    Ok(Branches { children, fates })
 }

@@ -7,22 +7,22 @@ ghost use Rattle.network.specs.Walk.{IsProjectMatrix, entry};
 ghost use Rattle.network.specs.declared.limits.TheConstants.{MAX_LAG_WEIGHT, MAX_WALK_WEIGHT};
 ghost use Rattle.longest_path.specs.Matrix.{joined};
 ghost use Rattle.longest_path.specs.declared.insert.TheConstants.{MAX_WAY_WITH};
-ghost use Rattle.rivals.specs.Incompatible.{pairs_of_row, pairs_of, IsRowOf, AreRowsOf};
+ghost use Rattle.forbidden_sets.specs.Incompatible.{pairs_of_row, pairs_of, IsRowOf, AreRowsOf};
 ghost use Rattle.branching.specs.Forcing.{IsForcedAt, IsForcedWith, IsNextForced, IsForcingOf};
 
-use crate::lean::Lean;
+use crate::open_node::OpenNode;
+use forbidden_sets::Incompatible;
 use longest_path::{MarkedMatrix, Matrix, PathFault, or_way, then_arc};
 use network::{Pair, Project};
-use rivals::Incompatible;
 use std::alloc::{AllocError, Global};
 
-/// What the pairs that a kid's first one forces make of the kid.
+/// What the pairs that a child's first one forces make of the child.
 #[derive(Drop)]
 pub(crate) enum Forcing {
     /// These pairs were forced, and no other one is.
     Live(Vec<Pair>),
     /// The last of these pairs closed a walk of positive weight.
-    Dead(Vec<Pair>),
+    Infeasible(Vec<Pair>),
 }
 
 /// Whether this greatest weight from a pair's first activity to its second forces the pair. It does if the second can't
@@ -140,7 +140,7 @@ pub(crate) fn forces_some(
 /// that was added isn't forced again.
 pub(crate) fn force(
     alloc: Global,
-    node: &Lean,
+    node: &OpenNode,
     first: Pair,
     matrix: &mut MarkedMatrix,
 ) -> Result<Forcing, AllocError>
@@ -155,7 +155,7 @@ pub(crate) fn force(
         let arc = node.project().pair_arc(pair);
         match matrix.insert(arc.from, arc.to, arc.weight) {
             Ok(()) => {}
-            Err(PathFault::PositiveCycle { .. }) => return Ok(Forcing::Dead(forced)),
+            Err(PathFault::PositiveCycle { .. }) => return Ok(Forcing::Infeasible(forced)),
             Err(PathFault::Memory) => return Err(AllocError),
         }
     }

@@ -1,10 +1,10 @@
 //! Nodes of a branch and bound search over ordered pairs of activities, and what the expansion of a
 //! node gives (Bartusch, Möhring and Radermacher 1988).
 //!
-//! A node stands for the feasible schedules of a project that keep its pairs. It waits as a [`Lean`], without a matrix;
+//! A node stands for the feasible schedules of a project that keep its pairs. It waits as a [`OpenNode`], without a matrix;
 //! a [`Node`] has its own, and a [`Searcher`] moves one matrix from node to node. [`expand`] finds a node's least
 //! schedule. If that overloads a resource, the members of a minimal forbidden set can't all run together. So every
-//! feasible schedule keeps an ordered pair of two of them. Each such pair gives a kid, with the pairs that it forces.
+//! feasible schedule keeps an ordered pair of two of them. Each such pair gives a child, with the pairs that it forces.
 #![tactic(auto)]
 
 mod base;
@@ -14,8 +14,8 @@ mod ceiling;
 mod expansion;
 mod fate;
 mod forcing;
-mod lean;
 mod node;
+mod open_node;
 mod pair_list;
 mod pair_matrix;
 mod pairs;
@@ -27,10 +27,10 @@ pub use branches::Branches;
 pub use ceiling::{is_below, is_in_time, lesser, makespan_of};
 pub use expansion::expand;
 pub use fate::Fate;
-pub use lean::{Lean, lean_root};
 pub use node::Node;
+pub use open_node::{OpenNode, open_root};
 pub use pair_list::PairList;
 pub use pair_matrix::PairMatrix;
 pub use pairs::ordered_pairs;
-pub use report::{MAX_KIDS, Report};
+pub use report::{MAX_CHILDREN, Report};
 pub use searcher::{Searcher, rebuild, root};

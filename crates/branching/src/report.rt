@@ -6,29 +6,29 @@ ghost use Rattle.branching.specs.Fates.{fate_value};
 
 use crate::branches::Branches;
 use crate::fate::Fate;
-use crate::lean::Lean;
+use crate::open_node::OpenNode;
 use forbidden_sets::ForbiddenSet;
 use network::Schedule;
 use std::marker::Model;
 use std::sync::Arc;
 
-/// How many kids a node has at most: an ordered pair of two of 1,000 activities each.
-pub const MAX_KIDS: usize = 999_000;
+/// How many children a node has at most: an ordered pair of two of 1,000 activities each.
+pub const MAX_CHILDREN: usize = 999_000;
 
-/// What the expansion of a node gave: a schedule, or kids that stand for all that is left.
+/// What the expansion of a node gave: a schedule, or children that stand for all that is left.
 ///
-/// A report is fair. What is found is a schedule that the node stands for. Each kid adds a pair that the node's least
+/// A report is fair. What is found is a schedule that the node stands for. Each child adds a pair that the node's least
 /// schedule doesn't keep, and then forced pairs. If a schedule of the node is below the ceiling and shorter than what
-/// is found, some kid stands for it. There are at most [`MAX_KIDS`] kids. A report tells how it came about: by the set
+/// is found, some child stands for it. There are at most [`MAX_CHILDREN`] children. A report tells how it came about: by the set
 /// that was split, and the fate of each ordered pair of its members.
 #[derive(Drop, Debug)]
 pub struct Report {
-    node: Arc<Lean>,
+    node: Arc<OpenNode>,
     ceiling: Option<i64>,
     found: Option<Schedule>,
     split: Option<ForbiddenSet>,
     fates: Vec<Fate<()>>,
-    kids: Vec<Arc<Lean>>,
+    children: Vec<Arc<OpenNode>>,
 }
 
 impl Model for Report {
@@ -48,17 +48,17 @@ impl Report {
 
     /// A report of these parts.
     pub(crate) fn new(
-        node: Arc<Lean>,
+        node: Arc<OpenNode>,
         ceiling: Option<i64>,
         found: Option<Schedule>,
         split: Option<ForbiddenSet>,
         fates: Vec<Fate<()>>,
-        kids: Vec<Arc<Lean>>,
+        children: Vec<Arc<OpenNode>>,
     ) -> Report
         requires { IsReport (report_of (arc_value node) ceiling found split
-            (map fate_value fates.items) (map arc_value kids.items)) }
+            (map fate_value fates.items) (map arc_value children.items)) }
         ensures { result ≡ report_of (arc_value node) ceiling found split
-            (map fate_value fates.items) (map arc_value kids.items) }
+            (map fate_value fates.items) (map arc_value children.items) }
     {
         Report {
             node,
@@ -66,12 +66,12 @@ impl Report {
             found,
             split,
             fates,
-            kids,
+            children,
         }
     }
 
     /// The node that was expanded.
-    pub fn node(&self) -> &Arc<Lean>
+    pub fn node(&self) -> &Arc<OpenNode>
         ensures node { arc_value result.now ≡ self.now.node }
         ensures report { IsReport self.now }
     {
@@ -94,7 +94,7 @@ impl Report {
         self.found.as_ref()
     }
 
-    /// The set whose ordered pairs gave the kids. If there is none, the node's least schedule is found, or its bound is
+    /// The set whose ordered pairs gave the children. If there is none, the node's least schedule is found, or its bound is
     /// at least the ceiling.
     pub fn split(&self) -> Option<&ForbiddenSet>
         ensures split { option_map (λ set. set.now) result ≡ self.now.split }
@@ -104,7 +104,7 @@ impl Report {
     }
 
     /// What became of each ordered pair of the split set's members, by rising pairs; empty where no set was
-    /// split. Those that are [`Fate::Kid`] are the kids in their order.
+    /// split. Those that are [`Fate::Child`] are the children in their order.
     pub fn fates(&self) -> &[Fate<()>]
         ensures fates { map fate_value result.now ≡ self.now.fates }
         ensures report { IsReport self.now }
@@ -112,18 +112,18 @@ impl Report {
         self.fates.as_slice()
     }
 
-    /// The kids, by rising pairs; at most [`MAX_KIDS`].
-    pub fn kids(&self) -> &[Arc<Lean>]
-        ensures kids { map arc_value result.now ≡ self.now.kids }
+    /// The children, by rising pairs; at most [`MAX_CHILDREN`].
+    pub fn children(&self) -> &[Arc<OpenNode>]
+        ensures children { map arc_value result.now ≡ self.now.children }
         ensures report { IsReport self.now }
     {
-        self.kids.as_slice()
+        self.children.as_slice()
     }
 
-    /// What was found, and the lists of the kids and of the fates.
+    /// What was found, and the lists of the children and of the fates.
     pub fn into_parts(self) -> (Option<Schedule>, Branches)
         ensures found { result.0 ≡ self.found }
-        ensures kids { map arc_value result.1.kids.items ≡ self.kids }
+        ensures children { map arc_value result.1.children.items ≡ self.children }
         ensures fates { map fate_value result.1.fates.items ≡ self.fates }
         ensures report { IsReport self }
     {
@@ -133,8 +133,8 @@ impl Report {
             found,
             split: _,
             fates,
-            kids,
+            children,
         } = self;
-        (found, Branches { kids, fates })
+        (found, Branches { children, fates })
     }
 }

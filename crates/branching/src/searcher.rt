@@ -11,12 +11,12 @@ ghost use Rattle.branching.specs.Path.{IsAt, IsFrontOf, IsShared};
 
 use crate::branches::Branches;
 use crate::expansion::expand_by;
-use crate::lean::{Lean, lean_root};
 use crate::node::Node;
+use crate::open_node::{OpenNode, open_root};
 use crate::pair_list::PairList;
 use crate::pair_matrix::PairMatrix;
 use crate::report::Report;
-use crate::workspace::Workspace;
+use crate::workspace::ExpansionWorkspace;
 use longest_path::PathFault;
 use network::{Pair, Project};
 use std::alloc::{AllocError, Global};
@@ -51,7 +51,7 @@ fn shared_count(left: &[Pair], right: &[Pair]) -> usize
 pub struct Searcher {
     project: Arc<Project>,
     at: PairMatrix,
-    workspace: Workspace,
+    workspace: ExpansionWorkspace,
 }
 
 impl Model for Searcher {
@@ -68,13 +68,13 @@ impl Model for Searcher {
 
 impl Searcher {
     /// A searcher at the root of a node's project.
-    pub fn for_node(alloc: Global, node: &Lean) -> Result<Searcher, AllocError>
+    pub fn for_node(alloc: Global, node: &OpenNode) -> Result<Searcher, AllocError>
         ensures { IfOk result (λ searcher. searcher ≡ record { project = node.now.project; pairs = [] }) }
     {
         let base = node.base();
         let matrix = base.matrix().try_copy(alloc)?;
         let project = Arc::try_clone(base.project())?;
-        let workspace = Workspace::new(alloc, &project)?;
+        let workspace = ExpansionWorkspace::new(alloc, &project)?;
         Ok(Searcher {
             project,
             at: PairMatrix::new(alloc, matrix),
@@ -83,7 +83,7 @@ impl Searcher {
     }
 
     /// Whether it can move to this node, which is so where both are of the same project.
-    pub fn is_for(&self, node: &Lean) -> bool
+    pub fn is_for(&self, node: &OpenNode) -> bool
         ensures { IsTrue result ↔ (node.now.project ≡ self.now.project) }
     {
         node.is_of(&self.project)
@@ -110,20 +110,20 @@ impl Searcher {
     }
 
     /// The node that the searcher is at, with a copy of its matrix.
-    pub fn node(&self, alloc: Global, lean: &Arc<Lean>) -> Result<Arc<Node>, AllocError>
-        requires { IsAt self.now (arc_value lean.now) }
-        ensures { IfOk result (λ node. arc_value node ≡ arc_value lean.now) }
+    pub fn node(&self, alloc: Global, open_node: &Arc<OpenNode>) -> Result<Arc<Node>, AllocError>
+        requires { IsAt self.now (arc_value open_node.now) }
+        ensures { IfOk result (λ node. arc_value node ≡ arc_value open_node.now) }
     {
-        let _is_node = lean.pairs();
+        let _is_node = open_node.pairs();
         let matrix = self.at.matrix().try_copy(alloc)?;
-        Node::shared(alloc, Arc::try_clone(lean)?, matrix)
+        Node::shared(alloc, Arc::try_clone(open_node)?, matrix)
     }
 
     /// Expands the node that the searcher is at under a ceiling, as [`expand`](crate::expand) does, and stays there.
     pub fn expand_here(
         &mut self,
         alloc: Global,
-        node: &Arc<Lean>,
+        node: &Arc<OpenNode>,
         ceiling: Option<i64>,
     ) -> Result<Report, AllocError>
         requires { IsAt self.old (arc_value node.now) }
@@ -140,7 +140,7 @@ impl Searcher {
     pub fn expand(
         &mut self,
         alloc: Global,
-        node: &Arc<Lean>,
+        node: &Arc<OpenNode>,
         ceiling: Option<i64>,
     ) -> Result<Report, AllocError>
         requires { self.old.project ≡ (arc_value node.now).project }
@@ -156,19 +156,19 @@ impl Searcher {
 }
 
 /// The node of the same project, pairs and bound, with its matrix.
-pub fn rebuild(alloc: Global, lean: &Arc<Lean>) -> Result<Arc<Node>, AllocError>
-    ensures { IfOk result (λ node. arc_value node ≡ arc_value lean.now) }
+pub fn rebuild(alloc: Global, open_node: &Arc<OpenNode>) -> Result<Arc<Node>, AllocError>
+    ensures { IfOk result (λ node. arc_value node ≡ arc_value open_node.now) }
 {
-    let mut searcher = Searcher::for_node(alloc, lean)?;
-    searcher.move_to(&lean.pairs())?;
-    searcher.node(alloc, lean)
+    let mut searcher = Searcher::for_node(alloc, open_node)?;
+    searcher.move_to(&open_node.pairs())?;
+    searcher.node(alloc, open_node)
 }
 
-/// The root of a project with its matrix. Faults are those of [`lean_root`].
+/// The root of a project with its matrix. Faults are those of [`open_root`].
 pub fn root(alloc: Global, project: Arc<Project>) -> Result<Arc<Node>, PathFault>
     ensures root { IfOk result (λ node. IsRootOf (arc_value project) (arc_value node)) }
     ensures fault { IfErr result (λ fault. Explains (arcs_of (arc_value project) []) fault) }
 {
-    let lean = lean_root(alloc, project)?;
-    Ok(rebuild(alloc, &lean)?)
+    let open_node = open_root(alloc, project)?;
+    Ok(rebuild(alloc, &open_node)?)
 }

@@ -10,7 +10,7 @@ use std::alloc::{AllocError, Global};
 
 /// The memory that the expansions of a project's nodes share.
 #[derive(Drop, Debug)]
-pub(crate) struct Workspace {
+pub(crate) struct ExpansionWorkspace {
     pub(crate) bounds: bounds::Workspace,
     pub(crate) overloads: OverloadSweep,
     /// Lists that each expansion fills anew.
@@ -19,14 +19,14 @@ pub(crate) struct Workspace {
     pub(crate) made: Branches,
 }
 
-impl Workspace {
+impl ExpansionWorkspace {
     /// Room for the nodes of a project.
-    pub(crate) fn new(alloc: Global, project: &Project) -> Result<Workspace, AllocError>
+    pub(crate) fn new(alloc: Global, project: &Project) -> Result<ExpansionWorkspace, AllocError>
         ensures { IfOk result (HasRoomFor project.now) }
     {
         let bounds = bounds::Workspace::new(alloc, project)?;
         let overloads = OverloadSweep::new(alloc, project)?;
-        Ok(Workspace {
+        Ok(ExpansionWorkspace {
             bounds,
             overloads,
             starts: Vec::new(alloc),

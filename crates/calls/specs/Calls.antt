@@ -6,5 +6,5 @@ use Rattle.runs.specs.Outcome.{IsJob, reads_second, writes_record}
 -- the job is within the limits, and just the files that it uses have names
 pub record IsCall (c : Call) : Type 0 where
   pub job : IsJob c.job
-  pub second : is_some c.second ≡ reads_second c.job
-  pub record_file : is_some c.record_file ≡ writes_record c.job
+  pub second : is_some c.names.second ≡ reads_second c.job
+  pub record_file : is_some c.names.record_file ≡ writes_record c.job

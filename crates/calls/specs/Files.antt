@@ -1,10 +1,10 @@
 -- What the files of a call lead to, and what is done to them.
 use Rattle.std.specs.Prelude.{◌≡◌, ◌⊎◌, ℕ, List, [], ◌∷◌, ◌++◌, Option, Some, None, IsSome, Result, Ok, Err, IfSome, option_map, String, string_bytes}
-use Rattle.calls.specs.declared.call.Call.{Call}
+use Rattle.calls.specs.declared.call.FileNames.{FileNames}
 use Rattle.calls.specs.declared.files.FileFault.{FileFault}
 use Rattle.calls.specs.declared.files.FileFault.TheVariants as fault
 use Rattle.calls.specs.declared.files.TheConstants.{STANDARD_INPUT, STANDARD_OUTPUT}
-use Rattle.calls.specs.declared.folder.Place.{Place}
+use Rattle.calls.specs.declared.folder.FileId.{FileId}
 
 -- ---- what is done to files
 
@@ -14,8 +14,8 @@ pub data Act : Type 0 where
   was_emptied : List ℕ → Act
 
 -- where it is told what was done, this was done since, in this order
-abbrev pub Adds : Option (List Act) → List Act → Option (List Act) → Type 0
-Adds before acts after = after ≡ option_map (λ (done : List Act). done ++ acts) before
+abbrev pub AddsActs : Option (List Act) → List Act → Option (List Act) → Type 0
+AddsActs before acts after = after ≡ option_map (λ (done : List Act). done ++ acts) before
 
 -- the bytes of a name
 abbrev pub bytes_of : {A : Type 0} → Option (String A) → Option (List ℕ)
@@ -30,22 +30,22 @@ emptyings None = []
 emptyings (Some name) = was_emptied name ∷ []
 
 -- the second input of a call is opened first, and the file of its record is emptied last
-abbrev pub acts_of : Call → List Act
+abbrev pub acts_of : FileNames → List Act
 acts_of c = openings (bytes_of c.second) ++ emptyings (bytes_of c.record_file)
 
 -- ---- which names lead to one file
 
 -- where names lead; none where that is no file, or is not to be found out
 abbrev pub Places : Type 0
-Places = List ℕ → Option Place
+Places = List ℕ → Option FileId
 
 -- what looking for a place finds
-abbrev pub found : {E : Type 0} → Result (Option Place) E → Option Place
+abbrev pub found : {E : Type 0} → Result (Option FileId) E → Option FileId
 found (Ok place) = place
 found (Err error) = None
 
-abbrev pub IsAt : Places → List ℕ → Place → Type 0
-IsAt places name place = places name ≡ Some place
+abbrev pub LeadsToFile : Places → List ℕ → FileId → Type 0
+LeadsToFile places name place = places name ≡ Some place
 
 -- the names lead to one file
 abbrev pub AreOneFile : Places → List ℕ → List ℕ → Type 0

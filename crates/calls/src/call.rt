@@ -1,11 +1,17 @@
-//! A call of psmax: a job and the names of its files.
+//! A call: a job of psmax, and the names of files, of psprove too.
 
 use runs::Job;
 
-/// A job, and the names of the files that it uses: its second input, and the output of its record.
+/// The names of the files that a call uses: its second input, and the output of its record.
+#[derive(Debug, Drop)]
+pub struct FileNames {
+    pub second: Option<String>,
+    pub record_file: Option<String>,
+}
+
+/// A job, and the names of its files.
 #[derive(Debug, Drop)]
 pub struct Call {
     pub job: Job,
-    pub second: Option<String>,
-    pub record_file: Option<String>,
+    pub names: FileNames,
 }

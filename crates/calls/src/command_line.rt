@@ -4,23 +4,23 @@ ghost use Rattle.std.specs.Prelude.{◌≡◌, true, false, IfOk, IfSome};
 ghost use Rattle.calls.specs.Calls.{IsCall};
 ghost use Rattle.runs.specs.Outcome.{IsJob, reads_second, writes_record};
 
-use crate::call::Call;
+use crate::call::{Call, FileNames};
 use crate::help;
 use crate::options::{file, flag, number, program_command, project_subcommand, subcommand};
 use book::{MAX_WORKERS, are_allowed};
 use clap::error::ErrorKind;
 use clap::{ArgMatches, Command};
-use plain_search::MAX_TAKES;
-use runs::{Job, ONE_WORKER};
+use plain_search::MAX_EXPANDED;
+use runs::{Job, ONE_WORKER, SearchOptions};
 use std::alloc::{AllocError, Global};
 use thiserror::Error;
 
 /// How many nodes are taken by default.
-const DEFAULT_TAKES: &str = "1000000";
+const DEFAULT_EXPANDED: &str = "1000000";
 
 /// Why words are no call. The texts are those of `clap`, and are printed as they are.
 #[derive(Debug, Drop, Error)]
-pub enum WordsFault {
+pub enum ArgumentsFault {
     /// The help that was asked for: to standard output, exit status 0.
     #[error("{text}")]
     Help { text: String },
@@ -34,9 +34,9 @@ pub enum WordsFault {
     Memory,
 }
 
-impl From<AllocError> for WordsFault {
-    fn from(_error: AllocError) -> WordsFault {
-        WordsFault::Memory
+impl From<AllocError> for ArgumentsFault {
+    fn from(_error: AllocError) -> ArgumentsFault {
+        ArgumentsFault::Memory
     }
 }
 
@@ -76,16 +76,16 @@ fn words_fault(
     error: &clap::Error,
     program: &str,
     words: &[String],
-) -> Result<WordsFault, AllocError> {
+) -> Result<ArgumentsFault, AllocError> {
     if error.kind() == ErrorKind::OutOfMemory {
         return Err(AllocError);
     }
     let mut text = error.to_string(alloc)?;
     if error.exit_code() == 0 {
-        return Ok(WordsFault::Help { text });
+        return Ok(ArgumentsFault::Help { text });
     }
     put_hint(&mut text, error, program, words)?;
-    Ok(WordsFault::Bad { text })
+    Ok(ArgumentsFault::Bad { text })
 }
 
 /// What a program finds in words; the first word is its name.
@@ -93,7 +93,7 @@ pub fn matches_of<'a>(
     alloc: Global,
     program: Command<'a>,
     words: &'a [String],
-) -> Result<ArgMatches<'a>, WordsFault> {
+) -> Result<ArgMatches<'a>, ArgumentsFault> {
     let name = program.get_name();
     match program.try_get_matches_from(words) {
         Ok(matches) => Ok(matches),
@@ -109,7 +109,9 @@ fn solve_command<'a>(alloc: Global) -> Result<Command<'a>, AllocError> {
     let record = "Write a record that proves the answer into FILE";
     let about = "Print a shortest schedule of a project";
     subcommand(alloc, help::HEADING, "solve", about, help::SOLVE)
-        .arg(number(alloc, "nodes", "L", nodes, 1, MAX_TAKES as i64).default_value(DEFAULT_TAKES))?
+        .arg(number(alloc, "nodes", "L", nodes, 1, MAX_EXPANDED as i64).default_value(
+            DEFAULT_EXPANDED,
+        ))?
         .arg(number(alloc, "workers", "N", threads, 1, MAX_WORKERS as i64))?
         .arg(file(alloc, "start", start))?
         .arg(flag(alloc, "json", json))?
@@ -136,8 +138,10 @@ fn earliest_call() -> Call
 {
     Call {
         job: Job::Earliest,
-        second: None,
-        record_file: None,
+        names: FileNames {
+            second: None,
+            record_file: None,
+        },
     }
 }
 
@@ -158,22 +162,24 @@ fn solve_call(alloc: Global, matches: &ArgMatches<'_>) -> Result<Option<Call>, A
     ensures { IfOk result (λ call. IfSome call IsCall) }
 {
     let workers = matches.get_one::<usize>("workers");
-    let takes = matches.get_one::<u64>("nodes").unwrap_or(0);
-    if !are_allowed(workers.unwrap_or(ONE_WORKER), takes) {
+    let nodes = matches.get_one::<u64>("nodes").unwrap_or(0);
+    if !are_allowed(workers.unwrap_or(ONE_WORKER), nodes) {
         return Ok(None);
     }
     let second = file_name(alloc, matches, "start")?;
     let record_file = file_name(alloc, matches, "record")?;
     Ok(Some(Call {
-        job: Job::Solve {
+        job: Job::Solve(SearchOptions {
             workers,
-            takes,
+            nodes,
             start: second.is_some(),
             json: matches.get_flag("json"),
             recorded: record_file.is_some(),
+        }),
+        names: FileNames {
+            second,
+            record_file,
         },
-        second,
-        record_file,
     }))
 }
 
@@ -194,8 +200,10 @@ fn project_call(
     };
     Ok(Some(Call {
         job,
-        second: Some(name),
-        record_file: None,
+        names: FileNames {
+            second: Some(name),
+            record_file: None,
+        },
     }))
 }
 
@@ -204,8 +212,10 @@ fn tidy_call() -> Call
 {
     Call {
         job: Job::Tidy,
-        second: None,
-        record_file: None,
+        names: FileNames {
+            second: None,
+            record_file: None,
+        },
     }
 }
 
@@ -224,11 +234,11 @@ fn found_call(alloc: Global, matches: &ArgMatches<'_>) -> Result<Option<Call>, A
 }
 
 /// The call that words make; the first word is the program's name.
-pub fn call_of(alloc: Global, words: &[String]) -> Result<Call, WordsFault>
+pub fn call_of(alloc: Global, words: &[String]) -> Result<Call, ArgumentsFault>
     ensures { IfOk result IsCall }
 {
     let matches = matches_of(alloc, command(alloc)?, words)?;
-    found_call(alloc, &matches)?.ok_or(WordsFault::Bad {
+    found_call(alloc, &matches)?.ok_or(ArgumentsFault::Bad {
         text: String::new(alloc),
     })
 }

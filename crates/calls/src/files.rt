@@ -1,11 +1,11 @@
 //! The files of a call: in which order they are opened, and that none is lost.
 
 ghost use Rattle.std.specs.Prelude.{◌≡◌, ◌⊎◌, ◌↔◌, is_some, IfOk, IfErr, IfSome, IsTrue, OnOk, OnErr, string_bytes};
-ghost use Rattle.calls.specs.Files.{Adds, IsAt, AreOneFile, LosesNone, Loses, LosesFile, acts_of, bytes_of, openings, emptyings};
+ghost use Rattle.calls.specs.Files.{AddsActs, LeadsToFile, AreOneFile, LosesNone, Loses, LosesFile, acts_of, bytes_of, openings, emptyings};
 
-use crate::call::Call;
-use crate::folder::{Disk, Folder, Place};
-use runs::{Reader, Writer};
+use crate::call::FileNames;
+use crate::folder::{Disk, FileId, Folder};
+use runs::{InputReader, OutputWriter};
 use std::io::{self, ErrorKind};
 
 /// The paths of standard input and output.
@@ -32,9 +32,9 @@ pub enum FileFault {
 
 /// The devices of a call's files, where it names them.
 #[derive(Drop)]
-pub struct Opened<F> {
-    pub second: Option<Reader<F>>,
-    pub record_file: Option<Writer<F>>,
+pub struct CallFiles<F> {
+    pub second: Option<InputReader<F>>,
+    pub record_file: Option<OutputWriter<F>>,
 }
 
 /// Opens the files of calls.
@@ -65,8 +65,8 @@ impl<'a, R> Opener<Disk<'a, R>> {
 
 impl<F: Folder> Opener<F> {
     /// Whether a name leads to this file.
-    fn leads_to(&self, name: &str, place: Place) -> bool
-        ensures { IfSome (F.places self.now.folder) (λ places. IsTrue result ↔ IsAt places name.now place) }
+    fn leads_to(&self, name: &str, place: FileId) -> bool
+        ensures { IfSome (F.places self.now.folder) (λ places. IsTrue result ↔ LeadsToFile places name.now place) }
     {
         match self.folder.find(name) {
             Ok(Some(found)) => found == place,
@@ -86,11 +86,11 @@ impl<F: Folder> Opener<F> {
 
     /// The fault of a call whose record, in a file of this name, would empty a file that the call reads, or the file that
     /// its answer goes into.
-    pub fn check_losses(&self, call: &Call, name: &str) -> Result<(), FileFault>
+    pub fn check_losses(&self, names: &FileNames, name: &str) -> Result<(), FileFault>
         ensures none { OnOk result (IfSome (F.places self.now.folder)
-            (λ places. LosesNone places (bytes_of call.now.second) name.now)) }
+            (λ places. LosesNone places (bytes_of names.now.second) name.now)) }
         ensures loses { IfErr result (λ fault. IfSome (F.places self.now.folder)
-            (λ places. Loses places (bytes_of call.now.second) name.now fault)) }
+            (λ places. Loses places (bytes_of names.now.second) name.now fault)) }
     {
         let place = match self.folder.find(name) {
             Ok(Some(place)) => place,
@@ -103,7 +103,7 @@ impl<F: Folder> Opener<F> {
         if self.leads_to(STANDARD_OUTPUT, place) {
             return Err(FileFault::LosesAnswer);
         }
-        match &call.second {
+        match &names.second {
             Some(second) if self.leads_to(second, place) => Err(FileFault::LosesStarts),
             _ => Ok(()),
         }
@@ -111,33 +111,33 @@ impl<F: Folder> Opener<F> {
 
     /// Opens the second input.
     #[tactic(auto, using(crate::proofs::Acts::adds_nothing, crate::proofs::Acts::adds_both))]
-    fn open_second(&mut self, call: &Call) -> Result<Option<Reader<F::File>>, FileFault>
-        ensures opened { IfOk result (λ file. is_some file ≡ is_some call.now.second) }
+    fn open_second(&mut self, names: &FileNames) -> Result<Option<InputReader<F::File>>, FileFault>
+        ensures opened { IfOk result (λ file. is_some file ≡ is_some names.now.second) }
         ensures fresh { IfOk result (λ file. IfSome file (λ device. device.failures ≡ 0)) }
         ensures fault { IfErr result (λ fault. ¬ LosesFile fault) }
         ensures done { OnOk result
-            (Adds (F.acts self.old.folder) (openings (bytes_of call.now.second)) (F.acts self.new.folder)) }
+            (AddsActs (F.acts self.old.folder) (openings (bytes_of names.now.second)) (F.acts self.new.folder)) }
         ensures nothing { OnErr result (F.acts self.new.folder ≡ F.acts self.old.folder) }
     {
-        let Some(name) = &call.second else {
+        let Some(name) = &names.second else {
             return Ok(None);
         };
         match self.folder.open(name.as_str()) {
-            Ok(file) => Ok(Some(Reader::new(file))),
+            Ok(file) => Ok(Some(InputReader::new(file))),
             Err(error) => Err(file_fault(&error, FileFault::Second)),
         }
     }
 
     /// Opens the record's file, which is empty then.
-    fn open_record(&mut self, name: &str) -> Result<Writer<F::File>, FileFault>
+    fn open_record(&mut self, name: &str) -> Result<OutputWriter<F::File>, FileFault>
         ensures fresh { IfOk result (λ device. device.failures ≡ 0) }
         ensures fault { IfErr result (λ fault. ¬ LosesFile fault) }
         ensures done { OnOk result
-            (Adds (F.acts self.old.folder) (emptyings (Some name.now)) (F.acts self.new.folder)) }
+            (AddsActs (F.acts self.old.folder) (emptyings (Some name.now)) (F.acts self.new.folder)) }
         ensures nothing { OnErr result (F.acts self.new.folder ≡ F.acts self.old.folder) }
     {
         match self.folder.create(name) {
-            Ok(file) => Ok(Writer::new(file)),
+            Ok(file) => Ok(OutputWriter::new(file)),
             Err(error) => Err(file_fault(&error, FileFault::Record)),
         }
     }
@@ -145,32 +145,32 @@ impl<F: Folder> Opener<F> {
     /// Opens the files that a call names: its second input, and last the file of its record. Where that is a file which
     /// the call reads, or that of its answer, by whatever name, nothing is opened. If it fails, no file was made empty.
     #[tactic(auto, using(crate::proofs::Acts::adds_nothing, crate::proofs::Acts::adds_both))]
-    pub fn open(&mut self, call: &Call) -> Result<Opened<F::File>, FileFault>
-        ensures second { IfOk result (λ files. is_some files.second ≡ is_some call.now.second) }
-        ensures record_file { IfOk result (λ files. is_some files.record_file ≡ is_some call.now.record_file) }
+    pub fn open(&mut self, names: &FileNames) -> Result<CallFiles<F::File>, FileFault>
+        ensures second { IfOk result (λ files. is_some files.second ≡ is_some names.now.second) }
+        ensures record_file { IfOk result (λ files. is_some files.record_file ≡ is_some names.now.record_file) }
         ensures fresh_second { IfOk result (λ files. IfSome files.second (λ device. device.failures ≡ 0)) }
         ensures fresh_record { IfOk result (λ files. IfSome files.record_file (λ device. device.failures ≡ 0)) }
-        ensures done { OnOk result (Adds (F.acts self.old.folder) (acts_of call.now) (F.acts self.new.folder)) }
+        ensures done { OnOk result (AddsActs (F.acts self.old.folder) (acts_of names.now) (F.acts self.new.folder)) }
         ensures kept { OnErr result ((F.acts self.new.folder ≡ F.acts self.old.folder)
-            ⊎ Adds (F.acts self.old.folder) (openings (bytes_of call.now.second)) (F.acts self.new.folder)) }
+            ⊎ AddsActs (F.acts self.old.folder) (openings (bytes_of names.now.second)) (F.acts self.new.folder)) }
         ensures untouched { IfErr result
             (λ fault. LosesFile fault → F.acts self.new.folder ≡ F.acts self.old.folder) }
-        ensures none { OnOk result (IfSome (F.places self.old.folder) (λ places. IfSome call.now.record_file
-            (λ name. LosesNone places (bytes_of call.now.second) (string_bytes name)))) }
-        ensures loses { IfErr result (λ fault. IfSome (F.places self.old.folder) (λ places. IfSome call.now.record_file
-            (λ name. Loses places (bytes_of call.now.second) (string_bytes name) fault))) }
+        ensures none { OnOk result (IfSome (F.places self.old.folder) (λ places. IfSome names.now.record_file
+            (λ name. LosesNone places (bytes_of names.now.second) (string_bytes name)))) }
+        ensures loses { IfErr result (λ fault. IfSome (F.places self.old.folder) (λ places. IfSome names.now.record_file
+            (λ name. Loses places (bytes_of names.now.second) (string_bytes name) fault))) }
     {
-        let Some(name) = &call.record_file else {
-            let second = self.open_second(call)?;
-            return Ok(Opened {
+        let Some(name) = &names.record_file else {
+            let second = self.open_second(names)?;
+            return Ok(CallFiles {
                 second,
                 record_file: None,
             });
         };
-        self.check_losses(call, name)?;
-        let second = self.open_second(call)?;
+        self.check_losses(names, name)?;
+        let second = self.open_second(names)?;
         let record_file = Some(self.open_record(name)?);
-        Ok(Opened {
+        Ok(CallFiles {
             second,
             record_file,
         })

@@ -1,7 +1,7 @@
 //! The folder that a program finds its files in.
 
 ghost use Rattle.std.specs.Prelude.{◌≡◌, ℕ, List, [], ◌∷◌, Option, OnOk, OnErr, IfSome};
-ghost use Rattle.calls.specs.Files.{Act, was_opened, was_emptied, Adds, Places, found};
+ghost use Rattle.calls.specs.Files.{Act, was_opened, was_emptied, AddsActs, Places, found};
 
 use std::fs::{self, Files, Metadata};
 use std::io::{self, ErrorKind};
@@ -9,7 +9,7 @@ use std::os::unix::fs::MetadataExt;
 
 /// Which file it is: its device, and its number there.
 #[derive(Clone, Copy, Debug, PartialEq, Eq)]
-pub struct Place {
+pub struct FileId {
     pub device: u64,
     pub number: u64,
 }
@@ -26,17 +26,17 @@ pub trait Folder {
 
     /// The file that a name leads to. None for a name of nothing, and for a device or a pipe, which lose nothing where
     /// they are opened to be written.
-    fn find(&self, name: &str) -> io::Result<Option<Place>>
+    fn find(&self, name: &str) -> io::Result<Option<FileId>>
         ensures { IfSome (places self.now) (λ places. found result ≡ places name.now) };
 
     /// Opens a file to be read.
     fn open(&mut self, name: &str) -> io::Result<Self::File>
-        ensures ok { OnOk result (Adds (acts self.old) (was_opened name.now ∷ []) (acts self.new)) }
+        ensures ok { OnOk result (AddsActs (acts self.old) (was_opened name.now ∷ []) (acts self.new)) }
         ensures err { OnErr result (acts self.new ≡ acts self.old) };
 
     /// Opens a file to be written, which is empty then.
     fn create(&mut self, name: &str) -> io::Result<Self::File>
-        ensures ok { OnOk result (Adds (acts self.old) (was_emptied name.now ∷ []) (acts self.new)) }
+        ensures ok { OnOk result (AddsActs (acts self.old) (was_emptied name.now ∷ []) (acts self.new)) }
         ensures err { OnErr result (acts self.new ≡ acts self.old) };
 }
 
@@ -53,11 +53,11 @@ impl<'a, R> Disk<'a, R> {
     }
 }
 
-fn place_of(file: &Metadata) -> Option<Place> {
+fn place_of(file: &Metadata) -> Option<FileId> {
     if !file.is_file() || file.ino() == 0 {
         return None;
     }
-    Some(Place {
+    Some(FileId {
         device: file.dev(),
         number: file.ino(),
     })
@@ -72,7 +72,7 @@ impl<R: Files> Folder for Disk<'_, R> {
 
     ghost acts = { λ disk. None };
 
-    fn find(&self, name: &str) -> io::Result<Option<Place>> {
+    fn find(&self, name: &str) -> io::Result<Option<FileId>> {
         match fs::metadata(self.files, name) {
             Ok(file) => Ok(place_of(&file)),
             Err(error) if error.kind() == ErrorKind::NotFound => Ok(None),

@@ -9,9 +9,9 @@ mod help;
 mod options;
 mod program;
 
-pub use call::Call;
-pub use command_line::{WordsFault, call_of, file_name, matches_of};
-pub use files::{FileFault, Opened, Opener};
-pub use folder::{Disk, Folder, Place};
+pub use call::{Call, FileNames};
+pub use command_line::{ArgumentsFault, call_of, file_name, matches_of};
+pub use files::{CallFiles, FileFault, Opener};
+pub use folder::{Disk, FileId, Folder};
 pub use options::{file, flag, number, program_command, project_subcommand, subcommand};
 pub use program::{FOLDER, refuse, refuse_file, refuse_files, report, words};

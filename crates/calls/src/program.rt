@@ -1,7 +1,7 @@
 //! What both programs do around a call: they read its words, and print why it has no answer.
 
-use crate::call::Call;
-use crate::command_line::WordsFault;
+use crate::call::FileNames;
+use crate::command_line::ArgumentsFault;
 use crate::files::FileFault;
 use answers::Fault;
 use runs::Ended;
@@ -23,21 +23,21 @@ pub fn report<R: Eprint>(rt: &R, program: &str, ended: &Ended) -> ExitCode {
 }
 
 /// Prints what words that are no call get: help to standard output, the rest to standard error.
-pub fn refuse<R: Runtime>(rt: &R, program: &str, fault: &WordsFault) -> ExitCode {
+pub fn refuse<R: Runtime>(rt: &R, program: &str, fault: &ArgumentsFault) -> ExitCode {
     match fault {
-        WordsFault::Help { text } => match print!(rt; "{text}") {
+        ArgumentsFault::Help { text } => match print!(rt; "{text}") {
             Ok(()) => ExitCode::from(0),
             Err(_) => report(rt, program, &Ended::with(Fault::WriteFailed)),
         },
-        WordsFault::Bad { text } => {
+        ArgumentsFault::Bad { text } => {
             let _ = eprint!(rt; "{text}");
             ExitCode::from(2)
         }
-        WordsFault::NoText => {
+        ArgumentsFault::NoText => {
             let _ = eprintln!(rt; "{fault}");
             ExitCode::from(2)
         }
-        WordsFault::Memory => report(rt, program, &Ended::with(Fault::Memory)),
+        ArgumentsFault::Memory => report(rt, program, &Ended::with(Fault::Memory)),
     }
 }
 
@@ -56,22 +56,27 @@ pub fn refuse_file<R: Eprint>(rt: &R, program: &str, name: Option<&String>) -> E
 }
 
 /// Prints why the files of a call are not open.
-pub fn refuse_files<R: Eprint>(rt: &R, program: &str, call: &Call, fault: FileFault) -> ExitCode {
+pub fn refuse_files<R: Eprint>(
+    rt: &R,
+    program: &str,
+    names: &FileNames,
+    fault: FileFault,
+) -> ExitCode {
     match fault {
         FileFault::LosesProject => refuse_loss(rt, "standard input"),
         FileFault::LosesStarts => refuse_loss(rt, "--start"),
         FileFault::LosesAnswer => refuse_loss(rt, "standard output"),
-        FileFault::Second => refuse_file(rt, program, call.second.as_ref()),
-        FileFault::Record => refuse_file(rt, program, call.record_file.as_ref()),
+        FileFault::Second => refuse_file(rt, program, names.second.as_ref()),
+        FileFault::Record => refuse_file(rt, program, names.record_file.as_ref()),
         FileFault::Memory => report(rt, program, &Ended::with(Fault::Memory)),
     }
 }
 
 /// The words of the command line.
-pub fn words<R: Env + AllocGlobal>(rt: &R) -> Result<Vec<String>, WordsFault> {
+pub fn words<R: Env + AllocGlobal>(rt: &R) -> Result<Vec<String>, ArgumentsFault> {
     match env::args(rt) {
         Ok(words) => Ok(words.collect(rt.alloc())?),
-        Err(error) if error.kind() == ErrorKind::OutOfMemory => Err(WordsFault::Memory),
-        Err(_) => Err(WordsFault::NoText),
+        Err(error) if error.kind() == ErrorKind::OutOfMemory => Err(ArgumentsFault::Memory),
+        Err(_) => Err(ArgumentsFault::NoText),
     }
 }

@@ -6,12 +6,17 @@
 //! reverse of the other's.
 #![tactic(auto)]
 
+mod answer;
 mod arcs;
 mod fault;
 mod lemmas;
+mod log;
+mod search;
 mod tree;
 
+pub use answer::CubeResult;
 pub use arcs::path_of;
 pub use fault::TextFault;
-pub use lemmas::{Lemma, lemmas_of, put_lemma};
-pub use tree::{Cube, cubes_of};
+pub use lemmas::{CubeLemma, lemmas_of, put_lemma};
+pub use search::{Cube, CubeFault, CubeHost, CubeNews, Limit, search_cube};
+pub use tree::{SearchedCube, cubes_of};

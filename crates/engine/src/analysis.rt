@@ -3,11 +3,11 @@
 
 use crate::marks::NO_VALUE;
 use crate::state::Engine;
-use literals::{Conflict, Literal, NEVER, Reason};
-use proof_log::{Ground, Link};
+use crate::{Inference, LineReason};
+use instance::{Result, narrow};
+use propagation::{Conflict, Literal, NEVER, Reason};
 use std::cmp::Reverse;
 use std::mem;
-use tables::{Result, narrow};
 
 /// What an analysis found, beside the lemma.
 #[derive(Clone, Copy)]
@@ -30,7 +30,7 @@ const DEPTH: usize = 60;
 #[derive(Clone, Copy)]
 pub(crate) struct Frame {
     event: u32,
-    link: Link,
+    link: Inference,
     /// Where its literals stand, of which those from `next` on are still to be looked at.
     from: u32,
     next: u32,
@@ -61,8 +61,8 @@ impl Engine<'_> {
         }
         let point = self.resolve(top)?;
         let first = self.minimise(point, top)?;
-        let (literal, ground) = (NEVER, end);
-        self.marks.replace(u32::MAX, Link { literal, ground })?;
+        let (literal, reason) = (NEVER, end);
+        self.marks.replace(u32::MAX, Inference { literal, reason })?;
         self.marks.end();
         let (mut level, lbd) = self.put_in_order(first)?;
         let mut number = 0;
@@ -117,8 +117,8 @@ impl Engine<'_> {
             if let Reason::Lemma { place } = reason {
                 self.lemmas.touch(place);
             }
-            let ground = self.explain(literal, reason, event)?;
-            self.marks.replace(event, Link { literal, ground })?;
+            let reason = self.explain(literal, reason, event)?;
+            self.marks.replace(event, Inference { literal, reason })?;
             count = count.wrapping_sub(1).wrapping_add(self.note_found(top)?);
         }
         Ok(0)
@@ -153,10 +153,10 @@ impl Engine<'_> {
         let found = self.trail.event(event);
         let literal = Literal::new(found.slot, value);
         let from = self.marks.found.count();
-        let ground = self.explain(literal, found.reason, event)?;
+        let reason = self.explain(literal, found.reason, event)?;
         Ok(Frame {
             event,
-            link: Link { literal, ground },
+            link: Inference { literal, reason },
             from,
             next: from,
             to: self.marks.found.count(),
@@ -263,9 +263,9 @@ impl Engine<'_> {
             let found = self.trail.event(event);
             let literal = Literal::new(found.slot, found.new);
             if self.log.is_kept {
-                let ground = self.explain(literal, found.reason, event)?;
+                let reason = self.explain(literal, found.reason, event)?;
                 self.marks.found.items.clear();
-                self.log.root(Link { literal, ground })?;
+                self.log.root(Inference { literal, reason })?;
             }
         }
         self.logged = self.trail.root_end().max(self.logged);
@@ -273,9 +273,9 @@ impl Engine<'_> {
     }
 
     /// No schedule is left, for a reason of the root.
-    pub(crate) fn refute(&mut self, ground: Ground) -> Result<()> {
+    pub(crate) fn refute(&mut self, reason: LineReason) -> Result<()> {
         self.log_root()?;
-        self.log.end(ground)?;
+        self.log.end(reason)?;
         self.is_refuted = true;
         Ok(())
     }

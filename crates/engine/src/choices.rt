@@ -4,13 +4,11 @@
 //! tried first that it had last, or that the best schedule has.
 
 use crate::heap::Heap;
-use instance::{Instance, Rivals};
-use literals::{Event, Literal, NEVER, Trail};
-use propagation::Edges;
+use instance::{Instance, Result, Rivals, Table, narrow};
+use propagation::{BoundChange, Edges, Literal, NEVER, Trail};
 use std::alloc::Global;
 use std::collections::HashMap;
 use std::mem;
-use tables::{Result, Table, narrow};
 
 /// By how much a literal of an older conflict counts for less than one of the next.
 const DECAY: f64 = 0.95;
@@ -134,7 +132,7 @@ impl Choices {
     }
 
     /// An event goes: its variable's saved value stays within the window that it had.
-    pub(crate) fn save(&mut self, event: &Event) {
+    pub(crate) fn save(&mut self, event: &BoundChange) {
         let saved = &mut self.saved[event.slot / 2];
         if event.slot % 2 == 0 {
             *saved = (*saved).max(event.new);

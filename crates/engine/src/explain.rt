@@ -1,11 +1,10 @@
 //! Explanations: the literals that made a literal hold, or a conflict. They are found when an analysis asks, for the
 //! value that it needs, and put behind those in `marks.found`.
 
+use crate::LineReason;
 use crate::state::Engine;
-use literals::{Conflict, Literal, NEVER, Reason};
-use proof_log::Ground;
-use propagation::part;
-use tables::Result;
+use instance::Result;
+use propagation::{Conflict, Literal, NEVER, Reason, part};
 
 impl Engine<'_> {
     /// The literals that make an activity run for `part` periods from one time to another at least.
@@ -42,7 +41,7 @@ impl Engine<'_> {
     }
 
     /// Finds the literals that made a conflict. Gives the reason of the record's line.
-    pub(crate) fn explain_conflict(&mut self, conflict: Conflict) -> Result<Ground> {
+    pub(crate) fn explain_conflict(&mut self, conflict: Conflict) -> Result<LineReason> {
         let now = self.trail.count();
         match conflict {
             Conflict::Forced { literal, reason } => {
@@ -63,16 +62,21 @@ impl Engine<'_> {
     }
 
     /// The literals of a lemma from one on are false.
-    fn explain_lemma(&mut self, place: u32, first: usize) -> Result<Ground> {
+    fn explain_lemma(&mut self, place: u32, first: usize) -> Result<LineReason> {
         for literal in self.lemmas.literals(place).iter().skip(first) {
             self.marks.found.push(!*literal)?;
         }
         let lemma = self.lemmas.number(place);
-        Ok(Ground::Use { lemma })
+        Ok(LineReason::Use { lemma })
     }
 
     /// Finds the literals from which one followed for a reason, as of an event.
-    pub(crate) fn explain(&mut self, literal: Literal, why: Reason, now: u32) -> Result<Ground> {
+    pub(crate) fn explain(
+        &mut self,
+        literal: Literal,
+        why: Reason,
+        now: u32,
+    ) -> Result<LineReason> {
         match why {
             Reason::Decision | Reason::Given => {}
             Reason::Lemma { place } => return self.explain_lemma(place, 1),
@@ -94,22 +98,28 @@ impl Engine<'_> {
                 return self.explain_full(literal, resource, time, now);
             }
         }
-        Ok(Ground::Arcs)
+        Ok(LineReason::Arcs)
     }
 
     /// The bound from which an order leads and the one that it would pass: of the first only as much as contradicts.
-    fn explain_lost(&mut self, order: u32, now: u32) -> Result<Ground> {
+    fn explain_lost(&mut self, order: u32, now: u32) -> Result<LineReason> {
         let arc = self.edges.orders[order].arc;
         let slot = arc.to ^ 1;
         let passed = self.trail.value_at(slot, now);
         let value = 1i32.wrapping_sub(arc.weight).wrapping_sub(passed);
         self.find([Literal::new(slot, passed), Literal::new(arc.from, value)])?;
-        Ok(Ground::Force)
+        Ok(LineReason::Force)
     }
 
     /// Users of a resource that ran at a time for sure, as of an event, leave no room for the activity of a literal, which
     /// would run then; or they need too much themselves.
-    fn explain_full(&mut self, own: Literal, resource: u32, time: i32, now: u32) -> Result<Ground> {
+    fn explain_full(
+        &mut self,
+        own: Literal,
+        resource: u32,
+        time: i32,
+        now: u32,
+    ) -> Result<LineReason> {
         let (mut sum, from, to) = (0i32, time, time.wrapping_add(1));
         if own != NEVER {
             let [least, greatest] = self.inside(own.variable(), 1, from, to);
@@ -138,7 +148,7 @@ impl Engine<'_> {
             let literals = self.inside(activity, 1, from, to);
             self.find(literals)?;
         }
-        Ok(Ground::Load { resource, from, to })
+        Ok(LineReason::Load { resource, from, to })
     }
 
     /// Of the causes those that are needed, the last ones first: they go while the rest is more than there is room for.
@@ -179,7 +189,7 @@ impl Engine<'_> {
     }
 
     /// Parts of activities that need more than there is: what is more goes from those that came last.
-    fn explain_energy(&mut self, resource: u32, from: i32, to: i32) -> Result<Ground> {
+    fn explain_energy(&mut self, resource: u32, from: i32, to: i32) -> Result<LineReason> {
         let mut spare = self.list_parts(resource, from, to)?;
         self.marks.causes.items.sort_unstable();
         for at in (0..self.marks.causes.count()).rev() {
@@ -195,7 +205,7 @@ impl Engine<'_> {
                 self.find(literals)?;
             }
         }
-        Ok(Ground::Load { resource, from, to })
+        Ok(LineReason::Load { resource, from, to })
     }
 
     /// The literals by which one activity pushes the one of a literal: their order, unless it is by lags, and a bound at a
@@ -232,7 +242,13 @@ impl Engine<'_> {
     }
 
     /// Members of a clique that run before or after the literal's activity, and push it.
-    fn explain_push(&mut self, pushed: Literal, clique: u32, at: i32, now: u32) -> Result<Ground> {
+    fn explain_push(
+        &mut self,
+        pushed: Literal,
+        clique: u32,
+        at: i32,
+        now: u32,
+    ) -> Result<LineReason> {
         let sum = self.list_pushing(pushed, clique, at, now)?;
         let bound = pushed.value.wrapping_sub(1);
         let end = self.instance.durations[pushed.variable()].wrapping_sub(bound);
@@ -252,16 +268,16 @@ impl Engine<'_> {
             self.marks.found.items.extend(order)?;
             self.marks.found.push(bound)?;
         }
-        self.clique_ground(from, to)
+        self.clique_reason(from, to)
     }
 
     /// The reason of a record's line, by the members that are needed. One alone pushes by its arc.
-    fn clique_ground(&mut self, from: i32, to: i32) -> Result<Ground> {
+    fn clique_reason(&mut self, from: i32, to: i32) -> Result<LineReason> {
         if self.marks.activities.count() < 2 {
-            return Ok(Ground::Arcs);
+            return Ok(LineReason::Arcs);
         }
         let members = self.log.set(&self.marks.activities.items)?;
-        Ok(Ground::Clique { members, from, to })
+        Ok(LineReason::Clique { members, from, to })
     }
 
     /// Lists the members of a clique that run from one time to another. Gives how long they take.
@@ -281,7 +297,7 @@ impl Engine<'_> {
     }
 
     /// Members of a clique that have to run from one time to another, and need more time.
-    fn explain_clique(&mut self, clique: u32, from: i32, to: i32) -> Result<Ground> {
+    fn explain_clique(&mut self, clique: u32, from: i32, to: i32) -> Result<LineReason> {
         let sum = self.list_inside(clique, from, to)?;
         let spare = self.keep_enough(sum, to.wrapping_sub(from))?;
         let from = from.wrapping_sub(spare).max(0);
@@ -292,6 +308,6 @@ impl Engine<'_> {
             let literals = self.inside(activity, duration, from, to);
             self.find(literals)?;
         }
-        self.clique_ground(from, to)
+        self.clique_reason(from, to)
     }
 }

@@ -1,7 +1,7 @@
 //! A heap of numbers by weight, the heaviest first.
 
+use instance::{Result, Table};
 use std::alloc::Global;
-use tables::{Result, Table};
 
 /// The place of a number that isn't in the heap.
 const OUTSIDE: u32 = u32::MAX;

@@ -1,10 +1,10 @@
 //! What other searches have proved.
 
 use crate::state::Engine;
-use literals::{Conflict, Literal, NEVER, Reason, Stop};
+use instance::{Result, narrow};
 use network::Lag;
+use propagation::{Conflict, Literal, NEVER, Reason, Stop};
 use std::mem;
-use tables::{Result, narrow};
 
 /// What another search has proved.
 #[derive(Drop)]

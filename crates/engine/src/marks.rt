@@ -1,10 +1,10 @@
 //! What an analysis notes of events.
 
 use crate::analysis::Frame;
-use literals::{Literal, NEVER};
-use proof_log::{Ground, Link};
+use crate::{Inference, LineReason};
+use instance::{Result, Table};
+use propagation::{Literal, NEVER};
 use std::alloc::Global;
-use tables::{Result, Table};
 
 /// No value.
 pub(crate) const NO_VALUE: i32 = i32::MIN;
@@ -32,7 +32,7 @@ pub(crate) struct Marks {
     /// What is_redundant works on.
     pub(crate) frames: Vec<Frame>,
     /// Literals that were replaced by what they follow from, each with its event.
-    pub(crate) replaced: Vec<(u32, Link)>,
+    pub(crate) replaced: Vec<(u32, Inference)>,
     /// The literals that can't all hold; at the end their negations, which are the lemma.
     pub(crate) nogood: Vec<Literal>,
 }
@@ -74,7 +74,7 @@ impl Marks {
 
     /// Takes all notes of events back. What was replaced goes from the first event to the last.
     pub(crate) fn end(&mut self) {
-        let key = |replaced: &(u32, Link)| (replaced.0, replaced.1.literal);
+        let key = |replaced: &(u32, Inference)| (replaced.0, replaced.1.literal);
         self.replaced.sort_unstable_by_key(key);
         for event in &self.needed.items {
             self.need[*event] = NO_VALUE;
@@ -121,8 +121,8 @@ impl Marks {
     }
 
     /// A literal of an event was replaced by what it follows from. A record has no line for what arcs say.
-    pub(crate) fn replace(&mut self, event: u32, link: Link) -> Result<()> {
-        if link.ground != Ground::Arcs {
+    pub(crate) fn replace(&mut self, event: u32, link: Inference) -> Result<()> {
+        if link.reason != LineReason::Arcs {
             self.replaced.push((event, link))?;
         }
         Ok(())

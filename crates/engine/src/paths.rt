@@ -1,10 +1,10 @@
 //! Paths: first decisions that arcs say, and the lemma of those that are at fault.
 
+use crate::Inference;
 use crate::state::Engine;
-use literals::{Conflict, Literal, NEVER, Reason};
+use instance::{Result, narrow};
 use network::Lag;
-use proof_log::Link;
-use tables::{Result, narrow};
+use propagation::{Conflict, Literal, NEVER, Reason};
 
 /// What the arcs of a path are to a search.
 #[derive(Drop)]
@@ -89,7 +89,7 @@ impl Engine<'_> {
     /// The decisions of the first level are at fault: tells the lemma of those that a conflict needs.
     pub(crate) fn blame_first(&mut self, conflict: Conflict) -> Result<()> {
         self.marks.begin(self.trail.count())?;
-        let ground = self.explain_conflict(conflict)?;
+        let reason = self.explain_conflict(conflict)?;
         self.note_found(1)?;
         for event in (0..self.trail.count()).rev() {
             if !self.marks.is_needed(event) {
@@ -100,12 +100,12 @@ impl Engine<'_> {
                 self.marks.nogood.push(literal)?;
                 continue;
             }
-            let ground = self.explain(literal, reason, event)?;
-            self.marks.replace(event, Link { literal, ground })?;
+            let reason = self.explain(literal, reason, event)?;
+            self.marks.replace(event, Inference { literal, reason })?;
             self.note_found(1)?;
         }
         let literal = NEVER;
-        self.marks.replace(u32::MAX, Link { literal, ground })?;
+        self.marks.replace(u32::MAX, Inference { literal, reason })?;
         self.marks.end();
         self.keep_greatest(NEVER);
         let (nogood, replaced) = (&self.marks.nogood, &self.marks.replaced);

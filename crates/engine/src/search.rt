@@ -1,17 +1,16 @@
 //! The search: first decisions, then propagate, learn, go back, restart, choose.
 
+use crate::LineReason;
 use crate::analysis::Learnt;
 use crate::pace::Pace;
 use crate::state::Engine;
-use literals::{Conflict, Literal, Reason, Stop};
-use proof_log::Ground;
-use propagation::find_overloads;
+use instance::Result;
+use propagation::{Conflict, Literal, Reason, Stop, find_overloads};
 use std::alloc::AllocError;
-use tables::Result;
 
 /// What a search for schedules under first decisions found.
 #[derive(Clone, Copy, PartialEq, Eq, Debug)]
-pub enum Found {
+pub enum SubsearchState {
     /// Nothing yet: it goes on.
     Open,
     /// Nothing: it met as many conflicts as it may.
@@ -24,7 +23,7 @@ pub enum Found {
 
 /// A search under first decisions, which may be interrupted.
 #[derive(Drop)]
-pub struct Run {
+pub struct Subsearch {
     /// They stand on one level, as one decision.
     first: Vec<Literal>,
     /// What was found is to be learnt from; none where all has followed.
@@ -49,12 +48,12 @@ const LATER: u64 = 200;
 impl Engine<'_> {
     /// A search begins, at the root. It may meet so many conflicts. What one decision contradicts is a lemma; of more
     /// decisions on one level it may be none.
-    pub fn start(&mut self, mut first: Vec<Literal>, most: u64, pace: Pace) -> Result<Run> {
+    pub fn start(&mut self, mut first: Vec<Literal>, most: u64, pace: Pace) -> Result<Subsearch> {
         self.go_back(0)?;
         first.retain(|literal: &Literal| !self.trail.holds(*literal));
         self.floor = u32::from(first.len() > 1);
         self.has_path = false;
-        let mut run = Run {
+        let mut run = Subsearch {
             first,
             conflict: conflict_of(self.settle_root())?,
             last: self.counts.conflicts.saturating_add(most),
@@ -66,30 +65,30 @@ impl Engine<'_> {
 
     /// A search under a path begins, at the root. Where there is no schedule, the last lemma says so of decisions of the
     /// path alone.
-    pub fn start_under(&mut self, path: Vec<Literal>, pace: Pace) -> Result<Run> {
+    pub fn start_under(&mut self, path: Vec<Literal>, pace: Pace) -> Result<Subsearch> {
         let run = self.start(path, u64::MAX, pace)?;
         self.has_path = true;
         Ok(run)
     }
 
     /// Searches until a schedule, until there is none, or for so many steps: conflicts and decisions.
-    pub fn search(&mut self, run: &mut Run, steps: u64) -> Result<Found> {
+    pub fn search(&mut self, run: &mut Subsearch, steps: u64) -> Result<SubsearchState> {
         for _ in 0..steps {
             if self.is_refuted {
-                return Ok(Found::Refuted);
+                return Ok(SubsearchState::Refuted);
             }
             let step = match run.conflict.take() {
                 Some(conflict) => self.follow_conflict(run, conflict),
                 None => self.go_on(run),
             };
             match step {
-                Ok(Found::Open) => {}
+                Ok(SubsearchState::Open) => {}
                 Ok(found) => return Ok(found),
                 Err(Stop::Conflict(conflict)) => run.conflict = Some(conflict),
                 Err(Stop::Memory) => return Err(AllocError),
             }
         }
-        Ok(Found::Open)
+        Ok(SubsearchState::Open)
     }
 
     /// What follows at the root, with what others have proved.
@@ -99,14 +98,18 @@ impl Engine<'_> {
     }
 
     /// Learns from a conflict, goes back, and sees what follows. The first decisions are at fault where nothing is learnt.
-    fn follow_conflict(&mut self, run: &mut Run, conflict: Conflict) -> Result<Found, Stop> {
+    fn follow_conflict(
+        &mut self,
+        run: &mut Subsearch,
+        conflict: Conflict,
+    ) -> Result<SubsearchState, Stop> {
         self.counts.conflicts = self.counts.conflicts.wrapping_add(1);
         self.log_root()?;
         let Some(Learnt { level, lbd, number }) = self.analyse(conflict)? else {
             if self.has_path && !self.is_refuted {
                 self.blame_first(conflict)?;
             }
-            return Ok(Found::Refuted);
+            return Ok(SubsearchState::Refuted);
         };
         run.pace.note(lbd);
         self.go_back(level)?;
@@ -119,30 +122,30 @@ impl Engine<'_> {
             self.trail.force(literal, reason)?;
         }
         self.propagate()?;
-        Ok(Found::Open)
+        Ok(SubsearchState::Open)
     }
 
     /// One step without a conflict: a restart where it is time for one, with a look at imports, or else a decision.
-    fn go_on(&mut self, run: &mut Run) -> Result<Found, Stop> {
+    fn go_on(&mut self, run: &mut Subsearch) -> Result<SubsearchState, Stop> {
         if self.counts.conflicts >= run.last {
-            return Ok(Found::Stopped);
+            return Ok(SubsearchState::Stopped);
         }
         let fails = |literal: &Literal| self.trail.fails(*literal);
         if self.trail.level() == 0 && run.first.iter().any(fails) {
             self.log_root()?;
-            return Ok(Found::Refuted);
+            return Ok(SubsearchState::Refuted);
         }
         self.start_again(&mut run.pace)?;
         if self.trail.level() == 0 && !self.imports.is_empty() {
             self.settle_root()?;
-            return Ok(Found::Open);
+            return Ok(SubsearchState::Open);
         }
         self.find_overloads(&run.first)?;
         if !self.decide_next(&run.first)? {
-            return Ok(Found::Schedule);
+            return Ok(SubsearchState::Schedule);
         }
         self.propagate()?;
-        Ok(Found::Open)
+        Ok(SubsearchState::Open)
     }
 
     /// Goes back to the first decisions if it is time to, or to the root if there are imports, or many lemmas are new, of
@@ -220,7 +223,7 @@ impl Engine<'_> {
             return Ok(());
         }
         match conflict_of(self.trail.force(end, Reason::Given))? {
-            Some(_) => self.refute(Ground::Arcs),
+            Some(_) => self.refute(LineReason::Arcs),
             None => Ok(()),
         }
     }

@@ -2,9 +2,9 @@
 
 use crate::search::conflict_of;
 use crate::state::Engine;
-use literals::Literal;
+use instance::Result;
 use network::Lag;
-use tables::Result;
+use propagation::Literal;
 
 /// How many literals are looked at for a split.
 const LOOKS: usize = 40;

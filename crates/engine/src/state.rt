@@ -4,12 +4,12 @@ use crate::choices::Choices;
 use crate::imports::Import;
 use crate::marks::Marks;
 use crate::search::conflict_of;
-use instance::{Instance, Settled, Walks, greedy_cliques, settle, start_sequence};
-use literals::{Lemmas, Literal, Stop, Trail};
-use proof_log::{Ground, Log, Slots};
-use propagation::{Cliques, Edges, TimeTable};
+use crate::{LineReason, Log, Slots};
+use instance::{
+    Instance, Result, Rows, Settled, Table, Walks, greedy_cliques, settle, start_sequence,
+};
+use propagation::{Cliques, Edges, Lemmas, Literal, Stop, TimeTable, Trail};
 use std::alloc::Global;
-use tables::{Result, Rows, Table};
 
 /// What a search is made with.
 #[derive(Clone, Copy)]
@@ -25,12 +25,12 @@ pub struct Options {
     /// Where its lemmas go.
     pub slots: Slots,
     /// What was done before.
-    pub done: Counts,
+    pub done: SearchCounts,
 }
 
 /// How much was done.
 #[derive(Clone, Copy, PartialEq, Eq, Debug, Default)]
-pub struct Counts {
+pub struct SearchCounts {
     pub conflicts: u64,
     pub decisions: u64,
     /// Events that were followed: the unit of effort.
@@ -73,7 +73,7 @@ pub struct Engine<'a> {
     pub(crate) reduction: u64,
     pub(crate) reduction_step: u64,
     /// How much was done.
-    pub counts: Counts,
+    pub counts: SearchCounts,
 }
 
 /// The first values of all slots, for schedules of a makespan at most `most`.
@@ -124,8 +124,8 @@ impl<'a> Engine<'a> {
         for order in &settled.forced {
             engine.log.order(*order)?;
         }
-        if settled.is_dead || !engine.has_room() {
-            engine.refute(Ground::Arcs)?;
+        if settled.is_infeasible || !engine.has_room() {
+            engine.refute(LineReason::Arcs)?;
         } else if let Some(conflict) = conflict_of(engine.begin())? {
             engine.log_root()?;
             engine.analyse(conflict)?;

@@ -1,1 +1,2 @@
 pub mod Shrunken
+pub mod Apart

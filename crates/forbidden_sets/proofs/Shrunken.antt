@@ -8,7 +8,7 @@ use Rattle.std.proofs.lemmas.List.Sums.{sum_by-cons, sum_by_more, sum_by-take-le
 use Rattle.std.proofs.lemmas.List.Elements.{All-contains, All-head, All-tail, All-push, All-map, Contains-get_or, Contains-append_left, Contains-append_right}
 use Rattle.std.proofs.lemmas.List.Sorted.{All-permutation, sum_by-IsPermutation, sorted_far, ranks_by}
 use Rattle.network.specs.Schedule.{IsMinimalForbidden}
-use Rattle.forbidden_sets.specs.MinimalSet.{AreLoads, AreShrunk, ComesBefore, IsMinimalSet, Load}
+use Rattle.forbidden_sets.specs.MinimalSet.{AreDemands, AreShrunk, ComesBefore, IsMinimalSet, Demand}
 use Rattle.network.specs.Problem.{Problem, demand, capacity}
 use Rattle.std.proofs.lemmas.List.{length-map, take_more, length-drop, get_or-drop, get_or_default}
 use Rattle.std.proofs.Math.Seq.{take-append_seam}
@@ -115,21 +115,21 @@ minimal_from_needed r R xs needed keep i (k, l, e) out more =
     omega arith
 
 -- the first i loads can be spared together: what is left needs `rest`
-pub record AreSpared (capacity : ℕ) (loads : List Load) (i rest : ℕ) : Type 0 where
+pub record AreSpared (capacity : ℕ) (loads : List Demand) (i rest : ℕ) : Type 0 where
   pub inside : i ≤ length loads
   pub balance : rest ≡ sum_by (λ load. load.demand) (drop i loads)
   pub over : capacity < rest
 
 -- and no other can be spared
-pub needed_after : (capacity : ℕ) (loads : List Load) (i rest : ℕ) → AllPairs ComesBefore loads → AreSpared capacity loads i rest → (e : Load) → (i < length loads → rest - (get_or loads i e).demand ≤ capacity) →
+pub needed_after : (capacity : ℕ) (loads : List Demand) (i rest : ℕ) → AllPairs ComesBefore loads → AreSpared capacity loads i rest → (e : Demand) → (i < length loads → rest - (get_or loads i e).demand ≤ capacity) →
     All (λ load. sum_by (λ load. load.demand) (drop i loads) ≤ capacity + load.demand) (drop i loads)
 needed_after capacity loads i rest order so_far e stop k d lt =
-    let there : i + k < length loads = omega (arith, length-drop {A = Load}) in
+    let there : i + k < length loads = omega (arith, length-drop {A = Demand}) in
     let least : (get_or loads i d).demand ≤ (get_or loads (i + k) d).demand = least_first i (i + k) d (omega arith) there in
     let first : get_or loads i e ≡ get_or loads i d = get_or_default loads i e d (omega arith) in
     rw (get_or-drop i loads k d) (omega (arith, rw first at (stop (omega arith)), so_far.balance))
   where
-    least_first : (i j : ℕ) (d : Load) → i ≤ j → j < length loads → (get_or loads i d).demand ≤ (get_or loads j d).demand
+    least_first : (i j : ℕ) (d : Demand) → i ≤ j → j < length loads → (get_or loads i d).demand ≤ (get_or loads j d).demand
     least_first i j d upto inside =
         ⊎_elim
         (λ (less : i < j). ⊎_elim (λ (below : (get_or loads i d).demand < (get_or loads j d).demand). omega arith) (λ (same : ((get_or loads i d).demand ≡ (get_or loads j d).demand) × ((get_or loads i d).activity ≤ (get_or loads j d).activity)). omega (arith, same.0)) (order i j d less inside))
@@ -146,12 +146,12 @@ sum_by_agree f g (x ∷ xs) h =
     omega (arith, All-head (λ y. f y ≡ g y) x xs h, sum_by_agree f g xs (All-tail (λ y. f y ≡ g y) x xs h), sum_by-cons f x xs, sum_by-cons g x xs)
 
 -- a load that isn't spared is one of the loads, and the loads that aren't spared are a part of them
-drop_within : (loads : List Load) (i : ℕ) → All (Contains loads) (drop i loads)
+drop_within : (loads : List Demand) (i : ℕ) → All (Contains loads) (drop i loads)
 drop_within loads i k d lt =
-    let there : i + k < length loads = omega (arith, length-drop {A = Load}) in
+    let there : i + k < length loads = omega (arith, length-drop {A = Demand}) in
     rw (get_or-drop i loads k d) (Contains-get_or loads (i + k) d there)
 
-drop_part : (loads : List Load) (i : ℕ) (f : Load → ℕ) → sum_by f (drop i loads) ≤ sum_by f loads
+drop_part : (loads : List Demand) (i : ℕ) (f : Demand → ℕ) → sum_by f (drop i loads) ≤ sum_by f loads
 drop_part loads i f = omega (arith, sum_by-take-drop f loads i)
 
 -- one more activity, which asks for some or for none
@@ -161,7 +161,7 @@ grows activities i lt = take_more activities i 0 lt
 Contains-more : (activities : List ℕ) (i v : ℕ) → i < length activities → Contains (take i activities) v → Contains (take (i + 1) activities) v
 Contains-more activities i v lt has = rw (grows activities i lt) (Contains-append_left (take i activities) (get_or activities i 0 ∷ []) v has)
 
-pub no_load : (r : ℕ → ℕ) (activities : List ℕ) (i : ℕ) (loads : List Load) → i < length activities → r (get_or activities i 0) ≡ 0 → AreLoads r (take i activities) loads → AreLoads r (take (i + 1) activities) loads
+pub no_load : (r : ℕ → ℕ) (activities : List ℕ) (i : ℕ) (loads : List Demand) → i < length activities → r (get_or activities i 0) ≡ 0 → AreDemands r (take i activities) loads → AreDemands r (take (i + 1) activities) loads
 no_load r activities i loads lt none are = record {
   among = λ k d l. Contains-more activities i (get_or loads k d).activity lt (are.among k d l);
   demands = are.demands;
@@ -169,21 +169,21 @@ no_load r activities i loads lt none are = record {
   total = omega (arith, are.total, sum_by_more r activities i 0 lt);
 }
 
-pub one_load : (r : ℕ → ℕ) (activities : List ℕ) (i demand : ℕ) (loads : List Load) → i < length activities → demand ≡ r (get_or activities i 0) → AreLoads r (take i activities) loads →
-    AreLoads r (take (i + 1) activities) (loads ++ (record { demand = demand; activity = get_or activities i 0 }) ∷ [])
+pub one_load : (r : ℕ → ℕ) (activities : List ℕ) (i demand : ℕ) (loads : List Demand) → i < length activities → demand ≡ r (get_or activities i 0) → AreDemands r (take i activities) loads →
+    AreDemands r (take (i + 1) activities) (loads ++ (record { demand = demand; activity = get_or activities i 0 }) ∷ [])
 one_load r activities i demand loads lt is are =
-    let load : Load = record { demand = demand; activity = get_or activities i 0 } in
+    let load : Demand = record { demand = demand; activity = get_or activities i 0 } in
     let last : Contains (take (i + 1) activities) (get_or activities i 0) =
     rw (grows activities i lt) (Contains-append_right (take i activities) (get_or activities i 0 ∷ []) (get_or activities i 0) (0, omega arith, refl)) in
     record {
-      among = All-push (λ (load : Load). Contains (take (i + 1) activities) load.activity) loads load (λ k d l. Contains-more activities i (get_or loads k d).activity lt (are.among k d l)) last;
-      demands = All-push (λ (load : Load). load.demand ≡ r load.activity) loads load are.demands is;
-      once = λ f. omega (arith, are.once f, sum_by_more f activities i 0 lt, sum_by_push (λ (load : Load). f load.activity) loads load);
-      total = omega (arith, are.total, sum_by_more r activities i 0 lt, sum_by_push (λ (load : Load). load.demand) loads load, is);
+      among = All-push (λ (load : Demand). Contains (take (i + 1) activities) load.activity) loads load (λ k d l. Contains-more activities i (get_or loads k d).activity lt (are.among k d l)) last;
+      demands = All-push (λ (load : Demand). load.demand ≡ r load.activity) loads load are.demands is;
+      once = λ f. omega (arith, are.once f, sum_by_more f activities i 0 lt, sum_by_push (λ (load : Demand). f load.activity) loads load);
+      total = omega (arith, are.total, sum_by_more r activities i 0 lt, sum_by_push (λ (load : Demand). load.demand) loads load, is);
     }
 
 -- there are no more of them
-pub loads_few : (r : ℕ → ℕ) (activities : List ℕ) (loads : List Load) → AreLoads r activities loads → length loads ≤ length activities
+pub loads_few : (r : ℕ → ℕ) (activities : List ℕ) (loads : List Demand) → AreDemands r activities loads → length loads ≤ length activities
 loads_few r activities loads are = omega (arith, are.once (λ i. 1), ones loads, ones activities)
   where
     ones : {X : Type 0} (xs : List X) → sum_by (λ x. 1) xs ≡ length xs
@@ -191,36 +191,36 @@ loads_few r activities loads are = omega (arith, are.once (λ i. 1), ones loads,
     ones (x ∷ xs) = omega (arith, sum_by-cons (λ y. 1) x xs, ones xs)
 
 -- loads in another order
-pub AreLoads-permutation : (r : ℕ → ℕ) (activities : List ℕ) (loads other : List Load) → IsPermutation loads other → AreLoads r activities loads → AreLoads r activities other
-AreLoads-permutation r activities loads other moved are = record {
-  among = All-permutation (λ (load : Load). Contains activities load.activity) loads other moved are.among;
-  demands = All-permutation (λ (load : Load). load.demand ≡ r load.activity) loads other moved are.demands;
-  once = λ f. omega (arith, are.once f, sum_by-IsPermutation (λ (load : Load). f load.activity) loads other moved);
-  total = sum_by-IsPermutation (λ (load : Load). load.demand) loads other moved ∙ are.total;
+pub AreDemands-permutation : (r : ℕ → ℕ) (activities : List ℕ) (loads other : List Demand) → IsPermutation loads other → AreDemands r activities loads → AreDemands r activities other
+AreDemands-permutation r activities loads other moved are = record {
+  among = All-permutation (λ (load : Demand). Contains activities load.activity) loads other moved are.among;
+  demands = All-permutation (λ (load : Demand). load.demand ≡ r load.activity) loads other moved are.demands;
+  once = λ f. omega (arith, are.once f, sum_by-IsPermutation (λ (load : Demand). f load.activity) loads other moved);
+  total = sum_by-IsPermutation (λ (load : Demand). load.demand) loads other moved ∙ are.total;
 }
 
 -- a list of which all was lent and written over
 pub written_whole : {X : Type 0} (old lent new : List X) → lent ≡ old → length new ≡ length lent → take (length old) (new ++ drop (length new) old) ≡ new
 written_whole old lent new is long = rw (← is, ← long) (take-append_seam new (drop (length new) lent))
 
-pub shrunk : (r : ℕ → ℕ) (capacity : ℕ) (running : List ℕ) (loads : List Load) (i : ℕ) (members : List ℕ)
+pub shrunk : (r : ℕ → ℕ) (capacity : ℕ) (running : List ℕ) (loads : List Demand) (i : ℕ) (members : List ℕ)
     → IsStrictlyIncreasing running
-    → AreLoads r running loads
+    → AreDemands r running loads
     → capacity < sum_by (λ load. load.demand) (drop i loads)
     → All (λ load. sum_by (λ load. load.demand) (drop i loads) ≤ capacity + load.demand) (drop i loads)
     → IsPermutation (map (λ load. load.activity) (drop i loads)) members
     → IsNonDecreasing members
     → AreShrunk r capacity running members
 shrunk r capacity running loads i members rising are over needed moved up =
-    let kept : List Load = drop i loads in
+    let kept : List Demand = drop i loads in
     let within : All (Contains loads) (drop i loads) = drop_within loads i in
-    let activity : Load → ℕ = λ load. load.activity in
-    let demand : Load → ℕ = λ load. load.demand in
+    let activity : Demand → ℕ = λ load. load.activity in
+    let demand : Demand → ℕ = λ load. load.demand in
     let moved_sum : (f : ℕ → ℕ) → sum_by f members ≡ sum_by (λ load. f load.activity) kept = λ f. sum_by-IsPermutation f (map activity kept) members moved ∙ sum_by_map f activity kept in
-    let kept_demands : All (λ load. r load.activity ≡ load.demand) kept = λ k d l. sym (All-contains (λ (load : Load). load.demand ≡ r load.activity) loads (get_or kept k d) are.demands (within k d l)) in
-    let total : sum_by r members ≡ sum_by demand kept = moved_sum r ∙ sum_by_agree (λ (load : Load). r load.activity) demand kept kept_demands in
+    let kept_demands : All (λ load. r load.activity ≡ load.demand) kept = λ k d l. sym (All-contains (λ (load : Demand). load.demand ≡ r load.activity) loads (get_or kept k d) are.demands (within k d l)) in
+    let total : sum_by r members ≡ sum_by demand kept = moved_sum r ∙ sum_by_agree (λ (load : Demand). r load.activity) demand kept kept_demands in
     record {
-      run = All-permutation (Contains running) (map activity kept) members moved (All-map (Contains running) activity kept (λ k d l. All-contains (λ (load : Load). Contains running load.activity) loads (get_or kept k d) are.among (within k d l)));
+      run = All-permutation (Contains running) (map activity kept) members moved (All-map (Contains running) activity kept (λ k d l. All-contains (λ (load : Demand). Contains running load.activity) loads (get_or kept k d) are.among (within k d l)));
       rising = rising_from_once members up (λ v. omega (arith, moved_sum (hit v), drop_part loads i (λ load. hit v load.activity), are.once (hit v), times_once v running rising));
       forbidden = rw total over;
       needed = All-permutation (λ i. sum_by r members ≤ capacity + r i) (map activity kept) members moved (All-map (λ i. sum_by r members ≤ capacity + r i) activity kept (λ k d l. omega (arith, total, needed k d l, kept_demands k d l)));
@@ -252,17 +252,17 @@ is_minimal_forbidden P k running members shrunk = record {
 -- ---- Loads that are sorted come by rising demand, ties by rising number.
 
 -- the order of loads: by demand, and then by activity
-abbrev pub load_cmp : Load → Load → Ordering
+abbrev pub load_cmp : Demand → Demand → Ordering
 load_cmp x y = ordering_then (nat_cmp x.demand y.demand) (nat_cmp x.activity y.activity)
 
 not_less : (a b c d : ℕ) → is_lt (ordering_then (nat_cmp b a) (nat_cmp d c)) ≡ false → b ≤ a → (a ≡ b) × (c ≤ d)
 not_less a b c d h le = (grind (arith, nat_tests), grind (arith, nat_tests))
 
-pub sorted_by_demand : (loads : List Load) → IsSorted load_cmp loads → AllPairs ComesBefore loads
+pub sorted_by_demand : (loads : List Demand) → IsSorted load_cmp loads → AllPairs ComesBefore loads
 sorted_by_demand loads sorted i j d early late =
-    let x : Load = get_or loads i d in
-    let y : Load = get_or loads j d in
-    let far = sorted_far (λ x y. is_lt (load_cmp x y)) (ranks_by (then_total (on_total (λ (l : Load). l.demand) nat_cmp_total) (on_total (λ (l : Load). l.activity) nat_cmp_total)) (λ l. l)) loads sorted i j d (omega arith) late in
+    let x : Demand = get_or loads i d in
+    let y : Demand = get_or loads j d in
+    let far = sorted_far (λ x y. is_lt (load_cmp x y)) (ranks_by (then_total (on_total (λ (l : Demand). l.demand) nat_cmp_total) (on_total (λ (l : Demand). l.activity) nat_cmp_total)) (λ l. l)) loads sorted i j d (omega arith) late in
     ⊎_elim
     (λ (less : x.demand < y.demand). inl less)
     (λ (more : y.demand ≤ x.demand). inr (not_less x.demand y.demand x.activity y.activity far more))

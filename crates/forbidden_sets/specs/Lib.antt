@@ -1,1 +1,2 @@
 pub mod MinimalSet
+pub mod Incompatible

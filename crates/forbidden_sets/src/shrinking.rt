@@ -5,8 +5,8 @@ ghost use Rattle.std.specs.List.{All, AllPairs, Contains};
 ghost use Rattle.std.specs.List.Sorted.{IsStrictlyIncreasing, IsNonDecreasing, IsPermutation};
 ghost use Rattle.network.specs.Schedule.{IsForbidden, IsMinimalForbidden};
 ghost use Rattle.network.specs.Problem.{activity_count, resource_count, demand, capacity};
-ghost use Rattle.forbidden_sets.specs.MinimalSet.{AreLoads, ComesBefore, total_of};
-ghost use Rattle.forbidden_sets.specs.declared.shrinking.Load.{Load};
+ghost use Rattle.forbidden_sets.specs.MinimalSet.{AreDemands, ComesBefore, total_of};
+ghost use Rattle.forbidden_sets.specs.declared.shrinking.Demand.{Demand};
 
 use crate::set::ForbiddenSet;
 use network::{MAX_ACTIVITIES, MAX_AMOUNT, Project};
@@ -15,7 +15,7 @@ use std::alloc::{AllocError, Global};
 
 /// An activity, by its demand for the resource.
 #[derive(Clone, Copy, Default, PartialEq, Eq, PartialOrd, Ord)]
-struct Load {
+struct Demand {
     demand: u64,
     activity: usize,
 }
@@ -26,10 +26,10 @@ fn by_demand(
     project: &Project,
     resource: usize,
     activities: &[usize],
-) -> Result<SmallVec<Load, 16>, AllocError>
+) -> Result<SmallVec<Demand, 16>, AllocError>
     requires resource { resource < resource_count project.now }
     requires activities { All (λ i. i < activity_count project.now) activities.now }
-    ensures loads { IfOk result (λ loads. AreLoads (demand project.now resource) activities.now loads.items) }
+    ensures loads { IfOk result (λ loads. AreDemands (demand project.now resource) activities.now loads.items) }
     ensures small { IfOk result (λ loads. All (λ load. pos load.demand ≤ℤ MAX_AMOUNT) loads.items) }
     ensures order { IfOk result (λ loads. AllPairs ComesBefore loads.items) }
 {
@@ -37,7 +37,7 @@ fn by_demand(
     for activity in activities {
         let demand = project.demand(resource, *activity);
         if demand > 0 {
-            loads.push(Load {
+            loads.push(Demand {
                 demand,
                 activity: *activity,
             })?;
@@ -48,7 +48,7 @@ fn by_demand(
 }
 
 /// How much the loads need together.
-fn total(loads: &[Load]) -> u64
+fn total(loads: &[Demand]) -> u64
     requires few { length loads.now ≤ MAX_ACTIVITIES }
     requires small { All (λ load. pos load.demand ≤ℤ MAX_AMOUNT) loads.now }
     ensures { result ≡ total_of loads.now }
@@ -62,7 +62,7 @@ fn total(loads: &[Load]) -> u64
 
 /// How many of the loads, from the first on, can go together while the rest still exceeds the capacity. As the demands
 /// rise, no other can be spared then.
-fn spared(loads: &[Load], capacity: u64) -> usize
+fn spared(loads: &[Demand], capacity: u64) -> usize
     requires few { length loads.now ≤ MAX_ACTIVITIES }
     requires small { All (λ load. pos load.demand ≤ℤ MAX_AMOUNT) loads.now }
     requires order { AllPairs ComesBefore loads.now }
@@ -81,7 +81,7 @@ fn spared(loads: &[Load], capacity: u64) -> usize
 }
 
 /// The activities of the loads, by rising number.
-fn in_order(alloc: Global, loads: &[Load]) -> Result<SmallVec<usize, 8>, AllocError>
+fn in_order(alloc: Global, loads: &[Demand]) -> Result<SmallVec<usize, 8>, AllocError>
     ensures moved { IfOk result (λ members. IsPermutation (map (λ load. load.activity) loads.now) members.items) }
     ensures rising { IfOk result (λ members. IsNonDecreasing members.items) }
 {

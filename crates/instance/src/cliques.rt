@@ -2,8 +2,8 @@
 
 use crate::numbers::Instance;
 use crate::walks::Walks;
+use crate::{Result, Rows, Table};
 use std::cmp::Reverse;
-use tables::{Result, Rows, Table};
 
 /// About how many steps greedy cliques may take.
 const BUDGET: u64 = 1_000_000_000;

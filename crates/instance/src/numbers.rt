@@ -1,9 +1,8 @@
 //! The numbers of a project.
 
-use horizon::{MAX_HORIZON, horizon_of};
-use network::Project;
+use crate::{Result, Rows, Table, narrow};
+use network::{MAX_HORIZON, Project, horizon_of};
 use std::alloc::Global;
-use tables::{Result, Rows, Table, narrow};
 
 /// `to` starts at least so many periods after `from` starts.
 #[derive(Clone, Copy, PartialEq, Eq, PartialOrd, Ord, Debug)]

@@ -2,9 +2,9 @@
 
 use crate::numbers::{Edge, Instance};
 use crate::walks::Walks;
+use crate::{Result, Table, narrow};
 use std::cmp::Reverse;
 use std::mem;
-use tables::{Result, Table, narrow};
 
 /// Two rivals whose order is open.
 #[derive(Clone, Copy, PartialEq, Eq, PartialOrd, Ord, Debug)]
@@ -23,7 +23,7 @@ pub struct Settled {
     /// In rising order.
     pub open: Vec<Rivals>,
     /// Whether there is no schedule.
-    pub is_dead: bool,
+    pub is_infeasible: bool,
 }
 
 impl Settled {
@@ -65,8 +65,8 @@ impl Settled {
             return Ok(true);
         }
         let order = if fits_before { before } else { after };
-        self.is_dead = !fits_before && !fits_after;
-        if self.is_dead || !self.walks.reaches(order.from, order.to, order.weight) {
+        self.is_infeasible = !fits_before && !fits_after;
+        if self.is_infeasible || !self.walks.reaches(order.from, order.to, order.weight) {
             self.forced.push(order)?;
             self.walks.insert(order)?;
         }
@@ -76,9 +76,9 @@ impl Settled {
     /// Settles each open pair once, up to where there is no schedule.
     fn pass(&mut self, instance: &Instance, most: i32) -> Result<()> {
         let above = most.wrapping_add(1);
-        self.is_dead = self.walks.reaches(0, instance.end(), above);
+        self.is_infeasible = self.walks.reaches(0, instance.end(), above);
         for pair in mem::replace(&mut self.open, Vec::new(instance.alloc)).iter() {
-            if self.is_dead {
+            if self.is_infeasible {
                 break;
             }
             if self.stays_open(instance, *pair, most)? {
@@ -100,7 +100,7 @@ pub fn settle(instance: &Instance, walks: Walks, most: i32) -> Result<Settled> {
         walks,
         forced: Vec::new(instance.alloc),
         open: pairs.collect(instance.alloc)?,
-        is_dead: false,
+        is_infeasible: false,
     };
     let count = u64::from(instance.count().max(1));
     let limit = BUDGET / count.wrapping_mul(count).max(1);
@@ -108,11 +108,11 @@ pub fn settle(instance: &Instance, walks: Walks, most: i32) -> Result<Settled> {
         let before = settled.forced.len();
         settled.pass(instance, most)?;
         let forced = settled.forced.len();
-        if settled.is_dead || forced == before || forced as u64 >= limit {
+        if settled.is_infeasible || forced == before || forced as u64 >= limit {
             break;
         }
     }
-    if settled.is_dead || settled.open.len() > MOST_PAIRS {
+    if settled.is_infeasible || settled.open.len() > MOST_PAIRS {
         settled.open.clear();
     }
     Ok(settled)

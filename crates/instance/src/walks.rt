@@ -1,8 +1,8 @@
 //! The greatest weights of walks between activities.
 
 use crate::numbers::{Edge, Instance};
+use crate::{Result, Table};
 use std::alloc::Global;
-use tables::{Result, Table};
 
 /// No walk. All weights of walks are above it.
 const NONE: i32 = i32::MIN / 2;

@@ -10,12 +10,12 @@ use Rattle.network.specs.Problem.{IsProject, Problem, activity_count, end_of, ru
 use Rattle.network.specs.Schedule.{start, HasNoSchedule, IsFeasible, IsLowerBound, IsShortest, Meets, makespan}
 use Rattle.network.specs.Walk.{weight, HasNoPositiveCycle, HasPositiveCycle, IsGreatestWeight}
 use Rattle.network.proofs.Schedules.{start_rule, walk_holds}
-use Rattle.horizon.specs.Horizon.{horizon}
-use Rattle.horizon.proofs.Sooner.{horizon_suffices}
+use Rattle.network.specs.Horizon.{horizon}
+use Rattle.network.proofs.Sooner.{horizon_suffices}
 use Rattle.longest_path.specs.Insert.{arc_of}
 use Rattle.lemma_proof.proofs.Held.{not_both}
-use Rattle.reasons.specs.Reasons.{Implies}
-use Rattle.reasons.proofs.Weighing.{MeetsAll, implied_met}
+use Rattle.lemma_proof.specs.Reasons.{Implies}
+use Rattle.lemma_proof.proofs.Weighing.{MeetsAll, implied_met}
 use Rattle.record_text.specs.FirstWrong.{IsFactOf}
 use Rattle.record_text.specs.declared.proved.Proved.{Proved}
 use Rattle.record_text.specs.declared.proved.Proved.TheVariants as proved

@@ -11,12 +11,12 @@ use Rattle.network.specs.Problem.{Problem, IsProject, IsAmount, activity_count, 
 use Rattle.network.specs.Walk.{Rows, entry, IsWalk, weight, HasPositiveCycle, IsGreatestWeight, IsLeastCycleTop, IsMatrixOf}
 use Rattle.network.proofs.Schedules.{start_rule}
 use Rattle.network.proofs.Walks.{IsWalk-append, weight-append}
-use Rattle.block.proofs.Existing.{cycle_part}
+use Rattle.lemma_proof.proofs.Existing.{cycle_part}
 use Rattle.longest_path.specs.Insert.{arc_of, weight_over, rows_over, AddsArc, ClosesCycle, FillsRows}
 use Rattle.longest_path.specs.Matrix.{joined, Reaches, IsFull}
 use Rattle.longest_path.proofs.Inserted.{length-rows_over, entry-rows_over}
 use Rattle.longest_path.proofs.Reach.{Reaches-weaker, greater-more, joined-some}
-use Rattle.reasons.specs.declared.weights.TheConstants.{MAX_ARC_WEIGHT}
+use Rattle.lemma_proof.specs.declared.weights.TheConstants.{MAX_ARC_WEIGHT}
 use Rattle.lemma_proof.specs.Lines.{IsArc}
 use Rattle.lemma_book.specs.Ledger.{deadline}
 

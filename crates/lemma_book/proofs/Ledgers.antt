@@ -7,19 +7,19 @@ use Rattle.network.specs.declared.parts.Lag.{Lag}
 use Rattle.network.specs.Problem.{IsBetween, Problem, activity_count, end_of, rules}
 use Rattle.network.specs.Schedule.{start, IsFeasible, Meets, makespan}
 use Rattle.network.specs.Walk.{HasPositiveCycle, IsMatrixOf}
-use Rattle.horizon.specs.Horizon.{horizon}
+use Rattle.network.specs.Horizon.{horizon}
 use Rattle.lemma_proof.specs.Bench.{BenchOf}
 use Rattle.lemma_proof.specs.declared.line.Line.{Line}
 use Rattle.lemma_proof.specs.Lines.{IsArc, IsIn, IsRefuted, MeetsNone, Slots, impossible}
 use Rattle.lemma_book.specs.declared.deadline.TheConstants.{MAX_CEILING}
 use Rattle.lemma_book.proofs.TooMuch.{too_much_out}
-use Rattle.lemma_book.specs.Ledger.{IsDraft, IsRootOf, IsSound, Leads, LedgerOf, MayLead, MayTake, asks_too_much, ceiling_of, deadline, first_roots, own_of, root_of, with_lemma, with_schedule, with_slot, without_lemma}
+use Rattle.lemma_book.specs.Ledger.{IsDraft, IsRootMatrixOf, IsSound, Leads, LedgerOf, MayLead, MayTake, asks_too_much, ceiling_of, deadline, first_roots, own_of, root_of, with_lemma, with_schedule, with_slot, without_lemma}
 use Rattle.lemma_book.specs.Premises.{PremisesOf, first_premises, ledger_of}
 use Rattle.lemma_book.proofs.Slotted.{in_emptied, in_shelved}
 use Rattle.lemma_proof.proofs.Truth.{none_meets_refuted}
 use Rattle.lemma_proof.proofs.Used.{light_reverse}
-use Rattle.reasons.specs.Reasons.{reverse_of}
-use Rattle.block.specs.Heads.{IsLight}
+use Rattle.lemma_proof.specs.Reasons.{reverse_of}
+use Rattle.lemma_proof.specs.Heads.{IsLight}
 
 pub deadline_met : (p : Problem) (s : List ℤ) (bound : ℤ) → IsFeasible p s → makespan s <ℤ bound → Meets s (deadline p bound)
 deadline_met p s bound feasible less =
@@ -55,12 +55,12 @@ of_sum h = omega (arith, ints)
 abbrev pub rules_and : Problem → ℤ → List Lag
 rules_and p bound = rules p ++ deadline p bound ∷ []
 
-pub root_from : (p : Problem) (own : List Lag) (bench : Option BenchOf) → MatchOption bench (HasPositiveCycle own) (λ b. IsMatrixOf (activity_count p) own b.rows) → IsRootOf p own bench
+pub root_from : (p : Problem) (own : List Lag) (bench : Option BenchOf) → MatchOption bench (HasPositiveCycle own) (λ b. IsMatrixOf (activity_count p) own b.rows) → IsRootMatrixOf p own bench
 root_from p own None found = found
 root_from p own (Some b) found = found
 
-pub first_root_is : (p : Problem) (bound : ℤ) (bench : Option BenchOf) → bound ≡ pos (horizon p + 1) → asks_too_much p ≡ false → IsRootOf p (rules_and p bound) bench → IsRootOf p (rules p ++ first_roots p) bench
-first_root_is p bound bench is asks root = rw asks (subst (λ (b : ℤ). IsRootOf p (rules_and p b) bench) is root)
+pub first_root_is : (p : Problem) (bound : ℤ) (bench : Option BenchOf) → bound ≡ pos (horizon p + 1) → asks_too_much p ≡ false → IsRootMatrixOf p (rules_and p bound) bench → IsRootMatrixOf p (rules p ++ first_roots p) bench
+first_root_is p bound bench is asks root = rw asks (subst (λ (b : ℤ). IsRootMatrixOf p (rules_and p b) bench) is root)
 
 -- ---- an arc more in the root
 

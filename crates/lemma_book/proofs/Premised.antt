@@ -10,19 +10,19 @@ use Rattle.std.proofs.lemmas.List.Elements.{All-push, Contains-append_cases, Con
 use Rattle.network.specs.declared.parts.Lag.{Lag}
 use Rattle.network.specs.Problem.{Problem, activity_count, rules}
 use Rattle.network.specs.Walk.{HasPositiveCycle}
-use Rattle.block.specs.Heads.{IsLight}
-use Rattle.block.proofs.Existing.{cycle_part}
-use Rattle.block.proofs.Implying.{implied_arc}
+use Rattle.lemma_proof.specs.Heads.{IsLight}
+use Rattle.lemma_proof.proofs.Existing.{cycle_part}
+use Rattle.lemma_proof.proofs.Implying.{implied_arc}
 use Rattle.lemma_proof.specs.declared.line.Line.{Line}
 use Rattle.lemma_proof.specs.Bench.{BenchOf}
 use Rattle.lemma_proof.specs.Lines.{IsArc, IsIn, IsRefuted, Slots}
 use Rattle.lemma_proof.proofs.Refuting.{cycle_refutes}
 use Rattle.lemma_proof.proofs.Staying.{Gives, refuted_given}
-use Rattle.lemma_book.specs.Ledger.{IsRootOf, first_roots, with_slot}
+use Rattle.lemma_book.specs.Ledger.{IsRootMatrixOf, first_roots, with_slot}
 use Rattle.lemma_book.specs.Premises.{ArePremises, Covers, PremisesOf, premises_of, root_arcs, with_roots}
 use Rattle.lemma_book.proofs.Slotted.{in_emptied, in_shelved}
 
-pub first_are : (p : Problem) (roots : List Lag) (lemmas : Slots) (bench : Option BenchOf) → roots ≡ first_roots p → lemmas ≡ [] → All (IsLight (activity_count p)) roots → IsRootOf p (rules p ++ first_roots p) bench → ArePremises (premises_of p roots lemmas) bench
+pub first_are : (p : Problem) (roots : List Lag) (lemmas : Slots) (bench : Option BenchOf) → roots ≡ first_roots p → lemmas ≡ [] → All (IsLight (activity_count p)) roots → IsRootMatrixOf p (rules p ++ first_roots p) bench → ArePremises (premises_of p roots lemmas) bench
 first_are p roots lemmas bench roots_are lemmas_are light root = record {
   lemmas = rw lemmas_are (λ slot lemma found. absurd (nothing slot lemma found));
   light = light;
@@ -34,11 +34,11 @@ first_are p roots lemmas bench roots_are lemmas_are light root = record {
 
 -- ---- an arc more in the root
 
-pub with_root_are : (x : PremisesOf) (bench new : Option BenchOf) (arc : Lag) → ArePremises x bench → IsLight (activity_count x.project) arc → IsRootOf x.project (root_arcs x ++ arc ∷ []) new → ArePremises (with_roots x (arc ∷ [])) new
+pub with_root_are : (x : PremisesOf) (bench new : Option BenchOf) (arc : Lag) → ArePremises x bench → IsLight (activity_count x.project) arc → IsRootMatrixOf x.project (root_arcs x ++ arc ∷ []) new → ArePremises (with_roots x (arc ∷ [])) new
 with_root_are x bench new arc are light root = record {
   lemmas = are.lemmas;
   light = All-push (IsLight (activity_count x.project)) x.roots arc are.light light;
-  root = subst (λ (own : List Lag). IsRootOf x.project own new) (append_assoc (rules x.project) x.roots (arc ∷ [])) root;
+  root = subst (λ (own : List Lag). IsRootMatrixOf x.project own new) (append_assoc (rules x.project) x.roots (arc ∷ [])) root;
 }
 
 -- what closes a walk of positive weight still does

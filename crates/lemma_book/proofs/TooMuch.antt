@@ -8,11 +8,11 @@ use Rattle.std.proofs.lemmas.List.Folds.{Any-from_list_any}
 use Rattle.std.proofs.lemmas.List.FromFn.{length-range_with_len, get_or-range_with_len}
 use Rattle.network.specs.Problem.{Problem, activities, activity_count, capacity, demand, duration, resource_count}
 use Rattle.network.specs.Schedule.{start, IsFeasible}
-use Rattle.rivals.proofs.Apart.{not_all_run}
+use Rattle.forbidden_sets.proofs.Apart.{not_all_run}
 use Rattle.longest_path.proofs.Reach.{int_lt-true}
 use Rattle.network.specs.Problem.{rules}
 use Rattle.network.specs.Walk.{HasPositiveCycle}
-use Rattle.horizon.specs.Horizon.{horizon}
+use Rattle.network.specs.Horizon.{horizon}
 use Rattle.network.specs.declared.parts.Lag.{Lag}
 use Rattle.lemma_proof.specs.Lines.{impossible}
 use Rattle.lemma_book.specs.Ledger.{asks_too_much, deadline, exceeds, exceeds_some, first_roots}

@@ -9,9 +9,9 @@ use Rattle.network.specs.Walk.{HasNoPositiveCycle, HasPositiveCycle, IsGreatestW
 use Rattle.network.specs.Schedule.{IsFeasible, Meets, makespan}
 use Rattle.record_text.specs.declared.proved.Proved.{Proved}
 use Rattle.record_text.specs.declared.proved.Proved.TheVariants as proved
-use Rattle.horizon.specs.Horizon.{horizon}
+use Rattle.network.specs.Horizon.{horizon}
 use Rattle.longest_path.specs.Insert.{arc_of}
-use Rattle.reasons.specs.Reasons.{reverse_of}
+use Rattle.lemma_proof.specs.Reasons.{reverse_of}
 use Rattle.lemma_proof.specs.declared.line.Line.{Line}
 use Rattle.lemma_proof.specs.Bench.{BenchOf}
 use Rattle.lemma_proof.specs.Lines.{IsArc, IsIn, IsRefuted, MeetsNone, Slots, impossible, picked}
@@ -95,9 +95,9 @@ without_lemma l slot = record l { lemmas = slice_set l.lemmas slot None }
 -- ---- What is kept.
 
 -- the matrix of the root's arcs; none where they close a walk of positive weight
-abbrev pub IsRootOf : Problem → List Lag → Option BenchOf → Type 0
-IsRootOf p own None = HasPositiveCycle own
-IsRootOf p own (Some bench) = IsMatrixOf (activity_count p) own bench.rows
+abbrev pub IsRootMatrixOf : Problem → List Lag → Option BenchOf → Type 0
+IsRootMatrixOf p own None = HasPositiveCycle own
+IsRootMatrixOf p own (Some bench) = IsMatrixOf (activity_count p) own bench.rows
 
 abbrev pub IsDraft : LedgerOf → Type 0
 IsDraft l = IsBetween (pos 0) MAX_CEILING (ceiling_of l)

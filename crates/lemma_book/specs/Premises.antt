@@ -3,11 +3,11 @@ use Rattle.std.specs.Prelude.{Bool, true, false, ◌≡◌, ◌++◌, ℕ, ℤ, 
 use Rattle.std.specs.List.{All}
 use Rattle.network.specs.declared.parts.Lag.{Lag}
 use Rattle.network.specs.Problem.{Problem, activity_count, rules}
-use Rattle.block.specs.Heads.{IsLight}
+use Rattle.lemma_proof.specs.Heads.{IsLight}
 use Rattle.lemma_proof.specs.declared.line.Line.{Line}
 use Rattle.lemma_proof.specs.Bench.{BenchOf}
 use Rattle.lemma_proof.specs.Lines.{AreLemmas, HaveUsed, Slots}
-use Rattle.lemma_book.specs.Ledger.{IsFilled, IsRootOf, LedgerOf, first_roots}
+use Rattle.lemma_book.specs.Ledger.{IsFilled, IsRootMatrixOf, LedgerOf, first_roots}
 
 pub record PremisesOf : Type 0 where
   pub project : Problem
@@ -27,7 +27,7 @@ first_premises p = record { project = p; roots = first_roots p; lemmas = [] }
 pub record ArePremises (x : PremisesOf) (bench : Option BenchOf) : Type 0 where
   pub lemmas : AreLemmas x.project x.lemmas
   pub light : All (IsLight (activity_count x.project)) x.roots
-  pub root : IsRootOf x.project (root_arcs x) bench
+  pub root : IsRootMatrixOf x.project (root_arcs x) bench
 
 abbrev pub premises_of : Problem → List Lag → Slots → PremisesOf
 premises_of p roots lemmas = record { project = p; roots = roots; lemmas = lemmas }

@@ -1,20 +1,18 @@
 //! The root at first: the project's rules and a deadline.
 
-ghost use Rattle.horizon.specs.Horizon.{horizon};
+ghost use Rattle.network.specs.Horizon.{horizon};
 ghost use Rattle.std.specs.Prelude.{◌≡◌, ◌+◌, ◌++◌, ◌∷◌, [], ℤ, pos, length, IfOk, MatchOption};
 ghost use Rattle.std.specs.List.{All};
-ghost use Rattle.block.specs.Heads.{IsLight};
+ghost use Rattle.lemma_proof.specs.Heads.{IsLight};
 ghost use Rattle.network.specs.Problem.{IsBetween, IsProject, activity_count, rules};
 ghost use Rattle.network.specs.Walk.{HasPositiveCycle, IsMatrixOf};
 ghost use Rattle.lemma_proof.specs.Lines.{IsArc};
-ghost use Rattle.lemma_book.specs.Ledger.{IsRootOf, deadline, first_roots};
+ghost use Rattle.lemma_book.specs.Ledger.{IsRootMatrixOf, deadline, first_roots};
 
 use crate::too_much::asks_too_much;
-use block::take;
-use horizon::{MAX_HORIZON, horizon_of};
-use lemma_proof::{Bench, IMPOSSIBLE};
+use lemma_proof::{Bench, IMPOSSIBLE, take};
 use longest_path::{MarkedMatrix, PathFault, longest};
-use network::{Lag, Project};
+use network::{Lag, MAX_HORIZON, Project, horizon_of};
 use std::alloc::{AllocError, Global};
 
 /// The greatest number that a makespan in question is below.
@@ -64,7 +62,7 @@ pub(crate) fn first_root(
 ) -> Result<(Vec<Lag>, Option<Bench>), AllocError>
     ensures roots { IfOk result (λ r. r.0.items ≡ first_roots project.now) }
     ensures light { IfOk result (λ r. All (IsLight (activity_count project.now)) r.0.items) }
-    ensures bench { IfOk result (λ r. IsRootOf project.now (rules project.now ++ first_roots project.now) r.1) }
+    ensures bench { IfOk result (λ r. IsRootMatrixOf project.now (rules project.now ++ first_roots project.now) r.1) }
     ensures within { IsBetween (pos 0) MAX_CEILING (pos (horizon project.now + 1)) }
 {
     prove!(project.activity_count() >= 2);

@@ -5,7 +5,7 @@ ghost use Rattle.std.specs.List.{All};
 ghost use Rattle.network.specs.Problem.{IsWithin, activity_count, end_of};
 ghost use Rattle.network.specs.declared.limits.TheConstants.{MAX_WALK_WEIGHT};
 ghost use Rattle.network.specs.Walk.{HasNoPositiveCycle, HasPositiveCycle, IsGreatestWeight};
-ghost use Rattle.block.specs.Heads.{IsLight};
+ghost use Rattle.lemma_proof.specs.Heads.{IsLight};
 ghost use Rattle.lemma_proof.specs.Lines.{IsArc, IsIn, IsRefuted, picked};
 ghost use Rattle.lemma_book.specs.declared.ledger.TheConstants.{MAX_SLOTS};
 ghost use Rattle.lemma_book.specs.Ledger.{HasRoom, IsFilled, with_slot};

@@ -3,8 +3,8 @@ use Rattle.std.proofs.Common.{◌≡◌, ◌≢◌, ◌≤◌, ◌<◌, ℕ, zer
 use Rattle.std.proofs.lemmas.List.{length-append, take-append-le, drop-append-le}
 use Rattle.std.proofs.lemmas.Bool.{cases_lt, lt-ltb, le-ltb}
 use Rattle.lemma_log.specs.declared.event.Event.{Event}
-use Rattle.lemma_log.specs.declared.fault.LogFault.{LogFault}
-use Rattle.lemma_log.specs.declared.fault.LogFault.TheVariants.{Short, Form, Long, Memory}
+use Rattle.lemma_log.specs.declared.fault.DecodeFault.{DecodeFault}
+use Rattle.lemma_log.specs.declared.fault.DecodeFault.TheVariants.{Short, Form, Long, Memory}
 use Rattle.lemma_log.specs.Numbers.{Part, digits_in, with_digit}
 use Rattle.lemma_log.specs.Text.{body_text, event_text, IsWritable}
 use Rattle.lemma_log.specs.Reading.{cut, frame_in, framed, read_in, whole_in, with_left}
@@ -13,11 +13,11 @@ use Rattle.lemma_log.proofs.Digits.{read_none, read_empty, read_low, read_high, 
 use Rattle.lemma_log.proofs.EventBack.{read_back}
 
 -- what is read of bytes, and what is read where more follow them
-abbrev pub IsStable : {A : Type 0} → List ℕ → Result (Part A) LogFault → Result (Part A) LogFault → Type 0
+abbrev pub IsStable : {A : Type 0} → List ℕ → Result (Part A) DecodeFault → Result (Part A) DecodeFault → Type 0
 IsStable {A} more here there =
     MatchResult here (λ part. there ≡ Ok (record { value = part.value; left = part.left ++ more })) (λ fault. fault ≢ Short → there ≡ Err fault)
 
-digit_stable : (more : List ℕ) (digit : ℕ) (here there : Result (Part ℕ) LogFault) → IsStable more here there → IsStable more (with_digit digit here) (with_digit digit there)
+digit_stable : (more : List ℕ) (digit : ℕ) (here there : Result (Part ℕ) DecodeFault) → IsStable more here there → IsStable more (with_digit digit here) (with_digit digit there)
 digit_stable more digit (Ok part) there h = ap (with_digit digit) h
 digit_stable more digit (Err fault) there h = λ ne. ap (with_digit digit) (h ne)
 
@@ -30,7 +30,7 @@ stable zero bytes more = rw (read_none zero bytes refl, read_none zero (bytes ++
 stable (suc most) [] more = rw (read_empty (suc most) (omega arith)) (λ ne. absurd (ne refl))
 stable (suc most) (b ∷ bs) more = stable_by most b bs more (stable most bs more) (cases_lt b 128)
 
-same_part : {A : Type 0} (r : Result (Part A) LogFault) (p q : Part A) → r ≡ Ok p → r ≡ Ok q → p ≡ q
+same_part : {A : Type 0} (r : Result (Part A) DecodeFault) (p q : Part A) → r ≡ Ok p → r ≡ Ok q → p ≡ q
 same_part r p q h k = cc
 
 some_length : (more : List ℕ) → more ≢ [] → 0 < length more
@@ -45,7 +45,7 @@ cut_stable_by more size (inr enough) =
     let there : size.value ≤ length (size.left ++ more) = omega (arith, enough, length-append size.left more) in
     rw (le-ltb (length size.left) size.value enough, le-ltb (length (size.left ++ more)) size.value there, take-append-le size.value size.left more enough, drop-append-le size.value size.left more enough) refl
 
-cut_stable : (more : List ℕ) (here there : Result (Part ℕ) LogFault) → IsStable more here there → IsStable more (cut here) (cut there)
+cut_stable : (more : List ℕ) (here there : Result (Part ℕ) DecodeFault) → IsStable more here there → IsStable more (cut here) (cut there)
 cut_stable more (Ok size) there h = rw h (cut_stable_by more size (cases_lt (length size.left) size.value))
 cut_stable more (Err fault) there h = λ ne. ap cut (h ne)
 
@@ -53,10 +53,10 @@ frame_stable : (bytes more : List ℕ) → IsStable more (frame_in bytes) (frame
 unfolding frame_in
 frame_stable bytes more = cut_stable more (digits_in 9 bytes) (digits_in 9 (bytes ++ more)) (stable 9 bytes more)
 
-framed_stable : (more : List ℕ) (here there : Result (Part (List ℕ)) LogFault) → IsStable more here there → IsStable more (framed here) (framed there)
+framed_stable : (more : List ℕ) (here there : Result (Part (List ℕ)) DecodeFault) → IsStable more here there → IsStable more (framed here) (framed there)
 framed_stable more (Ok frame) there h = rw h (by_event (whole_in frame.value))
   where
-    by_event : (found : Result Event LogFault) → IsStable more (with_left found frame.left) (with_left found (frame.left ++ more))
+    by_event : (found : Result Event DecodeFault) → IsStable more (with_left found frame.left) (with_left found (frame.left ++ more))
     by_event (Ok e) = refl
     by_event (Err fault) = λ ne. refl
 framed_stable more (Err fault) there h = λ ne. ap framed (h ne)
@@ -66,7 +66,7 @@ pub read_stable : (bytes more : List ℕ) → IsStable more (read_in bytes) (rea
 read_stable bytes more = framed_stable more (frame_in bytes) (frame_in (bytes ++ more)) (frame_stable bytes more)
 
 -- fewer bytes follow the number than it says
-cut_short : (here : Result (Part ℕ) LogFault) (body more : List ℕ) → more ≢ [] → IsStable more here (Ok (record { value = length body; left = body })) → cut here ≡ Err Short
+cut_short : (here : Result (Part ℕ) DecodeFault) (body more : List ℕ) → more ≢ [] → IsStable more here (Ok (record { value = length body; left = body })) → cut here ≡ Err Short
 cut_short (Ok part) body more ne h =
     let same = same_part (Ok (record { value = length body; left = body })) (record { value = length body; left = body }) (record { value = part.value; left = part.left ++ more }) refl h in
     let value : length body ≡ part.value = ap (λ (p : Part ℕ). p.value) same in
@@ -102,13 +102,13 @@ back_read bytes left e count h is = record {
   short = λ f more w spelled ne. let few = read_short bytes more f w spelled ne in absurd cc;
 }
 
-memory_only : (bytes rest : List ℕ) (e : Event) (fault : LogFault) → (fault ≢ Memory → read_in bytes ≡ Err fault) → read_in bytes ≡ Ok (record { value = e; left = rest }) → fault ≡ Memory
+memory_only : (bytes rest : List ℕ) (e : Event) (fault : DecodeFault) → (fault ≢ Memory → read_in bytes ≡ Err fault) → read_in bytes ≡ Ok (record { value = e; left = rest }) → fault ≡ Memory
 memory_only bytes rest e Memory h same = refl
 memory_only bytes rest e Short h same = absurd (let is = h (λ no. cc) in cc)
 memory_only bytes rest e Form h same = absurd (let is = h (λ no. cc) in cc)
 memory_only bytes rest e Long h same = absurd (let is = h (λ no. cc) in cc)
 
-pub back_fault : (bytes : List ℕ) (fault : LogFault) → (fault ≢ Memory → read_in bytes ≡ Err fault) → ReadsBack bytes (Err fault)
+pub back_fault : (bytes : List ℕ) (fault : DecodeFault) → (fault ≢ Memory → read_in bytes ≡ Err fault) → ReadsBack bytes (Err fault)
 back_fault bytes fault h = record {
   reads = λ e rest w spelled. memory_only bytes rest e fault h (written bytes rest e w spelled);
   short = λ e more w spelled ne no. let few = read_short bytes more e w spelled ne in let is = h no in cc;

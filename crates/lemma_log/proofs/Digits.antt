@@ -2,7 +2,7 @@
 use Rattle.std.proofs.Common.{◌≡◌, ℕ, zero, suc, ◌+◌, ◌-◌, ◌*◌, ◌/◌, ◌%◌, ◌^◌, ◌<◌, ◌≤◌, List, [], ◌∷◌, ◌++◌, Ok, Err, inl, inr, ◌⊎◌, refl, sym, ap, ◌∙◌, append_assoc, arith}
 use Rattle.std.proofs.lemmas.Bool.{cases_lt, lt-ltb, le-ltb}
 use Rattle.std.proofs.Math.Nat.{pow-suc, one-le-pow, pow-le-pow_right, div-add-mod, div-lt_iff_lt-mul}
-use Rattle.lemma_log.specs.declared.fault.LogFault.TheVariants.{Short, Form}
+use Rattle.lemma_log.specs.declared.fault.DecodeFault.TheVariants.{Short, Form}
 use Rattle.lemma_log.specs.Numbers.{digits_text, number_text, with_digit, digits_in}
 
 -- ---- one digit, or the first of several

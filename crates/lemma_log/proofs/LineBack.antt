@@ -9,7 +9,7 @@ use Rattle.network.specs.declared.parts.Lag.{Lag}
 use Rattle.network.specs.Problem.{IsWithin}
 use Rattle.lemma_proof.specs.declared.line.Line.{Line}
 use Rattle.lemma_proof.specs.declared.line.Line.TheVariants.{Force, Use, Push}
-use Rattle.lemma_proof.specs.declared.line.Overload.TheVariants.{Load, Clique}
+use Rattle.lemma_proof.specs.declared.line.WindowOverload.TheVariants.{Load, Clique}
 use Rattle.lemma_log.specs.Numbers.{digits_in, number_text, zigzag, signed_text}
 use Rattle.lemma_log.specs.Text.{arc_text, window_text, line_text, IsIndex, IsAmount, IsWritableArc, IsWritableLine}
 use Rattle.lemma_log.specs.Reading.{then_read, part_as, number_in, signed_in, load_in, short_load_in, clique_in, pushed, line_of, line_in, lines_in}

@@ -3,8 +3,8 @@ use Rattle.std.proofs.Common.{◌≡◌, ℕ, List, [], ◌∷◌, ◌++◌, Res
 use Rattle.std.specs.List.{flat_map, AllByRecursion}
 use Rattle.std.proofs.lemmas.List.{append-nil}
 use Rattle.lemma_log.specs.declared.event.Event.{Event}
-use Rattle.lemma_log.specs.declared.fault.LogFault.{LogFault}
-use Rattle.lemma_log.specs.declared.fault.LogFault.TheVariants.{Short}
+use Rattle.lemma_log.specs.declared.fault.DecodeFault.{DecodeFault}
+use Rattle.lemma_log.specs.declared.fault.DecodeFault.TheVariants.{Short}
 use Rattle.lemma_log.specs.Numbers.{Part}
 use Rattle.lemma_log.specs.Text.{event_text, title_text, IsWritable}
 use Rattle.lemma_log.specs.Reading.{cut, frame_in, framed, read_in}
@@ -37,7 +37,7 @@ frame_none = ap cut (read_empty 9 (omega arith))
 pub read_none : read_in [] ≡ Err Short
 read_none = ap framed frame_none
 
-same_part : (r : Result (Part Event) LogFault) (p q : Part Event) → r ≡ Ok p → r ≡ Ok q → p ≡ q
+same_part : (r : Result (Part Event) DecodeFault) (p q : Part Event) → r ≡ Ok p → r ≡ Ok q → p ≡ q
 same_part r p q h k = cc
 
 one_first : (bytes : List ℕ) (events others : List Event) → AreFirst bytes events [] → AreFirst bytes others [] → events ≡ others

@@ -1,7 +1,7 @@
 -- Numbers as bytes, and how they are read.
 use Rattle.std.specs.Prelude.{ℕ, suc, zero, ℤ, pos, negsuc, ◌+◌, ◌-◌, ◌*◌, ◌/◌, ◌%◌, if◌then◌else◌, nat_lt, Result, Ok, Err, List, [], ◌∷◌}
-use Rattle.lemma_log.specs.declared.fault.LogFault.{LogFault}
-use Rattle.lemma_log.specs.declared.fault.LogFault.TheVariants.{Short, Form}
+use Rattle.lemma_log.specs.declared.fault.DecodeFault.{DecodeFault}
+use Rattle.lemma_log.specs.declared.fault.DecodeFault.TheVariants.{Short, Form}
 
 -- ---- bytes
 
@@ -31,12 +31,12 @@ pub record Part (A : Type 0) : Type 0 where
   pub left : List ℕ
 
 -- a digit that others follow
-abbrev pub with_digit : ℕ → Result (Part ℕ) LogFault → Result (Part ℕ) LogFault
+abbrev pub with_digit : ℕ → Result (Part ℕ) DecodeFault → Result (Part ℕ) DecodeFault
 with_digit low (Ok high) = Ok (record { value = low + 128 * high.value; left = high.left })
 with_digit low (Err fault) = Err fault
 
 -- the number that bytes begin with, where it has so many digits at most
-unfoldable pub digits_in : ℕ → List ℕ → Result (Part ℕ) LogFault
+unfoldable pub digits_in : ℕ → List ℕ → Result (Part ℕ) DecodeFault
 digits_in zero bytes = Err Form
 digits_in (suc most) [] = Err Short
 digits_in (suc most) (b ∷ bs) = if nat_lt b 128 then Ok (record { value = b; left = bs }) else with_digit (b - 128) (digits_in most bs)

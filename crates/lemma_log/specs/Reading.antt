@@ -6,13 +6,13 @@ use Rattle.network.specs.declared.parts.Lag.{Lag}
 use Rattle.network.specs.Problem.{IsBetween}
 use Rattle.lemma_proof.specs.declared.line.Line.{Line}
 use Rattle.lemma_proof.specs.declared.line.Line.TheVariants.{Force, Use, Push}
-use Rattle.lemma_proof.specs.declared.line.Overload.{Overload}
-use Rattle.lemma_proof.specs.declared.line.Overload.TheVariants.{Load, Clique}
+use Rattle.lemma_proof.specs.declared.line.WindowOverload.{WindowOverload}
+use Rattle.lemma_proof.specs.declared.line.WindowOverload.TheVariants.{Load, Clique}
 use Rattle.lemma_log.specs.declared.event.Event.{Event}
 use Rattle.lemma_log.specs.declared.event.Event.TheVariants as event
 use Rattle.lemma_log.specs.declared.event.Claim.TheVariants as claim
-use Rattle.lemma_log.specs.declared.fault.LogFault.{LogFault}
-use Rattle.lemma_log.specs.declared.fault.LogFault.TheVariants as fault
+use Rattle.lemma_log.specs.declared.fault.DecodeFault.{DecodeFault}
+use Rattle.lemma_log.specs.declared.fault.DecodeFault.TheVariants as fault
 use Rattle.lemma_log.specs.declared.number.TheConstants.{MAX_DIGITS}
 use Rattle.lemma_log.specs.declared.writable.TheConstants.{MAX_ARCS}
 use Rattle.lemma_log.specs.Numbers.{Part, digits_in}
@@ -73,23 +73,23 @@ arc_in bytes = then_read (number_in bytes) (λ first. arc_of (first % 3) (first 
 
 -- ---- lines
 
-abbrev pub load_in : ℕ → List ℕ → Option (Part Overload)
+abbrev pub load_in : ℕ → List ℕ → Option (Part WindowOverload)
 load_in resource bytes =
     then_read (signed_in bytes) (λ from left. part_as (λ size. Load resource from (from +ℤ size)) (signed_in left))
 
 -- in a window of one period
-abbrev pub short_load_in : ℕ → List ℕ → Option (Part Overload)
+abbrev pub short_load_in : ℕ → List ℕ → Option (Part WindowOverload)
 short_load_in resource bytes = part_as (λ from. Load resource from (from +ℤ pos 1)) (signed_in bytes)
 
 abbrev pub members_in : ℕ → List ℕ → Option (Part (List ℕ))
 members_in count bytes = many_in number_in count bytes
 
-abbrev pub clique_in : ℕ → List ℕ → Option (Part Overload)
+abbrev pub clique_in : ℕ → List ℕ → Option (Part WindowOverload)
 clique_in count bytes =
     then_read (signed_in bytes) (λ from left. then_read (signed_in left) (λ size more. part_as (Clique from (from +ℤ size)) (members_in count more)))
 
 -- the overload of a kind, and of the number that has it
-abbrev pub overload_of : ℕ → ℕ → List ℕ → Option (Part Overload)
+abbrev pub overload_of : ℕ → ℕ → List ℕ → Option (Part WindowOverload)
 overload_of kind at bytes =
     if kind == 2 then load_in at bytes
     else if kind == 3 then short_load_in at bytes
@@ -98,14 +98,14 @@ overload_of kind at bytes =
     else if kind == 6 then clique_in at bytes
     else None
 
-abbrev pub bare_line : Overload → List ℕ → Option (Part Line)
+abbrev pub bare_line : WindowOverload → List ℕ → Option (Part Line)
 bare_line over bytes = Some (record { value = Push None over; left = bytes })
 
-abbrev pub arc_line : Overload → List ℕ → Option (Part Line)
+abbrev pub arc_line : WindowOverload → List ℕ → Option (Part Line)
 arc_line over bytes = part_as (λ e. Push (Some e) over) (arc_in bytes)
 
 -- the line of an overload of a kind: one that shows an arc, or not
-abbrev pub pushed : ℕ → Overload → List ℕ → Option (Part Line)
+abbrev pub pushed : ℕ → WindowOverload → List ℕ → Option (Part Line)
 pushed kind over bytes = if kind == 2 || kind == 5 then bare_line over bytes else arc_line over bytes
 
 abbrev pub push_of : ℕ → ℕ → List ℕ → Option (Part Line)
@@ -188,40 +188,40 @@ unfoldable pub is_long : List ℕ → Bool
 is_long bytes = is_long_at (number_in bytes)
 
 -- the event whose bytes these all are, where it may be so long
-abbrev pub known : Option Event → Result Event LogFault
+abbrev pub known : Option Event → Result Event DecodeFault
 known (Some e) = Ok e
 known None = Err fault.Form
 
-abbrev pub whole_in : List ℕ → Result Event LogFault
+abbrev pub whole_in : List ℕ → Result Event DecodeFault
 whole_in body = if is_long body then Err fault.Long else known (event_in body)
 
 -- ---- an event and what follows it
 
 -- so many bytes, and what follows them
-abbrev pub cut : Result (Part ℕ) LogFault → Result (Part (List ℕ)) LogFault
+abbrev pub cut : Result (Part ℕ) DecodeFault → Result (Part (List ℕ)) DecodeFault
 cut (Ok size) =
     if nat_lt (length size.left) size.value then Err fault.Short
     else Ok (record { value = take size.value size.left; left = drop size.value size.left })
 cut (Err f) = Err f
 
 -- the bytes of an event without the number of them, and what follows
-unfoldable pub frame_in : List ℕ → Result (Part (List ℕ)) LogFault
+unfoldable pub frame_in : List ℕ → Result (Part (List ℕ)) DecodeFault
 frame_in bytes = cut (digits_in MAX_DIGITS bytes)
 
-abbrev pub with_left : Result Event LogFault → List ℕ → Result (Part Event) LogFault
+abbrev pub with_left : Result Event DecodeFault → List ℕ → Result (Part Event) DecodeFault
 with_left (Ok e) left = Ok (record { value = e; left = left })
 with_left (Err f) left = Err f
 
-abbrev pub framed : Result (Part (List ℕ)) LogFault → Result (Part Event) LogFault
+abbrev pub framed : Result (Part (List ℕ)) DecodeFault → Result (Part Event) DecodeFault
 framed (Ok frame) = with_left (whole_in frame.value) frame.left
 framed (Err f) = Err f
 
 -- the event that bytes begin with
-abbrev pub read_in : List ℕ → Result (Part Event) LogFault
+abbrev pub read_in : List ℕ → Result (Part Event) DecodeFault
 read_in bytes = framed (frame_in bytes)
 
 -- how many bytes the title has, where bytes begin with it
-abbrev pub title_in : List ℕ → Result ℕ LogFault
+abbrev pub title_in : List ℕ → Result ℕ DecodeFault
 title_in bytes =
     if starts_with nat_eq bytes title_text then Ok (length title_text)
     else if starts_with nat_eq title_text bytes then Err fault.Short

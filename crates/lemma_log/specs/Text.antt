@@ -6,8 +6,8 @@ use Rattle.network.specs.declared.parts.Lag.{Lag}
 use Rattle.network.specs.Problem.{IsWithin}
 use Rattle.lemma_proof.specs.declared.line.Line.{Line}
 use Rattle.lemma_proof.specs.declared.line.Line.TheVariants.{Force, Use, Push}
-use Rattle.lemma_proof.specs.declared.line.Overload.{Overload}
-use Rattle.lemma_proof.specs.declared.line.Overload.TheVariants.{Load, Clique}
+use Rattle.lemma_proof.specs.declared.line.WindowOverload.{WindowOverload}
+use Rattle.lemma_proof.specs.declared.line.WindowOverload.TheVariants.{Load, Clique}
 use Rattle.lemma_log.specs.declared.event.Event.{Event}
 use Rattle.lemma_log.specs.declared.event.Event.TheVariants as event
 use Rattle.lemma_log.specs.declared.event.Claim.{Claim}
@@ -46,7 +46,7 @@ clique_kind false = 5
 clique_kind true = 6
 
 -- an overload that shows an arc, or not
-abbrev pub overload_text : Bool → Overload → List ℕ
+abbrev pub overload_text : Bool → WindowOverload → List ℕ
 overload_text shows (Load resource from to) = load_text shows resource from (to -ℤ from)
 overload_text shows (Clique from to members) =
     number_text (8 * length members + clique_kind shows) ++ window_text from (to -ℤ from) ++ flat_map number_text members
@@ -91,7 +91,7 @@ pub record IsWritableArc (e : Lag) : Type 0 where
   pub to : IsIndex e.to
   pub weight : IsAmount e.weight
 
-abbrev pub IsWritableOverload : Overload → Type 0
+abbrev pub IsWritableOverload : WindowOverload → Type 0
 IsWritableOverload (Load resource from to) = IsIndex resource × IsAmount from × IsAmount to
 IsWritableOverload (Clique from to members) =
     IsIndex (length members) × IsAmount from × IsAmount to × AllByRecursion IsIndex members

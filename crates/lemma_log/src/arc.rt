@@ -4,7 +4,7 @@ ghost use Rattle.std.specs.Prelude.{◌≡◌, ◌<◌, ◌++◌, length, Some, 
 ghost use Rattle.lemma_log.specs.Text.{arc_text};
 ghost use Rattle.lemma_log.specs.Reading.{weighted, arc_back, arc_between, arc_of, arc_in};
 
-use crate::fault::LogFault;
+use crate::fault::DecodeFault;
 use crate::number::{number, put_number};
 use crate::signed::{put_signed, signed};
 use network::Lag;
@@ -28,7 +28,7 @@ pub(crate) fn put_arc(bytes: &mut Vec<u8>, arc: Lag) -> Result<(), AllocError>
 }
 
 /// The arc between these whose weight bytes begin with, and what follows it.
-fn weighted(from: usize, to: usize, bytes: &[u8]) -> Result<(Lag, &[u8]), LogFault>
+fn weighted(from: usize, to: usize, bytes: &[u8]) -> Result<(Lag, &[u8]), DecodeFault>
     ensures found { IfOk result (λ r. weighted from to bytes.now ≡ Some (record { value = r.0; left = r.1.now })) }
     ensures shorter { IfOk result (λ r. length r.1.now < length bytes.now) }
     ensures fault { OnErr result (weighted from to bytes.now ≡ None) }
@@ -38,7 +38,7 @@ fn weighted(from: usize, to: usize, bytes: &[u8]) -> Result<(Lag, &[u8]), LogFau
 }
 
 /// The arc to activity 0 whose weight bytes begin with, its sign turned, and what follows it.
-fn arc_back(from: usize, bytes: &[u8]) -> Result<(Lag, &[u8]), LogFault>
+fn arc_back(from: usize, bytes: &[u8]) -> Result<(Lag, &[u8]), DecodeFault>
     ensures found { IfOk result (λ r. arc_back from bytes.now ≡ Some (record { value = r.0; left = r.1.now })) }
     ensures shorter { IfOk result (λ r. length r.1.now < length bytes.now) }
     ensures fault { OnErr result (arc_back from bytes.now ≡ None) }
@@ -53,7 +53,7 @@ fn arc_back(from: usize, bytes: &[u8]) -> Result<(Lag, &[u8]), LogFault>
 }
 
 /// The arc from an activity whose end and weight bytes begin with, and what follows it.
-fn arc_between(from: usize, bytes: &[u8]) -> Result<(Lag, &[u8]), LogFault>
+fn arc_between(from: usize, bytes: &[u8]) -> Result<(Lag, &[u8]), DecodeFault>
     ensures found { IfOk result (λ r. arc_between from bytes.now ≡ Some (record { value = r.0; left = r.1.now })) }
     ensures shorter { IfOk result (λ r. length r.1.now < length bytes.now) }
     ensures fault { OnErr result (arc_between from bytes.now ≡ None) }
@@ -63,7 +63,7 @@ fn arc_between(from: usize, bytes: &[u8]) -> Result<(Lag, &[u8]), LogFault>
 }
 
 /// The arc of a kind, and of the number that has it, and what follows it.
-fn arc_of(kind: usize, at: usize, bytes: &[u8]) -> Result<(Lag, &[u8]), LogFault>
+fn arc_of(kind: usize, at: usize, bytes: &[u8]) -> Result<(Lag, &[u8]), DecodeFault>
     ensures found { IfOk result (λ r. arc_of kind at bytes.now ≡ Some (record { value = r.0; left = r.1.now })) }
     ensures shorter { IfOk result (λ r. length r.1.now < length bytes.now) }
     ensures fault { OnErr result (arc_of kind at bytes.now ≡ None) }
@@ -77,7 +77,7 @@ fn arc_of(kind: usize, at: usize, bytes: &[u8]) -> Result<(Lag, &[u8]), LogFault
 
 /// The arc that bytes begin with, and what follows it.
 #[tactic(auto, unfolding(crate::specs::Reading::arc_in))]
-pub(crate) fn arc(bytes: &[u8]) -> Result<(Lag, &[u8]), LogFault>
+pub(crate) fn arc(bytes: &[u8]) -> Result<(Lag, &[u8]), DecodeFault>
     ensures found { IfOk result (λ r. arc_in bytes.now ≡ Some (record { value = r.0; left = r.1.now })) }
     ensures shorter { IfOk result (λ r. length r.1.now < length bytes.now) }
     ensures fault { OnErr result (arc_in bytes.now ≡ None) }

@@ -1,11 +1,11 @@
 //! Reads an event whose bytes are known to be all there.
 
 ghost use Rattle.std.specs.Prelude.{◌≡◌, ◌≢◌, Some, None, IfOk, OnErr, IfErr};
-ghost use Rattle.lemma_log.specs.declared.fault.LogFault.TheVariants.{Memory};
+ghost use Rattle.lemma_log.specs.declared.fault.DecodeFault.TheVariants.{Memory};
 ghost use Rattle.lemma_log.specs.Reading.{last, lemma_lines, lemma_of, schedule_of, optimal_of, bound_of, claim_of, event_of, is_long, event_in};
 
 use crate::event::{Claim, Event};
-use crate::fault::LogFault;
+use crate::fault::DecodeFault;
 use crate::line::lines;
 use crate::lists::{arcs, starts};
 use crate::number::number;
@@ -15,19 +15,19 @@ use lemma_proof::Lags;
 use std::alloc::Global;
 
 /// An event, where nothing is left after it.
-fn last(event: Event, bytes: &[u8]) -> Result<Event, LogFault>
+fn last(event: Event, bytes: &[u8]) -> Result<Event, DecodeFault>
     ensures found { IfOk result (λ e. last event bytes.now ≡ Some e) }
     ensures fault { OnErr result (last event bytes.now ≡ None) }
 {
     if bytes.is_empty() {
         Ok(event)
     } else {
-        Err(LogFault::Form)
+        Err(DecodeFault::Form)
     }
 }
 
 /// The lemma of a slot and of arcs whose lines bytes are.
-fn lemma_lines(alloc: Global, slot: usize, arcs: Lags, bytes: &[u8]) -> Result<Event, LogFault>
+fn lemma_lines(alloc: Global, slot: usize, arcs: Lags, bytes: &[u8]) -> Result<Event, DecodeFault>
     ensures found { IfOk result (λ e. lemma_lines slot arcs bytes.now ≡ Some e) }
     ensures fault { IfErr result (λ fault. fault ≢ Memory → lemma_lines slot arcs bytes.now ≡ None) }
 {
@@ -36,7 +36,7 @@ fn lemma_lines(alloc: Global, slot: usize, arcs: Lags, bytes: &[u8]) -> Result<E
 }
 
 /// The lemma of a slot whose arcs and lines bytes are.
-fn lemma_of(alloc: Global, slot: usize, bytes: &[u8]) -> Result<Event, LogFault>
+fn lemma_of(alloc: Global, slot: usize, bytes: &[u8]) -> Result<Event, DecodeFault>
     ensures found { IfOk result (λ e. lemma_of slot bytes.now ≡ Some e) }
     ensures fault { IfErr result (λ fault. fault ≢ Memory → lemma_of slot bytes.now ≡ None) }
 {
@@ -46,7 +46,7 @@ fn lemma_of(alloc: Global, slot: usize, bytes: &[u8]) -> Result<Event, LogFault>
 }
 
 /// The schedule whose starts bytes are.
-fn schedule_of(alloc: Global, count: usize, bytes: &[u8]) -> Result<Event, LogFault>
+fn schedule_of(alloc: Global, count: usize, bytes: &[u8]) -> Result<Event, DecodeFault>
     ensures found { IfOk result (λ e. schedule_of count bytes.now ≡ Some e) }
     ensures fault { IfErr result (λ fault. fault ≢ Memory → schedule_of count bytes.now ≡ None) }
 {
@@ -55,7 +55,7 @@ fn schedule_of(alloc: Global, count: usize, bytes: &[u8]) -> Result<Event, LogFa
 }
 
 /// The claim of a makespan that bytes are.
-fn optimal_of(bytes: &[u8]) -> Result<Event, LogFault>
+fn optimal_of(bytes: &[u8]) -> Result<Event, DecodeFault>
     ensures found { IfOk result (λ e. optimal_of bytes.now ≡ Some e) }
     ensures fault { OnErr result (optimal_of bytes.now ≡ None) }
 {
@@ -64,7 +64,7 @@ fn optimal_of(bytes: &[u8]) -> Result<Event, LogFault>
 }
 
 /// The claim of a bound that bytes are.
-fn bound_of(bytes: &[u8]) -> Result<Event, LogFault>
+fn bound_of(bytes: &[u8]) -> Result<Event, DecodeFault>
     ensures found { IfOk result (λ e. bound_of bytes.now ≡ Some e) }
     ensures fault { OnErr result (bound_of bytes.now ≡ None) }
 {
@@ -73,7 +73,7 @@ fn bound_of(bytes: &[u8]) -> Result<Event, LogFault>
 }
 
 /// The claim of a number, and of the bytes after it.
-fn claim_of(at: usize, bytes: &[u8]) -> Result<Event, LogFault>
+fn claim_of(at: usize, bytes: &[u8]) -> Result<Event, DecodeFault>
     ensures found { IfOk result (λ e. claim_of at bytes.now ≡ Some e) }
     ensures fault { OnErr result (claim_of at bytes.now ≡ None) }
 {
@@ -81,12 +81,12 @@ fn claim_of(at: usize, bytes: &[u8]) -> Result<Event, LogFault>
         0 => optimal_of(bytes),
         1 => bound_of(bytes),
         2 => last(Event::Claim(Claim::NoSchedule), bytes),
-        _ => Err(LogFault::Form),
+        _ => Err(DecodeFault::Form),
     }
 }
 
 /// The event of a kind, of the number that has it, and of the bytes after it.
-fn event_of(alloc: Global, kind: usize, at: usize, bytes: &[u8]) -> Result<Event, LogFault>
+fn event_of(alloc: Global, kind: usize, at: usize, bytes: &[u8]) -> Result<Event, DecodeFault>
     ensures found { IfOk result (λ e. event_of kind at bytes.now ≡ Some e) }
     ensures fault { IfErr result (λ fault. fault ≢ Memory → event_of kind at bytes.now ≡ None) }
 {
@@ -118,7 +118,7 @@ pub(crate) fn is_long(bytes: &[u8]) -> bool
 
 /// The event whose bytes these are, without the number of them.
 #[tactic(auto, unfolding(crate::specs::Reading::event_in))]
-pub(crate) fn event_in(alloc: Global, bytes: &[u8]) -> Result<Event, LogFault>
+pub(crate) fn event_in(alloc: Global, bytes: &[u8]) -> Result<Event, DecodeFault>
     ensures found { IfOk result (λ e. event_in bytes.now ≡ Some e) }
     ensures fault { IfErr result (λ fault. fault ≢ Memory → event_in bytes.now ≡ None) }
 {

@@ -24,7 +24,7 @@ mod writable;
 mod write;
 
 pub use event::{Claim, Event, Lines};
-pub use fault::LogFault;
+pub use fault::DecodeFault;
 pub use law::spelling_law;
 pub use read::{Read, is_cut_off, read_event};
 pub use title::{put_title, read_title};

@@ -2,21 +2,21 @@
 
 ghost use Rattle.std.specs.Prelude.{◌≡◌, ◌≢◌, ◌≤◌, ◌<◌, ◌++◌, length, Some, None, IfOk, OnOk, OnErr, IfErr};
 ghost use Rattle.std.specs.List.{flat_map};
-ghost use Rattle.lemma_log.specs.declared.fault.LogFault.TheVariants.{Memory};
+ghost use Rattle.lemma_log.specs.declared.fault.DecodeFault.TheVariants.{Memory};
 ghost use Rattle.lemma_log.specs.Text.{line_text};
 ghost use Rattle.lemma_log.specs.Reading.{force_of, pushed, push_of, line_of, line_in, lines_in};
 
 use crate::arc::{arc, put_arc};
 use crate::event::Lines;
-use crate::fault::LogFault;
+use crate::fault::DecodeFault;
 use crate::number::{number, put_number};
 use crate::overload::{overload_of, put_overload};
-use lemma_proof::{Line, Overload};
+use lemma_proof::{Line, WindowOverload};
 use network::{Lag, Pair};
 use std::alloc::{AllocError, Global};
 
 /// Writes the line of an overload.
-fn put_push(bytes: &mut Vec<u8>, arc: &Option<Lag>, over: &Overload) -> Result<(), AllocError>
+fn put_push(bytes: &mut Vec<u8>, arc: &Option<Lag>, over: &WindowOverload) -> Result<(), AllocError>
     ensures { OnOk result (bytes.new.items ≡ bytes.old.items ++ line_text (Line.Push arc.now over.now)) }
 {
     match arc {
@@ -53,7 +53,7 @@ pub(crate) fn put_lines(bytes: &mut Vec<u8>, lines: &[Line]) -> Result<(), Alloc
 }
 
 /// The line of a forced pair whose second bytes begin with, and what follows it.
-fn force_of(before: usize, bytes: &[u8]) -> Result<(Line, &[u8]), LogFault>
+fn force_of(before: usize, bytes: &[u8]) -> Result<(Line, &[u8]), DecodeFault>
     ensures found { IfOk result (λ r. force_of before bytes.now ≡ Some (record { value = r.0; left = r.1.now })) }
     ensures shorter { IfOk result (λ r. length r.1.now < length bytes.now) }
     ensures fault { OnErr result (force_of before bytes.now ≡ None) }
@@ -63,7 +63,7 @@ fn force_of(before: usize, bytes: &[u8]) -> Result<(Line, &[u8]), LogFault>
 }
 
 /// The line of an overload, with the arc that bytes begin with where the kind has one, and what follows it.
-fn pushed(kind: usize, over: Overload, bytes: &[u8]) -> Result<(Line, &[u8]), LogFault>
+fn pushed(kind: usize, over: WindowOverload, bytes: &[u8]) -> Result<(Line, &[u8]), DecodeFault>
     ensures found { IfOk result (λ r. pushed kind over bytes.now ≡ Some (record { value = r.0; left = r.1.now })) }
     ensures shorter { IfOk result (λ r. length r.1.now ≤ length bytes.now) }
     ensures fault { OnErr result (pushed kind over bytes.now ≡ None) }
@@ -80,7 +80,12 @@ fn pushed(kind: usize, over: Overload, bytes: &[u8]) -> Result<(Line, &[u8]), Lo
 }
 
 /// The line of an overload of a kind, and of the number that has it, and what follows it.
-fn push_of(alloc: Global, kind: usize, at: usize, bytes: &[u8]) -> Result<(Line, &[u8]), LogFault>
+fn push_of(
+    alloc: Global,
+    kind: usize,
+    at: usize,
+    bytes: &[u8],
+) -> Result<(Line, &[u8]), DecodeFault>
     ensures found { IfOk result (λ r. push_of kind at bytes.now ≡ Some (record { value = r.0; left = r.1.now })) }
     ensures shorter { IfOk result (λ r. length r.1.now < length bytes.now) }
     ensures fault { IfErr result (λ fault. fault ≢ Memory → push_of kind at bytes.now ≡ None) }
@@ -90,7 +95,12 @@ fn push_of(alloc: Global, kind: usize, at: usize, bytes: &[u8]) -> Result<(Line,
 }
 
 /// The line of a kind, and of the number that has it, and what follows it.
-fn line_of(alloc: Global, kind: usize, at: usize, bytes: &[u8]) -> Result<(Line, &[u8]), LogFault>
+fn line_of(
+    alloc: Global,
+    kind: usize,
+    at: usize,
+    bytes: &[u8],
+) -> Result<(Line, &[u8]), DecodeFault>
     ensures found { IfOk result (λ r. line_of kind at bytes.now ≡ Some (record { value = r.0; left = r.1.now })) }
     ensures shorter { IfOk result (λ r. length r.1.now ≤ length bytes.now) }
     ensures fault { IfErr result (λ fault. fault ≢ Memory → line_of kind at bytes.now ≡ None) }
@@ -104,7 +114,7 @@ fn line_of(alloc: Global, kind: usize, at: usize, bytes: &[u8]) -> Result<(Line,
 
 /// The line that bytes begin with, and what follows it.
 #[tactic(auto, unfolding(crate::specs::Reading::line_in))]
-fn line(alloc: Global, bytes: &[u8]) -> Result<(Line, &[u8]), LogFault>
+fn line(alloc: Global, bytes: &[u8]) -> Result<(Line, &[u8]), DecodeFault>
     ensures found { IfOk result (λ r. line_in bytes.now ≡ Some (record { value = r.0; left = r.1.now })) }
     ensures shorter { IfOk result (λ r. length r.1.now < length bytes.now) }
     ensures fault { IfErr result (λ fault. fault ≢ Memory → line_in bytes.now ≡ None) }
@@ -114,7 +124,7 @@ fn line(alloc: Global, bytes: &[u8]) -> Result<(Line, &[u8]), LogFault>
 }
 
 /// The lines that bytes are.
-pub(crate) fn lines(alloc: Global, bytes: &[u8]) -> Result<Lines, LogFault>
+pub(crate) fn lines(alloc: Global, bytes: &[u8]) -> Result<Lines, DecodeFault>
     ensures found { IfOk result (λ lines. lines_in (length bytes.now) bytes.now ≡ Some lines) }
     ensures fault { IfErr result (λ fault. fault ≢ Memory → lines_in (length bytes.now) bytes.now ≡ None) }
 {

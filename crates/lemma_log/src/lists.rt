@@ -2,13 +2,13 @@
 
 ghost use Rattle.std.specs.Prelude.{◌≡◌, ◌≢◌, ◌≤◌, ◌++◌, length, Some, None, IfOk, OnOk, IfErr};
 ghost use Rattle.std.specs.List.{flat_map};
-ghost use Rattle.lemma_log.specs.declared.fault.LogFault.TheVariants.{Memory};
+ghost use Rattle.lemma_log.specs.declared.fault.DecodeFault.TheVariants.{Memory};
 ghost use Rattle.lemma_log.specs.Numbers.{signed_text};
 ghost use Rattle.lemma_log.specs.Text.{arc_text};
 ghost use Rattle.lemma_log.specs.Reading.{many_in, arc_in, signed_in};
 
 use crate::arc::{arc, put_arc};
-use crate::fault::LogFault;
+use crate::fault::DecodeFault;
 use crate::signed::{put_signed, signed};
 use lemma_proof::Lags;
 use network::Lag;
@@ -36,7 +36,7 @@ pub(crate) fn put_starts(bytes: &mut Vec<u8>, starts: &[i64]) -> Result<(), Allo
 }
 
 /// So many arcs that bytes begin with, and what follows them.
-pub(crate) fn arcs(alloc: Global, count: usize, bytes: &[u8]) -> Result<(Lags, &[u8]), LogFault>
+pub(crate) fn arcs(alloc: Global, count: usize, bytes: &[u8]) -> Result<(Lags, &[u8]), DecodeFault>
     ensures found { IfOk result (λ r. many_in arc_in count bytes.now ≡ Some (record { value = r.0; left = r.1.now })) }
     ensures fault { IfErr result (λ fault. fault ≢ Memory → many_in arc_in count bytes.now ≡ None) }
 {
@@ -54,7 +54,11 @@ pub(crate) fn arcs(alloc: Global, count: usize, bytes: &[u8]) -> Result<(Lags, &
 }
 
 /// So many starts that bytes begin with, and what follows them.
-pub(crate) fn starts(alloc: Global, count: usize, bytes: &[u8]) -> Result<(Starts, &[u8]), LogFault>
+pub(crate) fn starts(
+    alloc: Global,
+    count: usize,
+    bytes: &[u8],
+) -> Result<(Starts, &[u8]), DecodeFault>
     ensures found { IfOk result (λ r. many_in signed_in count bytes.now ≡ Some (record { value = r.0; left = r.1.now })) }
     ensures fault { IfErr result (λ fault. fault ≢ Memory → many_in signed_in count bytes.now ≡ None) }
 {

@@ -2,11 +2,11 @@
 
 ghost use Rattle.std.specs.Prelude.{◌≡◌, ◌≢◌, ◌≤◌, ◌++◌, length, Some, None, IfOk, OnOk, IfErr};
 ghost use Rattle.std.specs.List.{flat_map};
-ghost use Rattle.lemma_log.specs.declared.fault.LogFault.TheVariants.{Memory};
+ghost use Rattle.lemma_log.specs.declared.fault.DecodeFault.TheVariants.{Memory};
 ghost use Rattle.lemma_log.specs.Numbers.{number_text};
 ghost use Rattle.lemma_log.specs.Reading.{members_in};
 
-use crate::fault::LogFault;
+use crate::fault::DecodeFault;
 use crate::number::{number, put_number};
 use record_text::Members;
 use std::alloc::{AllocError, Global};
@@ -26,7 +26,7 @@ pub(crate) fn members(
     alloc: Global,
     count: usize,
     bytes: &[u8],
-) -> Result<(Members, &[u8]), LogFault>
+) -> Result<(Members, &[u8]), DecodeFault>
     ensures found { IfOk result (λ r. members_in count bytes.now ≡ Some (record { value = r.0; left = r.1.now })) }
     ensures shorter { IfOk result (λ r. length r.1.now ≤ length bytes.now) }
     ensures fault { IfErr result (λ fault. fault ≢ Memory → members_in count bytes.now ≡ None) }

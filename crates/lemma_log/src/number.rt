@@ -4,7 +4,7 @@ ghost use Rattle.std.specs.Prelude.{◌≡◌, ◌≤◌, ◌<◌, ◌^◌, ◌+
 ghost use Rattle.lemma_log.specs.Numbers.{number_text, digits_in};
 ghost use Rattle.lemma_log.specs.Reading.{number_in};
 
-use crate::fault::LogFault;
+use crate::fault::DecodeFault;
 use std::alloc::AllocError;
 
 /// The most bytes of a number that is read.
@@ -35,7 +35,7 @@ fn split_byte(bytes: &[u8]) -> Option<(u8, &[u8])>
 
 /// The number that bytes begin with, where it has so many digits at most, and what follows it.
 #[tactic(auto, using(crate::proofs::Digits::reading))]
-pub(crate) fn digits_in(bytes: &[u8], most: usize) -> Result<(usize, &[u8]), LogFault>
+pub(crate) fn digits_in(bytes: &[u8], most: usize) -> Result<(usize, &[u8]), DecodeFault>
     requires { most ≤ MAX_DIGITS }
     ensures found { IfOk result (λ r. digits_in most bytes.now ≡ Ok (record { value = r.0; left = r.1.now })) }
     ensures small { IfOk result (λ r. r.0 < 128 ^ most) }
@@ -43,10 +43,10 @@ pub(crate) fn digits_in(bytes: &[u8], most: usize) -> Result<(usize, &[u8]), Log
     ensures fault { IfErr result (λ fault. digits_in most bytes.now ≡ Err fault) }
 {
     if most == 0 {
-        return Err(LogFault::Form);
+        return Err(DecodeFault::Form);
     }
     let Some((byte, rest)) = split_byte(bytes) else {
-        return Err(LogFault::Short);
+        return Err(DecodeFault::Short);
     };
     let low = byte as usize;
     if low < 128 {
@@ -58,7 +58,7 @@ pub(crate) fn digits_in(bytes: &[u8], most: usize) -> Result<(usize, &[u8]), Log
 
 /// The number that bytes begin with, and what follows it.
 #[tactic(auto, unfolding(crate::specs::Reading::number_in))]
-pub(crate) fn number(bytes: &[u8]) -> Result<(usize, &[u8]), LogFault>
+pub(crate) fn number(bytes: &[u8]) -> Result<(usize, &[u8]), DecodeFault>
     ensures found { IfOk result (λ r. number_in bytes.now ≡ Some (record { value = r.0; left = r.1.now })) }
     ensures small { IfOk result (λ r. r.0 < 2 ^ 63) }
     ensures shorter { IfOk result (λ r. length r.1.now < length bytes.now) }

@@ -1,15 +1,15 @@
 //! Overloads as bytes.
 
 ghost use Rattle.std.specs.Prelude.{◌≡◌, ◌≢◌, ◌<◌, ◌++◌, ◌+ℤ◌, ◌-ℤ◌, length, Some, None, IfOk, OnOk, OnErr, IfErr};
-ghost use Rattle.lemma_log.specs.declared.fault.LogFault.TheVariants.{Memory};
+ghost use Rattle.lemma_log.specs.declared.fault.DecodeFault.TheVariants.{Memory};
 ghost use Rattle.lemma_log.specs.Text.{window_text, load_text, clique_kind, overload_text};
 ghost use Rattle.lemma_log.specs.Reading.{IsAddend, load_in, short_load_in, clique_in, overload_of};
 
-use crate::fault::LogFault;
+use crate::fault::DecodeFault;
 use crate::members::{members, put_members};
 use crate::number::put_number;
 use crate::signed::{put_signed, signed};
-use lemma_proof::Overload;
+use lemma_proof::WindowOverload;
 use std::alloc::{AllocError, Global};
 
 /// Writes where a window is that is so long.
@@ -54,16 +54,16 @@ fn clique_kind(shows: bool) -> u128
 pub(crate) fn put_overload(
     bytes: &mut Vec<u8>,
     shows: bool,
-    over: &Overload,
+    over: &WindowOverload,
 ) -> Result<(), AllocError>
     ensures { OnOk result (bytes.new.items ≡ bytes.old.items ++ overload_text shows over.now) }
 {
     match over {
-        Overload::Load { resource, from, to } => {
+        WindowOverload::Load { resource, from, to } => {
             let size = *to as i128 - *from as i128;
             put_load(bytes, shows, *resource, *from, size)
         }
-        Overload::Clique { from, to, members } => {
+        WindowOverload::Clique { from, to, members } => {
             let members = members.as_slice();
             let size = *to as i128 - *from as i128;
             put_number(bytes, 8 * members.len() as u128 + clique_kind(shows))?;
@@ -83,14 +83,14 @@ fn end_of(from: i64, size: i64) -> i64
 }
 
 /// The load whose window bytes begin with, and what follows it.
-fn load(resource: usize, bytes: &[u8]) -> Result<(Overload, &[u8]), LogFault>
+fn load(resource: usize, bytes: &[u8]) -> Result<(WindowOverload, &[u8]), DecodeFault>
     ensures found { IfOk result (λ r. load_in resource bytes.now ≡ Some (record { value = r.0; left = r.1.now })) }
     ensures shorter { IfOk result (λ r. length r.1.now < length bytes.now) }
     ensures fault { OnErr result (load_in resource bytes.now ≡ None) }
 {
     let (from, rest) = signed(bytes)?;
     let (size, rest) = signed(rest)?;
-    let over = Overload::Load {
+    let over = WindowOverload::Load {
         resource,
         from,
         to: end_of(from, size),
@@ -99,13 +99,13 @@ fn load(resource: usize, bytes: &[u8]) -> Result<(Overload, &[u8]), LogFault>
 }
 
 /// The load in a period that bytes begin with, and what follows it.
-fn short_load(resource: usize, bytes: &[u8]) -> Result<(Overload, &[u8]), LogFault>
+fn short_load(resource: usize, bytes: &[u8]) -> Result<(WindowOverload, &[u8]), DecodeFault>
     ensures found { IfOk result (λ r. short_load_in resource bytes.now ≡ Some (record { value = r.0; left = r.1.now })) }
     ensures shorter { IfOk result (λ r. length r.1.now < length bytes.now) }
     ensures fault { OnErr result (short_load_in resource bytes.now ≡ None) }
 {
     let (from, rest) = signed(bytes)?;
-    let over = Overload::Load {
+    let over = WindowOverload::Load {
         resource,
         from,
         to: end_of(from, 1),
@@ -114,7 +114,7 @@ fn short_load(resource: usize, bytes: &[u8]) -> Result<(Overload, &[u8]), LogFau
 }
 
 /// The clique of so many members whose window and members bytes begin with, and what follows it.
-fn clique(alloc: Global, count: usize, bytes: &[u8]) -> Result<(Overload, &[u8]), LogFault>
+fn clique(alloc: Global, count: usize, bytes: &[u8]) -> Result<(WindowOverload, &[u8]), DecodeFault>
     ensures found { IfOk result (λ r. clique_in count bytes.now ≡ Some (record { value = r.0; left = r.1.now })) }
     ensures shorter { IfOk result (λ r. length r.1.now < length bytes.now) }
     ensures fault { IfErr result (λ fault. fault ≢ Memory → clique_in count bytes.now ≡ None) }
@@ -122,7 +122,7 @@ fn clique(alloc: Global, count: usize, bytes: &[u8]) -> Result<(Overload, &[u8])
     let (from, rest) = signed(bytes)?;
     let (size, rest) = signed(rest)?;
     let (members, rest) = members(alloc, count, rest)?;
-    let over = Overload::Clique {
+    let over = WindowOverload::Clique {
         from,
         to: end_of(from, size),
         members,
@@ -136,7 +136,7 @@ pub(crate) fn overload_of(
     kind: usize,
     at: usize,
     bytes: &[u8],
-) -> Result<(Overload, &[u8]), LogFault>
+) -> Result<(WindowOverload, &[u8]), DecodeFault>
     ensures found { IfOk result (λ r. overload_of kind at bytes.now ≡ Some (record { value = r.0; left = r.1.now })) }
     ensures shorter { IfOk result (λ r. length r.1.now < length bytes.now) }
     ensures fault { IfErr result (λ fault. fault ≢ Memory → overload_of kind at bytes.now ≡ None) }
@@ -147,6 +147,6 @@ pub(crate) fn overload_of(
         4 => load(at, bytes),
         5 => clique(alloc, at, bytes),
         6 => clique(alloc, at, bytes),
-        _ => Err(LogFault::Form),
+        _ => Err(DecodeFault::Form),
     }
 }

@@ -4,7 +4,7 @@ ghost use Rattle.std.specs.Prelude.{◌≡◌, ◌<◌, ◌^◌, ◌++◌, lengt
 ghost use Rattle.lemma_log.specs.Numbers.{zigzag, signed_text};
 ghost use Rattle.lemma_log.specs.Reading.{IsAddend, unzigzag, signed_in};
 
-use crate::fault::LogFault;
+use crate::fault::DecodeFault;
 use crate::number::{number, put_number};
 use std::alloc::AllocError;
 
@@ -38,7 +38,7 @@ fn unzigzag(place: usize) -> i64
 
 /// The whole number that bytes begin with, and what follows it.
 #[tactic(auto, unfolding(crate::specs::Reading::signed_in))]
-pub(crate) fn signed(bytes: &[u8]) -> Result<(i64, &[u8]), LogFault>
+pub(crate) fn signed(bytes: &[u8]) -> Result<(i64, &[u8]), DecodeFault>
     ensures found { IfOk result (λ r. signed_in bytes.now ≡ Some (record { value = r.0; left = r.1.now })) }
     ensures small { IfOk result (λ r. IsAddend r.0) }
     ensures shorter { IfOk result (λ r. length r.1.now < length bytes.now) }

@@ -1,7 +1,7 @@
 //! Events and their bytes, these worked out by hand.
 
-use crate::{Claim, Event, Lines, LogFault, put_event, put_title, read_event, read_title};
-use lemma_proof::{Lags, Line, Overload};
+use crate::{Claim, DecodeFault, Event, Lines, put_event, put_title, read_event, read_title};
+use lemma_proof::{Lags, Line, WindowOverload};
 use network::{Lag, Pair};
 use record_text::{Members, Starts};
 use std::alloc::Global;
@@ -21,7 +21,7 @@ fn plays(rt: &impl Abort, alloc: Global, event: &Event, text: &[u8]) -> Result<(
     let front = text.split_last().map_or(text, |(_, front)| front);
     let cut = read_event(alloc, front);
     assert!(rt;
-        matches!(&cut, Err(LogFault::Short)),
+        matches!(&cut, Err(DecodeFault::Short)),
         "of {event:?} cut off"
     );
     Ok(())
@@ -62,7 +62,7 @@ fn lag(from: usize, to: usize, weight: i64) -> Lag {
 fn load(arc: Option<Lag>, resource: usize, from: i64, to: i64) -> Line {
     Line::Push {
         arc,
-        over: Overload::Load { resource, from, to },
+        over: WindowOverload::Load { resource, from, to },
     }
 }
 
@@ -70,7 +70,7 @@ fn load(arc: Option<Lag>, resource: usize, from: i64, to: i64) -> Line {
 fn clique(alloc: Global, arc: Option<Lag>) -> Result<Line, Fail> {
     Ok(Line::Push {
         arc,
-        over: Overload::Clique {
+        over: WindowOverload::Clique {
             from: 0,
             to: 5,
             members: Members::new([1, 3].to_vec(alloc)?),
@@ -120,7 +120,7 @@ fn what_is_no_event(rt: HostRuntime) -> Result<(), Fail> {
     ];
     for text in texts {
         let read = read_event(alloc, text);
-        assert!(rt; matches!(&read, Err(LogFault::Form)), "of {text:?}");
+        assert!(rt; matches!(&read, Err(DecodeFault::Form)), "of {text:?}");
     }
     Ok(())
 }
@@ -131,7 +131,7 @@ fn a_log_begins_with_its_title(rt: HostRuntime) -> Result<(), Fail> {
     put_title(&mut bytes)?;
     assert_eq!(rt; bytes.as_slice(), b"record 3\n".as_slice());
     assert_eq!(rt; read_title(b"record 3\n\x01\x0b"), Ok(9));
-    assert_eq!(rt; read_title(b"record 3"), Err(LogFault::Short));
-    assert_eq!(rt; read_title(b"record 2\n"), Err(LogFault::Form));
+    assert_eq!(rt; read_title(b"record 3"), Err(DecodeFault::Short));
+    assert_eq!(rt; read_title(b"record 2\n"), Err(DecodeFault::Form));
     Ok(())
 }

@@ -5,7 +5,7 @@ ghost use Rattle.std.specs.List.{AllByRecursion};
 ghost use Rattle.lemma_log.specs.Text.{IsAmount, IsIndex, IsWritableArc, IsWritableBody, IsWritableClaim, IsWritableLine, IsWritableOverload};
 
 use crate::event::{Claim, Event};
-use lemma_proof::{Line, Overload};
+use lemma_proof::{Line, WindowOverload};
 use network::Lag;
 
 /// What a slot, an activity, a resource or a count is below.
@@ -63,14 +63,14 @@ fn are_indices(members: &[usize]) -> bool
 }
 
 /// Whether the numbers of an overload are within the limits.
-fn is_writable_overload(over: &Overload) -> bool
+fn is_writable_overload(over: &WindowOverload) -> bool
     ensures { IsTrue result ↔ IsWritableOverload over.now }
 {
     match over {
-        Overload::Load { resource, from, to } => {
+        WindowOverload::Load { resource, from, to } => {
             is_index(*resource) && is_amount(*from) && is_amount(*to)
         }
-        Overload::Clique { from, to, members } => {
+        WindowOverload::Clique { from, to, members } => {
             let members = members.as_slice();
             is_index(members.len()) && is_amount(*from) && is_amount(*to) && are_indices(members)
         }
@@ -78,7 +78,7 @@ fn is_writable_overload(over: &Overload) -> bool
 }
 
 /// Whether those of a line that shows an arc, or that no schedule is left, are.
-fn is_writable_push(arc: &Option<Lag>, over: &Overload) -> bool
+fn is_writable_push(arc: &Option<Lag>, over: &WindowOverload) -> bool
     ensures { IsTrue result ↔ IsWritableLine (Line.Push arc.now over.now) }
 {
     match arc {

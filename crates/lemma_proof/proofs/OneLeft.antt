@@ -5,7 +5,7 @@ use Rattle.std.proofs.lemmas.Bool.{cases_eq, cases_lt, false≢true}
 use Rattle.std.specs.Option.{option_or}
 use Rattle.std.proofs.lemmas.Option.{slice_get_within}
 use Rattle.network.specs.declared.parts.Lag.{Lag}
-use Rattle.reasons.specs.Reasons.{Implies}
+use Rattle.lemma_proof.specs.Reasons.{Implies}
 use Rattle.lemma_proof.specs.Lines.{IsLeft}
 
 -- of the first i arcs all are implied

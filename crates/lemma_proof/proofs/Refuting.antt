@@ -11,11 +11,11 @@ use Rattle.network.specs.declared.parts.Lag.{Lag}
 use Rattle.network.specs.Problem.{Problem}
 use Rattle.network.specs.Walk.{IsWalk, weight, HasPositiveCycle, HasNoPositiveCycle}
 use Rattle.network.proofs.Walks.{IsWalk-append, weight-append}
-use Rattle.block.proofs.Implying.{IsWalk-part, implied_arc}
-use Rattle.reasons.specs.Reasons.{Implies, reverse_of}
+use Rattle.lemma_proof.proofs.Implying.{IsWalk-part, implied_arc}
+use Rattle.lemma_proof.specs.Reasons.{Implies, reverse_of}
 use Rattle.lemma_proof.specs.declared.line.Line.{Line}
 use Rattle.lemma_proof.specs.declared.line.Line.TheVariants.{Force, Use, Push}
-use Rattle.lemma_proof.specs.declared.line.Overload.{Overload}
+use Rattle.lemma_proof.specs.declared.line.WindowOverload.{WindowOverload}
 use Rattle.lemma_proof.specs.Lines.{AreRefuted, IsArc, IsPushed, IsRefuted, IsUse, Shows, Slots, picked}
 use Rattle.lemma_proof.specs.Bench.{BenchOf, Holds}
 use Rattle.lemma_proof.specs.Stepping.{Steps, noted}
@@ -53,7 +53,7 @@ one_used lemmas arcs slot e f u v =
     inr (rw u.reverse (cycle_reverse arcs u.left (v.is_left.others u.is_left.place u.left at other))))
     (cases_eq u.is_left.place v.is_left.place)
 
-one_pushed : (p : Problem) (arcs : List Lag) (arc : Option Lag) (over : Overload) (e f : Lag) → IsPushed p arcs arc over e → IsPushed p arcs arc over f → e ≡ f
+one_pushed : (p : Problem) (arcs : List Lag) (arc : Option Lag) (over : WindowOverload) (e f : Lag) → IsPushed p arcs arc over e → IsPushed p arcs arc over f → e ≡ f
 one_pushed p arcs None over e f x y = x.1 ∙ sym y.1
 one_pushed p arcs (Some g) over e f x y = x.2 ∙ sym y.2
 
@@ -185,16 +185,16 @@ over_more p lemmas own arcs lines i used x new line lt is over steps =
     let leads : Leads p lemmas (own ++ arcs) lines (i + 1) (used ++ i ∷ []) ((own ++ over.now) ++ step.0 ∷ []) = leads_more p lemmas (own ++ arcs) lines i used (own ++ over.now) line step.0 (line_there lines i line lt is) (picked_more lines used i line (slice_get_read lines (length lines) i line refl lt is)) step.1 over.leads in
     record { now = over.now ++ step.0 ∷ []; holds = step.2; leads = subst (λ (all : List Lag). Leads p lemmas (own ++ arcs) lines (i + 1) (used ++ i ∷ []) all) (append_assoc own over.now (step.0 ∷ [])) leads }
 
-pub over_nowhere : (p : Problem) (lemmas : Slots) (own arcs : List Lag) (lines : List Line) (i : ℕ) (used : List ℕ) (x new : BenchOf) (line : Line) → i < length lines → line ≡ get_or lines i line → x.is_dead ≡ false → IsOver p lemmas own arcs lines i used x → ((own now : List Lag) → Holds own now x → Steps p lemmas line own now new None) → ¬ IsRefuted p lemmas own arcs lines
+pub over_nowhere : (p : Problem) (lemmas : Slots) (own arcs : List Lag) (lines : List Line) (i : ℕ) (used : List ℕ) (x new : BenchOf) (line : Line) → i < length lines → line ≡ get_or lines i line → x.is_infeasible ≡ false → IsOver p lemmas own arcs lines i used x → ((own now : List Lag) → Holds own now x → Steps p lemmas line own now new None) → ¬ IsRefuted p lemmas own arcs lines
 over_nowhere p lemmas own arcs lines i used x new line lt is live over steps refuted =
     leads_nowhere p lemmas (own ++ arcs) lines i used (own ++ over.now) line (line_there lines i line lt is) (none_there own over.now x live over.holds) (steps own over.now over.holds) over.leads refuted.refuted
 
-pub over_dead : (p : Problem) (lemmas : Slots) (own arcs : List Lag) (lines : List Line) (i : ℕ) (used : List ℕ) (x : BenchOf) → All (IsArc p) arcs → x.is_dead ≡ true → IsOver p lemmas own arcs lines i used x → IsRefuted p lemmas own arcs lines × IsRefuted p lemmas own arcs (picked lines used)
+pub over_dead : (p : Problem) (lemmas : Slots) (own arcs : List Lag) (lines : List Line) (i : ℕ) (used : List ℕ) (x : BenchOf) → All (IsArc p) arcs → x.is_infeasible ≡ true → IsOver p lemmas own arcs lines i used x → IsRefuted p lemmas own arcs lines × IsRefuted p lemmas own arcs (picked lines used)
 over_dead p lemmas own arcs lines i used x are dead over =
     let both = leads_dead p lemmas (own ++ arcs) lines i used (own ++ over.now) (cycle_there own over.now x dead over.holds) over.leads in
     (record { are_arcs = are; refuted = both.0 }, record { are_arcs = are; refuted = both.1 })
 
-pub over_live : (p : Problem) (lemmas : Slots) (own arcs : List Lag) (lines : List Line) (i : ℕ) (used : List ℕ) (x : BenchOf) → length lines ≤ i → x.is_dead ≡ false → IsOver p lemmas own arcs lines i used x → ¬ IsRefuted p lemmas own arcs lines
+pub over_live : (p : Problem) (lemmas : Slots) (own arcs : List Lag) (lines : List Line) (i : ℕ) (used : List ℕ) (x : BenchOf) → length lines ≤ i → x.is_infeasible ≡ false → IsOver p lemmas own arcs lines i used x → ¬ IsRefuted p lemmas own arcs lines
 over_live p lemmas own arcs lines i used x past live over refuted =
     leads_live p lemmas (own ++ arcs) lines i used (own ++ over.now) (drop_all i lines past) (none_there own over.now x live over.holds) over.leads refuted.refuted
 

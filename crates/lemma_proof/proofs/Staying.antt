@@ -7,12 +7,12 @@ use Rattle.network.specs.declared.parts.Lag.{Lag}
 use Rattle.network.specs.Problem.{Problem}
 use Rattle.network.specs.Walk.{IsWalk, weight, HasPositiveCycle}
 use Rattle.network.proofs.Walks.{IsWalk-append, weight-append}
-use Rattle.block.proofs.Implying.{implied_arc, implied_part}
-use Rattle.reasons.specs.Reasons.{Implies, IsClique, IsLoad, MustRun, RunApart, RunsWithin, StartsAfterEnd, reverse_of}
+use Rattle.lemma_proof.proofs.Implying.{implied_arc, implied_part}
+use Rattle.lemma_proof.specs.Reasons.{Implies, IsClique, IsLoad, MustRun, RunApart, RunsWithin, StartsAfterEnd, reverse_of}
 use Rattle.lemma_proof.specs.declared.line.Line.{Line}
 use Rattle.lemma_proof.specs.declared.line.Line.TheVariants.{Force, Use, Push}
-use Rattle.lemma_proof.specs.declared.line.Overload.{Overload}
-use Rattle.lemma_proof.specs.declared.line.Overload.TheVariants.{Load, Clique}
+use Rattle.lemma_proof.specs.declared.line.WindowOverload.{WindowOverload}
+use Rattle.lemma_proof.specs.declared.line.WindowOverload.TheVariants.{Load, Clique}
 use Rattle.lemma_proof.specs.Lines.{AreRefuted, HasUsed, HaveUsed, IsIn, IsOverload, IsPushed, IsUse, Shows, Slots, StayRefuted}
 
 -- what some arcs imply, more arcs do, too
@@ -102,11 +102,11 @@ clique_given p from to members arcs more gives c = record {
   over = c.over;
 }
 
-overload_given : (p : Problem) (over : Overload) (arcs more : List Lag) → Gives more arcs → IsOverload p arcs over → IsOverload p more over
+overload_given : (p : Problem) (over : WindowOverload) (arcs more : List Lag) → Gives more arcs → IsOverload p arcs over → IsOverload p more over
 overload_given p (Load resource from to) arcs more gives over = (over.0, load_given p resource from to arcs more gives over.1)
 overload_given p (Clique from to members) arcs more gives over = (over.0, clique_given p from to members arcs more gives over.1)
 
-pushed_given : (p : Problem) (arc : Option Lag) (over : Overload) (arcs more : List Lag) (e : Lag) → Gives more arcs → IsPushed p arcs arc over e → IsPushed p more arc over e
+pushed_given : (p : Problem) (arc : Option Lag) (over : WindowOverload) (arcs more : List Lag) (e : Lag) → Gives more arcs → IsPushed p arcs arc over e → IsPushed p more arc over e
 pushed_given p None over arcs more e gives pushed = (overload_given p over arcs more gives pushed.0, pushed.1)
 pushed_given p (Some f) over arcs more e gives pushed = (
   pushed.0,

@@ -2,10 +2,10 @@
 use Rattle.std.proofs.Common.{◌≡◌, refl, ℕ, Bool, true, false, List, ◌++◌, length, Option, None, Some, IfSome, MatchOption}
 use Rattle.network.specs.declared.parts.Lag.{Lag}
 use Rattle.network.specs.Walk.{Rows, IsMatrixOf, HasNoPositiveCycle}
-use Rattle.block.specs.Block.{BlockOf, IsBlock}
-use Rattle.reasons.specs.Reasons.{Entries, entries_of_block, entries_of_matrix}
-use Rattle.reasons.proofs.KnownBlocks.{known_block}
-use Rattle.reasons.proofs.KnownWalks.{known_matrix}
+use Rattle.lemma_proof.specs.Block.{BlockOf, IsBlock}
+use Rattle.lemma_proof.specs.Reasons.{Entries, entries_of_block, entries_of_matrix}
+use Rattle.lemma_proof.proofs.KnownBlocks.{known_block}
+use Rattle.lemma_proof.proofs.KnownWalks.{known_matrix}
 use Rattle.lemma_proof.specs.Telling.{TellsArc}
 
 by_exact : (exact : Bool) (found : Option Lag) (P : Lag → Type 0) → exact ≡ true → MatchOption found (exact ≡ true → (e : Lag) → ¬ P e) P → MatchOption found ((e : Lag) → ¬ P e) P

@@ -12,14 +12,14 @@ use Rattle.network.specs.Schedule.{start, Meets, IsFeasible}
 use Rattle.network.specs.Walk.{weight, HasPositiveCycle}
 use Rattle.network.proofs.Schedules.{walk_holds}
 use Rattle.longest_path.specs.Insert.{arc_of}
-use Rattle.rivals.proofs.Apart.{apart}
-use Rattle.reasons.specs.Reasons.{Implies, reverse_of}
-use Rattle.reasons.proofs.Weighing.{MeetsAll, implied_met}
-use Rattle.reasons.proofs.Windows.{load_refuted, clique_refuted}
+use Rattle.forbidden_sets.proofs.Apart.{apart}
+use Rattle.lemma_proof.specs.Reasons.{Implies, reverse_of}
+use Rattle.lemma_proof.proofs.Weighing.{MeetsAll, implied_met}
+use Rattle.lemma_proof.proofs.Windows.{load_refuted, clique_refuted}
 use Rattle.lemma_proof.specs.declared.line.Line.{Line}
 use Rattle.lemma_proof.specs.declared.line.Line.TheVariants.{Force, Use, Push}
-use Rattle.lemma_proof.specs.declared.line.Overload.{Overload}
-use Rattle.lemma_proof.specs.declared.line.Overload.TheVariants.{Load, Clique}
+use Rattle.lemma_proof.specs.declared.line.WindowOverload.{WindowOverload}
+use Rattle.lemma_proof.specs.declared.line.WindowOverload.TheVariants.{Load, Clique}
 use Rattle.lemma_proof.specs.Lines.{AreRefuted, IsForced, IsLeft, IsOverload, IsPushed, IsUse, MeetsNone, NoneMeetsRefuted, Shows, Slots}
 
 cycle_refuted : (arcs : List Lag) (s : List ℤ) → HasPositiveCycle arcs → MeetsAll s arcs → ⊥
@@ -63,11 +63,11 @@ use_met lemmas arcs slot e s used none met =
     (λ (back : Meets s (reverse_of used.left)). rw used.reverse back)
     (either_met s used.left)
 
-overload_refuted : (p : Problem) (arcs : List Lag) (over : Overload) (s : List ℤ) → IsOverload p arcs over → IsFeasible p s → MeetsAll s arcs → ⊥
+overload_refuted : (p : Problem) (arcs : List Lag) (over : WindowOverload) (s : List ℤ) → IsOverload p arcs over → IsFeasible p s → MeetsAll s arcs → ⊥
 overload_refuted p arcs (Load resource from to) s over feasible met = load_refuted p arcs resource from to s over.1 feasible met
 overload_refuted p arcs (Clique from to members) s over feasible met = clique_refuted p arcs from to members s over.1 feasible met
 
-pushed_met : (p : Problem) (arcs : List Lag) (arc : Option Lag) (over : Overload) (e : Lag) (s : List ℤ) → IsPushed p arcs arc over e → IsFeasible p s → MeetsAll s arcs → Meets s e
+pushed_met : (p : Problem) (arcs : List Lag) (arc : Option Lag) (over : WindowOverload) (e : Lag) (s : List ℤ) → IsPushed p arcs arc over e → IsFeasible p s → MeetsAll s arcs → Meets s e
 pushed_met p arcs None over e s pushed feasible met = absurd (overload_refuted p arcs over s pushed.0 feasible met)
 pushed_met p arcs (Some f) over e s pushed feasible met =
     let here : Meets s f = ⊎_elim

@@ -1,10 +1,10 @@
 -- The reverse of the arc that the lemma of a slot leaves.
 use Rattle.std.proofs.Common.{◌≡◌, sym, ◌∙◌, ℕ, List, Some, arith}
 use Rattle.network.specs.declared.parts.Lag.{Lag}
-use Rattle.reasons.specs.Reasons.{reverse_of}
+use Rattle.lemma_proof.specs.Reasons.{reverse_of}
 use Rattle.std.proofs.lemmas.Int.{ints}
 use Rattle.network.specs.Problem.{Problem, activity_count}
-use Rattle.block.specs.Heads.{IsLight}
+use Rattle.lemma_proof.specs.Heads.{IsLight}
 use Rattle.lemma_proof.specs.Lines.{IsArc, IsIn, IsLeft, IsUse, Slots}
 
 pub used : (lemmas : Slots) (arcs lemma : List Lag) (slot : ℕ) (left e : Lag) → IsIn lemmas slot lemma → e ≡ reverse_of left → IsLeft arcs lemma left → IsUse lemmas arcs slot e

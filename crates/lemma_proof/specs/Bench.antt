@@ -4,7 +4,7 @@ use Rattle.network.specs.declared.parts.Lag.{Lag}
 use Rattle.network.specs.Walk.{Rows, HasPositiveCycle, HasNoPositiveCycle, IsMatrixOf}
 use Rattle.longest_path.specs.Matrix.{IsFull}
 use Rattle.longest_path.specs.Saved.{Marked}
-use Rattle.block.specs.Block.{BlockOf}
+use Rattle.lemma_proof.specs.Block.{BlockOf}
 
 -- the matrix of the root's arcs, the arcs beside it, the matrix of all arcs if it was made, and whether they close a
 -- walk of positive weight
@@ -12,10 +12,10 @@ pub record BenchOf : Type 0 where
   pub rows : Rows
   pub more : List Lag
   pub dense : Option Marked
-  pub is_dead : Bool
+  pub is_infeasible : Bool
 
 abbrev pub bench_of : Rows → BlockOf → Option Marked → Bool → BenchOf
-bench_of rows block dense is_dead = record { rows = rows; more = block.more; dense = dense; is_dead = is_dead }
+bench_of rows block dense is_infeasible = record { rows = rows; more = block.more; dense = dense; is_infeasible = is_infeasible }
 
 -- a matrix of all arcs is as wide as that of the root's, and in both every activity reaches every other
 pub record IsWide (n : ℕ) (d : Marked) : Type 0 where
@@ -45,4 +45,4 @@ IsMatrixOfAll n own arcs (Some dense) = IsMatrixOf n (own ++ arcs) dense.rows
 -- these are the root's arcs, and those of the block beside them
 pub record Holds (own arcs : List Lag) (x : BenchOf) : Type 0 where
   pub root : IsMatrixOf (length x.rows) own x.rows
-  pub known : IsKnownOf (length x.rows) own arcs x.is_dead x.more x.dense
+  pub known : IsKnownOf (length x.rows) own arcs x.is_infeasible x.more x.dense

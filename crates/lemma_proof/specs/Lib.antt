@@ -2,3 +2,12 @@ pub mod Lines
 pub mod Telling
 pub mod Bench
 pub mod Stepping
+pub mod Implied
+pub mod Heads
+pub mod Rising
+pub mod Rooting
+pub mod Tables
+pub mod Block
+pub mod Halves
+pub mod Reasons
+pub mod Sources

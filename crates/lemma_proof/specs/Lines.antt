@@ -8,13 +8,13 @@ use Rattle.network.specs.Problem.{IsTime, IsWithin, Problem, pair_arc}
 use Rattle.network.specs.Schedule.{Meets, IsFeasible}
 use Rattle.network.specs.Walk.{HasPositiveCycle}
 use Rattle.longest_path.specs.Insert.{arc_of}
-use Rattle.rivals.specs.Incompatible.{AreIncompatible}
-use Rattle.reasons.specs.Reasons.{EndsAfterStart, Implies, IsClique, IsLoad, JoinsActivities, reverse_of}
-use Rattle.reasons.specs.declared.weights.TheConstants.{MAX_ARC_WEIGHT}
+use Rattle.forbidden_sets.specs.Incompatible.{AreIncompatible}
+use Rattle.lemma_proof.specs.Reasons.{EndsAfterStart, Implies, IsClique, IsLoad, JoinsActivities, reverse_of}
+use Rattle.lemma_proof.specs.declared.weights.TheConstants.{MAX_ARC_WEIGHT}
 use Rattle.lemma_proof.specs.declared.line.Line.{Line}
 use Rattle.lemma_proof.specs.declared.line.Line.TheVariants.{Force, Use, Push}
-use Rattle.lemma_proof.specs.declared.line.Overload.{Overload}
-use Rattle.lemma_proof.specs.declared.line.Overload.TheVariants.{Load, Clique}
+use Rattle.lemma_proof.specs.declared.line.WindowOverload.{WindowOverload}
+use Rattle.lemma_proof.specs.declared.line.WindowOverload.TheVariants.{Load, Clique}
 
 -- lemmas by the slots that they are in; none where a slot is empty
 abbrev pub Slots : Type 0
@@ -59,13 +59,13 @@ pub record IsUse (lemmas : Slots) (arcs : List Lag) (slot : ℕ) (e : Lag) : Typ
   pub reverse : e ≡ reverse_of left
 
 -- what must run in a window asks for more than there is, or members that run one at a time take longer than it is
-abbrev pub IsOverload : Problem → List Lag → Overload → Type 0
+abbrev pub IsOverload : Problem → List Lag → WindowOverload → Type 0
 IsOverload p arcs (Load resource from to) = IsWindow from to × IsLoad p arcs resource from to
 IsOverload p arcs (Clique from to members) = IsWindow from to × IsClique p arcs from to members
 
 -- the arcs have the overload, so that no schedule meets them; or, where an arc is named, it is implied, or they have it
 -- with the arc's reverse, so that each schedule which meets them meets the arc
-abbrev pub IsPushed : Problem → List Lag → Option Lag → Overload → Lag → Type 0
+abbrev pub IsPushed : Problem → List Lag → Option Lag → WindowOverload → Lag → Type 0
 IsPushed p arcs None over e = IsOverload p arcs over × (e ≡ impossible)
 IsPushed p arcs (Some f) over e = IsArc p f × (Implies arcs f ⊎ IsOverload p (arcs ++ reverse_of f ∷ []) over) × (e ≡ f)
 

@@ -2,7 +2,7 @@
 use Rattle.std.specs.Prelude.{ℕ, Bool, true, false, List, ◌++◌, ◌∷◌, [], Option, None, Some}
 use Rattle.network.specs.declared.parts.Lag.{Lag}
 use Rattle.network.specs.Problem.{Problem}
-use Rattle.block.specs.Implied.{Implies}
+use Rattle.lemma_proof.specs.Implied.{Implies}
 use Rattle.lemma_proof.specs.declared.line.Line.{Line}
 use Rattle.lemma_proof.specs.Lines.{Shows, Slots}
 use Rattle.lemma_proof.specs.Bench.{BenchOf, Holds}

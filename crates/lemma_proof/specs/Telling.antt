@@ -1,7 +1,7 @@
 -- What a found arc tells, by what is known of the walks over the arcs of a block.
 use Rattle.std.specs.Prelude.{◌≡◌, ℕ, Bool, true, List, Option, MatchOption}
 use Rattle.network.specs.declared.parts.Lag.{Lag}
-use Rattle.reasons.specs.Reasons.{Entries, IsKnown}
+use Rattle.lemma_proof.specs.Reasons.{Entries, IsKnown}
 
 -- the arc has the property with the arcs; where there is none and what is known is exact, no arc has it
 abbrev pub TellsArc : ℕ → Entries → Option Lag → (List Lag → Lag → Type 0) → Type 0

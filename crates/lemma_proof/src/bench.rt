@@ -8,8 +8,8 @@ ghost use Rattle.network.specs.Problem.{IsWithin, activity_count};
 ghost use Rattle.network.specs.declared.limits.TheConstants.{MAX_WALK_WEIGHT};
 ghost use Rattle.network.specs.Walk.{HasPositiveCycle, IsMatrixOf, entry};
 ghost use Rattle.longest_path.specs.Matrix.{IsFull};
-ghost use Rattle.block.specs.Heads.{IsLight};
-ghost use Rattle.block.specs.Implied.{Implies};
+ghost use Rattle.lemma_proof.specs.Heads.{IsLight};
+ghost use Rattle.lemma_proof.specs.Implied.{Implies};
 ghost use Rattle.lemma_proof.specs.Lines.{AreLemmas, Shows};
 ghost use Rattle.lemma_proof.specs.Bench.{Holds, IsKnownOf, IsMatrixOfAll};
 ghost use Rattle.lemma_proof.specs.Stepping.{Steps};
@@ -18,10 +18,9 @@ use crate::dense::{matrix_of_all, take_arc};
 use crate::effort::Effort;
 use crate::line::Line;
 use crate::shows::{Lags, seen_arc, shown_arc, weights_asked};
-use block::Block;
+use crate::{Block, Weights};
 use longest_path::MarkedMatrix;
 use network::{Lag, Project};
-use reasons::Weights;
 use std::alloc::{AllocError, Global};
 use std::marker::Model;
 
@@ -38,7 +37,7 @@ pub struct Bench {
     /// The matrix of all arcs, where heads and tails didn't show enough.
     dense: Option<MarkedMatrix>,
     /// Whether all arcs close a walk of positive weight.
-    is_dead: bool,
+    is_infeasible: bool,
 }
 
 impl Model for Bench {
@@ -46,7 +45,7 @@ impl Model for Bench {
 
     ghost Value = { BenchOf };
 
-    ghost view = { λ s. bench_of s.matrix.rows s.block s.dense s.is_dead };
+    ghost view = { λ s. bench_of s.matrix.rows s.block s.dense s.is_infeasible };
 
     ghost invariant = { λ s. IsBench s.matrix.rows s.block s.dense };
 }
@@ -65,7 +64,7 @@ impl Bench {
             block,
             effort: Effort::none(),
             dense: None,
-            is_dead: false,
+            is_infeasible: false,
         })
     }
 
@@ -86,7 +85,7 @@ impl Bench {
         self.block.take_root(arc);
         self.effort = Effort::none();
         self.dense = None;
-        self.is_dead = false;
+        self.is_infeasible = false;
         Ok(false)
     }
 
@@ -105,59 +104,59 @@ impl Bench {
         ensures rows { self.new.rows ≡ self.old.rows }
         ensures more { self.new.more ≡ [] }
         ensures dense { self.new.dense ≡ None }
-        ensures live { self.new.is_dead ≡ false }
+        ensures live { self.new.is_infeasible ≡ false }
     {
         self.block.begin();
         self.effort = Effort::none();
         self.dense = None;
-        self.is_dead = false;
+        self.is_infeasible = false;
     }
 
     /// Makes the matrix of all arcs.
     fn make_dense(&mut self) -> Result<(), AllocError>
         ensures rows { self.new.rows ≡ self.old.rows }
         ensures made { OnOk result ((own : List Lag) → IsMatrixOf (length self.old.rows) own self.old.rows →
-            IsKnownOf (length self.old.rows) own self.old.more self.new.is_dead self.new.more self.new.dense) }
-        ensures there { OnOk result (is_some self.new.dense ≡ not self.new.is_dead) }
+            IsKnownOf (length self.old.rows) own self.old.more self.new.is_infeasible self.new.more self.new.dense) }
+        ensures there { OnOk result (is_some self.new.dense ≡ not self.new.is_infeasible) }
     {
         prove!(self.block.activity_count() > 0);
         let dense = matrix_of_all(self.alloc, self.matrix.matrix(), &self.block)?;
-        self.is_dead = dense.is_none();
+        self.is_infeasible = dense.is_none();
         self.dense = dense;
         Ok(())
     }
 
     /// Adds an arc.
     pub(crate) fn add(&mut self, arc: Lag) -> Result<(), AllocError>
-        requires live { self.old.is_dead ≡ false }
+        requires live { self.old.is_infeasible ≡ false }
         requires light { IsLight (length self.old.rows) arc }
         ensures rows { self.new.rows ≡ self.old.rows }
         ensures added { OnOk result ((own arcs : List Lag) → Holds own arcs self.old →
             Holds own (arcs ++ arc ∷ []) self.new) }
     {
         if let Some(mut dense) = self.dense.take() {
-            self.is_dead = take_arc(&mut dense, arc)?;
+            self.is_infeasible = take_arc(&mut dense, arc)?;
             self.dense = Some(dense);
             return Ok(());
         }
         self.effort = self.effort.with_arc(arc);
         match self.block.add(arc)? {
-            Some(is_dead) => self.is_dead = is_dead,
+            Some(is_infeasible) => self.is_infeasible = is_infeasible,
             None => self.make_dense()?,
         }
         Ok(())
     }
 
     /// Whether all arcs close a walk of positive weight.
-    pub(crate) fn is_dead(&self) -> bool
-        ensures { result ≡ self.now.is_dead }
+    pub(crate) fn is_infeasible(&self) -> bool
+        ensures { result ≡ self.now.is_infeasible }
     {
-        self.is_dead
+        self.is_infeasible
     }
 
     /// Whether an arc is implied, as far as it is seen.
     pub(crate) fn implies(&self, arc: Lag) -> bool
-        requires live { self.now.is_dead ≡ false }
+        requires live { self.now.is_infeasible ≡ false }
         requires light { IsLight (length self.now.rows) arc }
         ensures { IsTrue result → (own arcs : List Lag) → Holds own arcs self.now → Implies (own ++ arcs) arc }
     {
@@ -170,13 +169,13 @@ impl Bench {
 
     /// Makes the matrix of all arcs, where there is none.
     fn settle(&mut self) -> Result<(), AllocError>
-        requires live { self.old.is_dead ≡ false }
+        requires live { self.old.is_infeasible ≡ false }
         requires none { self.old.dense ≡ None }
         ensures rows { self.new.rows ≡ self.old.rows }
         ensures all { OnOk result ((own arcs : List Lag) → Holds own arcs self.old →
             IsMatrixOfAll (length self.old.rows) own arcs self.new.dense) }
         ensures kept { OnOk result ((own arcs : List Lag) → Holds own arcs self.old → Holds own arcs self.new) }
-        ensures there { OnOk result (is_some self.new.dense ≡ not self.new.is_dead) }
+        ensures there { OnOk result (is_some self.new.dense ≡ not self.new.is_infeasible) }
     {
         self.make_dense()
     }
@@ -203,12 +202,12 @@ impl Bench {
         lemmas: &[Option<Lags>],
         line: &Line,
     ) -> Result<Option<Lag>, AllocError>
-        requires live { self.old.is_dead ≡ false }
+        requires live { self.old.is_infeasible ≡ false }
         requires size { length self.old.rows ≡ activity_count project.now }
         requires lemmas { AreLemmas project.now lemmas.now }
         ensures rows { self.new.rows ≡ self.old.rows }
         ensures light { IfOk result (λ found. IfSome found (IsLight (length self.old.rows))) }
-        ensures live { IfOk result (λ found. IsSome found → self.new.is_dead ≡ false) }
+        ensures live { IfOk result (λ found. IsSome found → self.new.is_infeasible ≡ false) }
         ensures kept { OnOk result ((own arcs : List Lag) → Holds own arcs self.old → Holds own arcs self.new) }
         ensures shown { IfOk result (λ found. (own arcs : List Lag) → Holds own arcs self.old →
             MatchOption found ((e : Lag) → ¬ Shows project.now lemmas.now (own ++ arcs) line.now e)
@@ -234,7 +233,7 @@ impl Bench {
         lemmas: &[Option<Lags>],
         line: &Line,
     ) -> Result<Option<bool>, AllocError>
-        requires live { self.old.is_dead ≡ false }
+        requires live { self.old.is_infeasible ≡ false }
         requires size { length self.old.rows ≡ activity_count project.now }
         requires lemmas { AreLemmas project.now lemmas.now }
         ensures rows { self.new.rows ≡ self.old.rows }
@@ -260,7 +259,7 @@ impl Bench {
     {
         self.begin();
         for arc in arcs {
-            if self.is_dead {
+            if self.is_infeasible {
                 return Ok(());
             }
             self.add(*arc)?;

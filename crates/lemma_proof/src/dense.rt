@@ -2,11 +2,11 @@
 
 ghost use Rattle.std.specs.Prelude.{◌≡◌, length, IfOk, IfSome, OnErr, OnOk};
 ghost use Rattle.longest_path.specs.Matrix.{IsFull};
-ghost use Rattle.block.specs.Heads.{IsLight};
-ghost use Rattle.block.specs.Block.{IsMatrixWith, IsTaken};
+ghost use Rattle.lemma_proof.specs.Heads.{IsLight};
+ghost use Rattle.lemma_proof.specs.Block.{IsMatrixWith, IsInserted};
 ghost use Rattle.lemma_proof.specs.Bench.{IsWide};
 
-use block::{Block, matrix_with, take};
+use crate::{Block, matrix_with, take};
 use longest_path::{MarkedMatrix, Matrix};
 use network::Lag;
 use std::alloc::{AllocError, Global};
@@ -32,7 +32,7 @@ pub(crate) fn take_arc(dense: &mut MarkedMatrix, arc: Lag) -> Result<bool, Alloc
     requires wide { IsWide (length dense.old.rows) dense.old }
     requires light { IsLight (length dense.old.rows) arc }
     ensures wide { OnOk result (IsWide (length dense.old.rows) dense.new) }
-    ensures taken { IfOk result (IsTaken arc dense.old dense.new) }
+    ensures taken { IfOk result (IsInserted arc dense.old dense.new) }
     ensures unchanged { OnErr result (dense.new ≡ dense.old) }
 {
     prove!(dense.matrix().activity_count() <= 1_002);

@@ -5,8 +5,8 @@ ghost use Rattle.std.specs.List.{All, Contains};
 ghost use Rattle.lemma_proof.specs.Lines.{IsLeft};
 ghost use Rattle.lemma_proof.specs.Telling.{TellsArc};
 
+use crate::Weights;
 use network::Lag;
-use reasons::Weights;
 
 /// The arc that a lemma leaves of which all others are implied, if not more than one isn't.
 pub(crate) fn arc_left(weights: &Weights, lemma: &[Lag]) -> Option<Lag>

@@ -5,7 +5,7 @@ use record_text::Members;
 
 /// More than there is room for in the window from the period `from` to the period `to`.
 #[derive(Drop, Debug)]
-pub enum Overload {
+pub enum WindowOverload {
     /// What must run in the window asks for more of the resource than there is.
     Load {
         resource: usize,
@@ -28,5 +28,8 @@ pub enum Line {
     /// The lemma of this slot, of which all arcs are implied but one at most: that one's reverse.
     Use(usize),
     /// There is an overload, so no schedule is left; or, with an arc, there is one under the arc's reverse: the arc.
-    Push { arc: Option<Lag>, over: Overload },
+    Push {
+        arc: Option<Lag>,
+        over: WindowOverload,
+    },
 }

@@ -3,12 +3,12 @@
 ghost use Rattle.std.specs.Prelude.{◌≡◌, ◌↔◌, List, ◌∷◌, [], length, IsTrue};
 ghost use Rattle.network.specs.declared.parts.Lag.{Lag};
 ghost use Rattle.network.specs.Problem.{activity_count, NameActivities};
-ghost use Rattle.reasons.specs.Reasons.{EndsAfterStart, TellsWhether};
+ghost use Rattle.lemma_proof.specs.Reasons.{EndsAfterStart, TellsWhether};
 ghost use Rattle.lemma_proof.specs.Lines.{IsArc, IsOverload, IsWindow};
 
-use crate::line::Overload;
+use crate::line::WindowOverload;
+use crate::{MAX_ARC_WEIGHT, Weights, is_clique, is_load, joins_activities};
 use network::{Lag, MAX_START, Pair, Project};
-use reasons::{MAX_ARC_WEIGHT, Weights, is_clique, is_load, joins_activities};
 
 /// Whether both ends of a window are times.
 fn is_window(from: i64, to: i64) -> bool
@@ -39,16 +39,16 @@ pub(crate) fn is_late(project: &Project, weights: &Weights, pair: Pair) -> bool
 }
 
 /// Whether the arcs have the overload.
-pub(crate) fn is_overload(project: &Project, weights: &Weights, over: &Overload) -> bool
+pub(crate) fn is_overload(project: &Project, weights: &Weights, over: &WindowOverload) -> bool
     requires { length weights.now.rows ≡ activity_count project.now }
     ensures { TellsWhether (activity_count project.now) weights.now result
         (λ arcs. IsOverload project.now arcs over.now) }
 {
     match over {
-        Overload::Load { resource, from, to } => {
+        WindowOverload::Load { resource, from, to } => {
             is_window(*from, *to) && is_load(project, weights, *resource, *from, *to)
         }
-        Overload::Clique { from, to, members } => {
+        WindowOverload::Clique { from, to, members } => {
             is_window(*from, *to) && is_clique(project, weights, *from, *to, members.as_slice())
         }
     }

@@ -61,7 +61,7 @@ impl Bench {
         self.suppose(arcs)?;
         let mut used = Vec::new(alloc);
         for (place, line) in lines.iter().enumerate() {
-            if self.is_dead() {
+            if self.is_infeasible() {
                 return Ok(Some(used));
             }
             let Some(is_new) = self.step(project, lemmas, line)? else {
@@ -69,7 +69,7 @@ impl Bench {
             };
             note(&mut used, place, is_new)?;
         }
-        if self.is_dead() {
+        if self.is_infeasible() {
             return Ok(Some(used));
         }
         Ok(None)

@@ -5,20 +5,19 @@ ghost use Rattle.std.specs.List.{All};
 ghost use Rattle.network.specs.declared.parts.Lag.{Lag};
 ghost use Rattle.network.specs.Problem.{activity_count, pair_arc};
 ghost use Rattle.network.specs.Walk.{IsMatrixOf, HasNoPositiveCycle};
-ghost use Rattle.block.specs.Heads.{IsLight};
-ghost use Rattle.reasons.specs.Reasons.{Implies, reverse_of};
+ghost use Rattle.lemma_proof.specs.Heads.{IsLight};
+ghost use Rattle.lemma_proof.specs.Reasons.{Implies, reverse_of};
 ghost use Rattle.lemma_proof.specs.Lines.{AreLemmas, IsArc, IsForced, IsIn, IsOverload, IsPushed, IsUse, Shows, impossible};
 ghost use Rattle.lemma_proof.specs.Telling.{TellsArc};
 
 use crate::left::arc_left;
-use crate::line::{Line, Overload};
+use crate::line::{Line, WindowOverload};
 use crate::overload::{is_arc, is_late, is_overload};
-use block::Block;
+use crate::{Block, Weights, reverse_of};
+use forbidden_sets::are_incompatible;
 use longest_path::Matrix;
 use network::{Lag, Pair, Project};
-use reasons::{Weights, reverse_of};
 use record_text::Listed;
-use rivals::are_incompatible;
 
 /// A lemma's arcs.
 pub type Lags = Listed<Lag>;
@@ -76,7 +75,7 @@ fn forced_arc(project: &Project, weights: &Weights, pair: Pair) -> Option<Lag>
 }
 
 /// The arc that no starts meet, if the arcs have the overload.
-fn ended_arc(project: &Project, weights: &Weights, over: &Overload) -> Option<Lag>
+fn ended_arc(project: &Project, weights: &Weights, over: &WindowOverload) -> Option<Lag>
     requires { length weights.now.rows ≡ activity_count project.now }
     ensures light { IfSome result (IsLight (activity_count project.now)) }
     ensures told { TellsArc (activity_count project.now) weights.now result
@@ -92,7 +91,7 @@ fn ended_arc(project: &Project, weights: &Weights, over: &Overload) -> Option<La
 
 /// Whether the matrix of its block implies the arc, or the block has the overload with the arc's reverse, which is not
 /// inserted.
-fn is_pushed(project: &Project, matrix: &Matrix, arc: Lag, over: &Overload) -> bool
+fn is_pushed(project: &Project, matrix: &Matrix, arc: Lag, over: &WindowOverload) -> bool
     requires size { length matrix.now ≡ activity_count project.now }
     requires arc { IsArc project.now arc }
     ensures { (arcs : List Lag) → IsMatrixOf (activity_count project.now) arcs matrix.now →
@@ -105,7 +104,12 @@ fn is_pushed(project: &Project, matrix: &Matrix, arc: Lag, over: &Overload) -> b
 }
 
 /// The arc that an overload shows, by the matrix.
-fn pushed_arc(project: &Project, matrix: &Matrix, arc: Option<Lag>, over: &Overload) -> Option<Lag>
+fn pushed_arc(
+    project: &Project,
+    matrix: &Matrix,
+    arc: Option<Lag>,
+    over: &WindowOverload,
+) -> Option<Lag>
     requires size { length matrix.now ≡ activity_count project.now }
     ensures light { IfSome result (IsLight (activity_count project.now)) }
     ensures shown { (arcs : List Lag) → IsMatrixOf (activity_count project.now) arcs matrix.now →
@@ -147,7 +151,7 @@ pub(crate) fn shown_arc(
 }
 
 /// Whether walks that are easily seen show that the block implies the arc, or has the overload with the arc's reverse.
-fn is_seen_pushed(project: &Project, block: &mut Block, arc: Lag, over: &Overload) -> bool
+fn is_seen_pushed(project: &Project, block: &mut Block, arc: Lag, over: &WindowOverload) -> bool
     requires size { length block.old.rows ≡ activity_count project.now }
     requires arc { IsArc project.now arc }
     ensures rows { block.new.rows ≡ block.old.rows }
@@ -171,7 +175,7 @@ fn seen_pushed_arc(
     project: &Project,
     block: &mut Block,
     arc: Option<Lag>,
-    over: &Overload,
+    over: &WindowOverload,
 ) -> Option<Lag>
     requires size { length block.old.rows ≡ activity_count project.now }
     ensures rows { block.new.rows ≡ block.old.rows }
@@ -200,7 +204,7 @@ pub(crate) fn weights_asked(lemmas: &[Option<Lags>], line: &Line) -> usize {
     match line {
         Line::Use(slot) => lemma_at(lemmas, *slot).map_or(0, |lemma| lemma.len()),
         Line::Push {
-            over: Overload::Clique { members, .. },
+            over: WindowOverload::Clique { members, .. },
             ..
         } => {
             let count = members.as_slice().len();

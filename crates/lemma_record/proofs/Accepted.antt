@@ -5,7 +5,7 @@ use Rattle.network.specs.declared.parts.Lag.{Lag}
 use Rattle.lemma_book.specs.Ledger.{LedgerOf, with_lemma}
 use Rattle.lemma_book.specs.Premises.{AreAhead, PremisesOf, premises_in}
 use Rattle.lemma_record.specs.declared.desk.Lemma.{Lemma}
-use Rattle.lemma_record.specs.Book.{BookOf, IsCutShort}
+use Rattle.lemma_record.specs.LemmaBook.{BookOf, IsCutShort}
 use Rattle.lemma_record.specs.Desk.{Accepts, AcceptsEach, AcceptsSome, IsCutShortAt, event_of}
 
 pub accepts_more : (x : PremisesOf) (old between new : BookOf) (lemmas : List Lemma) (taken : List Bool) (lemma : Lemma) (is : Bool) → AcceptsEach x old lemmas taken between → Accepts between x lemma is new → AcceptsEach x old (lemmas ++ lemma ∷ []) (taken ++ is ∷ []) new

@@ -20,7 +20,7 @@ use Rattle.lemma_book.specs.Ledger.{Claims, LedgerOf, first_ledger}
 use Rattle.lemma_record.specs.Right.{IsRightText}
 use Rattle.lemma_record.specs.Right.{IsStep, Takes, TakesAll, proved_of}
 use Rattle.lemma_record.specs.Taking.{IsLoggedOf, IsTaken}
-use Rattle.lemma_record.specs.Book.{IsBest, IsLogOf}
+use Rattle.lemma_record.specs.LemmaBook.{IsBest, IsLogOf}
 use Rattle.lemma_record.proofs.Stepping.{steps_more, taken_more}
 
 pub all_push : {X : Type 0} (P : X → Type 0) (xs : List X) (x : X) → AllByRecursion P xs → P x → AllByRecursion P (xs ++ x ∷ [])

@@ -9,3 +9,5 @@ pub mod Desks
 pub mod Accepted
 pub mod Parted
 pub mod Texts
+pub mod Pieces
+pub mod Adding

@@ -5,7 +5,7 @@ use Rattle.record_text.specs.FirstWrong.{IsFactOf}
 use Rattle.record_text.specs.declared.proved.Proved.{Proved}
 use Rattle.lemma_book.specs.Ledger.{Claims, LedgerOf, first_ledger}
 use Rattle.lemma_book.proofs.Claims.{claim_true}
-use Rattle.lemma_record.specs.Reached.{Awaits, CheckerOf, HasClaimed, HasRead}
+use Rattle.lemma_record.specs.Reached.{Awaits, CheckerOf, HasClaimed, HasChecked}
 use Rattle.lemma_record.specs.Parts.{PartOf, whole}
 use Rattle.lemma_record.specs.Faults.{LeadsTo}
 use Rattle.lemma_record.specs.SoFar.{IsClaimedIn, IsProvedSoFar, SoFarIsTrue}
@@ -15,11 +15,11 @@ use Rattle.lemma_record.proofs.Sound.{IsSoundFor, claim_is_true, sound_all, soun
 claimed_by : (p : Problem) (text : List ℕ) (x : CheckerOf) (what : Proved) → HasClaimed x.part p text [] what x.due → IsClaimedIn x.part p text what
 claimed_by p text x what has = record { claim = has.claim; right = record { events = has.events; spells = has.begins; right = has.right }; says = has.says }
 
-pub claimed_here : (p : Problem) (text : List ℕ) (x : CheckerOf) (what : Proved) → x.proved ≡ Some what → HasRead p text x → IsClaimedIn x.part p text what
+pub claimed_here : (p : Problem) (text : List ℕ) (x : CheckerOf) (what : Proved) → x.proved ≡ Some what → HasChecked p text x → IsClaimedIn x.part p text what
 claimed_here p text x what is read =
     claimed_by p text x what (subst (λ (proved : Option Proved). MatchOption proved (Awaits p text x) (λ (w : Proved). HasClaimed x.part p text [] w x.due)) is read)
 
-pub so_far_claimed : (p : Problem) (text : List ℕ) (x : CheckerOf) (what : Proved) → x.part ≡ whole → x.proved ≡ Some what → HasRead p text x → IsProvedSoFar p text what
+pub so_far_claimed : (p : Problem) (text : List ℕ) (x : CheckerOf) (what : Proved) → x.part ≡ whole → x.proved ≡ Some what → HasChecked p text x → IsProvedSoFar p text what
 so_far_claimed p text x what all is read = inl (whole_claimed x.part p text what all (claimed_here p text x what is read))
 
 awaited : (p : Problem) (text : List ℕ) (x : CheckerOf) (what : Proved) → x.part ≡ whole → Claims x.ledger what → Awaits p text x → IsProvedSoFar p text what
@@ -28,7 +28,7 @@ awaited p text x what all claims (inl title) =
 awaited p text x what all claims (inr event) =
     inr (inr (record { steps = event.0.steps; ledger = x.ledger; left = x.left; leads = subst (λ (q : PartOf). LeadsTo q p text event.0.steps x.ledger x.left) all event.0.leads; short = event.1; claims = claims }))
 
-pub so_far_open : (p : Problem) (text : List ℕ) (x : CheckerOf) (what : Proved) → x.part ≡ whole → x.proved ≡ None → Claims x.ledger what → HasRead p text x → IsProvedSoFar p text what
+pub so_far_open : (p : Problem) (text : List ℕ) (x : CheckerOf) (what : Proved) → x.part ≡ whole → x.proved ≡ None → Claims x.ledger what → HasChecked p text x → IsProvedSoFar p text what
 so_far_open p text x what all is claims read =
     awaited p text x what all claims (subst (λ (proved : Option Proved). MatchOption proved (Awaits p text x) (λ (w : Proved). HasClaimed x.part p text [] w x.due)) is read)
 

@@ -5,7 +5,7 @@ use Rattle.std.proofs.lemmas.Int.{ints}
 use Rattle.network.specs.Problem.{Problem, end_of}
 use Rattle.network.specs.Schedule.{makespan}
 use Rattle.network.specs.Walk.{IsGreatestWeight, weight}
-use Rattle.reasons.specs.Reasons.{reverse_of}
+use Rattle.lemma_proof.specs.Reasons.{reverse_of}
 use Rattle.record_text.specs.FirstWrong.{IsFactOf}
 use Rattle.record_text.specs.declared.proved.Proved.{Proved}
 use Rattle.record_text.specs.declared.proved.Proved.TheVariants as proved

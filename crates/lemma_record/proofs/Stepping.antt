@@ -8,8 +8,8 @@ use Rattle.record_text.specs.declared.proved.Proved.{Proved}
 use Rattle.lemma_log.specs.declared.event.Event.{Event}
 use Rattle.lemma_log.specs.declared.event.Event.TheVariants as event
 use Rattle.lemma_log.specs.declared.event.Claim.{Claim}
-use Rattle.lemma_log.specs.declared.fault.LogFault.{LogFault}
-use Rattle.lemma_log.specs.declared.fault.LogFault.TheVariants as reading
+use Rattle.lemma_log.specs.declared.fault.DecodeFault.{DecodeFault}
+use Rattle.lemma_log.specs.declared.fault.DecodeFault.TheVariants as reading
 use Rattle.lemma_log.specs.Numbers.{Part}
 use Rattle.lemma_log.specs.Text.{title_text}
 use Rattle.lemma_log.specs.Reading.{read_in, title_in}
@@ -24,7 +24,7 @@ use Rattle.lemma_record.specs.declared.fault.Wrong.TheVariants as wrong
 use Rattle.lemma_record.specs.Right.{IsStep, Takes, TakesAll, proved_of}
 use Rattle.lemma_record.specs.Parts.{IsRightTextIn, PartOf, TakesIf, TakesPart, has, number_after}
 use Rattle.lemma_record.specs.Faults.{IsFirstFault, IsWrongEvent, LeadsTo}
-use Rattle.lemma_record.specs.Reached.{Awaits, CheckerOf, HasClaimed, HasRead, IsAt, IsAtTitle, TakesNext, checker_of, claimed}
+use Rattle.lemma_record.specs.Reached.{Awaits, CheckerOf, HasClaimed, HasChecked, IsAt, IsAtTitle, TakesNext, checker_of, claimed}
 
 -- ---- one event more
 
@@ -106,13 +106,13 @@ at_claim part p text l new left rest due what at next =
 -- ---- more bytes
 
 read_more : (bytes more left : List ℕ) (e : Event) → read_in bytes ≡ Ok (record { value = e; left = left }) → read_in (bytes ++ more) ≡ Ok (record { value = e; left = left ++ more })
-read_more bytes more left e read = subst (λ (r : Result (Part Event) LogFault). IsStable more r (read_in (bytes ++ more))) read (read_stable bytes more)
+read_more bytes more left e read = subst (λ (r : Result (Part Event) DecodeFault). IsStable more r (read_in (bytes ++ more))) read (read_stable bytes more)
 
 form_more : (bytes more : List ℕ) → read_in bytes ≡ Err reading.Form → read_in (bytes ++ more) ≡ Err reading.Form
-form_more bytes more read = subst (λ (r : Result (Part Event) LogFault). IsStable more r (read_in (bytes ++ more))) read (read_stable bytes more) (λ is. cc)
+form_more bytes more read = subst (λ (r : Result (Part Event) DecodeFault). IsStable more r (read_in (bytes ++ more))) read (read_stable bytes more) (λ is. cc)
 
 long_more : (bytes more : List ℕ) → read_in bytes ≡ Err reading.Long → read_in (bytes ++ more) ≡ Err reading.Long
-long_more bytes more read = subst (λ (r : Result (Part Event) LogFault). IsStable more r (read_in (bytes ++ more))) read (read_stable bytes more) (λ is. cc)
+long_more bytes more read = subst (λ (r : Result (Part Event) DecodeFault). IsStable more r (read_in (bytes ++ more))) read (read_stable bytes more) (λ is. cc)
 
 still_first : (bytes more : List ℕ) (steps : List Event) (left : List ℕ) → AreFirst bytes steps left → AreFirst (bytes ++ more) steps (left ++ more)
 still_first bytes more [] left first = ap (λ (b : List ℕ). b ++ more) first
@@ -200,7 +200,7 @@ title_at part p text rest l n first title is = record {
   number = refl;
 }
 
-pub title_waits : (p : Problem) (text : List ℕ) (x : CheckerOf) → IsAtTitle p text x → title_in text ≡ Err reading.Short → HasRead p text x
+pub title_waits : (p : Problem) (text : List ℕ) (x : CheckerOf) → IsAtTitle p text x → title_in text ≡ Err reading.Short → HasChecked p text x
 title_waits p text x at short = subst (λ (proved : Option Proved). MatchOption proved (Awaits p text x) (λ what. HasClaimed x.part p text [] what x.due)) (sym at.going) (inl (at, short))
 
 pub title_wrong : (part : PartOf) (p : Problem) (text more : List ℕ) → title_in text ≡ Err reading.Form → IsFirstFault part p (text ++ more) (record { event = 0; wrong = wrong.Form })
@@ -220,18 +220,18 @@ awaits : (p : Problem) (text : List ℕ) (x : CheckerOf) (proved : Option Proved
 awaits p text x None none read = read
 awaits p text x (Some what) none read = absurd (false≢true (sym none))
 
-pub title_piece : (p : Problem) (text piece : List ℕ) (x : CheckerOf) → is_some x.proved ≡ false → x.due ≡ 0 → HasRead p text x → IsAtTitle p (text ++ piece) (checker_of x.part x.ledger (x.left ++ piece) x.due x.proved)
+pub title_piece : (p : Problem) (text piece : List ℕ) (x : CheckerOf) → is_some x.proved ≡ false → x.due ≡ 0 → HasChecked p text x → IsAtTitle p (text ++ piece) (checker_of x.part x.ledger (x.left ++ piece) x.due x.proved)
 title_piece p text piece x none due read = title_due p text piece x (none_here x.proved none) (awaits p text x x.proved none read) due
 
-pub event_piece : (p : Problem) (text piece : List ℕ) (x : CheckerOf) → is_some x.proved ≡ false → x.due ≢ 0 → HasRead p text x → IsAt x.part p (text ++ piece) x.ledger (x.left ++ piece) x.due
+pub event_piece : (p : Problem) (text piece : List ℕ) (x : CheckerOf) → is_some x.proved ≡ false → x.due ≢ 0 → HasChecked p text x → IsAt x.part p (text ++ piece) x.ledger (x.left ++ piece) x.due
 event_piece p text piece x none due read = event_due p text piece x (awaits p text x x.proved none read) due
 
-pub event_waits : (p : Problem) (text : List ℕ) (x : CheckerOf) → is_some x.proved ≡ false → IsAt x.part p text x.ledger x.left x.due → read_in x.left ≡ Err reading.Short → HasRead p text x
+pub event_waits : (p : Problem) (text : List ℕ) (x : CheckerOf) → is_some x.proved ≡ false → IsAt x.part p text x.ledger x.left x.due → read_in x.left ≡ Err reading.Short → HasChecked p text x
 event_waits p text x none at short = subst (λ (proved : Option Proved). MatchOption proved (Awaits p text x) (λ what. HasClaimed x.part p text [] what x.due)) (sym (none_here x.proved none)) (inr (at, short))
 
 piece_after : (p : Problem) (text piece more : List ℕ) (x : CheckerOf) (proved : Option Proved) → is_some proved ≡ true → piece ≢ [] → MatchOption proved (Awaits p text x) (λ what. HasClaimed x.part p text [] what x.due) → IsFirstFault x.part p ((text ++ piece) ++ more) (record { event = x.due; wrong = wrong.Trailing })
 piece_after p text piece more x None some here read = absurd (false≢true some)
 piece_after p text piece more x (Some what) some here read = trailing_found x.part p (text ++ piece) piece more what x.due (claimed_more x.part p text piece what x.due read) here
 
-pub trailing_piece : (p : Problem) (text piece more : List ℕ) (x : CheckerOf) → is_some x.proved ≡ true → piece ≢ [] → HasRead p text x → IsFirstFault x.part p ((text ++ piece) ++ more) (record { event = x.due; wrong = wrong.Trailing })
+pub trailing_piece : (p : Problem) (text piece more : List ℕ) (x : CheckerOf) → is_some x.proved ≡ true → piece ≢ [] → HasChecked p text x → IsFirstFault x.part p ((text ++ piece) ++ more) (record { event = x.due; wrong = wrong.Trailing })
 trailing_piece p text piece more x some here read = piece_after p text piece more x x.proved some here read

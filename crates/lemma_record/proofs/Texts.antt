@@ -3,14 +3,14 @@ use Rattle.std.proofs.Common.{◌≡◌, ℕ, List, ◌++◌, Result, Ok, sym, a
 use Rattle.lemma_log.specs.declared.event.Event.{Event}
 use Rattle.lemma_log.specs.declared.event.Event.TheVariants as event
 use Rattle.lemma_log.specs.declared.event.Claim.{Claim}
-use Rattle.lemma_log.specs.declared.fault.LogFault.{LogFault}
+use Rattle.lemma_log.specs.declared.fault.DecodeFault.{DecodeFault}
 use Rattle.lemma_log.specs.Numbers.{Part}
 use Rattle.lemma_log.specs.Text.{title_text}
 use Rattle.lemma_log.specs.Reading.{read_in}
 use Rattle.lemma_record.specs.Right.{IsStep}
 
 -- bytes begin with one event
-same_part : (r : Result (Part Event) LogFault) (p q : Part Event) → r ≡ Ok p → r ≡ Ok q → p ≡ q
+same_part : (r : Result (Part Event) DecodeFault) (p q : Part Event) → r ≡ Ok p → r ≡ Ok q → p ≡ q
 same_part r p q h k = cc
 
 pub same_event : (bytes left rest : List ℕ) (e f : Event) → read_in bytes ≡ Ok (record { value = e; left = left }) → read_in bytes ≡ Ok (record { value = f; left = rest }) → e ≡ f

@@ -6,13 +6,13 @@ use Rattle.std.proofs.lemmas.Bool.{false≢true}
 use Rattle.std.proofs.lemmas.List.{length-append}
 use Rattle.std.proofs.lemmas.Bool.Decides.{Decides-eqb}
 use Rattle.std.proofs.lemmas.Slice.Eq.{starts_is}
-use Rattle.lemma_log.specs.declared.fault.LogFault.{LogFault}
-use Rattle.lemma_log.specs.declared.fault.LogFault.TheVariants.{Form, Short}
+use Rattle.lemma_log.specs.declared.fault.DecodeFault.{DecodeFault}
+use Rattle.lemma_log.specs.declared.fault.DecodeFault.TheVariants.{Form, Short}
 use Rattle.lemma_log.specs.Text.{title_text}
 use Rattle.lemma_log.specs.Reading.{title_in}
 
 -- what is read of a title, by whether the bytes begin with it, or it with them
-abbrev title_by : Bool → Bool → Result ℕ LogFault
+abbrev title_by : Bool → Bool → Result ℕ DecodeFault
 title_by begins ends = if begins then Ok (length title_text) else if ends then Err Short else Err Form
 
 by_ok : (begins ends : Bool) (n : ℕ) → title_by begins ends ≡ Ok n → (begins ≡ true) × (n ≡ length title_text)

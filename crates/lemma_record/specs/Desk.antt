@@ -12,7 +12,7 @@ use Rattle.lemma_book.specs.declared.ledger.TheConstants.{MAX_SLOTS}
 use Rattle.lemma_book.specs.Ledger.{HasRoom, IsFilled, LedgerOf, with_slot}
 use Rattle.lemma_book.specs.Premises.{Covers, Empties, Follows, PremisesOf, first_premises, premises_in, root_arcs}
 use Rattle.lemma_record.specs.declared.desk.Lemma.{Lemma}
-use Rattle.lemma_record.specs.Book.{BookOf, IsCutShort}
+use Rattle.lemma_record.specs.LemmaBook.{BookOf, IsCutShort}
 use Rattle.lemma_record.specs.Right.{Takes}
 
 -- ---- A desk.

@@ -4,5 +4,7 @@ pub mod Right
 pub mod Parts
 pub mod SoFar
 pub mod Taking
-pub mod Book
+pub mod LemmaBook
 pub mod Desk
+pub mod History
+pub mod Texts

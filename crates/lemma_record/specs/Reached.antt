@@ -5,7 +5,7 @@ use Rattle.record_text.specs.declared.proved.Proved.{Proved}
 use Rattle.lemma_log.specs.declared.event.Event.{Event}
 use Rattle.lemma_log.specs.declared.event.Event.TheVariants as event
 use Rattle.lemma_log.specs.declared.event.Claim.{Claim}
-use Rattle.lemma_log.specs.declared.fault.LogFault.TheVariants.{Short}
+use Rattle.lemma_log.specs.declared.fault.DecodeFault.TheVariants.{Short}
 use Rattle.lemma_log.specs.Reading.{read_in, title_in}
 use Rattle.lemma_log.specs.Logs.{Begins}
 use Rattle.lemma_book.specs.Ledger.{LedgerOf, first_ledger}
@@ -73,5 +73,5 @@ Awaits p text x =
     ⊎ (IsAt x.part p text x.ledger x.left x.due × (read_in x.left ≡ Err Short))
 
 -- this text has come, and what is whole of it was checked
-abbrev pub HasRead : Problem → List ℕ → CheckerOf → Type 0
-HasRead p text x = MatchOption x.proved (Awaits p text x) (λ what. HasClaimed x.part p text [] what x.due)
+abbrev pub HasChecked : Problem → List ℕ → CheckerOf → Type 0
+HasChecked p text x = MatchOption x.proved (Awaits p text x) (λ what. HasClaimed x.part p text [] what x.due)

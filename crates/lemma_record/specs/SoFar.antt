@@ -5,7 +5,7 @@ use Rattle.record_text.specs.FirstWrong.{IsFactOf}
 use Rattle.record_text.specs.declared.proved.Proved.{Proved}
 use Rattle.lemma_log.specs.declared.event.Event.{Event}
 use Rattle.lemma_log.specs.declared.event.Claim.{Claim}
-use Rattle.lemma_log.specs.declared.fault.LogFault.TheVariants.{Short}
+use Rattle.lemma_log.specs.declared.fault.DecodeFault.TheVariants.{Short}
 use Rattle.lemma_log.specs.Reading.{read_in, title_in}
 use Rattle.lemma_book.specs.Ledger.{Claims, LedgerOf, first_ledger}
 use Rattle.lemma_record.specs.Right.{IsRightText, proved_of}

@@ -5,13 +5,13 @@ ghost use Rattle.lemma_book.specs.Ledger.{HasRoom};
 ghost use Rattle.lemma_book.specs.Premises.{AreAhead, premises_in};
 ghost use Rattle.lemma_proof.specs.Lines.{HaveUsed};
 ghost use Rattle.lemma_record.specs.declared.desk.Lemma.{Lemma};
-ghost use Rattle.lemma_record.specs.Book.{IsCutShort};
+ghost use Rattle.lemma_record.specs.LemmaBook.{IsCutShort};
 ghost use Rattle.lemma_record.specs.Desk.{Accepts, AcceptsEach, AcceptsSome, IsShown, emptied, event_of};
 
-use crate::book::Book;
+use crate::Naming;
+use crate::book::LemmaBook;
 use crate::desk::{Desk, Lemma};
 use crate::logging::log_event;
-use growing_text::Naming;
 use lemma_book::{Ledger, Premises};
 use lemma_log::{Event, is_writable};
 use lemma_proof::Lags;
@@ -35,7 +35,7 @@ fn event_of(lemma: Lemma) -> Event
     Event::Lemma { slot, arcs, lines }
 }
 
-impl<'a, J: Naming> Book<'a, J> {
+impl<'a, J: Naming> LemmaBook<'a, J> {
     /// Takes and logs a lemma that lines show beside some premises, if the ledger is ahead of these and has what the lines
     /// rest on.
     fn accept_beside(

@@ -2,13 +2,13 @@
 
 ghost use Rattle.std.specs.Prelude.{◌≡◌, ◌↔◌, ◌++◌, [], None, Some, IfOk, IfSome, IfNone, OnErr, MatchOption, IsSomeAnd, IsTrue};
 ghost use Rattle.lemma_book.specs.Ledger.{IsSmall};
-ghost use Rattle.lemma_record.specs.Book.{IsBest, IsCutShort, IsLogOf, IsProof, Offers, first_book};
+ghost use Rattle.lemma_record.specs.LemmaBook.{IsBest, IsCutShort, IsLogOf, IsProof, Offers, first_book};
 ghost use Rattle.lemma_record.specs.Right.{IsStep, proved_of};
 ghost use Rattle.lemma_log.specs.Text.{IsWritableClaim};
 
 use crate::logging::log_event;
 use crate::taking::take;
-use growing_text::{Blank, Growing, Naming, Taken};
+use crate::{Blank, Growing, Naming, Taken};
 use lemma_book::Ledger;
 use lemma_log::{Claim, Event, is_writable, put_event, put_title};
 use network::Project;
@@ -22,17 +22,17 @@ use std::marker::Model;
 /// one. So all that the book claims is true of its project, whoever offered what. The log leaves the book piece by piece:
 /// what was taken of it is no longer kept.
 #[derive(Drop)]
-pub struct Book<'a, J: Naming> {
+pub struct LemmaBook<'a, J: Naming> {
     pub(crate) alloc: Global,
     pub(crate) ledger: Ledger<'a>,
     /// None once memory ran out for it.
     pub(crate) log: Option<Growing<J>>,
 }
 
-impl<'a, J: Naming> Model for Book<'a, J> {
+impl<'a, J: Naming> Model for LemmaBook<'a, J> {
     ghost use Rattle.std.specs.Prelude.{option_map};
-    ghost use Rattle.growing_text.specs.Texts.{whole};
-    ghost use Rattle.lemma_record.specs.Book.{BookOf, IsBook};
+    ghost use Rattle.lemma_record.specs.Texts.{whole};
+    ghost use Rattle.lemma_record.specs.LemmaBook.{BookOf, IsBook};
 
     ghost Value = { BookOf };
 
@@ -81,13 +81,13 @@ fn starts_of(alloc: Global, best: Option<&[i64]>) -> Result<Option<Vec<i64>>, Al
     }
 }
 
-impl<'a, J: Naming> Book<'a, J> {
+impl<'a, J: Naming> LemmaBook<'a, J> {
     /// A book that took nothing, with a text for its log.
     pub fn new(
         alloc: Global,
         project: &'a Project,
         log: Blank<J>,
-    ) -> Result<Book<'a, J>, AllocError>
+    ) -> Result<LemmaBook<'a, J>, AllocError>
         ensures { IfOk result (λ x. x ≡ first_book project.now) }
     {
         let ledger = Ledger::new(alloc, project)?;
@@ -95,7 +95,7 @@ impl<'a, J: Naming> Book<'a, J> {
         put_title(&mut title)?;
         let mut log = log.text();
         log.push(&title)?;
-        Ok(Book {
+        Ok(LemmaBook {
             alloc,
             ledger,
             log: Some(log),
@@ -152,7 +152,7 @@ impl<'a, J: Naming> Book<'a, J> {
             IsProof self.entry.ledger.project (log ++ shown.end.items) shown.proved)) }
         ensures best { IfOk result (λ shown. IsBest self.entry.ledger shown.best) }
     {
-        let Book { alloc, ledger, log } = self;
+        let LemmaBook { alloc, ledger, log } = self;
         let Some(_log) = log else {
             return Err(AllocError);
         };

@@ -2,11 +2,11 @@
 
 ghost use Rattle.std.specs.Prelude.{◌≡◌, ◌≢◌, ◌++◌, [], ℕ, List, drop, None, Ok, Err, IfOk, IfErr, OnOk, MatchOption};
 ghost use Rattle.network.specs.Problem.{Problem};
-ghost use Rattle.lemma_log.specs.declared.fault.LogFault.TheVariants.{Form, Short};
+ghost use Rattle.lemma_log.specs.declared.fault.DecodeFault.TheVariants.{Form, Short};
 ghost use Rattle.lemma_log.specs.Reading.{title_in};
 ghost use Rattle.lemma_record.specs.declared.fault.Wrong.TheVariants as wrongs;
 ghost use Rattle.lemma_record.specs.Faults.{IsFirstFault};
-ghost use Rattle.lemma_record.specs.Reached.{HasRead, IsAt, IsAtTitle};
+ghost use Rattle.lemma_record.specs.Reached.{HasChecked, IsAt, IsAtTitle};
 ghost use Rattle.lemma_record.specs.Parts.{whole};
 ghost use Rattle.lemma_record.specs.SoFar.{IsClaimed, IsClaimedIn, IsProvedSoFar};
 
@@ -14,7 +14,7 @@ use crate::fault::{EventFault, NO_MEMORY, Wrong};
 use crate::next::{nothing_after, take_whole};
 use crate::part::LogPart;
 use lemma_book::Draft;
-use lemma_log::{LogFault, is_cut_off, read_title};
+use lemma_log::{DecodeFault, is_cut_off, read_title};
 use network::Project;
 use record_text::Proved;
 use std::alloc::{AllocError, Global};
@@ -32,8 +32,8 @@ fn after_title(alloc: Global, bytes: &[u8]) -> Result<Option<Vec<u8>>, EventFaul
             let (_, rest) = bytes.split_at(count);
             Ok(Some(rest.to_vec(alloc)?))
         }
-        Err(LogFault::Short) => Ok(None),
-        Err(LogFault::Memory) => Err(NO_MEMORY),
+        Err(DecodeFault::Short) => Ok(None),
+        Err(DecodeFault::Memory) => Err(NO_MEMORY),
         Err(_) => Err(EventFault {
             event: 0,
             wrong: Wrong::Form,
@@ -72,7 +72,7 @@ impl<'a> Checker<'a> {
         project: &'a Project,
         part: LogPart,
     ) -> Result<Checker<'a>, AllocError>
-        ensures { IfOk result (λ x. HasRead project.now [] x × (x.part ≡ part)) }
+        ensures { IfOk result (λ x. HasChecked project.now [] x × (x.part ≡ part)) }
     {
         let draft = Draft::new(alloc, project)?;
         Ok(Checker {
@@ -88,7 +88,7 @@ impl<'a> Checker<'a> {
     /// Reads and takes the events that have come whole.
     fn read_events(&mut self) -> Result<(), EventFault>
         ensures read { OnOk result ((p : Problem) (text : List ℕ)
-            → IsAt self.old.part p text self.old.ledger self.old.left self.old.due → HasRead p text self.new) }
+            → IsAt self.old.part p text self.old.ledger self.old.left self.old.due → HasChecked p text self.new) }
         ensures fault { IfErr result (λ fault. fault.wrong ≢ wrongs.Memory → (p : Problem) (text more : List ℕ)
             → IsAt self.old.part p text self.old.ledger self.old.left self.old.due → IsFirstFault self.old.part p (text ++ more) fault) }
         ensures part { self.new.part ≡ self.old.part }
@@ -108,7 +108,7 @@ impl<'a> Checker<'a> {
 
     /// Reads the title, if all of it has come, and then events.
     fn read_title(&mut self) -> Result<(), EventFault>
-        ensures read { OnOk result ((p : Problem) (text : List ℕ) → IsAtTitle p text self.old → HasRead p text self.new) }
+        ensures read { OnOk result ((p : Problem) (text : List ℕ) → IsAtTitle p text self.old → HasChecked p text self.new) }
         ensures fault { IfErr result (λ fault. fault.wrong ≢ wrongs.Memory → (p : Problem) (text more : List ℕ)
             → IsAtTitle p text self.old → IsFirstFault self.old.part p (text ++ more) fault) }
         ensures part { self.new.part ≡ self.old.part }
@@ -123,10 +123,10 @@ impl<'a> Checker<'a> {
 
     /// Takes the next piece of the log. A fault is the first of the log, whatever else comes; the log is done with then.
     pub fn feed(&mut self, piece: &[u8]) -> Result<(), EventFault>
-        ensures read { OnOk result ((p : Problem) (text : List ℕ) → HasRead p text self.old
-            → HasRead p (text ++ piece.now) self.new) }
+        ensures read { OnOk result ((p : Problem) (text : List ℕ) → HasChecked p text self.old
+            → HasChecked p (text ++ piece.now) self.new) }
         ensures fault { IfErr result (λ fault. fault.wrong ≢ wrongs.Memory → (p : Problem) (text more : List ℕ)
-            → HasRead p text self.old → IsFirstFault self.old.part p ((text ++ piece.now) ++ more) fault) }
+            → HasChecked p text self.old → IsFirstFault self.old.part p ((text ++ piece.now) ++ more) fault) }
         ensures part { self.new.part ≡ self.old.part }
     {
         if self.proved.is_some() {
@@ -144,11 +144,11 @@ impl<'a> Checker<'a> {
 
     /// What the log proves, which ends here.
     pub fn finish(&self) -> Result<Proved, EventFault>
-        ensures right { IfOk result (λ proved. (p : Problem) (text : List ℕ) → HasRead p text self.now
+        ensures right { IfOk result (λ proved. (p : Problem) (text : List ℕ) → HasChecked p text self.now
             → IsClaimedIn self.now.part p text proved) }
         ensures whole { IfOk result (λ proved. self.now.part ≡ whole → (p : Problem) (text : List ℕ)
-            → HasRead p text self.now → IsClaimed p text proved) }
-        ensures fault { IfErr result (λ fault. (p : Problem) (text : List ℕ) → HasRead p text self.now
+            → HasChecked p text self.now → IsClaimed p text proved) }
+        ensures fault { IfErr result (λ fault. (p : Problem) (text : List ℕ) → HasChecked p text self.now
             → IsFirstFault self.now.part p text fault) }
         ensures short { IfErr result (λ fault. fault.wrong ≡ wrongs.Short) }
     {
@@ -164,7 +164,7 @@ impl<'a> Checker<'a> {
     /// What is proved so far, if all of the log is checked: what it claims, and where no claim has come what is claimed
     /// there.
     pub fn proved(&self) -> Proved
-        ensures { self.now.part ≡ whole → (p : Problem) (text : List ℕ) → HasRead p text self.now
+        ensures { self.now.part ≡ whole → (p : Problem) (text : List ℕ) → HasChecked p text self.now
             → IsProvedSoFar p text result }
     {
         match self.proved {

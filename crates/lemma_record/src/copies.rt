@@ -5,23 +5,23 @@ ghost use Rattle.std.specs.Option.{option_to_list};
 ghost use Rattle.lemma_proof.specs.Lines.{picked};
 
 use lemma_log::Lines;
-use lemma_proof::{Line, Overload};
+use lemma_proof::{Line, WindowOverload};
 use record_text::Members;
 use std::alloc::{AllocError, Global};
 
 /// A copy of an overload.
-fn over_copy(alloc: Global, over: &Overload) -> Result<Overload, AllocError>
+fn over_copy(alloc: Global, over: &WindowOverload) -> Result<WindowOverload, AllocError>
     ensures { IfOk result (λ copy. copy ≡ over.now) }
 {
     match over {
-        Overload::Load { resource, from, to } => Ok(Overload::Load {
+        WindowOverload::Load { resource, from, to } => Ok(WindowOverload::Load {
             resource: *resource,
             from: *from,
             to: *to,
         }),
-        Overload::Clique { from, to, members } => {
+        WindowOverload::Clique { from, to, members } => {
             let members = members.as_slice().to_vec(alloc)?;
-            Ok(Overload::Clique {
+            Ok(WindowOverload::Clique {
                 from: *from,
                 to: *to,
                 members: Members::new(members),

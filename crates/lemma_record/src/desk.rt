@@ -25,7 +25,7 @@ pub struct Lemma {
 /// A root and lemmas that a job checks lines against, and the lemmas that it has proved so, which wait for a book.
 ///
 /// The lines of each lemma that waits refute its arcs beside what the desk has. Nothing is said of whether what it has is
-/// true: [`Book::accept`](crate::Book::accept) compares it with the book's.
+/// true: [`LemmaBook::accept`](crate::LemmaBook::accept) compares it with the book's.
 #[derive(Drop)]
 pub struct Desk<'a> {
     alloc: Global,

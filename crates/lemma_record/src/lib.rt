@@ -11,19 +11,21 @@ mod checker;
 mod copies;
 mod desk;
 mod fault;
+mod growing_text;
+mod history;
 mod judging;
 mod law;
 mod logging;
 mod next;
 mod part;
 mod taking;
-#[cfg(test)]
-mod tests;
 
-pub use book::{Book, Shown};
+pub use book::{LemmaBook, Shown};
 pub use checker::Checker;
 pub use desk::{Desk, Lemma};
 pub use fault::{EventFault, Wrong};
+pub use growing_text::{Blank, Growing, Taken};
+pub use history::{Naming, Opened};
 pub use law::{claim_law, fault_law, parts_law};
 pub use part::LogPart;
 pub use taking::take;

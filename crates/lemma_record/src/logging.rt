@@ -1,10 +1,10 @@
 //! Events go into a log that grows.
 
 ghost use Rattle.std.specs.Prelude.{◌≡◌, ◌<◌, ◌^◌, ◌++◌, length, OnOk, OnErr};
-ghost use Rattle.growing_text.specs.Texts.{whole};
+ghost use Rattle.lemma_record.specs.Texts.{whole};
 ghost use Rattle.lemma_log.specs.Text.{body_text, event_text};
 
-use growing_text::{Growing, Naming};
+use crate::{Growing, Naming};
 use lemma_log::{Event, put_event};
 use std::alloc::{AllocError, Global};
 

@@ -2,7 +2,7 @@
 
 ghost use Rattle.std.specs.Prelude.{◌≡◌, ◌≢◌, ◌<◌, ◌≤◌, ◌++◌, [], ℕ, List, length, Err, IfOk, OnOk, IfErr, IfSome, MatchOption};
 ghost use Rattle.network.specs.Problem.{Problem};
-ghost use Rattle.lemma_log.specs.declared.fault.LogFault.TheVariants as read_faults;
+ghost use Rattle.lemma_log.specs.declared.fault.DecodeFault.TheVariants as read_faults;
 ghost use Rattle.lemma_log.specs.Law.{IsFirst};
 ghost use Rattle.lemma_log.specs.Reading.{read_in};
 ghost use Rattle.lemma_book.specs.Ledger.{LedgerOf};
@@ -10,14 +10,14 @@ ghost use Rattle.lemma_record.specs.declared.fault.Wrong.TheVariants.{Memory, Tr
 ghost use Rattle.lemma_record.specs.Right.{Takes};
 ghost use Rattle.lemma_record.specs.Parts.{PartOf, TakesIf, has};
 ghost use Rattle.lemma_record.specs.Faults.{IsFirstFault, IsUnread, IsWrongEvent, wrong_of};
-ghost use Rattle.lemma_record.specs.Reached.{HasClaimed, HasRead, IsAt, TakesNext, checker_of, claimed};
+ghost use Rattle.lemma_record.specs.Reached.{HasClaimed, HasChecked, IsAt, TakesNext, checker_of, claimed};
 
 use crate::fault::{EventFault, NO_MEMORY, Wrong};
 use crate::judging::judge;
 use crate::part::LogPart;
 use crate::taking::proved_of;
 use lemma_book::Draft;
-use lemma_log::{Event, LogFault, Read, read_event};
+use lemma_log::{DecodeFault, Event, Read, read_event};
 use record_text::Proved;
 use std::alloc::Global;
 
@@ -54,16 +54,16 @@ fn read_next(alloc: Global, bytes: &[u8], due: u64) -> Result<Option<Read>, Even
 {
     match read_event(alloc, bytes) {
         Ok(read) => Ok(Some(read)),
-        Err(LogFault::Short) => Ok(None),
-        Err(LogFault::Form) => Err(EventFault {
+        Err(DecodeFault::Short) => Ok(None),
+        Err(DecodeFault::Form) => Err(EventFault {
             event: due,
             wrong: Wrong::Form,
         }),
-        Err(LogFault::Long) => Err(EventFault {
+        Err(DecodeFault::Long) => Err(EventFault {
             event: due,
             wrong: Wrong::Long,
         }),
-        Err(LogFault::Memory) => Err(NO_MEMORY),
+        Err(DecodeFault::Memory) => Err(NO_MEMORY),
     }
 }
 
@@ -128,7 +128,7 @@ pub(crate) fn nothing_after(bytes: &[u8], due: u64) -> Result<(), EventFault>
 
 /// Where the reading of events ended.
 #[derive(Drop)]
-pub(crate) struct Stop<'t> {
+pub(crate) struct ReadEnd<'t> {
     /// The bytes that are left.
     pub(crate) left: &'t [u8],
     /// The number of the event that would be next.
@@ -138,15 +138,15 @@ pub(crate) struct Stop<'t> {
 }
 
 /// That a claim, after which this number is due, is the end of the bytes.
-fn ended<'t>(left: &'t [u8], due: u64, proved: Proved) -> Result<Stop<'t>, EventFault>
+fn ended<'t>(left: &'t [u8], due: u64, proved: Proved) -> Result<ReadEnd<'t>, EventFault>
     ensures read { IfOk result (λ stop. (part : PartOf) (p : Problem) (text : List ℕ) (l : LedgerOf)
         → HasClaimed part p text left.now proved due
-        → HasRead p text (checker_of part l stop.left.now stop.due stop.proved)) }
+        → HasChecked p text (checker_of part l stop.left.now stop.due stop.proved)) }
     ensures fault { IfErr result (λ fault. (part : PartOf) (p : Problem) (text more : List ℕ)
         → HasClaimed part p text left.now proved due → IsFirstFault part p (text ++ more) fault) }
 {
     nothing_after(left, due)?;
-    Ok(Stop {
+    Ok(ReadEnd {
         left,
         due,
         proved: Some(proved),
@@ -160,9 +160,9 @@ pub(crate) fn take_whole<'t>(
     part: &LogPart,
     bytes: &'t [u8],
     due: u64,
-) -> Result<Stop<'t>, EventFault>
+) -> Result<ReadEnd<'t>, EventFault>
     ensures read { IfOk result (λ stop. (p : Problem) (text : List ℕ) → IsAt part.now p text draft.old bytes.now due
-        → HasRead p text (checker_of part.now draft.new stop.left.now stop.due stop.proved)) }
+        → HasChecked p text (checker_of part.now draft.new stop.left.now stop.due stop.proved)) }
     ensures fault { IfErr result (λ fault. fault.wrong ≢ Memory → (p : Problem) (text more : List ℕ)
         → IsAt part.now p text draft.old bytes.now due → IsFirstFault part.now p (text ++ more) fault) }
 {
@@ -175,7 +175,7 @@ pub(crate) fn take_whole<'t>(
             return ended(left, next, proved);
         }
     }
-    Ok(Stop {
+    Ok(ReadEnd {
         left,
         due: next,
         proved: None,

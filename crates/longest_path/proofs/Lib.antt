@@ -8,3 +8,4 @@ pub mod Over
 pub mod Inserted
 pub mod Saving
 pub mod Full
+pub mod Ends

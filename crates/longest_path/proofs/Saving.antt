@@ -7,7 +7,7 @@ use Rattle.std.proofs.lemmas.List.Elements.{All-set, All-get_or, All-push, All-p
 use Rattle.std.proofs.lemmas.Bool.{cases_eq, eqb-true}
 use Rattle.network.specs.Walk.{entry, Rows}
 use Rattle.longest_path.specs.Matrix.{IsSquare, nothing, weight_of, weight_at, rows_of, written_at, IsRow, IsRelaxed, placed_at, IsMatrix}
-use Rattle.longest_path.specs.Saved.{put_back, SavedPart, SavedParts, saves_of, cell_count, IsPart, AreSaved, undone, LeadsBack, IsKept, marked_rows, AreNested, IsMarked, Part}
+use Rattle.longest_path.specs.Saved.{put_back, SavedPart, SavedParts, saves_of, cell_count, IsPart, AreSaved, undone, LeadsBack, LeadsBackIfKept, marked_rows, AreNested, IsMarked, Part}
 use Rattle.longest_path.proofs.Cells.{IsSquare-rows_of, entry-rows_of, same_entry, outside_row, row_low, IsSpliced, spliced, column_cases, placed_outside}
 use Rattle.longest_path.proofs.Bound.{same_rows}
 use Rattle.longest_path.proofs.Reach.{greater_none}
@@ -168,12 +168,12 @@ leads_on first second third old rows new p q = record {
   back = undone-append p.more q.more new ∙ ap (undone p.more) q.back ∙ p.back;
 }
 
-pub kept_on : (keeps : Bool) (first second third : SavedParts) (old rows new : Rows) → IsKept keeps first second old rows → IsKept keeps second third rows new → IsKept keeps first third old new
+pub kept_on : (keeps : Bool) (first second third : SavedParts) (old rows new : Rows) → LeadsBackIfKept keeps first second old rows → LeadsBackIfKept keeps second third rows new → LeadsBackIfKept keeps first third old new
 kept_on true first second third old rows new p q = leads_on first.saves second.saves third.saves old rows new p q
 kept_on false first second third old rows new p q = q ∙ p
 
 -- all is as it was once the parts that were kept since are put back
-pub put_back_all : (keeps : Bool) (first second third : SavedParts) (old rows new : Rows) → IsTrue keeps → IsKept keeps first second old rows →
+pub put_back_all : (keeps : Bool) (first second third : SavedParts) (old rows new : Rows) → IsTrue keeps → LeadsBackIfKept keeps first second old rows →
     third.width ≡ first.width → third.saves ≡ take (length first.saves) second.saves → new ≡ undone (drop (length first.saves) second.saves) rows → (third ≡ first) × (new ≡ old)
 put_back_all true first second third old rows new h p width saves back =
     let same : third.saves ≡ first.saves = rw (p.added, take-append_seam first.saves p.more) at saves in
@@ -181,7 +181,7 @@ put_back_all true first second third old rows new h p width saves back =
     (ap (λ w. parts w third.saves) width ∙ ap (parts first.width) same, (rw (p.added, drop-append_seam first.saves p.more) at back) ∙ p.back)
 put_back_all false first second third old rows new h p width saves back = cc
 
-pub kept_same : (keeps : Bool) (old new : SavedParts) (rows after : Rows) → new ≡ old → after ≡ rows → IsKept keeps old new rows after
+pub kept_same : (keeps : Bool) (old new : SavedParts) (rows after : Rows) → new ≡ old → after ≡ rows → LeadsBackIfKept keeps old new rows after
 kept_same true old new rows after e f = record { more = []; added = ap (λ (s : SavedParts). s.saves) e ∙ sym (append-nil old.saves); back = f }
 kept_same false old new rows after e f = e
 
@@ -279,17 +279,17 @@ pub some_counts : (empty : Bool) (n : ℕ) (counts : List ℕ) → empty ≡ (n 
 some_counts empty n (count ∷ counts) e long some = omega arith
 some_counts empty n [] e long some = let full : empty ≡ true = rw long at e in let bad : not empty ≡ false = ap not full in cc
 
-pub still_there : (keeps : Bool) (rows new : Rows) (saved more : SavedParts) (counts : List ℕ) → (keeps ≡ false → counts ≡ []) → IsMarked rows saved counts → IsKept keeps saved more rows new → marked_rows more.saves new counts ≡ marked_rows saved.saves rows counts
+pub still_there : (keeps : Bool) (rows new : Rows) (saved more : SavedParts) (counts : List ℕ) → (keeps ≡ false → counts ≡ []) → IsMarked rows saved counts → LeadsBackIfKept keeps saved more rows new → marked_rows more.saves new counts ≡ marked_rows saved.saves rows counts
 still_there true rows new saved more counts none m b = marks_kept (length saved.saves) counts saved.saves more.saves rows new (omega arith) m.nested b
 still_there false rows new saved more counts none m b = rw (none refl) refl
 
-still_nested : (keeps : Bool) (rows new : Rows) (saved more : SavedParts) (counts : List ℕ) → AreNested (length saved.saves) counts → IsKept keeps saved more rows new → AreNested (length more.saves) counts
+still_nested : (keeps : Bool) (rows new : Rows) (saved more : SavedParts) (counts : List ℕ) → AreNested (length saved.saves) counts → LeadsBackIfKept keeps saved more rows new → AreNested (length more.saves) counts
 still_nested true rows new saved more counts n b =
     let long : length more.saves ≡ length saved.saves + length b.more = ap length b.added ∙ length-append saved.saves b.more in
     nested_weaker (length saved.saves) (length more.saves) counts (omega arith) n
 still_nested false rows new saved more counts n b = rw b n
 
-pub still_marked : (keeps : Bool) (rows new : Rows) (saved more : SavedParts) (counts : List ℕ) → (keeps ≡ false → counts ≡ []) → IsMarked rows saved counts → IsMatrix new → more.width ≡ saved.width → length new ≡ length rows → IsKept keeps saved more rows new → IsMarked new more counts
+pub still_marked : (keeps : Bool) (rows new : Rows) (saved more : SavedParts) (counts : List ℕ) → (keeps ≡ false → counts ≡ []) → IsMarked rows saved counts → IsMatrix new → more.width ≡ saved.width → length new ≡ length rows → LeadsBackIfKept keeps saved more rows new → IsMarked new more counts
 still_marked keeps rows new saved more counts none m is width size b = record {
   matrix = is;
   width = width ∙ m.width ∙ sym size;

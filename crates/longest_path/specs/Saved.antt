@@ -67,8 +67,8 @@ pub record LeadsBack (old_saves saves : List SavedPart) (old rows : Rows) : Type
   pub back : undone more rows ≡ old
 
 -- what was saved in between leads back to the old rows where it is kept, and else nothing was saved
-abbrev pub IsKept : Bool → SavedParts → SavedParts → Rows → Rows → Type 0
-IsKept keeps old_saved saved old rows = MatchBool keeps (LeadsBack old_saved.saves saved.saves old rows) (saved ≡ old_saved)
+abbrev pub LeadsBackIfKept : Bool → SavedParts → SavedParts → Rows → Rows → Type 0
+LeadsBackIfKept keeps old_saved saved old rows = MatchBool keeps (LeadsBack old_saved.saves saved.saves old rows) (saved ≡ old_saved)
 
 -- ---- A matrix that goes back to its marks.
 

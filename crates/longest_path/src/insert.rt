@@ -9,7 +9,7 @@ ghost use Rattle.std.specs.Int.{w64};
 ghost use Rattle.std.specs.Bool.{MatchBool};
 ghost use Rattle.network.specs.Walk.{entry};
 ghost use Rattle.longest_path.specs.Insert.{weight_over, IsFirstOver, IsEntryOver, IsReadyRow};
-ghost use Rattle.longest_path.specs.Saved.{IsKept, MayGoOver};
+ghost use Rattle.longest_path.specs.Saved.{LeadsBackIfKept, MayGoOver};
 
 use crate::columns::gaining_columns;
 use crate::grid::{Grid, MAX_FIRST_WEIGHT};
@@ -116,7 +116,7 @@ fn go_over_row(
     ensures square { IsSquare (length grid.old) grid.new }
     ensures width { saves.new.width ≡ saves.old.width }
     ensures over { OnOk result (IsRowOver a (weight_over arc grid.old a) (placed_at from via.now) grid.old grid.new) }
-    ensures kept { IsKept keeps saves.old saves.new grid.old grid.new }
+    ensures kept { LeadsBackIfKept keeps saves.old saves.new grid.old grid.new }
     ensures memory { OnErr result (IsTrue keeps) }
 {
     let Some(first) = first_over(grid, a, arc) else {
@@ -143,7 +143,7 @@ pub(crate) fn go_over(
     ensures width { saves.new.width ≡ saves.old.width }
     ensures square { OnOk result (IsSquare (length grid.old) grid.new) }
     ensures over { OnOk result ((a b : ℕ) → IsEntryOver arc grid.old a b (entry grid.new a b)) }
-    ensures kept { IsKept keeps saves.old saves.new grid.old grid.new }
+    ensures kept { LeadsBackIfKept keeps saves.old saves.new grid.old grid.new }
     ensures memory { OnErr result (IsTrue keeps) }
     ensures same_grid { OnErr result (grid.new ≡ grid.old) }
     ensures same_saves { OnErr result (saves.new ≡ saves.old) }

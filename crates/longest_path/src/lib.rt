@@ -5,6 +5,7 @@
 #![tactic(auto)]
 
 mod columns;
+mod earliest;
 mod fault;
 mod grid;
 mod insert;
@@ -13,6 +14,7 @@ mod matrix;
 mod recurrence;
 mod saves;
 
+pub use earliest::{heads, least_starts, least_starts_in, tails};
 pub use fault::PathFault;
 pub use grid::MAX_FIRST_WEIGHT;
 pub use insert::{MAX_WAY_WITH, or_way, then_arc};

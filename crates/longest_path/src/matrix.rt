@@ -4,7 +4,7 @@ ghost use Rattle.std.specs.Prelude.{◌≡◌, ◌<◌, ◌≤◌, pos, length, 
 ghost use Rattle.network.specs.Walk.{entry, Rows};
 ghost use Rattle.std.specs.Bool.{MatchBool};
 ghost use Rattle.longest_path.specs.Insert.{arc_of, AddsArc, ClosesCycle, MayInsert, TakesArc, IsInsertFault};
-ghost use Rattle.longest_path.specs.Saved.{IsKept, undone};
+ghost use Rattle.longest_path.specs.Saved.{LeadsBackIfKept, undone};
 ghost use Rattle.network.specs.declared.limits.TheConstants.{MAX_ACTIVITIES, MAX_WALK_WEIGHT};
 ghost use Rattle.network.specs.Problem.{IsWithin};
 ghost use Rattle.longest_path.specs.Matrix.{IsMatrix};
@@ -98,7 +98,7 @@ impl Matrix {
         ensures ok { OnOk result (AddsArc (arc_of i j w) self.old self.new) }
         ensures fault { IfErr result (IsInsertFault (arc_of i j w) self.old) }
         ensures memory { result ≡ Err PathFault.Memory → IsTrue keeps }
-        ensures kept { IsKept keeps saves.old saves.new self.old self.new }
+        ensures kept { LeadsBackIfKept keeps saves.old saves.new self.old self.new }
         ensures unchanged { OnErr result (self.new ≡ self.old) }
         ensures same_saves { OnErr result (saves.new ≡ saves.old) }
     {

@@ -3,3 +3,4 @@ pub mod Schedule
 pub mod Walk
 pub mod Faults
 pub mod Equality
+pub mod Horizon

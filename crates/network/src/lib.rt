@@ -6,11 +6,13 @@
 
 mod arcs;
 mod faults;
+mod horizon;
 mod limits;
 mod parts;
 mod project;
 mod schedule;
 
+pub use horizon::{MAX_HORIZON, horizon_law, horizon_of};
 pub use limits::{
     MAX_ACTIVITIES, MAX_AMOUNT, MAX_LAG_WEIGHT, MAX_LAGS, MAX_RESOURCES, MAX_START, MAX_WALK_WEIGHT,
 };

@@ -1,20 +1,19 @@
 //! Expansions, searches and matrices of nodes, played from lines.
 
+use crate::projects::{
+    backward_lag, both_orders_dead, lag, one_machine, pair, three_in_turn, three_on_two,
+    two_between, with_one_resource,
+};
 use bounds::bound;
-use branching::{Branches, Fate, Lean, Report, Searcher, expand, ordered_pairs, rebuild, root};
-use earliest::least_starts;
-use longest_path::{MarkedMatrix, Matrix, PathFault, longest};
+use branching::{Branches, Fate, OpenNode, Report, Searcher, expand, ordered_pairs, rebuild, root};
+use forbidden_sets::are_incompatible;
+use longest_path::{MarkedMatrix, Matrix, PathFault, least_starts, longest};
 use network::{Pair, Project};
 use plain_search::{Outcome, search_alone};
-use rivals::are_incompatible;
 use std::alloc::{AllocError, Global};
 use std::process::Abort;
 use std::sync::Arc;
 use std::test::Fail;
-use test_projects::{
-    backward_lag, both_orders_dead, lag, one_machine, pair, three_in_turn, three_on_two,
-    two_between, with_one_resource,
-};
 
 const ONES: [i64; 11] = [0, 1, 1, 1, 1, 1, 1, 1, 1, 1, 0];
 
@@ -53,18 +52,18 @@ fn pairs_text(alloc: Global, pairs: &[Pair]) -> Result<String, AllocError> {
 }
 
 /// The pairs of a node, its bound, and the least starts by its matrix.
-fn node_text(alloc: Global, lean: &Arc<Lean>) -> Result<String, AllocError> {
-    let pairs = pairs_text(alloc, lean.pairs().to_vec(alloc)?.as_slice())?;
-    let node = rebuild(alloc, lean)?;
-    let (starts, bound) = (least_starts(alloc, node.matrix())?, lean.bound());
+fn node_text(alloc: Global, open_node: &Arc<OpenNode>) -> Result<String, AllocError> {
+    let pairs = pairs_text(alloc, open_node.pairs().to_vec(alloc)?.as_slice())?;
+    let node = rebuild(alloc, open_node)?;
+    let (starts, bound) = (least_starts(alloc, node.matrix())?, open_node.bound());
     format!(in alloc; "{pairs} bound {bound} starts {starts:?}")
 }
 
-/// The bound of the expanded node, how many kids it has, the starts found, the split set, and what became of each pair
+/// The bound of the expanded node, how many children it has, the starts found, the split set, and what became of each pair
 /// of that set.
 fn report_text(alloc: Global, report: &Report) -> Result<String, AllocError> {
-    let (bound, mut kids) = (report.node().bound(), report.kids().iter());
-    let mut text = format!(in alloc; "bound {bound}, kids {}", report.kids().len())?;
+    let (bound, mut children) = (report.node().bound(), report.children().iter());
+    let mut text = format!(in alloc; "bound {bound}, children {}", report.children().len())?;
     if let Some(found) = report.found() {
         let starts = found.starts();
         write!(text, "; found {starts:?}")?;
@@ -75,11 +74,11 @@ fn report_text(alloc: Global, report: &Report) -> Result<String, AllocError> {
     }
     for fate in report.fates() {
         let told = match fate {
-            Fate::Dead { forced } => format!(in alloc; "dead{}", pairs_text(alloc, forced)?)?,
+            Fate::Infeasible { forced } => format!(in alloc; "dead{}", pairs_text(alloc, forced)?)?,
             Fate::Cut { forced } => format!(in alloc; "cut{}", pairs_text(alloc, forced)?)?,
-            Fate::Kid(()) => match kids.next() {
-                Some(kid) => format!(in alloc; "kid{}", node_text(alloc, kid)?)?,
-                None => String::from_str(alloc, "kid that is not there")?,
+            Fate::Child(()) => match children.next() {
+                Some(child) => format!(in alloc; "child{}", node_text(alloc, child)?)?,
+                None => String::from_str(alloc, "child that is not there")?,
             },
         };
         write!(text, "; {told}")?;
@@ -100,7 +99,7 @@ fn expansion(
         Err(PathFault::Memory) => return Err(Fail::from(AllocError)),
         Err(fault) => return Ok(format!(in alloc; "{fault:?}")?),
     };
-    assert!(rt; root.lean().project() == &project);
+    assert!(rt; root.open_node().project() == &project);
     let report = expand(alloc, &root, ceiling)?;
     assert_eq!(rt; report.ceiling(), ceiling);
     Ok(report_text(alloc, &report)?)
@@ -112,61 +111,63 @@ fn expansions_of_roots(rt: HostRuntime) -> Result<(), Fail> {
         (
             "one machine",
             None,
-            "bound 7, kids 2; split [1, 2]; kid 1-2 bound 7 starts [0, 0, 3, 7]; \
-                kid 2-1 bound 7 starts [0, 4, 0, 7]",
+            "bound 7, children 2; split [1, 2]; child 1-2 bound 7 starts [0, 0, 3, 7]; \
+                child 2-1 bound 7 starts [0, 4, 0, 7]",
         ),
         (
             "one machine",
             Some(8),
-            "bound 7, kids 2; split [1, 2]; kid 1-2 bound 7 starts [0, 0, 3, 7]; \
-                kid 2-1 bound 7 starts [0, 4, 0, 7]",
+            "bound 7, children 2; split [1, 2]; child 1-2 bound 7 starts [0, 0, 3, 7]; \
+                child 2-1 bound 7 starts [0, 4, 0, 7]",
         ),
-        ("one machine", Some(7), "bound 7, kids 0"),
+        ("one machine", Some(7), "bound 7, children 0"),
         (
             "both orders dead",
             None,
-            "bound 7, kids 0; split [1, 2]; dead; dead",
+            "bound 7, children 0; split [1, 2]; dead; dead",
         ),
-        ("too much", None, "bound 2, kids 0; split [1]"),
+        ("too much", None, "bound 2, children 0; split [1]"),
         (
             "three on two",
             None,
-            "bound 3, kids 6; split [1, 2, 3]; kid 1-2 bound 4 starts [0, 0, 2, 0, 4]; \
-                kid 1-3 bound 4 starts [0, 0, 0, 2, 4]; kid 2-1 bound 4 starts [0, 2, 0, 0, 4]; \
-                kid 2-3 bound 4 starts [0, 0, 0, 2, 4]; kid 3-1 bound 4 starts [0, 2, 0, 0, 4]; \
-                kid 3-2 bound 4 starts [0, 0, 2, 0, 4]",
+            "bound 3, children 6; split [1, 2, 3]; child 1-2 bound 4 starts [0, 0, 2, 0, 4]; \
+                child 1-3 bound 4 starts [0, 0, 0, 2, 4]; child 2-1 bound 4 starts [0, 2, 0, 0, 4]; \
+                child 2-3 bound 4 starts [0, 0, 0, 2, 4]; child 3-1 bound 4 starts [0, 2, 0, 0, 4]; \
+                child 3-2 bound 4 starts [0, 0, 2, 0, 4]",
         ),
         (
             "third first",
             None,
-            "bound 9, kids 2; split [2, 3]; kid 2-3 3-1 bound 9 starts [0, 6, 0, 4, 9]; \
-                kid 3-2 3-1 bound 9 starts [0, 2, 2, 0, 6]",
+            "bound 9, children 2; split [2, 3]; child 2-3 3-1 bound 9 starts [0, 6, 0, 4, 9]; \
+                child 3-2 3-1 bound 9 starts [0, 2, 2, 0, 6]",
         ),
         // A weight of minus the duration forces nothing.
         (
             "third first or 3 later",
             None,
-            "bound 9, kids 2; split [2, 3]; kid 2-3 2-1 bound 9 starts [0, 4, 0, 4, 7]; \
-                kid 3-2 bound 9 starts [0, 0, 2, 0, 6]",
+            "bound 9, children 2; split [2, 3]; child 2-3 2-1 bound 9 starts [0, 4, 0, 4, 7]; \
+                child 3-2 bound 9 starts [0, 0, 2, 0, 6]",
         ),
         (
             "no room",
             None,
-            "bound 9, kids 0; split [2, 3]; dead 1-3; dead 1-2 1-3",
+            "bound 9, children 0; split [2, 3]; dead 1-3; dead 1-2 1-3",
         ),
         (
             "backward lag",
             Some(6),
-            "bound 4, kids 1; split [1, 2]; kid 1-2 bound 5 starts [0, 0, 2, 1, 5]; cut",
+            "bound 4, children 1; split [1, 2]; child 1-2 bound 5 starts [0, 0, 2, 1, 5]; cut",
         ),
-        ("apart", None, "bound 9, kids 0; found [0, 0, 5, 9]"),
+        ("apart", None, "bound 9, children 0; found [0, 0, 5, 9]"),
         ("positive cycle", None, "PositiveCycle { at: 2 }"),
     ] {
         let found = expansion(&rt, rt.alloc(), name, ceiling)?;
         assert_eq!(rt; found.as_str(), wanted, "{name}");
     }
     let found = expansion(&rt, rt.alloc(), "nine on eight", None)?;
-    assert!(rt; found.starts_with("bound 2, kids 72; split [1, 2, 3, 4, 5, 6, 7, 8, 9]; kid 1-2 "));
+    assert!(rt;
+        found.starts_with("bound 2, children 72; split [1, 2, 3, 4, 5, 6, 7, 8, 9]; child 1-2 ")
+    );
     Ok(())
 }
 
@@ -233,8 +234,11 @@ fn is_same(alloc: Global, one: &str, other: &str) -> Result<[bool; 2], Fail> {
         root(alloc, project_of(alloc, one)?)?,
         root(alloc, Arc::try_clone(&other)?)?,
     );
-    let searcher = Searcher::for_node(alloc, node.lean())?;
-    Ok([node.lean().is_of(&other), searcher.is_for(far.lean())])
+    let searcher = Searcher::for_node(alloc, node.open_node())?;
+    Ok([
+        node.open_node().is_of(&other),
+        searcher.is_for(far.open_node()),
+    ])
 }
 
 /// That two matrices have the same entries.
@@ -249,44 +253,47 @@ fn assert_same(rt: &impl Abort, left: &Matrix, right: &Matrix) {
 }
 
 /// The matrix of a node by the recurrence.
-fn longest_of(alloc: Global, node: &Lean) -> Result<Matrix, Fail> {
+fn longest_of(alloc: Global, node: &OpenNode) -> Result<Matrix, Fail> {
     let pairs = node.pairs().to_vec(alloc)?;
     Ok(longest(alloc, node.project(), pairs.as_slice())?)
 }
 
-/// The kids of a node. The rebuilt matrix and that of a searcher have to be the one of the recurrence. The node's bound
+/// The children of a node. The rebuilt matrix and that of a searcher have to be the one of the recurrence. The node's bound
 /// has to be that of the matrix.
-fn kids_of(
+fn children_of(
     rt: &impl Abort,
     alloc: Global,
     searcher: &mut Searcher,
-    lean: &Arc<Lean>,
-) -> Result<Vec<Arc<Lean>>, Fail> {
-    let whole = longest_of(alloc, lean)?;
-    let node = rebuild(alloc, lean)?;
+    open_node: &Arc<OpenNode>,
+) -> Result<Vec<Arc<OpenNode>>, Fail> {
+    let whole = longest_of(alloc, open_node)?;
+    let node = rebuild(alloc, open_node)?;
     assert_same(rt, node.matrix(), &whole);
-    assert_eq!(rt; bound(alloc, lean.project(), node.matrix())?, lean.bound());
+    assert_eq!(rt;
+        bound(alloc, open_node.project(), node.matrix())?,
+        open_node.bound()
+    );
     let (found, fresh) = expand(alloc, &node, None)?.into_parts();
-    assert!(rt; searcher.is_for(lean));
-    let (again, moved) = searcher.expand(alloc, lean, None)?.into_parts();
-    assert_same(rt, searcher.node(alloc, lean)?.matrix(), &whole);
+    assert!(rt; searcher.is_for(open_node));
+    let (again, moved) = searcher.expand(alloc, open_node, None)?.into_parts();
+    assert_same(rt, searcher.node(alloc, open_node)?.matrix(), &whole);
     assert_eq!(rt; again.is_some(), found.is_some());
-    assert_eq!(rt; moved.kids.len(), fresh.kids.len());
+    assert_eq!(rt; moved.children.len(), fresh.children.len());
     searcher.reuse(moved);
-    Ok(fresh.kids)
+    Ok(fresh.children)
 }
 
 /// How many nodes the search tree of a project has.
 fn tree_size(rt: &impl Abort, alloc: Global, name: &str) -> Result<usize, Fail> {
     let root = root(alloc, project_of(alloc, name)?)?;
-    let mut searcher = Searcher::for_node(alloc, root.lean())?;
+    let mut searcher = Searcher::for_node(alloc, root.open_node())?;
     let mut nodes = Vec::new(alloc);
-    nodes.push(Arc::try_clone(root.lean())?)?;
+    nodes.push(Arc::try_clone(root.open_node())?)?;
     for count in 0..100 {
-        let Some(lean) = nodes.pop() else {
+        let Some(open_node) = nodes.pop() else {
             return Ok(count);
         };
-        nodes.append(&mut kids_of(rt, alloc, &mut searcher, &lean)?)?;
+        nodes.append(&mut children_of(rt, alloc, &mut searcher, &open_node)?)?;
     }
     Err("there are too many nodes".into())
 }
@@ -304,16 +311,16 @@ fn matrices_are_those_of_the_recurrence(rt: HostRuntime) -> Result<(), Fail> {
     Ok(())
 }
 
-/// For how many kids and fates the lists of a report have room, where lists for so many were handed back before.
+/// For how many children and fates the lists of a report have room, where lists for so many were handed back before.
 fn room_after(alloc: Global, count: usize) -> Result<[usize; 2], Fail> {
     let root = root(alloc, project_of(alloc, "one machine")?)?;
-    let mut searcher = Searcher::for_node(alloc, root.lean())?;
+    let mut searcher = Searcher::for_node(alloc, root.open_node())?;
     searcher.reuse(Branches {
-        kids: Vec::with_capacity(alloc, count)?,
+        children: Vec::with_capacity(alloc, count)?,
         fates: Vec::with_capacity(alloc, count)?,
     });
-    let (_, made) = searcher.expand(alloc, root.lean(), None)?.into_parts();
-    Ok([made.kids.capacity(), made.fates.capacity()])
+    let (_, made) = searcher.expand(alloc, root.open_node(), None)?.into_parts();
+    Ok([made.children.capacity(), made.fates.capacity()])
 }
 
 #[test]

@@ -1,9 +1,8 @@
 //! Heads and tails of small projects.
 
-use earliest::{heads, least_starts, tails};
-use longest_path::longest;
+use crate::projects::{lag, project, two_between};
+use longest_path::{heads, least_starts, longest, tails};
 use std::test::Fail;
-use test_projects::{lag, project, two_between};
 
 #[test]
 fn heads_and_tails_of_four_activities(rt: HostRuntime) -> Result<(), Fail> {

@@ -9,10 +9,20 @@ mod expansions;
 #[cfg(test)]
 mod least_starts;
 #[cfg(test)]
+mod logs;
+#[cfg(test)]
 mod matrices;
 #[cfg(test)]
+mod orders;
+#[cfg(test)]
 mod overloads;
+mod projects;
 #[cfg(test)]
 mod sets;
 #[cfg(test)]
 mod values;
+
+pub use projects::{
+    are_starts, backward_lag, both_orders_dead, lag, one_machine, pair, project, three_in_turn,
+    three_on_two, two_between, with_one_resource,
+};

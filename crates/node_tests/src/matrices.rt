@@ -1,11 +1,11 @@
 //! Matrices with arcs that are inserted and taken back.
 
+use crate::projects::{lag, one_machine, pair};
 use longest_path::{MarkedMatrix, Matrix, PathFault, longest};
 use network::{Lag, MAX_LAG_WEIGHT, Pair};
 use std::alloc::{AllocError, Global};
 use std::process::Abort;
 use std::test::Fail;
-use test_projects::{lag, one_machine, pair};
 
 /// The entries of a matrix by rows, a dash where there is no walk.
 fn told(alloc: Global, matrix: &Matrix) -> Result<String, AllocError> {

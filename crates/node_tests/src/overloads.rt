@@ -2,12 +2,12 @@
 
 ghost use Rattle.profile.specs.Overloads.{IsSweepFor};
 
+use crate::projects::{are_starts, one_machine, project};
 use network::Project;
 use profile::{Overload, OverloadSweep, first_overload, overloads, use_at};
 use std::alloc::{AllocError, Global};
 use std::process::Abort;
 use std::test::Fail;
-use test_projects::{are_starts, one_machine, project};
 
 mod all_starts;
 mod seeded;

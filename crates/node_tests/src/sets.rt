@@ -2,12 +2,12 @@
 
 ghost use Rattle.network.specs.Problem.{AreStarts};
 
+use crate::projects::with_one_resource;
 use forbidden_sets::{ForbiddenSet, shrink_activities};
 use network::Project;
 use profile::OverloadSweep;
 use std::alloc::{AllocError, Global};
 use std::test::Fail;
-use test_projects::with_one_resource;
 
 /// The set that the first overload of these starts shrinks to.
 fn set_of(

@@ -5,16 +5,15 @@ ghost use Rattle.longest_path.specs.Insert.{ClosesNone};
 ghost use Rattle.network.specs.Problem.{resource_count, NameActivities, pair_arc};
 ghost use Rattle.bounds.specs.Bound.{IsMatrixFor, IsWorkspaceFor};
 
+use crate::projects::{
+    backward_lag, lag, one_machine, pair, three_on_two, two_between, with_one_resource,
+};
 use bounds::{Workspace, bound, bound_with, critical, energy};
-use earliest::{heads, tails};
-use longest_path::{Matrix, PathFault, longest};
+use longest_path::{Matrix, PathFault, heads, longest, tails};
 use network::{Pair, Project};
 use std::alloc::{AllocError, Global};
 use std::process::Abort;
 use std::test::Fail;
-use test_projects::{
-    backward_lag, lag, one_machine, pair, three_on_two, two_between, with_one_resource,
-};
 
 /// Whether both activities of each pair are there.
 fn are_named(project: &Project, pairs: &[Pair]) -> bool

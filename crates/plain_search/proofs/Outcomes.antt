@@ -10,7 +10,7 @@ use Rattle.network.specs.Schedule.{ScheduleOf, IsFeasible, makespan}
 use Rattle.branching.specs.Subproblem.{Subproblem, NodeStandsFor}
 use Rattle.branching.specs.Right.{IsUnder, IsLeast}
 use Rattle.branching.specs.Fair.{IsShorterThan, IsNodeOf, IsRootOf, IsScheduleFor, ceiling_of}
-use Rattle.plain_search.specs.Takes.{bounds_of, SearchState, IsSoundState, IsTake, Takes, no_take, one_more, IsLeft, IsOutcomeOf, StopsOnlyAfter, first_state}
+use Rattle.plain_search.specs.Takes.{bounds_of, SearchState, IsSoundState, IsTake, Takes, no_take, one_more, IsStillOpen, IsOutcomeOf, StopsOnlyAfter, first_state}
 use Rattle.plain_search.specs.Verdicts.{IsStoppedAt, IsTrueOf, StopsBelowBest}
 use Rattle.plain_search.specs.declared.search.Outcome.{Outcome}
 use Rattle.plain_search.specs.declared.search.Outcome.TheVariants.{Optimal, NoSchedule, Stopped}
@@ -127,7 +127,7 @@ one_taken p n old new so_far some project step = record {
 }
 
 -- a state without nodes is not that of a search that was stopped
-none_stopped : (state : SearchState) (bound : ℤ) → state.nodes ≡ [] → IsLeft state bound → ⊥
+none_stopped : (state : SearchState) (bound : ℤ) → state.nodes ≡ [] → IsStillOpen state bound → ⊥
 none_stopped state bound none left =
     let some : IsLeast (bounds_of []) (Some bound) = rw none at left.least in
     absurd (omega (arith, some.0.1))

@@ -37,7 +37,7 @@ abbrev pub PopsUnder : Option ℤ → List Subproblem → Option Subproblem → 
 PopsUnder ceiling old None new = DropsOver ceiling old [] × (new ≡ [])
 PopsUnder ceiling old (Some node) new = DropsOver ceiling old (new ++ node ∷ []) × IsUnder ceiling node.bound
 
--- one take: the last node below the best is expanded under the best, and its kids are put in its place
+-- one take: the last node below the best is expanded under the best, and its children are put in its place
 pub record IsTake (old new : SearchState) : Type 0 where
   pub rest : List Subproblem
   pub node : Subproblem
@@ -47,7 +47,7 @@ pub record IsTake (old new : SearchState) : Type 0 where
   pub is_report : IsReport report
   pub project : new.project ≡ old.project
   pub best : IsShorterOf old.best report.found new.best
-  pub nodes : new.nodes ≡ rest ++ report.kids
+  pub nodes : new.nodes ≡ rest ++ report.children
 
 -- so many takes lead from one state to another
 pub data Takes : ℕ → SearchState → SearchState → Type 0 where
@@ -60,7 +60,7 @@ abbrev pub first_state : Problem → Subproblem → SearchState
 first_state p root = record { project = p; best = None; nodes = root ∷ [] }
 
 -- what is left where a search is stopped: nodes of which some are below the best, with this least bound
-pub record IsLeft (state : SearchState) (bound : ℤ) : Type 0 where
+pub record IsStillOpen (state : SearchState) (bound : ℤ) : Type 0 where
   pub least : IsLeast (bounds_of state.nodes) (Some bound)
   pub under : IsUnder (ceiling_of state.best) bound
 
@@ -69,7 +69,7 @@ abbrev pub IsOutcomeOf : SearchState → Outcome → Type 0
 IsOutcomeOf state (Optimal best) =
     (state.best ≡ Some best) × All (λ node. ¬ IsUnder (ceiling_of state.best) node.bound) state.nodes
 IsOutcomeOf state NoSchedule = (state.best ≡ None) × (state.nodes ≡ [])
-IsOutcomeOf state (Stopped best bound) = (state.best ≡ best) × IsLeft state bound
+IsOutcomeOf state (Stopped best bound) = (state.best ≡ best) × IsStillOpen state bound
 
 -- a search of the project that was stopped after so many takes
 pub record IsStoppedAfter (p : Problem) (takes : ℕ) (outcome : Outcome) : Type 0 where

@@ -7,7 +7,7 @@ ghost use Rattle.branching.specs.Right.{IsLeast};
 ghost use Rattle.plain_search.specs.Takes.{bounds_of, PopsUnder, IsTake, IsOutcomeOf, StopsOnlyAfter, first_state};
 ghost use Rattle.plain_search.specs.Verdicts.{IsTrueOf, StopsBelowBest};
 
-use branching::{Lean, Searcher, is_below, lean_root, lesser, makespan_of};
+use branching::{OpenNode, Searcher, is_below, lesser, makespan_of, open_root};
 use longest_path::PathFault;
 use network::{Project, Schedule};
 use std::alloc::{AllocError, Global};
@@ -27,14 +27,14 @@ pub enum Outcome {
 }
 
 /// The most nodes that a search may be asked to take.
-pub const MAX_TAKES: u64 = 1_000_000_000;
+pub const MAX_EXPANDED: u64 = 1_000_000_000;
 
 /// The best schedule so far, and a stack of nodes that stand for every shorter one.
 #[derive(Drop)]
 struct Search {
     project: Arc<Project>,
     best: Option<Schedule>,
-    stack: Vec<Arc<Lean>>,
+    stack: Vec<Arc<OpenNode>>,
 }
 
 impl Model for Search {
@@ -67,7 +67,7 @@ fn shorter_of(best: Option<Schedule>, found: Option<Schedule>) -> Option<Schedul
 }
 
 /// Takes the last node below the ceiling off the stack, and drops those after it.
-fn next_node(ceiling: Option<i64>, stack: &mut Vec<Arc<Lean>>) -> Option<Arc<Lean>>
+fn next_node(ceiling: Option<i64>, stack: &mut Vec<Arc<OpenNode>>) -> Option<Arc<OpenNode>>
     ensures { PopsUnder ceiling
         (map arc_value stack.old.items) (option_map arc_value result) (map arc_value stack.new.items) }
 {
@@ -80,7 +80,7 @@ fn next_node(ceiling: Option<i64>, stack: &mut Vec<Arc<Lean>>) -> Option<Arc<Lea
 }
 
 /// The least bound of the nodes, if there are some.
-fn least_bound(nodes: &[Arc<Lean>]) -> Option<i64>
+fn least_bound(nodes: &[Arc<OpenNode>]) -> Option<i64>
     ensures { IsLeast (bounds_of (map arc_value nodes.now)) result }
 {
     let mut least = None;
@@ -94,7 +94,7 @@ impl Search {
     ghost use Rattle.plain_search.specs.Takes.{SearchState};
 
     /// A search at its start: no schedule was found, and the root stands for all.
-    fn new(alloc: Global, project: Arc<Project>, root: Arc<Lean>) -> Result<Search, AllocError>
+    fn new(alloc: Global, project: Arc<Project>, root: Arc<OpenNode>) -> Result<Search, AllocError>
         requires { IsRootOf (arc_value project) (arc_value root) }
         ensures { IfOk result (λ search. search ≡ first_state (arc_value project) (arc_value root)) }
     {
@@ -114,7 +114,7 @@ impl Search {
         self.stack.is_empty()
     }
 
-    /// Takes the last node below the best and puts its kids in its place. So the last kid comes next. Where no node is
+    /// Takes the last node below the best and puts its children in its place. So the last child comes next. Where no node is
     /// below the best, none is left.
     fn take(self, alloc: Global, searcher: &mut Searcher) -> Result<Search, AllocError>
         requires { searcher.old.project ≡ self.project }
@@ -140,7 +140,7 @@ impl Search {
         };
         let report = searcher.expand(alloc, &node, ceiling)?;
         let (found, mut made) = report.into_parts();
-        stack.append(&mut made.kids)?;
+        stack.append(&mut made.children)?;
         searcher.reuse(made);
         let best = shorter_of(best, found);
         Ok(Search {
@@ -182,7 +182,7 @@ impl Search {
 /// Searches for a shortest schedule in one thread, depth first, with at most `takes` nodes expanded.
 ///
 /// It takes the last node on a stack. It drops a node whose bound is at least the best makespan, and doesn't count it.
-/// It expands any other under the best makespan, and puts the kids on in order. [`Outcome::Stopped`] comes only if the
+/// It expands any other under the best makespan, and puts the children on in order. [`Outcome::Stopped`] comes only if the
 /// takes are used up while a node with a bound below the best makespan is left. Its bound is the least on the stack,
 /// and below the best makespan.
 pub fn search_alone(
@@ -191,12 +191,12 @@ pub fn search_alone(
     takes: u64,
 ) -> Result<Outcome, AllocError>
     requires some { 0 < takes }
-    requires limit { takes ≤ MAX_TAKES }
+    requires limit { takes ≤ MAX_EXPANDED }
     ensures true_of { IfOk result (IsTrueOf (arc_value project.now)) }
     ensures below_best { IfOk result StopsBelowBest }
     ensures takes { IfOk result (StopsOnlyAfter (arc_value project.now) takes) }
 {
-    let root = match lean_root(alloc, Arc::try_clone(project)?) {
+    let root = match open_root(alloc, Arc::try_clone(project)?) {
         Ok(root) => root,
         Err(PathFault::PositiveCycle { .. }) => return Ok(Outcome::NoSchedule),
         Err(PathFault::Memory) => return Err(AllocError),

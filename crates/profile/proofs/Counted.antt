@@ -12,8 +12,8 @@ use Rattle.std.specs.Vec.{with_items}
 use Rattle.std.specs.List.Sorted.{IsPermutation}
 use Rattle.std.proofs.lemmas.List.Sorted.{sum_by-IsPermutation, IsPermutation-trans}
 use Rattle.network.specs.Schedule.{start, is_running, use_at}
-use Rattle.orders.specs.Orders.{HaveKeys, Rises}
-use Rattle.orders.proofs.OrderLaws.{order_long, order_inside, have_keys}
+use Rattle.profile.specs.Orders.{HaveKeys, Rises}
+use Rattle.profile.proofs.OrderLaws.{order_long, order_inside, have_keys}
 use Rattle.profile.specs.Counts.{end_time, AreEnds, HasRoomFor, time_at, IsCount, HasCome, IsSameOrder, AreReady, AddsDemands, EndsLess, counted_use, Count}
 
 -- ---- Durations and demands are within the limits.

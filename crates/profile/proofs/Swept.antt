@@ -12,7 +12,7 @@ use Rattle.network.specs.Schedule.{start, running, use_at, IsWithinCapacitiesAt,
 use Rattle.profile.specs.Overloads.{IsFirstOverload, start_times, overload_of, overloads_at, all_overloads, overloads_of, Overload}
 use Rattle.profile.proofs.Uses.{rises_at_starts, RisesAt, filter_none, filter_range_yes, filter_range_no}
 use Rattle.profile.proofs.RisingTimes.{Contains-start_times, start_times-rise, All-start_times}
-use Rattle.orders.proofs.OrderLaws.{place_in}
+use Rattle.profile.proofs.OrderLaws.{place_in}
 use Rattle.profile.specs.Counts.{AreEnds, time_at, IsCount, HasPassed, HasCome, IsNextTime, IsSameOrder, CountsWithin, IsLeastOver, Count}
 use Rattle.profile.proofs.Counted.{AreCounts, counts_further, used_is}
 

@@ -3,7 +3,7 @@ use Rattle.std.specs.Prelude.{◌≡◌, ℕ, ◌+◌, ◌-◌, ◌<◌, ◌≤�
 use Rattle.std.specs.List.{sum_by}
 use Rattle.network.specs.Problem.{Problem, activity_count, resource_count, duration, demand, capacity, IsProject, AreStarts}
 use Rattle.network.specs.Schedule.{start}
-use Rattle.orders.specs.Orders.{IsOrder, Rises, key_at}
+use Rattle.profile.specs.Orders.{IsOrder, Rises, key_at}
 pub use Rattle.profile.specs.declared.counting.Count.{Count}
 
 -- when an activity ends

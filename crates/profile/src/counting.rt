@@ -4,11 +4,11 @@ ghost use Rattle.std.specs.Prelude.{◌≡◌, replicate, ◌+◌, ◌<◌, ◌�
 ghost use Rattle.std.specs.List.{All};
 ghost use Rattle.network.specs.Problem.{activity_count, resource_count, AreStarts};
 ghost use Rattle.std.specs.List.Sorted.{IsPermutation};
-ghost use Rattle.orders.specs.Orders.{HaveKeys, Rises};
+ghost use Rattle.profile.specs.Orders.{HaveKeys, Rises};
 ghost use Rattle.profile.specs.Counts.{AddsDemands, AreEnds, HasRoomFor, IsCount, IsWhole, IsNextTime, HasPassed, HasCome, IsSameOrder};
 
+use crate::{first_order, repair};
 use network::Project;
-use orders::{first_order, repair};
 use std::alloc::{AllocError, Global};
 
 /// The activities of a project by rising starts, or ends, and what the first of them ask for.

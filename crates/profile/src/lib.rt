@@ -6,12 +6,14 @@
 #![tactic(auto)]
 
 mod counting;
+mod orders;
 mod overload;
 mod overload_sweep;
 mod sweep;
 mod times;
 mod usage;
 
+pub use orders::{first_order, repair};
 pub use overload::Overload;
 pub use overload_sweep::{OverloadSweep, first_overload, overloads};
 pub use usage::use_at;

@@ -4,10 +4,9 @@
 
 use crate::edges::Edges;
 use crate::windows::{Window, find_overload, reached, renew_all};
-use instance::Instance;
-use literals::{Conflict, Event, Literal, NEVER, Reason, Stop, Trail};
+use crate::{BoundChange, Conflict, Literal, NEVER, Reason, Stop, Trail};
+use instance::{Instance, Result, Rows, Table, narrow};
 use std::mem;
-use tables::{Result, Rows, Table, narrow};
 
 /// Places of a clique, as bits.
 type Set = u64;
@@ -20,7 +19,7 @@ const WORK: u64 = 20_000;
 
 /// What changed in a clique.
 #[derive(Clone, Copy, Default)]
-struct News {
+struct CliqueChanges {
     /// Those whose bounds moved.
     moved: Set,
     /// Those whose least start is to be looked at, and the same of greatest starts.
@@ -57,7 +56,7 @@ pub struct Cliques<'a> {
     before: Table<Set>,
     after: Table<Set>,
     /// By clique. Where there are news, it is in `todo`.
-    news: Table<News>,
+    news: Table<CliqueChanges>,
     todo: Vec<u32>,
     /// By activity, and by pair.
     seats: Rows<Seat>,
@@ -104,7 +103,12 @@ impl<'a> Cliques<'a> {
             members,
             before: Table::filled(alloc, all, 0, 0)?,
             after: Table::filled(alloc, all, 0, 0)?,
-            news: Table::filled(alloc, count, News::default(), News::default())?,
+            news: Table::filled(
+                alloc,
+                count,
+                CliqueChanges::default(),
+                CliqueChanges::default(),
+            )?,
             todo: Vec::new(alloc),
             seats: Rows::new(alloc, Seat::default()),
             pairs: Rows::new(alloc, Seats::default()),
@@ -223,7 +227,7 @@ impl<'a> Cliques<'a> {
     }
 
     /// The last event of the trail is taken back.
-    pub fn forget(&mut self, trail: &Trail, event: &Event) {
+    pub fn forget(&mut self, trail: &Trail, event: &BoundChange) {
         let variable = event.slot / 2;
         if variable < self.instance.count() || trail.count() >= self.queue {
             return;
@@ -237,7 +241,7 @@ impl<'a> Cliques<'a> {
     /// The trail went back to so many events. Nothing was left to look at then.
     pub fn go_back(&mut self, queue: u32) {
         for clique in &self.todo {
-            self.news[*clique] = News::default();
+            self.news[*clique] = CliqueChanges::default();
         }
         self.todo.clear();
         self.queue = self.queue.min(queue);
@@ -265,7 +269,7 @@ impl<'a> Cliques<'a> {
             let Some(clique) = self.todo.pop() else {
                 break;
             };
-            let news = mem::replace(&mut self.news[clique], News::default());
+            let news = mem::replace(&mut self.news[clique], CliqueChanges::default());
             self.look_at(trail, clique, news)?;
         }
         Ok(())
@@ -290,7 +294,7 @@ impl<'a> Cliques<'a> {
     }
 
     /// Looks at what changed in a clique.
-    fn look_at(&mut self, trail: &mut Trail, clique: u32, news: News) -> Result<(), Stop> {
+    fn look_at(&mut self, trail: &mut Trail, clique: u32, news: CliqueChanges) -> Result<(), Stop> {
         self.find_overload(trail, clique, news.moved)?;
         self.push_all(trail, clique, news.least, true)?;
         if news.greatest != 0 {

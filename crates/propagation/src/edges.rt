@@ -1,8 +1,7 @@
 //! Arcs and orders of rivals: how they move bounds.
 
-use instance::{Edge, Instance, Rivals, Settled, Walks};
-use literals::{Literal, NEVER, Reason, Stop, Trail};
-use tables::{Result, Rows, Table};
+use crate::{Literal, NEVER, Reason, Stop, Trail};
+use instance::{Edge, Instance, Result, Rivals, Rows, Settled, Table, Walks};
 
 /// The slot `to` has at least the value of the slot `from` and `weight`: least starts forward over a lag, greatest ones,
 /// negated, backward.

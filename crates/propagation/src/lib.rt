@@ -6,12 +6,20 @@
 mod cliques;
 mod edges;
 mod energy;
+mod lemmas;
+mod literal;
 mod profile;
+mod reason;
 mod time_table;
+mod trail;
 mod windows;
 
 pub use cliques::Cliques;
 pub use edges::{Arc, Edges, Order};
 pub use energy::{find_overloads, part};
-pub use profile::{NO_PART, Part, Profile};
+pub use lemmas::Lemmas;
+pub use literal::{Literal, NEVER};
+pub use profile::{Interval, NO_PART, Profile};
+pub use reason::{Conflict, Reason, Stop};
 pub use time_table::TimeTable;
+pub use trail::{BoundChange, Trail};

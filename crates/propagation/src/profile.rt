@@ -1,32 +1,35 @@
 //! What is left of each resource over time.
 
+use instance::{Result, Table, narrow};
 use std::alloc::Global;
 use std::ops::Range;
-use tables::{Result, Table, narrow};
 
 /// From a time on, up to another one.
 #[derive(Clone, Copy, PartialEq, Eq)]
-pub struct Part {
+pub struct Interval {
     pub from: i32,
     pub to: i32,
 }
 
 /// No time.
-pub const NO_PART: Part = Part { from: 0, to: 0 };
+pub const NO_PART: Interval = Interval { from: 0, to: 0 };
 
-impl Part {
+impl Interval {
     /// Whether there is no time in it.
     pub(crate) fn is_empty(self) -> bool {
         self.from >= self.to
     }
 
     /// What a part has more than before: in front, and behind.
-    pub(crate) fn more_than(self, old: Part) -> [Part; 2] {
-        let Part { from, to } = self;
+    pub(crate) fn more_than(self, old: Interval) -> [Interval; 2] {
+        let Interval { from, to } = self;
         if old.is_empty() {
             return [self, NO_PART];
         }
-        [Part { from, to: old.from }, Part { from: old.to, to }]
+        [
+            Interval { from, to: old.from },
+            Interval { from: old.to, to },
+        ]
     }
 }
 
@@ -137,7 +140,7 @@ impl Profile {
         &mut self,
         activity: u32,
         demands: &[i32],
-        part: Part,
+        part: Interval,
         sign: i32,
     ) -> Result<Range<u32>> {
         let (from, to) = (self.cut(part.from)?, self.cut(part.to)?);
@@ -161,7 +164,7 @@ impl Profile {
     }
 
     /// An activity that ran in a part doesn't.
-    pub(crate) fn clear(&mut self, activity: u32, demands: &[i32], part: Part) -> Result<()> {
+    pub(crate) fn clear(&mut self, activity: u32, demands: &[i32], part: Interval) -> Result<()> {
         self.put(activity, demands, part, -1)?;
         self.join(part.from)?;
         self.join(part.to)
@@ -187,7 +190,7 @@ impl Profile {
 
     /// The first resource of which a segment has less room than is demanded; none in the activity's own part.
     #[inline(always)]
-    fn lacks(&self, segment: u32, demands: &[i32], own: Part) -> Option<u32> {
+    fn lacks(&self, segment: u32, demands: &[i32], own: Interval) -> Option<u32> {
         let begin = self.begin(segment);
         if own.from <= begin && begin < own.to {
             return None;
@@ -207,8 +210,8 @@ impl Profile {
     pub fn full(
         &self,
         demands: &[i32],
-        part: Part,
-        own: Part,
+        part: Interval,
+        own: Interval,
         is_last: bool,
     ) -> Option<(i32, u32)> {
         let near = if is_last {

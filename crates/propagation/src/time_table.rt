@@ -1,10 +1,9 @@
 //! The time table (Le Pape 1994): what activities that must run at a time leave free.
 
-use crate::profile::{NO_PART, Part, Profile};
-use instance::Instance;
-use literals::{Conflict, Literal, Reason, Stop, Trail};
+use crate::profile::{Interval, NO_PART, Profile};
+use crate::{Conflict, Literal, Reason, Stop, Trail};
+use instance::{Instance, Result, Table, narrow};
 use std::ops::Range;
-use tables::{Result, Table, narrow};
 
 /// The slots of activities that are to be looked at, the last one first.
 #[derive(Drop)]
@@ -44,9 +43,9 @@ pub struct TimeTable<'a> {
     rooms: Table<i32>,
     profile: Profile,
     /// From its greatest start to its least end, by activity: what the profile has of it.
-    parts: Table<Part>,
+    parts: Table<Interval>,
     /// Activities, and what the profile had of them before each change.
-    changes: Table<(u32, Part)>,
+    changes: Table<(u32, Interval)>,
     notes: Notes,
     /// Events before this one are in the profile.
     queue: u32,
@@ -121,7 +120,7 @@ impl<'a> TimeTable<'a> {
     }
 
     /// Notes those that may be pushed by a part: they need more of a resource than it has left.
-    fn note_pushed(&mut self, trail: &Trail, part: Part) -> Result<()> {
+    fn note_pushed(&mut self, trail: &Trail, part: Interval) -> Result<()> {
         let windows = trail
             .values()
             .items
@@ -162,7 +161,7 @@ impl<'a> TimeTable<'a> {
     }
 
     /// An activity must run in a part more. Gives a conflict if that is too much.
-    fn fill(&mut self, trail: &Trail, activity: u32, part: Part) -> Result<Option<Conflict>> {
+    fn fill(&mut self, trail: &Trail, activity: u32, part: Interval) -> Result<Option<Conflict>> {
         let demands = self.instance.demands(activity);
         let segments = self.profile.put(activity, demands, part, 1)?;
         let (from, to) = (segments.start, segments.end);
@@ -181,7 +180,7 @@ impl<'a> TimeTable<'a> {
     /// Brings the profile up to date with what must run of an activity.
     fn grow(&mut self, trail: &Trail, activity: u32) -> Result<(), Stop> {
         let duration = self.durations[activity];
-        let new = Part {
+        let new = Interval {
             from: trail.greatest(activity),
             to: trail.least(activity).wrapping_add(duration),
         };
@@ -244,7 +243,9 @@ impl<'a> TimeTable<'a> {
                 trail.greatest(activity)
             };
             let to = from.wrapping_add(duration);
-            let full = self.profile.full(demands, Part { from, to }, own, is_least);
+            let full = self
+                .profile
+                .full(demands, Interval { from, to }, own, is_least);
             let Some((time, resource)) = full else {
                 break;
             };

@@ -3,13 +3,13 @@
 use crate::cube::CubeWork;
 use crate::help;
 use calls::{
-    WordsFault, file, file_name, flag, matches_of, number, program_command, project_subcommand,
+    ArgumentsFault, file, file_name, flag, matches_of, number, program_command, project_subcommand,
     subcommand, words,
 };
 use clap::{Arg, ArgAction, ArgMatches, Command};
-use cube_runs::Limit;
-use log_runs::{LogPart, Scope};
-use solve_runs::{Asked, MAX_JOBS, Progress};
+use cubes::Limit;
+use psprove_run::{MAX_JOBS, Progress, SolveOptions};
+use runs::{LogPart, Scope};
 use std::alloc::{AllocError, Global};
 
 /// How many seconds a search has by default.
@@ -35,17 +35,17 @@ const FORMS: &[&str] = &["lines", "json"];
 
 /// What words ask for.
 #[derive(Debug, Drop)]
-pub(crate) enum Work {
+pub(crate) enum Subcommand {
     /// To check what of a log, against the project in a file.
     Verify { project: String, scope: Scope },
-    Solve(Search),
+    Solve(SolveCall),
     Cube(CubeWork),
 }
 
 /// A search, and the names of its files.
 #[derive(Debug, Drop)]
-pub(crate) struct Search {
-    pub(crate) asked: Asked,
+pub(crate) struct SolveCall {
+    pub(crate) asked: SolveOptions,
     /// The starts that it begins with.
     pub(crate) start: Option<String>,
     /// The log that it goes on from.
@@ -65,9 +65,9 @@ const MAX_PIECES: i64 = 1_024;
 
 /// The options that say how far a search goes.
 fn with_limits<'a>(alloc: Global, command: Command<'a>) -> Result<Command<'a>, AllocError> {
-    let seconds = "Stop after S seconds";
-    let conflicts = "Stop each search after N conflicts";
-    let until = "Stop once there is a file FILE";
+    let seconds = "CubeFailure after S seconds";
+    let conflicts = "CubeFailure each search after N conflicts";
+    let until = "CubeFailure once there is a file FILE";
     let jobs = "Run N searches side by side, each in its own thread, 1 to 64";
     let seed = "Break ties by the seed K";
     let memory = "Limit the lemmas of each search to MIB MiB";
@@ -98,7 +98,7 @@ fn of_cube<'a>(alloc: Global, name: &'a str, about: &'a str) -> Result<Arg<'a>, 
 
 /// The options of a search of a cube.
 fn with_cube<'a>(alloc: Global, command: Command<'a>) -> Result<Command<'a>, AllocError> {
-    let under = "Search the cube whose path is in FILE: an arc a line, FROM TO WEIGHT";
+    let under = "SolveCall the cube whose path is in FILE: an arc a line, FROM TO WEIGHT";
     let project = "Read the project of the cube from FILE";
     let import = "Use the lemmas in FILE, which searches of other cubes exported";
     let export = "Write lemmas for searches of other cubes into FILE";
@@ -186,9 +186,9 @@ fn form(alloc: Global, matches: &ArgMatches<'_>) -> Result<Progress, AllocError>
 }
 
 /// What is asked of a search.
-fn asked(matches: &ArgMatches<'_>, start: bool, progress: Progress) -> Asked {
+fn asked(matches: &ArgMatches<'_>, start: bool, progress: Progress) -> SolveOptions {
     let memory = matches.get_one::<u64>("memory").unwrap_or(1);
-    Asked {
+    SolveOptions {
         jobs: matches.get_one::<u64>("jobs").unwrap_or(1),
         conflicts: matches.get_one::<u64>("conflicts").unwrap_or(u64::MAX),
         seconds: matches.get_one::<u64>("seconds").unwrap_or(0),
@@ -202,10 +202,10 @@ fn asked(matches: &ArgMatches<'_>, start: bool, progress: Progress) -> Asked {
 }
 
 /// A search, and the names of its files.
-fn search_of(alloc: Global, matches: &ArgMatches<'_>) -> Result<Search, AllocError> {
+fn search_of(alloc: Global, matches: &ArgMatches<'_>) -> Result<SolveCall, AllocError> {
     let start = file_name(alloc, matches, "start")?;
     let progress = form(alloc, matches)?;
-    Ok(Search {
+    Ok(SolveCall {
         asked: asked(matches, start.is_some(), progress),
         start,
         resume: file_name(alloc, matches, "resume")?,
@@ -217,9 +217,9 @@ fn search_of(alloc: Global, matches: &ArgMatches<'_>) -> Result<Search, AllocErr
 }
 
 /// A join of logs: a search of no seconds that begins with them.
-fn join_of(alloc: Global, matches: &ArgMatches<'_>) -> Result<Search, AllocError> {
+fn join_of(alloc: Global, matches: &ArgMatches<'_>) -> Result<SolveCall, AllocError> {
     let start = file_name(alloc, matches, "start")?;
-    let asked = Asked {
+    let asked = SolveOptions {
         jobs: 1,
         conflicts: 0,
         seconds: 0,
@@ -230,7 +230,7 @@ fn join_of(alloc: Global, matches: &ArgMatches<'_>) -> Result<Search, AllocError
         json: matches.get_flag("json"),
         progress: Progress::Nothing,
     };
-    Ok(Search {
+    Ok(SolveCall {
         asked,
         start,
         resume: None,
@@ -270,10 +270,10 @@ fn cube_of(alloc: Global, matches: &ArgMatches<'_>, path: String) -> Result<Cube
 }
 
 /// A search, of a cube if there is a path.
-fn solve_of(alloc: Global, matches: &ArgMatches<'_>) -> Result<Work, AllocError> {
+fn solve_of(alloc: Global, matches: &ArgMatches<'_>) -> Result<Subcommand, AllocError> {
     match file_name(alloc, matches, "under")? {
-        Some(path) => Ok(Work::Cube(cube_of(alloc, matches, path)?)),
-        None => Ok(Work::Solve(search_of(alloc, matches)?)),
+        Some(path) => Ok(Subcommand::Cube(cube_of(alloc, matches, path)?)),
+        None => Ok(Subcommand::Solve(search_of(alloc, matches)?)),
     }
 }
 
@@ -284,15 +284,15 @@ fn part_of(word: &str) -> Option<LogPart> {
 }
 
 /// That a word names no part, as `clap` would say it.
-fn no_part(alloc: Global, word: &str) -> Result<WordsFault, AllocError> {
+fn no_part(alloc: Global, word: &str) -> Result<ArgumentsFault, AllocError> {
     let text = format!(in alloc;
         "error: invalid value '{word}' for '--part <K/N>': K is not in 1..=N\n\nFor more information, try '--help'.\n"
     )?;
-    Ok(WordsFault::Bad { text })
+    Ok(ArgumentsFault::Bad { text })
 }
 
 /// What of a log is to be checked.
-fn scope_of(alloc: Global, matches: &ArgMatches<'_>) -> Result<Scope, WordsFault> {
+fn scope_of(alloc: Global, matches: &ArgMatches<'_>) -> Result<Scope, ArgumentsFault> {
     let Some(word) = file_name(alloc, matches, "part")? else {
         return Ok(match matches.get_flag("partial") {
             true => Scope::SoFar,
@@ -306,12 +306,15 @@ fn scope_of(alloc: Global, matches: &ArgMatches<'_>) -> Result<Scope, WordsFault
 }
 
 /// What the matches ask for. None if words ask for nothing, which `clap` doesn't let pass.
-fn found_work(alloc: Global, matches: &ArgMatches<'_>) -> Result<Option<Work>, WordsFault> {
+fn found_work(
+    alloc: Global,
+    matches: &ArgMatches<'_>,
+) -> Result<Option<Subcommand>, ArgumentsFault> {
     match matches.subcommand() {
         Some(("solve", found)) => Ok(Some(solve_of(alloc, found)?)),
-        Some(("join", found)) => Ok(Some(Work::Solve(join_of(alloc, found)?))),
+        Some(("join", found)) => Ok(Some(Subcommand::Solve(join_of(alloc, found)?))),
         Some(("verify", found)) => match file_name(alloc, found, "project")? {
-            Some(project) => Ok(Some(Work::Verify {
+            Some(project) => Ok(Some(Subcommand::Verify {
                 project,
                 scope: scope_of(alloc, found)?,
             })),
@@ -322,10 +325,10 @@ fn found_work(alloc: Global, matches: &ArgMatches<'_>) -> Result<Option<Work>, W
 }
 
 /// What the words of the command line ask for.
-pub(crate) fn work_of(rt: &HostRuntime) -> Result<Work, WordsFault> {
+pub(crate) fn work_of(rt: &HostRuntime) -> Result<Subcommand, ArgumentsFault> {
     let (alloc, words) = (rt.alloc(), words(rt)?);
     let matches = matches_of(alloc, command(alloc)?, &words)?;
-    found_work(alloc, &matches)?.ok_or(WordsFault::Bad {
+    found_work(alloc, &matches)?.ok_or(ArgumentsFault::Bad {
         text: String::new(alloc),
     })
 }

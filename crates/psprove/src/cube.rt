@@ -6,10 +6,11 @@ use crate::host::read_file;
 use crate::record_file::RecordFile;
 use answers::{Answer, Fault};
 use calls::{Opener, refuse_file, report};
-use cube_runs::{Cube, CubeFault, Found, Limit, search_cube};
-use cubes::{Lemma, TextFault, lemmas_of, path_of};
+use cubes::{
+    Cube, CubeFault, CubeLemma, CubeResult, Limit, TextFault, lemmas_of, path_of, search_cube,
+};
 use network::{Lag, Project, Schedule};
-use runs::{Ended, Judged, Reader, judged_starts, read_project};
+use runs::{Ended, InputReader, Judged, judged_starts, read_project};
 use std::alloc::{AllocError, AllocFailed, Global};
 use std::fs::{self, Files};
 use std::io::{self, ErrorKind, Write};
@@ -36,7 +37,7 @@ pub(crate) struct CubeWork {
 
 /// Why a cube has no answer.
 #[derive(Drop)]
-enum Stop<'w> {
+enum CubeFailure<'w> {
     Fault(Fault),
     /// This file can't be opened, read or written.
     File(&'w String),
@@ -50,52 +51,56 @@ enum Stop<'w> {
     Lost(&'w String),
 }
 
-impl<'w> From<AllocError> for Stop<'w> {
-    fn from(_error: AllocError) -> Stop<'w> {
-        Stop::Fault(Fault::Memory)
+impl<'w> From<AllocError> for CubeFailure<'w> {
+    fn from(_error: AllocError) -> CubeFailure<'w> {
+        CubeFailure::Fault(Fault::Memory)
     }
 }
 
-impl<'w, T: Drop> From<AllocFailed<T>> for Stop<'w> {
-    fn from(_failed: AllocFailed<T>) -> Stop<'w> {
-        Stop::Fault(Fault::Memory)
+impl<'w, T: Drop> From<AllocFailed<T>> for CubeFailure<'w> {
+    fn from(_failed: AllocFailed<T>) -> CubeFailure<'w> {
+        CubeFailure::Fault(Fault::Memory)
     }
 }
 
-impl<'w> From<Fault> for Stop<'w> {
-    fn from(fault: Fault) -> Stop<'w> {
-        Stop::Fault(fault)
+impl<'w> From<Fault> for CubeFailure<'w> {
+    fn from(fault: Fault) -> CubeFailure<'w> {
+        CubeFailure::Fault(fault)
     }
 }
 
-impl<'w> From<CubeFault> for Stop<'w> {
-    fn from(fault: CubeFault) -> Stop<'w> {
+impl<'w> From<CubeFault> for CubeFailure<'w> {
+    fn from(fault: CubeFault) -> CubeFailure<'w> {
         match fault {
-            CubeFault::Memory => Stop::Fault(Fault::Memory),
-            CubeFault::Record => Stop::Fault(Fault::WriteFailed),
-            CubeFault::Arc(place) => Stop::Arc(place),
+            CubeFault::Memory => CubeFailure::Fault(Fault::Memory),
+            CubeFault::Record => CubeFailure::Fault(Fault::WriteFailed),
+            CubeFault::Arc(place) => CubeFailure::Arc(place),
         }
     }
 }
 
 /// The fault of a file, or of memory.
-fn file_stop<'w>(error: &io::Error, name: &'w String) -> Stop<'w> {
+fn file_stop<'w>(error: &io::Error, name: &'w String) -> CubeFailure<'w> {
     match error.kind() {
-        ErrorKind::OutOfMemory => Stop::Fault(Fault::Memory),
-        _ => Stop::File(name),
+        ErrorKind::OutOfMemory => CubeFailure::Fault(Fault::Memory),
+        _ => CubeFailure::File(name),
     }
 }
 
 /// The fault of a text in a file.
-fn text_stop(fault: TextFault, name: &String) -> Stop<'_> {
+fn text_stop(fault: TextFault, name: &String) -> CubeFailure<'_> {
     match fault {
-        TextFault::Memory => Stop::Fault(Fault::Memory),
-        TextFault::Line(line) => Stop::Line(name, line),
+        TextFault::Memory => CubeFailure::Fault(Fault::Memory),
+        TextFault::Line(line) => CubeFailure::Line(name, line),
     }
 }
 
 /// The bytes of a file.
-fn bytes_of<'w, R: Files>(rt: &R, alloc: Global, name: &'w String) -> Result<Vec<u8>, Stop<'w>> {
+fn bytes_of<'w, R: Files>(
+    rt: &R,
+    alloc: Global,
+    name: &'w String,
+) -> Result<Vec<u8>, CubeFailure<'w>> {
     match read_file(rt, alloc, name.as_str()) {
         Ok(bytes) => Ok(bytes),
         Err(error) => Err(file_stop(&error, name)),
@@ -107,9 +112,9 @@ fn project_of<'w, R: Files>(
     rt: &R,
     alloc: Global,
     name: &'w String,
-) -> Result<Arc<Project>, Stop<'w>> {
+) -> Result<Arc<Project>, CubeFailure<'w>> {
     let mut input = match fs::open(rt, name.as_str()) {
-        Ok(file) => Reader::new(file),
+        Ok(file) => InputReader::new(file),
         Err(error) => return Err(file_stop(&error, name)),
     };
     let project = read_project(alloc, &mut input)?;
@@ -122,14 +127,14 @@ fn schedule_of<'w, R: Files>(
     alloc: Global,
     project: &Arc<Project>,
     name: Option<&'w String>,
-) -> Result<Option<Schedule>, Stop<'w>> {
+) -> Result<Option<Schedule>, CubeFailure<'w>> {
     let Some(name) = name else {
         return Ok(None);
     };
     let text = bytes_of(rt, alloc, name)?;
     match judged_starts(alloc, project, &text)? {
         Judged::Feasible(schedule) => Ok(Some(schedule)),
-        Judged::Refused(answer) => Err(Stop::Violated(answer)),
+        Judged::Refused(answer) => Err(CubeFailure::Violated(answer)),
     }
 }
 
@@ -139,7 +144,7 @@ fn arcs_of<'w, R: Files>(
     alloc: Global,
     project: &Project,
     work: &'w CubeWork,
-) -> Result<Vec<Lag>, Stop<'w>> {
+) -> Result<Vec<Lag>, CubeFailure<'w>> {
     let text = bytes_of(rt, alloc, &work.path)?;
     let mut arcs = Vec::new(alloc);
     if let Some(below) = work.below {
@@ -161,7 +166,7 @@ fn lemmas_in<'w, R: Files>(
     rt: &R,
     alloc: Global,
     name: Option<&'w String>,
-) -> Result<Vec<Lemma>, Stop<'w>> {
+) -> Result<Vec<CubeLemma>, CubeFailure<'w>> {
     let Some(name) = name else {
         return Ok(Vec::new(alloc));
     };
@@ -181,7 +186,7 @@ fn found<'w, R: Runtime + Wait>(
     cube: Cube<'_>,
     record: &RecordFile,
     heard: &Mutex<Heard>,
-) -> Result<Found, Stop<'w>> {
+) -> Result<CubeResult, CubeFailure<'w>> {
     let host = Followed {
         rt,
         alloc,
@@ -200,8 +205,8 @@ fn answer<'w, R: Runtime>(
     rt: &R,
     alloc: Global,
     work: &'w CubeWork,
-    found: &Found,
-) -> Result<u8, Stop<'w>> {
+    found: &CubeResult,
+) -> Result<u8, CubeFailure<'w>> {
     if let Some(name) = &work.export {
         let written = match fs::create(rt, name.as_str()) {
             Ok(mut file) => file.write_all(found.lemmas.as_bytes()),
@@ -213,7 +218,7 @@ fn answer<'w, R: Runtime>(
     }
     let json = found.json(alloc)?;
     if print!(rt; "{json}").is_err() {
-        return Err(Stop::Fault(Fault::WriteFailed));
+        return Err(CubeFailure::Fault(Fault::WriteFailed));
     }
     Ok(if found.is_refuted { 0 } else { 3 })
 }
@@ -223,7 +228,7 @@ fn check_losses<'w, R: Files>(
     rt: &R,
     work: &'w CubeWork,
     record: &RecordFile,
-) -> Result<(), Stop<'w>> {
+) -> Result<(), CubeFailure<'w>> {
     let more = [&work.start, &work.guide, &work.import];
     let more = more.iter().filter_map(|name| name.as_ref());
     for name in [&work.project, &work.path].iter().copied().chain(more) {
@@ -233,7 +238,7 @@ fn check_losses<'w, R: Files>(
             export,
         ));
         if is_export || record.loses(rt, name.as_str()) {
-            return Err(Stop::Lost(name));
+            return Err(CubeFailure::Lost(name));
         }
     }
     Ok(())
@@ -246,7 +251,7 @@ fn searched<'w, R: Runtime + Wait>(
     work: &'w CubeWork,
     record: &RecordFile,
     heard: &Mutex<Heard>,
-) -> Result<u8, Stop<'w>> {
+) -> Result<u8, CubeFailure<'w>> {
     check_losses(rt, work, record)?;
     let project = project_of(rt, alloc, &work.project)?;
     let start = schedule_of(rt, alloc, &project, work.start.as_ref())?;
@@ -265,24 +270,24 @@ fn searched<'w, R: Runtime + Wait>(
 }
 
 /// Tells why there is no answer.
-fn refuse<R: Runtime>(rt: &R, work: &CubeWork, stop: &Stop<'_>) -> ExitCode {
+fn refuse<R: Runtime>(rt: &R, work: &CubeWork, stop: &CubeFailure<'_>) -> ExitCode {
     match stop {
-        Stop::Fault(fault) => return report(rt, PROGRAM, &Ended::with(*fault)),
-        Stop::File(name) => return refuse_file(rt, PROGRAM, Some(*name)),
-        Stop::Line(name, line) => {
+        CubeFailure::Fault(fault) => return report(rt, PROGRAM, &Ended::with(*fault)),
+        CubeFailure::File(name) => return refuse_file(rt, PROGRAM, Some(*name)),
+        CubeFailure::Line(name, line) => {
             let _ = eprintln!(rt; "{PROGRAM}: {name}: line {line} has another form");
         }
-        Stop::Arc(place) => {
+        CubeFailure::Arc(place) => {
             let (number, what) = (
                 place.saturating_add(1),
                 "no bound of a start and no order of rivals",
             );
             let _ = eprintln!(rt; "{PROGRAM}: {}: arc {number} is {what}", work.path);
         }
-        Stop::Lost(name) => {
+        CubeFailure::Lost(name) => {
             let _ = eprintln!(rt; "error: {name} is read, and would be written over");
         }
-        Stop::Violated(answer) => {
+        CubeFailure::Violated(answer) => {
             let _ = io::writer(rt).write_all(&answer.text);
             return ExitCode::from(answer.exit);
         }

@@ -2,7 +2,7 @@
 
 use crate::PROGRAM;
 use answers::Fault;
-use cube_runs::{CubeHost, News};
+use cubes::{CubeHost, CubeNews};
 use network::Project;
 use runs::{Judged, judged_starts};
 use std::alloc::{AllocError, Global};
@@ -87,17 +87,17 @@ impl<R: Wait + Eprint> Followed<'_, '_, R> {
 }
 
 impl<R: Wait + Eprint> CubeHost for Followed<'_, '_, R> {
-    fn news(&self) -> News {
+    fn news(&self) -> CubeNews {
         match self.heard() {
-            None => News::End,
-            Some(None) => News::Nothing,
+            None => CubeNews::End,
+            Some(None) => CubeNews::Nothing,
             Some(Some(starts)) => match self.is_feasible(&starts) {
-                Ok(true) => News::Schedule(starts),
+                Ok(true) => CubeNews::Schedule(starts),
                 _ => {
                     let _ = eprintln!(self.rt;
                         "{PROGRAM}: a line on standard input is no feasible schedule"
                     );
-                    News::Nothing
+                    CubeNews::Nothing
                 }
             },
         }

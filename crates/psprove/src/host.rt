@@ -1,7 +1,7 @@
 //! What the program does for its searches while they go on.
 
-use cubes::Cube;
-use solve_runs::Host;
+use cubes::SearchedCube;
+use psprove_run::Host;
 use std::alloc::{AllocError, Global};
 use std::fs::{self, Files};
 use std::io::{self, ErrorKind, Read};
@@ -22,7 +22,7 @@ pub(crate) struct FilesBeside<'r, 'u, R> {
     /// The bytes of the log that the search goes on from.
     pub(crate) resumed: Vec<u8>,
     /// The cubes whose logs are joined, and what stands before the names of their files.
-    pub(crate) cubes: Vec<Cube>,
+    pub(crate) cubes: Vec<SearchedCube>,
     pub(crate) folder: &'u str,
 }
 
@@ -36,7 +36,7 @@ impl<R: Files> Host for FilesBeside<'_, '_, R> {
         &self.resumed
     }
 
-    fn cubes(&self) -> &[Cube] {
+    fn cubes(&self) -> &[SearchedCube] {
         &self.cubes
     }
 

@@ -12,10 +12,9 @@ mod search;
 
 use answers::Fault;
 use calls::{FOLDER, refuse, refuse_file, report};
-use command_line::{Work, work_of};
+use command_line::{Subcommand, work_of};
 use following::{Heard, ear, listen};
-use log_runs::{LogEnded, Scope, run};
-use runs::{Ended, Reader, Writer};
+use runs::{Ended, InputReader, LogEnded, OutputWriter, Scope, run_log};
 use std::alloc::Global;
 use std::io::{ErrorKind, IsTerminal};
 use std::process::ExitCode;
@@ -38,21 +37,21 @@ fn report_log<R: Eprint>(rt: &R, ended: &LogEnded) -> ExitCode {
 /// Opens the project's file, and checks what is asked of the log on standard input against it.
 fn verify<R: Runtime>(rt: &R, alloc: Global, name: &String, scope: &Scope) -> ExitCode {
     let mut second = match fs::open(rt, name.as_str()) {
-        Ok(file) => Reader::new(file),
+        Ok(file) => InputReader::new(file),
         Err(error) if error.kind() == ErrorKind::OutOfMemory => {
             return report(rt, PROGRAM, &Ended::with(Fault::Memory));
         }
         Err(_) => return refuse_file(rt, PROGRAM, Some(name)),
     };
-    let mut input = Reader::new(rt.reader());
-    let mut out = Writer::new(io::writer(rt));
-    let ended = run(alloc, scope, &mut input, &mut second, &mut out);
+    let mut input = InputReader::new(rt.reader());
+    let mut out = OutputWriter::new(io::writer(rt));
+    let ended = run_log(alloc, scope, &mut input, &mut second, &mut out);
     report_log(rt, &ended)
 }
 
 /// Says what a search waits for, where standard input is a terminal.
-fn tell_wait(rt: &HostRuntime, work: &Work) {
-    let reads = matches!(work, Work::Solve(search) if search.project.is_none());
+fn tell_wait(rt: &HostRuntime, work: &Subcommand) {
+    let reads = matches!(work, Subcommand::Solve(search) if search.project.is_none());
     if reads && rt.reader().is_terminal() {
         let _ = eprintln!(rt; "{PROGRAM}: waits for a project on standard input");
     }
@@ -62,16 +61,16 @@ fn tell_wait(rt: &HostRuntime, work: &Work) {
 fn perform<R: Runtime + Threads + Wait + Sync>(
     rt: &R,
     alloc: Global,
-    work: Work,
+    work: Subcommand,
     heard: &Mutex<Heard>,
 ) -> ExitCode {
     let _input = fs::open(rt, FOLDER);
     let _output = fs::open(rt, FOLDER);
     let _faults = fs::open(rt, FOLDER);
     let done = match work {
-        Work::Verify { project, scope } => Ok(verify(rt, alloc, &project, &scope)),
-        Work::Solve(work) => search::begin(rt, alloc, work),
-        Work::Cube(work) => cube::search(rt, alloc, &work, heard),
+        Subcommand::Verify { project, scope } => Ok(verify(rt, alloc, &project, &scope)),
+        Subcommand::Solve(work) => search::begin(rt, alloc, work),
+        Subcommand::Cube(work) => cube::search(rt, alloc, &work, heard),
     };
     match done {
         Ok(status) => status,
@@ -80,8 +79,8 @@ fn perform<R: Runtime + Threads + Wait + Sync>(
 }
 
 /// Whether work follows what standard input tells while it goes on.
-fn follows(work: &Work) -> bool {
-    matches!(work, Work::Cube(cube) if cube.follow)
+fn follows(work: &Subcommand) -> bool {
+    matches!(work, Subcommand::Cube(cube) if cube.follow)
 }
 
 fn main(rt: HostRuntime) -> ExitCode {

@@ -1,7 +1,7 @@
 //! The file of a record: under another name while a search goes on.
 
 use crate::PROGRAM;
-use calls::{Call, FileFault, Opener, refuse_file};
+use calls::{FileFault, FileNames, Opener, refuse_file};
 use runs::Ended;
 use std::alloc::{AllocError, Global};
 use std::fs::{self, Files};
@@ -45,13 +45,13 @@ impl RecordFile {
     }
 
     /// The fault of a call that reads the file of the record, by either name; or of a name that no file has.
-    pub(crate) fn check<R: Files>(&self, rt: &R, call: &Call) -> Result<(), FileFault> {
+    pub(crate) fn check<R: Files>(&self, rt: &R, names: &FileNames) -> Result<(), FileFault> {
         if self.name.is_empty() {
             return Err(FileFault::Record);
         }
         let opener = Opener::new(rt);
-        opener.check_losses(call, self.name.as_str())?;
-        opener.check_losses(call, self.first_name())
+        opener.check_losses(names, self.name.as_str())?;
+        opener.check_losses(names, self.first_name())
     }
 
     /// Whether a file of this name would be emptied.

@@ -3,14 +3,14 @@
 ghost use Rattle.std.specs.Prelude.{◌<◌};
 
 use crate::PROGRAM;
-use crate::command_line::Search;
+use crate::command_line::SolveCall;
 use crate::host::{FilesBeside, read_file};
 use crate::record_file::RecordFile;
 use answers::Fault;
-use calls::{Call, FileFault, Opener, refuse_file, refuse_files, report};
-use cubes::{Cube, TextFault, cubes_of};
-use runs::{Ended, Input, Reader, Writer};
-use solve_runs::{Asked, solve};
+use calls::{FileFault, FileNames, Opener, refuse_file, refuse_files, report};
+use cubes::{SearchedCube, TextFault, cubes_of};
+use psprove_run::{SolveOptions, solve};
+use runs::{Ended, Input, InputReader, OutputWriter};
 use std::alloc::{AllocError, Global};
 use std::fs::{self, Files};
 use std::io::{self, ErrorKind};
@@ -27,38 +27,36 @@ fn read_named<R: Files>(rt: &R, alloc: Global, name: Option<&str>) -> io::Result
     }
 }
 
-/// The call of a search whose record is in this file.
-fn call_of(
+/// The names of the files of a search whose record is in this file.
+fn names_of(
     alloc: Global,
-    asked: Asked,
     start: Option<String>,
     record: Option<&RecordFile>,
-) -> Result<Call, AllocError> {
+) -> Result<FileNames, AllocError> {
     let record_file = match record {
         Some(record) => Some(String::from_str(alloc, record.first_name())?),
         None => None,
     };
-    Ok(Call {
-        job: asked.job(),
+    Ok(FileNames {
         second: start,
         record_file,
     })
 }
 
-/// Opens the files of a call, and searches for the project on an input.
+/// Opens the files of a search, and searches for the project on an input.
 fn search<I: Input, R: Runtime + Threads + Wait + Sync>(
     rt: &R,
     alloc: Global,
-    asked: Asked,
-    call: &Call,
+    asked: SolveOptions,
+    names: &FileNames,
     host: &FilesBeside<'_, '_, R>,
     input: &mut I,
 ) -> Result<Ended, FileFault>
     requires { I.failed input.old < u64.MAX }
 {
-    let files = Opener::new(rt).open(call)?;
+    let files = Opener::new(rt).open(names)?;
     let (mut second, record_file) = (files.second, files.record_file);
-    let mut out = Writer::new(io::writer(rt));
+    let mut out = OutputWriter::new(io::writer(rt));
     let (ended, _record_file) = solve(
         rt,
         alloc,
@@ -72,16 +70,16 @@ fn search<I: Input, R: Runtime + Threads + Wait + Sync>(
     Ok(ended)
 }
 
-/// Whether the record of a call is in a file that it reads: then that is told.
+/// Whether the record is in a file that it reads: then that is told.
 fn refuse_losses<R: Runtime>(
     rt: &R,
     record: Option<&RecordFile>,
-    call: &Call,
+    names: &FileNames,
     resume: Option<&str>,
 ) -> Option<ExitCode> {
     let record = record?;
-    if let Err(fault) = record.check(rt, call) {
-        return Some(refuse_open(rt, call, Some(record), fault));
+    if let Err(fault) = record.check(rt, names) {
+        return Some(refuse_open(rt, names, Some(record), fault));
     }
     if record.empties(rt, resume?) {
         let _ = eprintln!(rt; "error: --resume and --record name the same file");
@@ -90,16 +88,16 @@ fn refuse_losses<R: Runtime>(
     None
 }
 
-/// Tells why the files of a call are not open; of the record's file by the name that was given.
+/// Tells why the files are not open; of the record's file by the name that was given.
 fn refuse_open<R: Runtime>(
     rt: &R,
-    call: &Call,
+    names: &FileNames,
     record: Option<&RecordFile>,
     fault: FileFault,
 ) -> ExitCode {
     match record {
         Some(record) if fault == FileFault::Record => record.refuse(rt),
-        _ => refuse_files(rt, PROGRAM, call, fault),
+        _ => refuse_files(rt, PROGRAM, names, fault),
     }
 }
 
@@ -116,7 +114,7 @@ fn listed<R: Runtime>(
     rt: &R,
     alloc: Global,
     tree: Option<&String>,
-) -> Result<Result<Vec<Cube>, ExitCode>, AllocError> {
+) -> Result<Result<Vec<SearchedCube>, ExitCode>, AllocError> {
     let text = match read_named(rt, alloc, tree.map(|name| name.as_str())) {
         Ok(text) => text,
         Err(error) if error.kind() == ErrorKind::OutOfMemory => return Err(AllocError),
@@ -136,16 +134,23 @@ fn listed<R: Runtime>(
 fn search_input<R: Runtime + Threads + Wait + Sync>(
     rt: &R,
     alloc: Global,
-    asked: Asked,
-    call: &Call,
+    asked: SolveOptions,
+    names: &FileNames,
     host: &FilesBeside<'_, '_, R>,
     project: Option<&String>,
 ) -> Result<Result<Ended, FileFault>, ExitCode> {
     let Some(name) = project else {
-        return Ok(search(rt, alloc, asked, call, host, &mut Reader::new(rt.reader())));
+        return Ok(search(
+            rt,
+            alloc,
+            asked,
+            names,
+            host,
+            &mut InputReader::new(rt.reader()),
+        ));
     };
     match fs::open(rt, name.as_str()) {
-        Ok(file) => Ok(search(rt, alloc, asked, call, host, &mut Reader::new(file))),
+        Ok(file) => Ok(search(rt, alloc, asked, names, host, &mut InputReader::new(file))),
         Err(_) => Err(refuse_file(rt, PROGRAM, Some(name))),
     }
 }
@@ -154,9 +159,9 @@ fn search_input<R: Runtime + Threads + Wait + Sync>(
 pub(crate) fn begin<R: Runtime + Threads + Wait + Sync>(
     rt: &R,
     alloc: Global,
-    work: Search,
+    work: SolveCall,
 ) -> Result<ExitCode, AllocError> {
-    let Search {
+    let SolveCall {
         asked,
         start,
         resume,
@@ -169,8 +174,8 @@ pub(crate) fn begin<R: Runtime + Threads + Wait + Sync>(
         Some(name) => Some(RecordFile::of(rt, alloc, name)?),
         None => None,
     };
-    let call = call_of(alloc, asked, start, record.as_ref())?;
-    if let Some(status) = refuse_losses(rt, record.as_ref(), &call, resume.as_deref()) {
+    let names = names_of(alloc, start, record.as_ref())?;
+    if let Some(status) = refuse_losses(rt, record.as_ref(), &names, resume.as_deref()) {
         return Ok(status);
     }
     let resumed = match read_named(rt, alloc, resume.as_deref()) {
@@ -189,9 +194,9 @@ pub(crate) fn begin<R: Runtime + Threads + Wait + Sync>(
         cubes,
         folder: folder_of(tree.as_deref().unwrap_or("")),
     };
-    let ended = match search_input(rt, alloc, asked, &call, &host, project.as_ref()) {
+    let ended = match search_input(rt, alloc, asked, &names, &host, project.as_ref()) {
         Ok(Ok(ended)) => ended,
-        Ok(Err(fault)) => return Ok(refuse_open(rt, &call, record.as_ref(), fault)),
+        Ok(Err(fault)) => return Ok(refuse_open(rt, &names, record.as_ref(), fault)),
         Err(status) => return Ok(status),
     };
     let status = report(rt, PROGRAM, &ended);

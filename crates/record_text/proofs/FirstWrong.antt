@@ -3,9 +3,9 @@ use Rattle.std.proofs.Common.{subst, ◌≡◌, ℕ, ◌+◌, List, [], ◌∷�
 use Rattle.std.specs.List.{All}
 use Rattle.std.proofs.lemmas.List.Elements.{All-head, All-tail}
 use Rattle.record_text.specs.declared.fault.RecordFault.{RecordFault}
-use Rattle.record_text.specs.declared.fault.Why.{Why}
+use Rattle.record_text.specs.declared.fault.RecordFaultKind.{RecordFaultKind}
 use Rattle.network.specs.Problem.{Problem}
-use Rattle.record_text.specs.declared.fault.Why.TheVariants as why
+use Rattle.record_text.specs.declared.fault.RecordFaultKind.TheVariants as why
 use Rattle.record_text.specs.Kinds.{RecordOf, Kind}
 use Rattle.record_text.specs.FirstWrong.{IsFirstWrongOf, Judge, IsFirstFaultBy, FaultIsWrong, OtherFaultIsNone, IsVerdict}
 
@@ -13,7 +13,7 @@ pub all_right : {X : Type 0} (P : X → Type 0) (xs ys : List X) → All P (xs +
 all_right P [] ys h = h
 all_right P (x ∷ xs) ys h = all_right P xs ys (All-tail P x (xs ++ ys) h)
 
-pub wrong_place : {Place : Type 0} (P : Place → Type 0) (why_wrong : Place → Why) (first : ℕ) (places : List Place) (fault : RecordFault) → IsFirstWrongOf P why_wrong first places fault → ¬ All P places
+pub wrong_place : {Place : Type 0} (P : Place → Type 0) (why_wrong : Place → RecordFaultKind) (first : ℕ) (places : List Place) (fault : RecordFault) → IsFirstWrongOf P why_wrong first places fault → ¬ All P places
 wrong_place {Place} P why_wrong first places fault found right =
     let all : All P (found.before ++ found.here ∷ found.behind) = rw found.placed at right in
     found.wrong (All-head P found.here found.behind (all_right P found.before (found.here ∷ found.behind) all))
@@ -33,16 +33,16 @@ one_place P (a ∷ xs) (b ∷ ys) x y us vs same all_x all_y no_x no_y =
     let s = one_place P xs ys x y us vs others (All-tail P a xs all_x) (All-tail P b ys all_y) no_x no_y in
     record { fronts = omega (arith, s.fronts); heres = s.heres }
 
-abbrev pub fault_at : ℕ → Why → RecordFault
+abbrev pub fault_at : ℕ → RecordFaultKind → RecordFault
 fault_at line why = record { line = line; why = why }
 
-pub one_wrong : {Place : Type 0} (P : Place → Type 0) (why_wrong : Place → Why) (first : ℕ) (xs ys : List Place) (a b : RecordFault) → xs ≡ ys → IsFirstWrongOf P why_wrong first xs a → IsFirstWrongOf P why_wrong first ys b → a ≡ b
+pub one_wrong : {Place : Type 0} (P : Place → Type 0) (why_wrong : Place → RecordFaultKind) (first : ℕ) (xs ys : List Place) (a b : RecordFault) → xs ≡ ys → IsFirstWrongOf P why_wrong first xs a → IsFirstWrongOf P why_wrong first ys b → a ≡ b
 one_wrong {Place} P why_wrong first xs ys a b is f g =
     let same : f.before ++ f.here ∷ f.behind ≡ g.before ++ g.here ∷ g.behind = sym f.placed ∙ is ∙ g.placed in
     let s = one_place P f.before g.before f.here g.here f.behind g.behind same f.right g.right f.wrong g.wrong in
     let line : a.line ≡ b.line = f.line ∙ ap (λ n. first + n) s.fronts ∙ sym g.line in
     let why : a.why ≡ b.why = f.why ∙ ap why_wrong s.heres ∙ sym g.why in
-    ap (λ (n : ℕ). fault_at n a.why) line ∙ ap (λ (w : Why). fault_at b.line w) why
+    ap (λ (n : ℕ). fault_at n a.why) line ∙ ap (λ (w : RecordFaultKind). fault_at b.line w) why
 
 pub fault_is_wrong : {Claim Line : Type 0} (j : Judge Claim Line) → ((p : Problem) (claim : Claim) (lines : List Line) (fault : RecordFault) → j.IsFirstWrong p claim lines fault → ¬ j.AreRightLines p claim lines) → FaultIsWrong j
 fault_is_wrong j wrong p r fault (inl starts) right = starts.wrong right.starts
@@ -56,7 +56,7 @@ other_is_none j one p r a b (inr f) (inr g) = one p r.claim r.lines a b f.first 
 
 -- ---- a verdict
 
-pub is_memory : (w : Why) → (w ≢ why.Memory → ⊥) → w ≡ why.Memory
+pub is_memory : (w : RecordFaultKind) → (w ≢ why.Memory → ⊥) → w ≡ why.Memory
 is_memory why.Memory h = refl
 is_memory w h = absurd (h (λ e. cc))
 

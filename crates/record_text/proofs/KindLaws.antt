@@ -2,13 +2,13 @@
 use Rattle.std.proofs.Common.{◌≡◌, ◌≢◌, ℕ, ◌≤◌, List, [], ◌∷◌, ◌++◌, map, length, refl, sym, ap, ◌∙◌, subst, arith, append_assoc, append-nil, length-append, ◌⊎◌, inl, inr, ◌+◌, Result, Ok, Err, IfOk, IfErr, MatchResult}
 use Rattle.std.specs.List.{AllByRecursion}
 use Rattle.record_text.specs.declared.fault.RecordFault.{RecordFault}
-use Rattle.record_text.specs.declared.fault.Why.TheVariants as why
-use Rattle.record_text.specs.Kinds.{RecordOf, Kind, head_rows, rows_of, record_text, IsRecord, Spells, AreRows, MAX_RECORD_BYTES, Rules, Leads, HasNone, Facts}
+use Rattle.record_text.specs.declared.fault.RecordFaultKind.TheVariants as why
+use Rattle.record_text.specs.Kinds.{RecordOf, Kind, head_rows, rows_of, record_text, IsRecord, Spells, AreRows, MAX_RECORD_BYTES, Rules, IsDueAfter, HasNone, Facts}
 use Rattle.record_text.specs.Rows as rows
 use Rattle.record_text.specs.Rows.{line_pieces, RowFault, Begin, HasRowFault, IsNeverLonger, missing}
 use Rattle.record_text.specs.TextFaults.{HasFault, IsFirstTextFault, IsMissing, IsOther, IsTitleFault, RecordIsOne, FirstFaultIsOne, FaultIsNoRecord, why_of, form}
 use Rattle.record_text.proofs.FirstWrong.{fault_at, is_memory}
-use Rattle.record_text.proofs.Leads.{Grammar, none_more}
+use Rattle.record_text.proofs.IsDueAfter.{Grammar, none_more}
 use Rattle.record_text.proofs.Rows.{text_from, pieces_of, Stands, missing_at, form_at, same_rows, whole_no_fault, one_fault}
 
 pub first_is : {xs ys : List (List ℕ)} {x y : List ℕ} → x ∷ xs ≡ y ∷ ys → x ≡ y
@@ -58,10 +58,10 @@ module _ {Claim Line : Type 0} (k : Kind Claim Line) where
 -- ---- the rows of a kind of which this is proved
 
 module _ {Claim Line : Type 0} {k : Kind Claim Line} {m : Rules k.row_of} (f : Facts k m) where
-  pub record_from : (claim : Claim) (lines : List Line) (due : ℕ) → k.IsClaim claim → Leads m 1 lines due → due ≡ 0 → IsRecord k (record { claim = claim; lines = lines })
-  record_from claim lines due wc leads none = let w = f.whole lines (subst (Leads m 1 lines) none leads) in record { claim = wc; lines = w.0; whole = w.1 }
+  pub record_from : (claim : Claim) (lines : List Line) (due : ℕ) → k.IsClaim claim → IsDueAfter m 1 lines due → due ≡ 0 → IsRecord k (record { claim = claim; lines = lines })
+  record_from claim lines due wc leads none = let w = f.whole lines (subst (IsDueAfter m 1 lines) none leads) in record { claim = wc; lines = w.0; whole = w.1 }
 
-  leads_of : (r : RecordOf Claim Line) → IsRecord k r → Leads m 1 r.lines 0
+  leads_of : (r : RecordOf Claim Line) → IsRecord k r → IsDueAfter m 1 r.lines 0
   leads_of r is = f.leads r.lines is.lines is.whole
 
   -- the records of a claim
@@ -122,14 +122,14 @@ module _ {Claim Line : Type 0} {k : Kind Claim Line} {m : Rules k.row_of} (f : F
   few_open : (front : List (List ℕ)) → length front ≤ 2 → ¬ AreRows k front
   few_open front few (r, is, h) = by_lines r.lines (leads_of r is) (ap length h ∙ refl) (length-append (head_rows k r.claim) (map k.row_of r.lines))
     where
-      by_lines : (lines : List Line) → Leads m 1 lines 0 → length (head_rows k r.claim ++ map k.row_of lines) ≡ length front → length (head_rows k r.claim ++ map k.row_of lines) ≡ length (head_rows k r.claim) + length (map k.row_of lines) → ⊥
+      by_lines : (lines : List Line) → IsDueAfter m 1 lines 0 → length (head_rows k r.claim ++ map k.row_of lines) ≡ length front → length (head_rows k r.claim ++ map k.row_of lines) ≡ length (head_rows k r.claim) + length (map k.row_of lines) → ⊥
       by_lines [] leads same e = omega (arith, leads)
       by_lines (l ∷ ls) leads same e = omega (arith, few, same, e, f.some_rows r.claim)
 
   -- two rows or fewer that a claim's text begins with
   pub stands_in : (claim : Claim) (front more : List (List ℕ)) → k.IsClaim claim → head_rows k claim ≡ front ++ more → length front ≤ 2 → Stands (AreRows k) front
   stands_in claim front more w h few =
-      let leads : Leads m 1 (m.last ∷ []) 0 = (omega arith, f.rules.reads_last 1 (omega arith), omega (arith, f.rules.next_last 1 (omega arith))) in
+      let leads : IsDueAfter m 1 (m.last ∷ []) 0 = (omega arith, f.rules.reads_last 1 (omega arith), omega (arith, f.rules.next_last 1 (omega arith))) in
       let same : rows_of k (record { claim = claim; lines = m.last ∷ [] }) ≡ front ++ (more ++ k.row_of m.last ∷ []) = ap (λ (rows : List (List ℕ)). rows ++ k.row_of m.last ∷ []) h ∙ append_assoc front more (k.row_of m.last ∷ []) in
       record { begins = (_, (record { claim = claim; lines = m.last ∷ [] }, record_from claim (m.last ∷ []) 0 w leads refl, same)); unfinished = few_open front few }
 

@@ -1,6 +1,6 @@
 pub mod TextLaws
 pub mod RowReads
 pub mod Rows
-pub mod Leads
+pub mod IsDueAfter
 pub mod KindLaws
 pub mod FirstWrong

@@ -11,7 +11,7 @@ use Rattle.record_text.proofs.RowReads.{line_again, line_takes, members_fit, cla
 use Rattle.record_text.specs.declared.line.Claim.TheVariants as claims
 use Rattle.record_text.proofs.KindLaws.{stands_in, no_claim}
 use Rattle.record_text.proofs.Rows.{plain_append, plain_spaced, plain_times, Stands}
-use Rattle.record_text.specs.Kinds.{AreRows, MAX_RECORD_BYTES, RulesHold, Leads, HasNone, Facts}
+use Rattle.record_text.specs.Kinds.{AreRows, MAX_RECORD_BYTES, RulesHold, IsDueAfter, HasNone, Facts}
 use Rattle.record_text.specs.Rows.{line_pieces, Begin}
 
 -- ---- Lines that complete one node are those of a tree.
@@ -82,8 +82,8 @@ less_one due rest h = let same : due ≡ suc due - 1 = omega arith in subst (λ 
 mutual
   pub tree_completes : (t : Tree) (due : ℕ) (rest : List Line) → IsTree t → Completes due rest → Completes (suc due) (lines_of t ++ rest)
   tree_completes (force pair t) due rest shape h = (omega arith, tt, tree_completes t due rest shape h)
-  tree_completes (split resource members kids) due rest shape h =
-      (omega arith, shape.0, subst (λ (n : ℕ). Completes n (lines_of_all kids ++ rest)) (omega (arith, shape.1)) (trees_complete kids due rest shape.2 h))
+  tree_completes (split resource members children) due rest shape h =
+      (omega arith, shape.0, subst (λ (n : ℕ). Completes n (lines_of_all children ++ rest)) (omega (arith, shape.1)) (trees_complete children due rest shape.2 h))
   tree_completes t due rest shape h = (omega arith, tt, less_one due rest h)
 
   pub trees_complete : (ts : Trees) (due : ℕ) (rest : List Line) → AreTrees ts → Completes due rest → Completes (count_trees ts + due) (lines_of_all ts ++ rest)
@@ -124,11 +124,11 @@ hold = record {
 abbrev AreWritable : List Line → Type 0
 AreWritable lines = AllByRecursion IsWritableLine lines
 
-pub leads_from : (due : ℕ) (lines : List Line) → Completes due lines → AreWritable lines → Leads search_rules due lines 0
+pub leads_from : (due : ℕ) (lines : List Line) → Completes due lines → AreWritable lines → IsDueAfter search_rules due lines 0
 leads_from due [] c w = c
 leads_from due (l ∷ ls) c w = (c.0, line_again l w.0 c.1, leads_from (still_due due l) ls c.2 w.1)
 
-pub leads_to : (due : ℕ) (lines : List Line) → Leads search_rules due lines 0 → Completes due lines × AreWritable lines
+pub leads_to : (due : ℕ) (lines : List Line) → IsDueAfter search_rules due lines 0 → Completes due lines × AreWritable lines
 leads_to due [] h = (h, tt)
 leads_to due (l ∷ ls) h =
     let t = line_takes (row_of l) l h.1 in

@@ -4,8 +4,8 @@ use Rattle.std.specs.List.{All}
 use Rattle.network.specs.Problem.{Problem}
 use Rattle.network.specs.Schedule.{IsFeasible, makespan, IsShortest, IsLowerBound, HasNoSchedule}
 use Rattle.record_text.specs.declared.fault.RecordFault.{RecordFault}
-use Rattle.record_text.specs.declared.fault.Why.{Why}
-use Rattle.record_text.specs.declared.fault.Why.TheVariants as why
+use Rattle.record_text.specs.declared.fault.RecordFaultKind.{RecordFaultKind}
+use Rattle.record_text.specs.declared.fault.RecordFaultKind.TheVariants as why
 use Rattle.record_text.specs.declared.proved.Proved.{Proved}
 use Rattle.record_text.specs.declared.proved.Proved.TheVariants as proved
 use Rattle.record_text.specs.Kinds.{RecordOf, Kind}
@@ -32,7 +32,7 @@ pub record IsRightBy {Claim Line : Type 0} (j : Judge Claim Line) (p : Problem) 
 
 -- of lines, each in its place, which are numbered from this one, the first that is not right
 pub record IsFirstWrongOf
-    {Place : Type 0} (IsRight : Place → Type 0) (why_wrong : Place → Why) (first : ℕ) (places : List Place)
+    {Place : Type 0} (IsRight : Place → Type 0) (why_wrong : Place → RecordFaultKind) (first : ℕ) (places : List Place)
     (fault : RecordFault) : Type 0 where
   pub before : List Place
   pub here : Place

@@ -77,9 +77,9 @@ pub record RulesHold {Line : Type 0} {row_of : Line → List ℕ} (m : Rules row
   pub near : (due : ℕ) (row : List ℕ) (line : Line) → m.read due row ≡ Some line → length row ≤ MAX_RECORD_BYTES → m.next due line ≤ due + length row * MAX_RECORD_BYTES
 
 -- the lines lead from what is due before them to what is due after
-abbrev pub Leads : {Line : Type 0} {row_of : Line → List ℕ} → Rules row_of → ℕ → List Line → ℕ → Type 0
-Leads {Line} {row_of} m due [] after = due ≡ after
-Leads {Line} {row_of} m due (line ∷ lines) after = (0 < due) × (m.read due (row_of line) ≡ Some line) × Leads m (m.next due line) lines after
+abbrev pub IsDueAfter : {Line : Type 0} {row_of : Line → List ℕ} → Rules row_of → ℕ → List Line → ℕ → Type 0
+IsDueAfter {Line} {row_of} m due [] after = due ≡ after
+IsDueAfter {Line} {row_of} m due (line ∷ lines) after = (0 < due) × (m.read due (row_of line) ≡ Some line) × IsDueAfter m (m.next due line) lines after
 
 -- a row without an LF
 abbrev pub HasNone : List ℕ → Type 0
@@ -89,8 +89,8 @@ HasNone row = list_all (λ b. not (b == 10)) row ≡ true
 -- a text can hold, and no row has an LF
 pub record Facts {Claim Line : Type 0} (k : Kind Claim Line) (m : Rules k.row_of) : Type 0 where
   pub rules : RulesHold m
-  pub leads : (lines : List Line) → AllByRecursion k.IsLine lines → k.AreWhole lines → Leads m 1 lines 0
-  pub whole : (lines : List Line) → Leads m 1 lines 0 → AllByRecursion k.IsLine lines × k.AreWhole lines
+  pub leads : (lines : List Line) → AllByRecursion k.IsLine lines → k.AreWhole lines → IsDueAfter m 1 lines 0
+  pub whole : (lines : List Line) → IsDueAfter m 1 lines 0 → AllByRecursion k.IsLine lines × k.AreWhole lines
   pub one_claim : (a b : Claim) (x y : List (List ℕ)) → k.IsClaim a → k.IsClaim b → k.claim_rows a ++ x ≡ k.claim_rows b ++ y → (a ≡ b) × (x ≡ y)
   pub some_rows : (claim : Claim) → 0 < length (k.claim_rows claim)
   pub example : Claim

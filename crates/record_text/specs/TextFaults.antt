@@ -1,14 +1,14 @@
 -- The first fault of a text that is no record's.
 use Rattle.std.specs.Prelude.{◌≡◌, ◌≢◌, ℕ, ◌<◌, ◌≤◌, ◌⊎◌, Option, None, Result, MatchResult, List, [], ◌∷◌, length}
 use Rattle.record_text.specs.declared.fault.RecordFault.{RecordFault}
-use Rattle.record_text.specs.declared.fault.Why.{Why}
-use Rattle.record_text.specs.declared.fault.Why.TheVariants as why
+use Rattle.record_text.specs.declared.fault.RecordFaultKind.{RecordFaultKind}
+use Rattle.record_text.specs.declared.fault.RecordFaultKind.TheVariants as why
 use Rattle.record_text.specs.Kinds.{RecordOf, Kind, AreRows, Spells, MAX_RECORD_BYTES}
 use Rattle.record_text.specs.Rows as rows
 use Rattle.record_text.specs.Rows.{RowFault, HasRowFault, line_pieces, missing}
 
 -- the name of what is wrong with a row
-abbrev pub why_of : RowFault → Why
+abbrev pub why_of : RowFault → RecordFaultKind
 why_of rows.form = why.Form
 why_of rows.short = why.Short
 why_of rows.trailing = why.Trailing

@@ -32,7 +32,7 @@ pair_count members = length members * (length members - 1)
 abbrev mutual
   pub IsTree : Tree → Type 0
   IsTree (force pair t) = IsTree t
-  IsTree (split resource members kids) = (0 < length members) × (count_trees kids ≡ pair_count members) × AreTrees kids
+  IsTree (split resource members children) = (0 < length members) × (count_trees children ≡ pair_count members) × AreTrees children
   IsTree leaf = Unit {0}
 
   pub AreTrees : Trees → Type 0
@@ -46,7 +46,7 @@ abbrev mutual
   lines_of solved = kind.Solved ∷ []
   lines_of cut = kind.Cut ∷ []
   lines_of dead = kind.Dead ∷ []
-  lines_of (split resource members kids) = kind.Split resource members ∷ lines_of_all kids
+  lines_of (split resource members children) = kind.Split resource members ∷ lines_of_all children
 
   pub lines_of_all : Trees → List Line
   lines_of_all no_trees = []

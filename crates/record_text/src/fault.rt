@@ -2,13 +2,13 @@
 
 ghost use Rattle.std.specs.Prelude.{◌≡◌};
 ghost use Rattle.record_text.specs.TextFaults.{form};
-ghost use Rattle.record_text.specs.declared.fault.Why.TheVariants.{Memory};
+ghost use Rattle.record_text.specs.declared.fault.RecordFaultKind.TheVariants.{Memory};
 
 use std::alloc::{AllocError, AllocFailed};
 
 /// What is wrong with a record.
 #[derive(Clone, Copy, PartialEq, Eq, Debug)]
-pub enum Why {
+pub enum RecordFaultKind {
     /// The line is not of the grammar where it stands, or lacks the LF at its end.
     Form,
     /// The text ends before this line, which must come.
@@ -41,7 +41,7 @@ pub enum Why {
 #[derive(Clone, Copy, PartialEq, Eq, Debug)]
 pub struct RecordFault {
     pub line: usize,
-    pub why: Why,
+    pub why: RecordFaultKind,
 }
 
 impl RecordFault {
@@ -51,7 +51,7 @@ impl RecordFault {
     {
         RecordFault {
             line,
-            why: Why::Form,
+            why: RecordFaultKind::Form,
         }
     }
 }
@@ -59,7 +59,7 @@ impl RecordFault {
 /// Want of memory.
 const NO_MEMORY: RecordFault = RecordFault {
     line: 0,
-    why: Why::Memory,
+    why: RecordFaultKind::Memory,
 };
 
 impl From<AllocError> for RecordFault {

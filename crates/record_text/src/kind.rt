@@ -5,7 +5,7 @@ ghost use Rattle.std.specs.List.{flat_map};
 ghost use Rattle.record_text.specs.Kinds.{Kind, Rules, Facts, ended, first_line};
 ghost use Rattle.record_text.specs.Rows.{line_pieces};
 ghost use Rattle.record_text.specs.TextFaults.{HasFault};
-ghost use Rattle.record_text.specs.declared.fault.Why.TheVariants.{Memory};
+ghost use Rattle.record_text.specs.declared.fault.RecordFaultKind.TheVariants.{Memory};
 
 use crate::MAX_RECORD_BYTES;
 use crate::fault::RecordFault;

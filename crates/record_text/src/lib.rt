@@ -19,7 +19,7 @@ mod starts;
 mod text_rows;
 mod write;
 
-pub use fault::{RecordFault, Why};
+pub use fault::{RecordFault, RecordFaultKind};
 pub use fields::{MAX_NUMBER_DIGITS, number, numbers, numbers_after, split_field};
 pub use kind::RecordLine;
 pub use line::{Claim, Line};

@@ -4,10 +4,10 @@ ghost use Rattle.std.specs.Prelude.{◌≡◌, ◌≢◌, ◌≤◌, ◌∷◌, 
 ghost use Rattle.record_text.specs.Kinds.{head_rows, IsRecord};
 ghost use Rattle.record_text.specs.Rows.{line_pieces};
 ghost use Rattle.record_text.specs.TextFaults.{IsFormFault, HasFault};
-ghost use Rattle.record_text.specs.declared.fault.Why.TheVariants.{Memory};
+ghost use Rattle.record_text.specs.declared.fault.RecordFaultKind.TheVariants.{Memory};
 
 use crate::MAX_RECORD_BYTES;
-use crate::fault::{RecordFault, Why};
+use crate::fault::{RecordFault, RecordFaultKind};
 use crate::kind::RecordLine;
 use crate::text_rows::next_row;
 use std::alloc::Global;
@@ -57,7 +57,7 @@ pub(crate) fn read_lines<C, L: RecordLine<C>>(
     if !rest.is_empty() {
         return Err(RecordFault {
             line,
-            why: Why::Trailing,
+            why: RecordFaultKind::Trailing,
         });
     }
     lines.shrink_to_fit();

@@ -4,7 +4,7 @@ ghost use Rattle.std.specs.Prelude.{◌≡◌, ◌≢◌, ◌≤◌, ◌++◌, l
 ghost use Rattle.std.specs.List.{flat_map};
 ghost use Rattle.record_text.specs.Kinds.{RecordOf, IsRecord, Spells, record_text, ended};
 ghost use Rattle.record_text.specs.TextFaults.{RecordIsOne, FirstFaultIsOne, FaultIsNoRecord, IsFirstTextFault, IsReadAs};
-ghost use Rattle.record_text.specs.declared.fault.Why.TheVariants.{Memory};
+ghost use Rattle.record_text.specs.declared.fault.RecordFaultKind.TheVariants.{Memory};
 
 use crate::MAX_RECORD_BYTES;
 use crate::fault::RecordFault;

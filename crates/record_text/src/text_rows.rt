@@ -5,16 +5,16 @@ ghost use Rattle.record_text.specs.Rows.{line_pieces, missing};
 ghost use Rattle.record_text.specs.TextFaults.{why_of, IsMissing, IsTitleFault};
 
 use crate::MAX_RECORD_BYTES;
-use crate::fault::{RecordFault, Why};
+use crate::fault::{RecordFault, RecordFaultKind};
 use words::split_once;
 
 /// What is wrong where a row must come and none ends.
-fn missing(text: &[u8]) -> Why
+fn missing(text: &[u8]) -> RecordFaultKind
     ensures { result ≡ why_of (missing text.now) }
 {
     match text {
-        [] => Why::Short,
-        _ => Why::Form,
+        [] => RecordFaultKind::Short,
+        _ => RecordFaultKind::Form,
     }
 }
 
@@ -50,7 +50,7 @@ pub fn after_title<'a>(text: &'a [u8], title: &[u8]) -> Result<&'a [u8], RecordF
     if is_too_long(text) {
         return Err(RecordFault {
             line: 0,
-            why: Why::TooLong,
+            why: RecordFaultKind::TooLong,
         });
     }
     let (row, rest) = next_row(text, 1)?;

@@ -4,7 +4,7 @@ ghost use Rattle.std.specs.Prelude.{◌≡◌};
 ghost use Rattle.std.specs.Arc.{arc_value};
 ghost use Rattle.branching.specs.Path.{IsAt};
 
-use branching::{Lean, Report, Searcher};
+use branching::{OpenNode, Report, Searcher};
 use network::Schedule;
 use std::alloc::{AllocError, Global};
 use std::sync::atomic::{AtomicU64, Ordering};
@@ -57,7 +57,7 @@ impl Holds {
 
 /// A gate that holds workers, for at most a million turns each, and counts.
 #[derive(Drop)]
-pub(crate) struct Watch {
+pub(crate) struct HoldingGate {
     pub(crate) holds: Holds,
     moments: AtomicU64,
     calls: AtomicU64,
@@ -85,9 +85,9 @@ pub(crate) struct Seen {
     pub(crate) ceiling: u64,
 }
 
-impl Watch {
-    pub(crate) fn new(holds: Holds) -> Watch {
-        Watch {
+impl HoldingGate {
+    pub(crate) fn new(holds: Holds) -> HoldingGate {
+        HoldingGate {
             holds,
             moments: AtomicU64::new(0),
             calls: AtomicU64::new(0),
@@ -158,7 +158,7 @@ impl Watch {
         alloc: Global,
         refused: usize,
         searcher: &mut Searcher,
-        node: &Arc<Lean>,
+        node: &Arc<OpenNode>,
     ) -> Result<Report, AllocError>
         requires { IsAt searcher.old (arc_value node.now) }
         ensures { searcher.new ≡ searcher.old }
@@ -200,7 +200,7 @@ impl Watch {
     }
 }
 
-impl Gate for Watch {
+impl Gate for HoldingGate {
     fn pass<R: Wait>(&self, _rt: &R, worker: usize, moment: Moment) {
         self.moments.fetch_add(1, Ordering::SeqCst);
         match moment {
@@ -220,7 +220,7 @@ impl Gate for Watch {
         _rt: &R,
         alloc: Global,
         searcher: &mut Searcher,
-        node: &Arc<Lean>,
+        node: &Arc<OpenNode>,
         ceiling: Option<i64>,
     ) -> Result<Report, AllocError> {
         let call = self.calls.fetch_add(1, Ordering::SeqCst);
@@ -296,7 +296,7 @@ impl<'a, L: Ledger + Sync, S: Ledger + Send + Sync> Gate for Meddler<'a, L, S> {
         _rt: &R,
         alloc: Global,
         searcher: &mut Searcher,
-        node: &Arc<Lean>,
+        node: &Arc<OpenNode>,
         ceiling: Option<i64>,
     ) -> Result<Report, AllocError> {
         let call = self.calls.fetch_add(1, Ordering::SeqCst);
@@ -319,7 +319,7 @@ pub(crate) struct Waker<'a, L: Ledger, S: Ledger> {
     pub(crate) shared: &'a Shared<L, S>,
     pub(crate) key: Mutex<Key<S>>,
     pub(crate) taken: AtomicU64,
-    pub(crate) watch: Watch,
+    pub(crate) watch: HoldingGate,
 }
 
 impl<'a, L: Ledger + Sync, S: Ledger + Send + Sync> Gate for Waker<'a, L, S> {

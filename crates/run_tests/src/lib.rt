@@ -5,7 +5,11 @@
 #![tactic(auto)]
 
 #[cfg(test)]
+mod ceilings;
+#[cfg(test)]
 mod gates;
+#[cfg(test)]
+mod growing_text;
 #[cfg(test)]
 mod played;
 #[cfg(test)]

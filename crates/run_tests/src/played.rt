@@ -1,6 +1,6 @@
 //! Runs of psmax, played from lines of data.
 
-use crate::gates::{Holds, Watch};
+use crate::gates::{HoldingGate, Holds};
 use answers::Fault;
 use std::alloc::Global;
 use std::process::Abort;
@@ -69,7 +69,7 @@ fn plays<R: Threads + Wait + Sync + Abort>(
     holds: Holds,
 ) -> Result<(), Fail> {
     for text in rows {
-        let (row, gate) = (Row::of(text), Watch::new(holds));
+        let (row, gate) = (Row::of(text), HoldingGate::new(holds));
         let mut told = row.told(rt, alloc, Limits::NONE, &gate)?;
         if holds != Holds::Nobody {
             let seen = gate.seen();
@@ -184,12 +184,17 @@ fn faults_are_those_of_the_workers(rt: HostRuntime) -> Result<(), Fail> {
 #[test]
 fn records_of_two_threads_are_right(rt: HostRuntime) -> Result<(), Fail> {
     let row = Row::of("solve --nodes 100 --workers 2 --record r; three on two -> 0|optimal 4\n");
-    let gate = Watch::new(Holds::Second);
+    let gate = HoldingGate::new(Holds::Second);
     let told = row.told(&rt, rt.alloc(), Limits::NONE, &gate)?;
     assert!(&rt; told.starts_with(row.wanted), "{row:?} -> : {told}");
     assert_eq!(&rt; gate.seen().gave_up, 0);
     let verify = Row::verifying(&told, "three on two");
-    let proved = verify.told(&rt, rt.alloc(), Limits::NONE, &Watch::new(Holds::Nobody))?;
+    let proved = verify.told(
+        &rt,
+        rt.alloc(),
+        Limits::NONE,
+        &HoldingGate::new(Holds::Nobody),
+    )?;
     assert!(&rt;
         proved.as_str() == "0|proved optimal 4\n||",
         "{verify:?} -> : {proved}"
@@ -225,26 +230,26 @@ fn words_make_calls(rt: HostRuntime) -> Result<(), Fail> {
         "check --project p.sch -> Check, second true, record false",
         "tidy -> Tidy, second false, record false",
         "verify --project p.sch -> Verify, second true, record false",
-        "solve --nodes 7 -> Solve { workers: None, takes: 7, start: false, json: false, \
-            recorded: false }, second false, record false",
-        "solve --json -> Solve { workers: None, takes: 1000000, start: false, json: true, \
-            recorded: false }, second false, record false",
-        "solve --workers 64 -> Solve { workers: Some(64), takes: 1000000, start: false, \
-            json: false, recorded: false }, second false, record false",
-        "solve --nodes 1000000000 --workers 3 -> Solve { workers: Some(3), takes: 1000000000, \
-            start: false, json: false, recorded: false }, second false, record false",
-        "solve --workers 3 --start s -> Solve { workers: Some(3), takes: 1000000, start: true, \
-            json: false, recorded: false }, second true, record false",
-        "solve --workers 3 --json -> Solve { workers: Some(3), takes: 1000000, start: false, \
-            json: true, recorded: false }, second false, record false",
-        "solve --workers 3 --record r -> Solve { workers: Some(3), takes: 1000000, start: false, \
-            json: false, recorded: true }, second false, record true",
-        "solve --start s --json --record r -> Solve { workers: None, takes: 1000000, start: true, \
-            json: true, recorded: true }, second true, record true",
-        "solve --start s -> Solve { workers: None, takes: 1000000, start: true, json: false, \
-            recorded: false }, second true, record false",
-        "solve --record r -> Solve { workers: None, takes: 1000000, start: false, json: false, \
-            recorded: true }, second false, record true",
+        "solve --nodes 7 -> Solve(SearchOptions { workers: None, nodes: 7, start: false, json: false, \
+            recorded: false }), second false, record false",
+        "solve --json -> Solve(SearchOptions { workers: None, nodes: 1000000, start: false, json: true, \
+            recorded: false }), second false, record false",
+        "solve --workers 64 -> Solve(SearchOptions { workers: Some(64), nodes: 1000000, start: false, \
+            json: false, recorded: false }), second false, record false",
+        "solve --nodes 1000000000 --workers 3 -> Solve(SearchOptions { workers: Some(3), nodes: 1000000000, \
+            start: false, json: false, recorded: false }), second false, record false",
+        "solve --workers 3 --start s -> Solve(SearchOptions { workers: Some(3), nodes: 1000000, start: true, \
+            json: false, recorded: false }), second true, record false",
+        "solve --workers 3 --json -> Solve(SearchOptions { workers: Some(3), nodes: 1000000, start: false, \
+            json: true, recorded: false }), second false, record false",
+        "solve --workers 3 --record r -> Solve(SearchOptions { workers: Some(3), nodes: 1000000, start: false, \
+            json: false, recorded: true }), second false, record true",
+        "solve --start s --json --record r -> Solve(SearchOptions { workers: None, nodes: 1000000, start: true, \
+            json: true, recorded: true }), second true, record true",
+        "solve --start s -> Solve(SearchOptions { workers: None, nodes: 1000000, start: true, json: false, \
+            recorded: false }), second true, record false",
+        "solve --record r -> Solve(SearchOptions { workers: None, nodes: 1000000, start: false, json: false, \
+            recorded: true }), second false, record true",
         "solve --nodes 0 -> bad words",
         "solve --workers 65 -> bad words",
         "latest -> bad words",

@@ -81,7 +81,7 @@ fn nodes_are_expanded_by_several_threads_without_the_lock(rt: HostRuntime) -> Re
 #[test]
 fn desks_share_a_book(rt: HostRuntime) -> Result<(), Fail> {
     let rows = [
-        // A word that is too low costs work and no truth.
+        // A ceiling that is too low costs work and no truth.
         "desk; tells 6 -> over; accepted 2; ahead 2; same at the desk; counts [3, 2, 1, 2, 0, 0]; \
             best [0, 4, 0, 7]; calls 4; then Done",
         // A worker whose node is given back ends.
@@ -90,7 +90,7 @@ fn desks_share_a_book(rt: HostRuntime) -> Result<(), Fail> {
         // What a refused report found is no best.
         "desk; gives 2 \
             -> Refused(NotInHand); given back 1; counts [3, 1, 0, 2, 2, 0]; best []; then Halted",
-        // Kids that an offered schedule beats are not opened.
+        // Children that an offered schedule beats are not opened.
         "desk; start 0 0 3 7 \
             -> over; offered 1; counts [1, 1, 0, 1, 0, 0]; best [0, 0, 3, 7]; then Done",
         // A report ahead of the book is made again, and once only.
@@ -113,13 +113,13 @@ fn two_desks_share_a_book(rt: HostRuntime) -> Result<(), Fail> {
 
 /// However memory runs out, two workers find a shortest schedule, or say that it did, or that a thread couldn't start.
 #[test]
-fn growths_of_two_workers(rt: HostRuntime) -> Result<(), Fail> {
+fn allocations_of_two_workers(rt: HostRuntime) -> Result<(), Fail> {
     plays(&rt, rt.alloc(), &["three on two; workers 2 -> optimal 4"])
 }
 
 /// However memory runs out at a desk, the book is sound: it is at its end, or it is halted.
 #[test]
-fn growths_of_a_desk(rt: HostRuntime) -> Result<(), Fail> {
+fn allocations_of_a_desk(rt: HostRuntime) -> Result<(), Fail> {
     plays(
         &rt,
         rt.alloc(),

@@ -1,6 +1,7 @@
 -- What jobs answer, and what is read where they don't.
-use Rattle.std.proofs.Common.{◌≡◌, ℕ, Bool, true, false, List, Option, None, Some, Err, refl, ap, ◌∙◌, inl, inr, ◌-◌, ◌<◌, [], ℤ, pos, length, sym, get_or, arith, Result, codes}
+use Rattle.std.proofs.Common.{◌≡◌, ℕ, Bool, true, false, ◌||◌, List, Option, None, Some, Err, refl, ap, ◌∙◌, inl, inr, ◌-◌, ◌<◌, [], ℤ, pos, length, sym, get_or, arith, Result, codes}
 use Rattle.std.specs.Option.{MatchOption}
+use Rattle.std.specs.Prelude.{is_some}
 use Rattle.runs.specs.declared.job.Job.TheVariants as jobs
 use Rattle.answers.specs.declared.fault.Fault.{Fault}
 use Rattle.answers.specs.declared.fault.Fault.TheVariants as faults
@@ -8,47 +9,71 @@ use Rattle.runs.specs.Runs.{Span, HasRead, HasReadUpTo, IsNoReply, RecordsWhereA
 use Rattle.answers.specs.Faults.{exit_of, IsSearchFault}
 use Rattle.answers.specs.Answers.{IsFoundText, IsStartedText, starts_text, IsEarliestText}
 use Rattle.answers.specs.Outcomes.{IsAloneText}
-use Rattle.runs.specs.Outcome.{has_workers, input_limit, writes_record, SpellsOne, GivesStarts, IsFirstStartsFault, IsAnswer, IsRefusal, Job}
+use Rattle.runs.specs.Outcome.{has_workers, writes_record, SpellsOne, GivesStarts, HasFault, Inputs, IsFirstStartsFault, IsAnswer, IsSearchAnswer, IsSearchRefusal, Job, SearchOptions}
 use Rattle.std.proofs.lemmas.List.{get_or_default}
 use Rattle.std.proofs.lemmas.List.Elements.{All-nil}
 use Rattle.network.specs.declared.parts.Pair.{Pair}
 use Rattle.network.specs.Problem.{IsProject, Problem, activity_count, arcs_of}
 use Rattle.network.specs.Schedule.{makespan}
 use Rattle.network.specs.Walk.{Rows, IsMatrixOf}
-use Rattle.earliest.specs.Ends.{AreEarliestFor}
+use Rattle.longest_path.specs.Ends.{AreEarliestFor}
+
+none_recorded : (workers : Option ℕ) (start recorded : Bool) → (is_some workers || (start || recorded)) ≡ false → recorded ≡ false
+none_recorded None false recorded alone = alone
+none_recorded None true recorded alone = cc
+none_recorded (Some n) start recorded alone = cc
 
 -- a job without workers writes no record
 pub records_none : (job : Job) → has_workers job ≡ false → writes_record job ≡ false
-records_none (jobs.Solve None takes false json recorded) alone = alone
-records_none (jobs.Solve None takes true json recorded) alone = cc
-records_none (jobs.Solve (Some n) takes start json recorded) alone = cc
+records_none (jobs.Solve o) alone = none_recorded o.workers o.start o.recorded alone
 records_none job alone = refl
 
 -- what a search in one thread by itself answers is an answer of a job without workers
-pub answers_alone : (job : Job) (workers : Option ℕ) (takes : ℕ) (start json recorded : Bool) (text more : List ℕ) (exit : ℕ) (written : List ℕ) →
-    job ≡ jobs.Solve workers takes start json recorded → has_workers job ≡ false → SpellsOne text (λ p. IsAloneText p takes json exit written) → IsAnswer job text more exit written
-answers_alone job None takes false json false text more exit written is alone h = rw is h
-answers_alone job workers takes start json recorded text more exit written is alone h = let no : true ≡ false = rw is at alone in cc
+alone_said : (workers : Option ℕ) (start json recorded : Bool) (nodes : ℕ) (text more : List ℕ) (exit : ℕ) (written : List ℕ) →
+    (is_some workers || (start || recorded)) ≡ false → SpellsOne text (λ p. IsAloneText p nodes json exit written) →
+    IsSearchAnswer start (is_some workers || recorded) nodes json text more exit written
+alone_said None false json false nodes text more exit written alone h = h
+alone_said workers start json recorded nodes text more exit written alone h = cc
+
+pub answers_alone : (job : Job) (o : SearchOptions) (text more : List ℕ) (exit : ℕ) (written : List ℕ) → job ≡ jobs.Solve o →
+    has_workers job ≡ false → SpellsOne text (λ p. IsAloneText p o.nodes o.json exit written) → IsAnswer job text more exit written
+answers_alone job o text more exit written is alone h =
+    rw is (alone_said o.workers o.start o.json o.recorded o.nodes text more exit written (rw is at alone) h)
 
 -- what workers answer without a start is an answer of a job with workers
-pub answers_unstarted : (job : Job) (workers : Option ℕ) (takes : ℕ) (start json recorded : Bool) (text more : List ℕ) (exit : ℕ) (written : List ℕ) →
-    job ≡ jobs.Solve workers takes start json recorded → start ≡ false → has_workers job ≡ true → SpellsOne text (λ p. IsFoundText p None json exit written) → IsAnswer job text more exit written
-answers_unstarted job None takes false json true text more exit written is off has h = rw is h
-answers_unstarted job None takes false json false text more exit written is off has h = let no : false ≡ true = rw is at has in cc
-answers_unstarted job (Some n) takes false json recorded text more exit written is off has h = rw is h
-answers_unstarted job workers takes true json recorded text more exit written is off has h = cc
+unstarted_said : (workers : Option ℕ) (start json recorded : Bool) (nodes : ℕ) (text more : List ℕ) (exit : ℕ) (written : List ℕ) →
+    start ≡ false → (is_some workers || (start || recorded)) ≡ true → SpellsOne text (λ p. IsFoundText p None json exit written) →
+    IsSearchAnswer start (is_some workers || recorded) nodes json text more exit written
+unstarted_said None false json true nodes text more exit written off has h = h
+unstarted_said None false json false nodes text more exit written off has h = cc
+unstarted_said (Some n) false json recorded nodes text more exit written off has h = h
+unstarted_said workers true json recorded nodes text more exit written off has h = cc
+
+pub answers_unstarted : (o : SearchOptions) (text more : List ℕ) (exit : ℕ) (written : List ℕ) → o.start ≡ false →
+    has_workers (jobs.Solve o) ≡ true → SpellsOne text (λ p. IsFoundText p None o.json exit written) → IsAnswer (jobs.Solve o) text more exit written
+answers_unstarted o text more exit written off has h = unstarted_said o.workers o.start o.json o.recorded o.nodes text more exit written off has h
 
 -- what workers answer from a start is an answer of a job with a start
-pub answers_started : (job : Job) (workers : Option ℕ) (takes : ℕ) (start json recorded : Bool) (text more : List ℕ) (exit : ℕ) (written : List ℕ) →
-    job ≡ jobs.Solve workers takes start json recorded → start ≡ true → SpellsOne text (λ p. GivesStarts p more (λ starts. IsStartedText p starts json exit written)) → IsAnswer job text more exit written
-answers_started job workers takes true json recorded text more exit written is some h = rw is h
-answers_started job workers takes false json recorded text more exit written is some h = cc
+started_said : (start by_workers json : Bool) (nodes : ℕ) (text more : List ℕ) (exit : ℕ) (written : List ℕ) → start ≡ true →
+    SpellsOne text (λ p. GivesStarts p more (λ starts. IsStartedText p starts json exit written)) →
+    IsSearchAnswer start by_workers nodes json text more exit written
+started_said true by_workers json nodes text more exit written on h = h
+started_said false by_workers json nodes text more exit written on h = cc
+
+pub answers_started : (o : SearchOptions) (text more : List ℕ) (exit : ℕ) (written : List ℕ) → o.start ≡ true →
+    SpellsOne text (λ p. GivesStarts p more (λ starts. IsStartedText p starts o.json exit written)) → IsAnswer (jobs.Solve o) text more exit written
+answers_started o text more exit written on h = started_said o.start (is_some o.workers || o.recorded) o.json o.nodes text more exit written on h
 
 -- a text that gives no starts is refused
-pub refuses_start : (job : Job) (workers : Option ℕ) (takes : ℕ) (start json recorded : Bool) (text more : List ℕ) (fault : Fault) →
-    job ≡ jobs.Solve workers takes start json recorded → start ≡ true → SpellsOne text (λ p. IsFirstStartsFault p more fault) → IsRefusal job text more fault
-refuses_start job workers takes true json recorded text more fault is some h = rw is (inr h)
-refuses_start job workers takes false json recorded text more fault is some h = cc
+pub refuses_start : (start : Bool) (text more : List ℕ) (fault : Fault) → start ≡ true → SpellsOne text (λ p. IsFirstStartsFault p more fault) →
+    IsSearchRefusal start text more fault
+refuses_start true text more fault on h = inr h
+refuses_start false text more fault on h = cc
+
+-- and one that spells no project
+pub refuses_project : (start : Bool) (text more : List ℕ) (fault : Fault) → HasFault text fault → IsSearchRefusal start text more fault
+refuses_project true text more fault h = inl h
+refuses_project false text more fault h = h
 
 -- ---- faults
 
@@ -85,10 +110,10 @@ inputs_are_told A most first second fault told tells = inputs_where most first s
     (λ (e : failed_with A fault ≡ failed_with A faults.ReadFailed). let is : fault ≡ faults.ReadFailed = cc in tells ∙ ap Some is)
     (λ (e : told ≡ Some faults.ReadFailed). let is : fault ≡ faults.ReadFailed = cc in ap (failed_with A) is)
 
-pub read_is_told : {I S : Type 0} (A : Type 0) (job : Job) (first : Span I) (second : Span S) (fault : Fault) (told : Option Fault) → told ≡ Some fault →
-    HasRead job (failed_with A fault ≡ failed_with A faults.ReadFailed) first second → HasRead job (told ≡ Some faults.ReadFailed) first second
-read_is_told A job first second fault told tells read = record {
-  inputs = inputs_are_told A (input_limit job) first second fault told tells read.inputs;
+pub read_is_told : {I S : Type 0} (A : Type 0) (reads : Inputs) (first : Span I) (second : Span S) (fault : Fault) (told : Option Fault) → told ≡ Some fault →
+    HasRead reads (failed_with A fault ≡ failed_with A faults.ReadFailed) first second → HasRead reads (told ≡ Some faults.ReadFailed) first second
+read_is_told A reads first second fault told tells read = record {
+  inputs = inputs_are_told A reads.limit first second fault told tells read.inputs;
   unused = read.unused;
   project_second = read.project_second;
   project_first = read.project_first;

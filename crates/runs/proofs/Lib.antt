@@ -1,2 +1,4 @@
 pub mod TextLaws
 pub mod CallLaws
+pub mod Pieces
+pub mod Telling

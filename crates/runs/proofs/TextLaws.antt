@@ -11,7 +11,7 @@ use Rattle.sch_reader.specs.Text.{Spells, IsFirstFault}
 use Rattle.words.specs.declared.TheConstants.{MAX_TEXT_BYTES}
 use Rattle.record_text.specs.declared.TheConstants.{MAX_RECORD_BYTES}
 use Rattle.record_text.specs.declared.fault.RecordFault.{RecordFault}
-use Rattle.record_text.specs.declared.fault.Why.TheVariants as why
+use Rattle.record_text.specs.declared.fault.RecordFaultKind.TheVariants as why
 use Rattle.record_text.specs.Kinds.{Kind, RecordOf}
 use Rattle.record_text.specs.TextFaults.{IsFirstTextFault}
 use Rattle.search_record.specs.Right as wrongs

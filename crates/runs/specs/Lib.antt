@@ -1,2 +1,4 @@
 pub mod Runs
 pub mod Outcome
+pub mod Faults
+pub mod LogOutcome

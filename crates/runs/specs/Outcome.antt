@@ -1,6 +1,7 @@
 -- What a job answers to the texts that it reads, and why it has no answer.
 use Rattle.std.specs.Prelude.{ℕ, ◌||◌, Option, unwrap_or, is_some, Bool, true, false, ◌≡◌, List, ℤ, None, Some, ◌⊎◌}
 pub use Rattle.runs.specs.declared.job.Job.{Job}
+pub use Rattle.runs.specs.declared.job.SearchOptions.{SearchOptions}
 use Rattle.runs.specs.declared.job.Job.TheVariants as jobs
 use Rattle.runs.specs.declared.job.TheConstants.{ONE_WORKER}
 use Rattle.runs.specs.declared.judging.Judged.{Judged}
@@ -34,12 +35,12 @@ worker_count workers = unwrap_or workers ONE_WORKER
 
 -- the numbers of a job are within the limits
 abbrev pub IsJob : Job → Type 0
-IsJob (jobs.Solve workers takes start json recorded) = AreAllowed (worker_count workers) takes
+IsJob (jobs.Solve o) = AreAllowed (worker_count o.workers) o.nodes
 IsJob job = Unit {0}
 
 -- whether it writes a record
 abbrev pub writes_record : Job → Bool
-writes_record (jobs.Solve workers takes start json recorded) = recorded
+writes_record (jobs.Solve o) = o.recorded
 writes_record job = false
 
 -- whether a job reads its project from the second input, and not from the first
@@ -50,24 +51,38 @@ project_is_second job = false
 
 -- whether a job reads a second input
 abbrev pub reads_second : Job → Bool
-reads_second (jobs.Solve workers takes start json recorded) = start
+reads_second (jobs.Solve o) = o.start
 reads_second job = project_is_second job
 
 -- whether workers search; one thread searches by itself where no workers are asked for, no starts are handed
 -- in and no record is made
 abbrev pub has_workers : Job → Bool
-has_workers (jobs.Solve workers takes start json recorded) = is_some workers || (start || recorded)
+has_workers (jobs.Solve o) = is_some o.workers || (o.start || o.recorded)
 has_workers job = false
 
 -- whether it answers by a line of JSON
 abbrev pub answers_json : Job → Bool
-answers_json (jobs.Solve workers takes start json recorded) = json
+answers_json (jobs.Solve o) = o.json
 answers_json job = false
 
 -- how many bytes its first input may have: a project, starts, or a record
 abbrev pub input_limit : Job → ℕ
 input_limit jobs.Verify = MAX_RECORD_BYTES
 input_limit job = MAX_TEXT_BYTES
+
+-- which inputs a run reads: how many bytes the first may have, whether there is a second, and whether that has the project
+pub record Inputs : Type 0 where
+  pub limit : ℕ
+  pub second : Bool
+  pub project_second : Bool
+
+-- those of a job
+abbrev pub inputs_of : Job → Inputs
+inputs_of job = record { limit = input_limit job; second = reads_second job; project_second = project_is_second job }
+
+-- those of a search: a project, and starts where these are handed in
+abbrev pub search_inputs : Bool → Inputs
+search_inputs start = record { limit = MAX_TEXT_BYTES; second = start; project_second = false }
 
 -- the text spells a project, which has this property
 pub record SpellsOne (text : List ℕ) (P : Problem → Type 0) : Type 0 where
@@ -121,27 +136,40 @@ abbrev pub IsNoProof :
     {Claim Line : Type 0} → Kind Claim Line → (RecordOf Claim Line → RecordFault → Type 0) → List ℕ → Fault → Type 0
 IsNoProof k Has text fault = Tells (IsFirstTextFault k text) fault ⊎ GivesRecord k text (λ shown. Tells (Has shown) fault)
 
+-- what a search writes for a project, and for starts where these are handed in
+abbrev pub IsSearchAnswer : Bool → Bool → ℕ → Bool → List ℕ → List ℕ → ℕ → List ℕ → Type 0
+IsSearchAnswer false by_workers nodes json text second exit written =
+    SpellsOne text (λ p. IsUnstartedText p by_workers nodes json exit written)
+IsSearchAnswer true by_workers nodes json text second exit written =
+    SpellsOne text (λ p. GivesStarts p second (λ starts. IsStartedText p starts json exit written))
+
 -- what a job writes for its two texts, and the exit status
 abbrev pub IsAnswer : Job → List ℕ → List ℕ → ℕ → List ℕ → Type 0
 IsAnswer jobs.Earliest text second exit written = SpellsOne text (λ p. IsEarliestText p exit written)
-IsAnswer (jobs.Solve workers takes false json recorded) text second exit written = SpellsOne text (λ p. IsUnstartedText p (is_some workers || recorded) takes json exit written)
-IsAnswer (jobs.Solve workers takes true json recorded) text second exit written = SpellsOne text (λ p. GivesStarts p second (λ starts. IsStartedText p starts json exit written))
+IsAnswer (jobs.Solve o) text second exit written =
+    IsSearchAnswer o.start (is_some o.workers || o.recorded) o.nodes o.json text second exit written
 IsAnswer jobs.Check text second exit written = SpellsOne second (λ p. GivesStarts p text (λ starts. IsCheckText p starts exit written))
 IsAnswer jobs.Tidy text second exit written = SpellsOne text (λ p. IsTidyText p exit written)
-IsAnswer jobs.Verify text second exit written = SpellsOne second (λ p. GivesRecord search_kind text (λ shown. (exit ≡ 0) × IsProvedText search_kind search_judge p shown written))
+IsAnswer jobs.Verify text second exit written =
+    SpellsOne second (λ p. GivesRecord search_kind text (λ shown. (exit ≡ 0) × IsProvedText search_kind search_judge p shown written))
+
+-- why a search has no answer
+abbrev pub IsSearchRefusal : Bool → List ℕ → List ℕ → Fault → Type 0
+IsSearchRefusal false text second fault = HasFault text fault
+IsSearchRefusal true text second fault = HasFault text fault ⊎ SpellsOne text (λ p. IsFirstStartsFault p second fault)
 
 -- why a job has no answer to its two texts
 abbrev pub IsRefusal : Job → List ℕ → List ℕ → Fault → Type 0
-IsRefusal (jobs.Solve workers takes true json recorded) text second fault = HasFault text fault ⊎ SpellsOne text (λ p. IsFirstStartsFault p second fault)
+IsRefusal (jobs.Solve o) text second fault = IsSearchRefusal o.start text second fault
 IsRefusal jobs.Check text second fault = HasFault second fault ⊎ SpellsOne second (λ p. IsFirstStartsFault p text fault)
 IsRefusal jobs.Verify text second fault = HasFault second fault ⊎ SpellsOne second (λ p. IsNoProof search_kind (wrongs.IsFirstFault p) text fault)
 IsRefusal job text second fault = HasFault text fault
 
--- workers have searched: the text spells a project, and starts that were handed in are a feasible
--- schedule of it
-abbrev pub IsSearched : Job → List ℕ → List ℕ → Type 0
-IsSearched job text second = SpellsOne text (λ p. reads_second job ≡ true → GivesStarts p second (IsFeasible p))
+-- a search has run: the text spells a project, and starts that were handed in are a feasible schedule of it
+abbrev pub IsSearched : Bool → List ℕ → List ℕ → Type 0
+IsSearched start text second = SpellsOne text (λ p. start ≡ true → GivesStarts p second (IsFeasible p))
 
--- where the inputs that a job reads tell their texts, these have this property
-abbrev pub IfTextsTold : Job → Option (List ℕ) → Option (List ℕ) → (List ℕ → List ℕ → Type 0) → Type 0
-IfTextsTold job left second P = (text more : List ℕ) → left ≡ Some text → (reads_second job ≡ true → second ≡ Some more) → P text more
+-- where an input tells its text, and so does a second one that is read, the two texts have this property
+abbrev pub IfTextsKnown : Bool → Option (List ℕ) → Option (List ℕ) → (List ℕ → List ℕ → Type 0) → Type 0
+IfTextsKnown has_second left second P =
+    (text more : List ℕ) → left ≡ Some text → (has_second ≡ true → second ≡ Some more) → P text more

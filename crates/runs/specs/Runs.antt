@@ -5,7 +5,7 @@ use Rattle.words.specs.declared.TheConstants.{MAX_TEXT_BYTES}
 use Rattle.answers.specs.declared.fault.Fault.{Fault}
 use Rattle.answers.specs.Faults.{exit_of, IsSearchFault}
 use Rattle.answers.specs.Outcomes.{IsRightRecord}
-use Rattle.runs.specs.Outcome.{answers_json, has_workers, input_limit, project_is_second, reads_second, writes_record, IfTextsTold, IsAnswer, IsRefusal, IsSearched, SpellsNone, SpellsOne, Job}
+use Rattle.runs.specs.Outcome.{answers_json, has_workers, reads_second, writes_record, IfTextsKnown, Inputs, IsAnswer, IsRefusal, IsSearched, SpellsNone, SpellsOne, Job}
 
 -- ---- What an input gave and an output took, and the failures that they count.
 
@@ -34,8 +34,8 @@ abbrev pub IsUntouched : {D : Type 0} → Span D → Type 0
 IsUntouched device = device.new ≡ device.old
 
 -- where the input tells its bytes, they have this property
-abbrev pub IfTold : Option (List ℕ) → (List ℕ → Type 0) → Type 0
-IfTold told P = (bytes : List ℕ) → told ≡ Some bytes → P bytes
+abbrev pub IfKnown : Option (List ℕ) → (List ℕ → Type 0) → Type 0
+IfKnown told P = (bytes : List ℕ) → told ≡ Some bytes → P bytes
 
 -- an input gave no more than so many bytes
 pub record GaveUpTo {D : Type 0} (most : ℕ) (input : Span D) : Type 0 where
@@ -105,13 +105,13 @@ pub record HasReadUpTo {I S : Type 0} (most : ℕ) (Failed : Type 0) (first : Sp
   pub second_within : GaveUpTo (MAX_TEXT_BYTES + 1) second
   pub failed : OneFailedWhere Failed first second
 
--- What a job reads of its two inputs. A second input that it doesn't use is left alone. The project is read and judged
+-- What a run reads of its two inputs. A second input that it doesn't use is left alone. The project is read and judged
 -- first: where there is none, starts or a record on the other input are left alone.
-pub record HasRead {I S : Type 0} (job : Job) (Failed : Type 0) (first : Span I) (second : Span S) : Type 0 where
-  pub inputs : HasReadUpTo (input_limit job) Failed first second
-  pub unused : reads_second job ≡ false → IsUntouched second
-  pub project_second : project_is_second job ≡ true → GaveNoProject second → IsUntouched first
-  pub project_first : project_is_second job ≡ false → GaveNoProject first → IsUntouched second
+pub record HasRead {I S : Type 0} (reads : Inputs) (Failed : Type 0) (first : Span I) (second : Span S) : Type 0 where
+  pub inputs : HasReadUpTo reads.limit Failed first second
+  pub unused : reads.second ≡ false → IsUntouched second
+  pub project_second : reads.project_second ≡ true → GaveNoProject second → IsUntouched first
+  pub project_first : reads.project_second ≡ false → GaveNoProject first → IsUntouched second
 
 -- ---- what it replies
 
@@ -134,15 +134,15 @@ pub record IsReply (job : Job) (reply : ReplyOf) (text more : List ℕ) : Type 0
 pub record Replies (job : Job) (first second : Option (List ℕ)) (Done : ReplyOf → Type 0) : Type 0 where
   pub reply : ReplyOf
   pub records : RecordsWhereAsked job reply
-  pub right : IfTextsTold job first second (IsReply job reply)
+  pub right : IfTextsKnown (reads_second job) first second (IsReply job reply)
   pub done : Done reply
 
 -- Why the job has no reply. The fault of a text comes where the texts have no answer, and one that only a search ends
 -- with where workers have searched.
 pub record IsNoReply (job : Job) (first second : Option (List ℕ)) (fault : Fault) : Type 0 where
-  pub of_text : exit_of fault ≢ 1 → IfTextsTold job first second (λ text more. IsRefusal job text more fault)
+  pub of_text : exit_of fault ≢ 1 → IfTextsKnown (reads_second job) first second (λ text more. IsRefusal job text more fault)
   pub of_workers : IsSearchFault fault → has_workers job ≡ true
-  pub of_search : IsSearchFault fault → IfTextsTold job first second (IsSearched job)
+  pub of_search : IsSearchFault fault → IfTextsKnown (reads_second job) first second (IsSearched (reads_second job))
 
 -- ---- what it writes
 

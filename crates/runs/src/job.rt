@@ -3,22 +3,28 @@
 /// How many workers search by default.
 pub const ONE_WORKER: usize = 1;
 
+/// What a search is asked for.
+#[derive(Clone, Copy, Debug, PartialEq, Eq)]
+pub struct SearchOptions {
+    /// How many workers search. With none, one thread searches by itself, unless it has a start or makes a record.
+    pub workers: Option<usize>,
+    /// How many nodes are expanded at most. Then the answer is what is known.
+    pub nodes: u64,
+    /// Whether workers search from the starts on the second input.
+    pub start: bool,
+    /// Whether the answer is one line of JSON, and not plain lines.
+    pub json: bool,
+    /// Whether workers make a record, which comes where no limit stopped the search.
+    pub recorded: bool,
+}
+
 /// What the program is to do.
 #[derive(Clone, Copy, Debug, PartialEq, Eq)]
 pub enum Job {
     /// Print the least schedule of the time lags of a project, or the positive cycle.
     Earliest,
-    /// Print a shortest schedule of a project, or that there is none. Once so many nodes were taken, print what is
-    /// known by then. The answer is plain lines or one line of JSON. With neither workers nor a start nor a record, one
-    /// thread searches by itself. Otherwise so many workers do, one by default, from the starts of a file if there is
-    /// one. A search that no limit stops has a record, if that is asked for.
-    Solve {
-        workers: Option<usize>,
-        takes: u64,
-        start: bool,
-        json: bool,
-        recorded: bool,
-    },
+    /// Print a shortest schedule of a project, or that there is none, or what is known.
+    Solve(SearchOptions),
     /// Say whether the starts on standard input are a feasible schedule of a project in a file, or
     /// every rule that they break.
     Check,
@@ -29,21 +35,22 @@ pub enum Job {
 }
 
 impl Job {
-    ghost use Rattle.std.specs.Prelude.{◌≡◌};
+    ghost use Rattle.std.specs.Prelude.{◌≡◌, false, true, MatchOption};
+    ghost use Rattle.runs.specs.declared.job.Job.TheVariants as jobs;
     ghost use Rattle.runs.specs.Outcome.{has_workers};
 
-    /// Whether workers search, and not one thread by itself.
-    pub fn has_workers(self) -> bool
-        ensures { result ≡ has_workers self }
+    /// The options of a search by workers; none of another job.
+    pub fn by_workers(self) -> Option<SearchOptions>
+        ensures { MatchOption result (has_workers self ≡ false)
+            (λ options. (self ≡ jobs.Solve options) × (has_workers self ≡ true)) }
     {
-        match self {
-            Job::Solve {
-                workers,
-                start,
-                recorded,
-                ..
-            } => workers.is_some() || start || recorded,
-            _ => false,
+        let Job::Solve(options) = self else {
+            return None;
+        };
+        if options.workers.is_some() || options.start || options.recorded {
+            Some(options)
+        } else {
+            None
         }
     }
 }

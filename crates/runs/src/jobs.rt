@@ -1,7 +1,7 @@
 //! What each job says of the project and the text that it is given.
 
 ghost use Rattle.std.specs.Prelude.{◌≡◌, ◌≢◌, ◌≤◌, IfOk, IfErr};
-ghost use Rattle.plain_search.specs.declared.search.TheConstants.{MAX_TAKES};
+ghost use Rattle.plain_search.specs.declared.search.TheConstants.{MAX_EXPANDED};
 ghost use Rattle.answers.specs.declared.fault.Fault.{Fault};
 ghost use Rattle.answers.specs.declared.fault.Fault.TheVariants as faults;
 ghost use Rattle.answers.specs.Answers.{IsEarliestText, IsCheckText, IsTidyText};
@@ -11,8 +11,7 @@ ghost use Rattle.runs.specs.Outcome.{GivesStarts, IsFirstStartsFault};
 
 use crate::judging::{Judged, judged_starts};
 use answers::{Answer, Fault, cycle_text, feasible_text, solved_answer, starts_text};
-use earliest::least_starts;
-use longest_path::{PathFault, longest};
+use longest_path::{PathFault, least_starts, longest};
 use network::Project;
 use plain_search::search_alone;
 use sch_reader::write_sch;
@@ -44,7 +43,7 @@ pub(crate) fn solve(
     json: bool,
 ) -> Result<Answer, AllocError>
     requires some { 1 ≤ takes }
-    requires limit { takes ≤ MAX_TAKES }
+    requires limit { takes ≤ MAX_EXPANDED }
     ensures { IfOk result (λ a. IsAloneText project takes json a.exit a.text.items) }
 {
     let project = Arc::new(alloc, project)?;
@@ -57,7 +56,7 @@ pub(crate) fn check(alloc: Global, project: Project, text: &[u8]) -> Result<Answ
     ensures said { IfOk result
         (λ a. GivesStarts project text.now (λ starts. IsCheckText project starts a.exit a.text.items)) }
     ensures refused { IfErr result (λ fault. exit_of fault ≢ 1 → IsFirstStartsFault project text.now fault) }
-    ensures cause { IfErr result IsTextFault }
+    ensures fault { IfErr result IsTextFault }
 {
     let project = Arc::new(alloc, project)?;
     match judged_starts(alloc, &project, text)? {

@@ -26,7 +26,7 @@ pub fn judged_starts(alloc: Global, project: &Arc<Project>, text: &[u8]) -> Resu
         (λ judged. GivesStarts (arc_value project.now) text.now (IsJudged (arc_value project.now) judged)) }
     ensures refused { IfErr result
         (λ fault. exit_of fault ≢ 1 → IsFirstStartsFault (arc_value project.now) text.now fault) }
-    ensures cause { IfErr result IsTextFault }
+    ensures fault { IfErr result IsTextFault }
 {
     let starts = read_starts(alloc, text, project.activity_count())?;
     match accept(alloc, Arc::try_clone(project)?, starts) {

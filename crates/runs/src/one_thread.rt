@@ -5,7 +5,7 @@ ghost use Rattle.answers.specs.declared.fault.Fault.{Fault};
 ghost use Rattle.answers.specs.declared.fault.Fault.TheVariants as faults;
 ghost use Rattle.answers.specs.Faults.{exit_of, IsInputFault};
 ghost use Rattle.runs.specs.Runs.{span, FailedWhere, TookAll, TookFront, HasRead, IsNoReply, Replies};
-ghost use Rattle.runs.specs.Outcome.{IsJob, has_workers, IfTextsTold, IsAnswer, IsRefusal};
+ghost use Rattle.runs.specs.Outcome.{IsJob, has_workers, inputs_of, reads_second, IfTextsKnown, IsAnswer, IsRefusal};
 
 use crate::device::{Failed, Input, Output, write_all};
 use crate::job::Job;
@@ -52,12 +52,12 @@ fn job_answer<I: Input, S: Input>(
     requires alone { has_workers job ≡ false }
     requires input { I.failed input.old < u64.MAX }
     requires second { S.failed second.old < u64.MAX }
-    ensures said { IfOk result (λ a. IfTextsTold job (I.left input.old) (S.left second.old)
+    ensures said { IfOk result (λ a. IfTextsKnown (reads_second job) (I.left input.old) (S.left second.old)
         (λ text more. IsAnswer job text more a.exit a.text.items)) }
-    ensures refused { IfErr result (λ fault. exit_of fault ≢ 1 → IfTextsTold job (I.left input.old) (S.left second.old)
+    ensures refused { IfErr result (λ fault. exit_of fault ≢ 1 → IfTextsKnown (reads_second job) (I.left input.old) (S.left second.old)
         (λ text more. IsRefusal job text more fault)) }
-    ensures cause { IfErr result IsInputFault }
-    ensures read { HasRead job (result ≡ Err faults.ReadFailed)
+    ensures fault { IfErr result IsInputFault }
+    ensures read { HasRead (inputs_of job) (result ≡ Err faults.ReadFailed)
         (span I.left I.failed input.old input.new) (span S.left S.failed second.old second.new) }
 {
     match job {
@@ -65,9 +65,9 @@ fn job_answer<I: Input, S: Input>(
             let project = read_project(alloc, input)?;
             Ok(earliest(alloc, &project)?)
         }
-        Job::Solve { takes, json, .. } => {
+        Job::Solve(options) => {
             let project = read_project(alloc, input)?;
-            Ok(solve(alloc, project, takes, json)?)
+            Ok(solve(alloc, project, options.nodes, options.json)?)
         }
         Job::Check => {
             let (project, starts) = read_both(alloc, MAX_TEXT_BYTES, input, second)?;
@@ -132,7 +132,7 @@ pub fn run<I: Input, S: Input, O: Output>(
     ensures status { IfSome result.fault (λ fault. result.exit ≡ exit_of fault) }
 
     // What was read, and the failures of devices.
-    ensures read { HasRead job (result.fault ≡ Some faults.ReadFailed)
+    ensures read { HasRead (inputs_of job) (result.fault ≡ Some faults.ReadFailed)
         (span I.left I.failed input.old input.new) (span S.left S.failed second.old second.new) }
     ensures failed { FailedWhere (result.fault ≡ Some faults.WriteFailed) (span O.held O.failed out.old out.new) }
 {

@@ -7,7 +7,7 @@ ghost use Rattle.sch_reader.specs.Text.{Spells};
 ghost use Rattle.answers.specs.declared.fault.Fault.{Fault};
 ghost use Rattle.answers.specs.declared.fault.Fault.TheVariants as faults;
 ghost use Rattle.answers.specs.Faults.{exit_of, IsInputFault, IsTextFault};
-ghost use Rattle.runs.specs.Runs.{span, FailedWhere, GaveUpTo, IfTold, IsUntouched, GaveNoProject, HasReadUpTo};
+ghost use Rattle.runs.specs.Runs.{span, FailedWhere, GaveUpTo, IfKnown, IsUntouched, GaveNoProject, HasReadUpTo};
 ghost use Rattle.runs.specs.Outcome.{HasFault};
 
 use crate::device::Input;
@@ -27,7 +27,7 @@ const CHUNK: usize = 16_384;
 pub fn read_text<I: Input>(alloc: Global, most: usize, input: &mut I) -> Result<Vec<u8>, Fault>
     requires most { most ≤ MAX_RECORD_BYTES }
     requires input { I.failed input.old < u64.MAX }
-    ensures told { IfOk result (λ text. IfTold (I.left input.old) (λ bytes. text.items ≡ take (most + 1) bytes)) }
+    ensures told { IfOk result (λ text. IfKnown (I.left input.old) (λ bytes. text.items ≡ take (most + 1) bytes)) }
     ensures faults { IfErr result (λ fault. (fault ≡ faults.ReadFailed) ⊎ (fault ≡ faults.Memory)) }
     ensures failed { FailedWhere (result ≡ Err faults.ReadFailed) (span I.left I.failed input.old input.new) }
     ensures within { GaveUpTo (most + 1) (span I.left I.failed input.old input.new) }
@@ -51,7 +51,7 @@ pub fn read_text<I: Input>(alloc: Global, most: usize, input: &mut I) -> Result<
 fn project_of(alloc: Global, text: &[u8]) -> Result<Project, Fault>
     ensures project { IfOk result (λ p. IsProject p × Spells text.now p) }
     ensures refused { IfErr result (λ fault. fault ≢ faults.Memory → HasFault text.now fault) }
-    ensures cause { IfErr result IsTextFault }
+    ensures fault { IfErr result IsTextFault }
 {
     Ok(read_sch(alloc, text)?)
 }
@@ -59,10 +59,10 @@ fn project_of(alloc: Global, text: &[u8]) -> Result<Project, Fault>
 /// Reads a project.
 pub fn read_project<I: Input>(alloc: Global, input: &mut I) -> Result<Project, Fault>
     requires { I.failed input.old < u64.MAX }
-    ensures project { IfOk result (λ p. IsProject p × IfTold (I.left input.old) (λ bytes. Spells bytes p)) }
+    ensures project { IfOk result (λ p. IsProject p × IfKnown (I.left input.old) (λ bytes. Spells bytes p)) }
     ensures refused { IfErr result
-        (λ fault. exit_of fault ≢ 1 → IfTold (I.left input.old) (λ bytes. HasFault bytes fault)) }
-    ensures cause { IfErr result IsInputFault }
+        (λ fault. exit_of fault ≢ 1 → IfKnown (I.left input.old) (λ bytes. HasFault bytes fault)) }
+    ensures fault { IfErr result IsInputFault }
     ensures failed { FailedWhere (result ≡ Err faults.ReadFailed) (span I.left I.failed input.old input.new) }
     ensures within { GaveUpTo (MAX_TEXT_BYTES + 1) (span I.left I.failed input.old input.new) }
 {
@@ -80,11 +80,11 @@ pub fn read_both<I: Input, S: Input>(
     requires most { most ≤ MAX_RECORD_BYTES }
     requires input { I.failed input.old < u64.MAX }
     requires second { S.failed second.old < u64.MAX }
-    ensures project { IfOk result (λ r. IsProject r.0 × IfTold (S.left second.old) (λ bytes. Spells bytes r.0)) }
-    ensures told { IfOk result (λ r. IfTold (I.left input.old) (λ bytes. r.1.items ≡ take (most + 1) bytes)) }
+    ensures project { IfOk result (λ r. IsProject r.0 × IfKnown (S.left second.old) (λ bytes. Spells bytes r.0)) }
+    ensures told { IfOk result (λ r. IfKnown (I.left input.old) (λ bytes. r.1.items ≡ take (most + 1) bytes)) }
     ensures refused { IfErr result
-        (λ fault. exit_of fault ≢ 1 → IfTold (S.left second.old) (λ bytes. HasFault bytes fault)) }
-    ensures cause { IfErr result IsInputFault }
+        (λ fault. exit_of fault ≢ 1 → IfKnown (S.left second.old) (λ bytes. HasFault bytes fault)) }
+    ensures fault { IfErr result IsInputFault }
     ensures read { HasReadUpTo most (result ≡ Err faults.ReadFailed)
         (span I.left I.failed input.old input.new) (span S.left S.failed second.old second.new) }
     ensures project_first { GaveNoProject (span S.left S.failed second.old second.new)

@@ -31,10 +31,10 @@ impl<D> Counted<D> {
 }
 
 /// An input over a reader.
-pub type Reader<R> = Counted<R>;
+pub type InputReader<R> = Counted<R>;
 
 /// An output over a writer.
-pub type Writer<W> = Counted<W>;
+pub type OutputWriter<W> = Counted<W>;
 
 impl<R: Read> Input for Counted<R> {
     ghost left = { λ device. R.remaining device.inner };

@@ -19,7 +19,7 @@ fn proof_of(alloc: Global, project: &Project, shown: &Record) -> Result<Answer, 
     ensures said { IfOk result
         (λ a. (a.exit ≡ 0) × IsProvedText search_kind search_judge project.now shown.now a.text.items) }
     ensures refused { IfErr result (λ fault. exit_of fault ≢ 1 → Tells (IsFirstFaultBy search_judge project.now shown.now) fault) }
-    ensures cause { IfErr result IsTextFault }
+    ensures fault { IfErr result IsTextFault }
 {
     let proved = verify(alloc, project, shown)?;
     let text = proved_text(alloc, proved)?;
@@ -31,7 +31,7 @@ pub(crate) fn verified(alloc: Global, project: &Project, text: &[u8]) -> Result<
     ensures said { IfOk result
         (λ a. GivesRecord search_kind text.now (λ shown. (a.exit ≡ 0) × IsProvedText search_kind search_judge project.now shown a.text.items)) }
     ensures refused { IfErr result (λ fault. exit_of fault ≢ 1 → IsNoProof search_kind (IsFirstFaultBy search_judge project.now) text.now fault) }
-    ensures cause { IfErr result IsTextFault }
+    ensures fault { IfErr result IsTextFault }
 {
     let shown = Record::read(alloc, text)?;
     proof_of(alloc, project, &shown)

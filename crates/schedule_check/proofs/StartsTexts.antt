@@ -8,7 +8,7 @@ use Rattle.std.proofs.lemmas.List.Sums.{sum_by-cons, fails_before_first}
 use Rattle.words.specs.declared.TheConstants.{MAX_TEXT_BYTES}
 use Rattle.schedule_check.specs.declared.entry.Entry.TheVariants.{Nothing, Gives, Wrong}
 use Rattle.schedule_check.specs.declared.fault.StartsFault.TheVariants as faults
-use Rattle.schedule_check.specs.Starts.{entries, start_in, start_given, starts_given, or_else, entry_fault, line_fault, missing_fault, starts_fault, IsRight, gives, IsStartsText, spaces, given, entry_of, line_entries, is_answer, starts_of, first_fault, with_entries, Entry, StartsFault}
+use Rattle.schedule_check.specs.Starts.{entries, start_in, start_given, starts_given, or_else, entry_fault, line_fault, missing_fault, starts_fault, GivesStartOf, gives, IsStartsText, spaces, given, entry_of, line_entries, is_answer, starts_of, first_fault, with_entries, Entry, StartsFault}
 use Rattle.schedule_check.proofs.Tables.{given_later, given_at, given_length, fine_parts, both_none, none_missing, same_first_fault, all_entries}
 use Rattle.std.specs.Str.Lines.{lines, lines_of_parts, strip_carriage_return}
 use Rattle.std.proofs.lemmas.Int.{ints}
@@ -25,13 +25,13 @@ count-cons a e es = sum_by-cons (λ y. cond (gives a y) 1 0) e es
 
 -- ---- lines without a fault are right, and give no activity two starts
 
-right_from : (n : ℕ) (before : List Entry) (line : ℕ) (es : List Entry) → line_fault n before line es ≡ None → AllByRecursion (IsRight n) es
+right_from : (n : ℕ) (before : List Entry) (line : ℕ) (es : List Entry) → line_fault n before line es ≡ None → AllByRecursion (GivesStartOf n) es
 right_from n before line [] fine = tt
 right_from n before line (e ∷ es) fine =
     let parts = both_none (entry_fault n before line e) (line_fault n (before ++ e ∷ []) (line + 1) es) fine in
     (right e parts.0, right_from n (before ++ e ∷ []) (line + 1) es parts.1)
   where
-    right : (e : Entry) → entry_fault n before line e ≡ None → IsRight n e
+    right : (e : Entry) → entry_fault n before line e ≡ None → GivesStartOf n e
     right Nothing h = tt
     right Wrong h = absurd (cc)
     right (Gives b s) h = ltb-true b n (fine_parts b line (ltb b n) (is_some (start_given before b)) h).0
@@ -76,7 +76,7 @@ once_from n before line (e ∷ es) a fine =
 
 -- ---- and lines that are right and give none two have no fault
 
-fine_from : (n : ℕ) (before : List Entry) (line : ℕ) (es : List Entry) → AllByRecursion (IsRight n) es → ((a : ℕ) → a < n → cond (is_some (start_given before a)) 1 0 + count_by (gives a) es ≤ 1) → line_fault n before line es ≡ None
+fine_from : (n : ℕ) (before : List Entry) (line : ℕ) (es : List Entry) → AllByRecursion (GivesStartOf n) es → ((a : ℕ) → a < n → cond (is_some (start_given before a)) 1 0 + count_by (gives a) es ≤ 1) → line_fault n before line es ≡ None
 fine_from n before line [] right once = refl
 fine_from n before line (e ∷ es) right once =
     let here : entry_fault n before line e ≡ None = fine e right.0 (λ a lt. rw (count-cons a e es) at (once a lt)) in
@@ -84,7 +84,7 @@ fine_from n before line (e ∷ es) right once =
     rw (given_later before e a) (take_given (start_given before a) (start_in a e) (count_by (gives a) es) (rw (count-cons a e es) at (once a lt)))) in
     rw here rest
   where
-    fine : (e : Entry) → IsRight n e → ((a : ℕ) → a < n → cond (is_some (start_given before a)) 1 0 + (cond (gives a e) 1 0 + count_by (gives a) es) ≤ 1) → entry_fault n before line e ≡ None
+    fine : (e : Entry) → GivesStartOf n e → ((a : ℕ) → a < n → cond (is_some (start_given before a)) 1 0 + (cond (gives a e) 1 0 + count_by (gives a) es) ≤ 1) → entry_fault n before line e ≡ None
     fine Nothing r h = refl
     fine Wrong r h = absurd r
     fine (Gives b s) r h =
@@ -152,14 +152,14 @@ IsStartsText-from_fault n text fine =
     let both = both_none (line_fault n [] 1 (entries text)) (missing_fault (starts_given n (entries text))) parts.1 in
     record {
       short = ltb-false MAX_TEXT_BYTES (length text) parts.0;
-      right = All-from_recursion (IsRight n) (entries text) (right_from n [] 1 (entries text) both.0);
+      right = All-from_recursion (GivesStartOf n) (entries text) (right_from n [] 1 (entries text) both.0);
       once = λ a lt. omega (arith, once_from n [] 1 (entries text) a both.0, counted (entries text) a (given_all n (entries text) a both.1 lt));
     }
 
 pub no_fault-from_text : (n : ℕ) (text : List ℕ) → IsStartsText n text → starts_fault n text ≡ None
 no_fault-from_text n text t =
     let es : List Entry = entries text in
-    let lines : line_fault n [] 1 es ≡ None = fine_from n [] 1 es (recursion_from_All (IsRight n) es t.right) (λ a lt. omega (arith, t.once a lt)) in
+    let lines : line_fault n [] 1 es ≡ None = fine_from n [] 1 es (recursion_from_All (GivesStartOf n) es t.right) (λ a lt. omega (arith, t.once a lt)) in
     let all : missing_fault (starts_given n es) ≡ None = none_lacks n es (λ a lt. given_by_count es a (omega (arith, t.once a lt))) in
     rw (le-ltb MAX_TEXT_BYTES (length text) t.short, lines, all) refl
 

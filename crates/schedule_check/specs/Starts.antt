@@ -102,10 +102,10 @@ starts_of activities text = map (λ start. unwrap_or start (pos 0)) (starts_give
 -- ---- the texts that have no fault
 
 -- an entry that is nothing, or gives one of so many activities a start
-abbrev pub IsRight : ℕ → Entry → Type 0
-IsRight activities Nothing = Unit {0}
-IsRight activities Wrong = ⊥
-IsRight activities (Gives activity start) = activity < activities
+abbrev pub GivesStartOf : ℕ → Entry → Type 0
+GivesStartOf activities Nothing = Unit {0}
+GivesStartOf activities Wrong = ⊥
+GivesStartOf activities (Gives activity start) = activity < activities
 
 -- whether an entry gives the activity a start
 abbrev pub gives : ℕ → Entry → Bool
@@ -114,7 +114,7 @@ gives activity e = is_some (start_in activity e)
 -- a text within the limit whose lines are all right, with just one for each activity
 pub record IsStartsText (activities : ℕ) (text : List ℕ) : Type 0 where
   pub short : length text ≤ MAX_TEXT_BYTES
-  pub right : All (IsRight activities) (entries text)
+  pub right : All (GivesStartOf activities) (entries text)
   pub once : (activity : ℕ) → activity < activities → count_by (gives activity) (entries text) ≡ 1
 
 -- ---- The table of starts, which has a place for each activity, as lines are put into it.

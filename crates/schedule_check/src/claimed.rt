@@ -4,17 +4,17 @@ ghost use Rattle.std.specs.Prelude.{◌≢◌, OnOk, IfErr};
 ghost use Rattle.std.specs.List.{AllByRecursion};
 ghost use Rattle.record_text.specs.Text.{IsWritableTime};
 ghost use Rattle.record_text.specs.FirstWrong.{HasMakespan, HasWrongStarts};
-ghost use Rattle.record_text.specs.declared.fault.Why.TheVariants.{Memory};
+ghost use Rattle.record_text.specs.declared.fault.RecordFaultKind.TheVariants.{Memory};
 
 use crate::violation::violations;
 use network::Project;
-use record_text::{RecordFault, Why};
+use record_text::{RecordFault, RecordFaultKind};
 use std::alloc::Global;
 
 /// The starts are wrong.
 const WRONG: RecordFault = RecordFault {
     line: 3,
-    why: Why::Start,
+    why: RecordFaultKind::Start,
 };
 
 /// Checks that the starts in a record are a feasible schedule of the makespan that is claimed.

@@ -14,10 +14,10 @@ use Rattle.profile.specs.Overloads.{IsFirstOverload}
 use Rattle.bounds.specs.Bound.{IsBoundOf}
 use Rattle.bounds.proofs.TrueBounds.{IsBoundOf-same}
 use Rattle.branching.specs.Subproblem.{IsBoundOfPairs}
-use Rattle.branching.specs.Right.{IsTooLateFor, IsCut, IsSolved, IsDead}
+use Rattle.branching.specs.Right.{IsTooLateFor, IsCut, IsSolved, IsInfeasible}
 use Rattle.std.proofs.Math.Seq.{take-append_seam}
 use Rattle.branching.proofs.Paths.{cycle_before}
-use Rattle.search_record.specs.Node.{IsDeadFrom}
+use Rattle.search_record.specs.TreeNode.{IsInfeasibleFrom}
 
 pub refused : (P : Type 0) → ¬ P → IsTrue false ↔ P
 refused P never = (λ t. absurd (false≢true t), λ h. absurd (never h))
@@ -108,7 +108,7 @@ not_solved p pairs starts limit t k least found solved =
 -- ---- A dead node.
 
 -- where a pair closes a walk of positive weight, those after it change nothing
-pub dead_all : (p : Problem) (before dead : List Pair) → 0 < length dead → IsDeadFrom p before dead → IsDead p (before ++ dead)
+pub dead_all : (p : Problem) (before dead : List Pair) → 0 < length dead → IsInfeasibleFrom p before dead → IsInfeasible p (before ++ dead)
 dead_all p before [] some d = absurd (omega arith)
 dead_all p before (pair ∷ dead) some d =
     let long : length (before ++ pair ∷ []) ≡ length before + 1 = length-append before (pair ∷ []) in

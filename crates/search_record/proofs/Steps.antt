@@ -11,12 +11,12 @@ use Rattle.branching.proofs.OrderedPairs.{all_pairs, count_pairs}
 use Rattle.record_text.specs.declared.line.Line.{Line}
 use Rattle.record_text.specs.declared.line.Line.TheVariants as kind
 use Rattle.search_record.specs.Right.{NamesActivities, IsRightLine, IsRightPlace, AreRightLines, why_wrong, IsFirstWrong}
-use Rattle.search_record.specs.Due.{pairs_at, nodes_due, AreNested, IsOver, later_at, IsDueAlong, due_forced, due_split, Place, place, places, kid_places, due_after, Later}
+use Rattle.search_record.specs.Due.{pairs_at, nodes_due, AreNested, IsOver, later_at, IsDueAlong, due_forced, due_split, Place, place, places, child_places, due_after, Later}
 use Rattle.record_text.specs.Tree.{Tree, force, split, Trees, no_trees, tree, count_trees, pair_count, IsTree, AreTrees, lines_of, lines_of_all, IsTreeOf, solved, cut, dead}
 use Rattle.std.proofs.lemmas.Int.{ints}
 use Rattle.network.specs.declared.parts.Lag.{Lag}
 use Rattle.network.specs.Walk.{weight, HasPositiveCycle, HasNoPositiveCycle}
-use Rattle.branching.specs.Right.{IsDead, IsCutUnder, IsSolvedUnder}
+use Rattle.branching.specs.Right.{IsInfeasible, IsCutUnder, IsSolvedUnder}
 use Rattle.record_text.specs.declared.fault.RecordFault.{RecordFault}
 
 pub nested_deeper : (p : Problem) (d e : ℕ) (later : List Later) → d ≤ e → AreNested p d later → AreNested p e later
@@ -57,15 +57,15 @@ pub left_over : (there : Bool) (k : Later) (ks : List Later) → IsOver there (k
 left_over true k ks h = tt
 left_over false k ks h = cc
 
-kids_due : (path : List Pair) (added : List Pair) (later : List Later) → map (pairs_at path) (map (later_at (length path)) added ++ later) ≡ map (λ (pair : Pair). path ++ pair ∷ []) added ++ map (pairs_at path) later
-kids_due path [] later = refl
-kids_due path (pair ∷ added) later =
+children_due : (path : List Pair) (added : List Pair) (later : List Later) → map (pairs_at path) (map (later_at (length path)) added ++ later) ≡ map (λ (pair : Pair). path ++ pair ∷ []) added ++ map (pairs_at path) later
+children_due path [] later = refl
+children_due path (pair ∷ added) later =
     ap (λ (kept : List Pair). (kept ++ pair ∷ []) ∷ map (pairs_at path) (map (later_at (length path)) added ++ later)) (take_all (length path) path (omega arith))
-    ∙ ap (λ (nodes : List (List Pair)). (path ++ pair ∷ []) ∷ nodes) (kids_due path added later)
+    ∙ ap (λ (nodes : List (List Pair)). (path ++ pair ∷ []) ∷ nodes) (children_due path added later)
 
 pub split_due : (there : Bool) (path : List Pair) (later new : List Later) (members : List ℕ) → new ≡ map (later_at (length path)) (ordered_pairs members) ++ later → IsOver there later → 0 < length (nodes_due there path later)
     → drop 1 (nodes_due there path new) ≡ due_split members (nodes_due there path later)
-split_due true path later new members grows over some = ap (map (pairs_at path)) grows ∙ kids_due path (ordered_pairs members) later
+split_due true path later new members grows over some = ap (map (pairs_at path)) grows ∙ children_due path (ordered_pairs members) later
 split_due false path later new members grows over some = absurd (let none = ap length (none_due path later over) in omega (arith, none, some))
 
 -- ---- one step
@@ -132,8 +132,8 @@ named_line p limit pairs line right = tt
 -- ---- A list of lines read with the nodes that are due, and that this meets the tree's places.
 
 -- a split has a node for each ordered pair of its members
-pub kid_for_each : (members : List ℕ) (kids : Trees) → count_trees kids ≡ pair_count members → count_trees kids ≡ length (ordered_pairs members)
-kid_for_each members kids count = count ∙ sym (count_pairs members)
+pub child_for_each : (members : List ℕ) (children : Trees) → count_trees children ≡ pair_count members → count_trees children ≡ length (ordered_pairs members)
+child_for_each members children count = count ∙ sym (count_pairs members)
 
 -- each line with the pairs of its node, where these nodes are due
 abbrev pub flat : List (List Pair) → List Line → List Place
@@ -147,31 +147,31 @@ with_pair pairs pair = pairs ++ pair ∷ []
 mutual
   pub flat_tree : (t : Tree) (pairs : List Pair) (due : List (List Pair)) (rest : List Line) → IsTree t → flat (pairs ∷ due) (lines_of t ++ rest) ≡ places pairs t ++ flat due rest
   flat_tree (force pair t) pairs due rest shape = ap (λ (xs : List Place). place pairs (kind.Force pair) ∷ xs) (flat_tree t (pairs ++ pair ∷ []) due rest shape)
-  flat_tree (split resource members kids) pairs due rest shape =
-      ap (λ (xs : List Place). place pairs (kind.Split resource members) ∷ xs) (flat_kids (ordered_pairs members) kids pairs due rest (kid_for_each members kids shape.1) shape.2)
+  flat_tree (split resource members children) pairs due rest shape =
+      ap (λ (xs : List Place). place pairs (kind.Split resource members) ∷ xs) (flat_children (ordered_pairs members) children pairs due rest (child_for_each members children shape.1) shape.2)
   flat_tree t pairs due rest shape = refl
 
-  pub flat_kids : (added : List Pair) (kids : Trees) (pairs : List Pair) (due : List (List Pair)) (rest : List Line) → count_trees kids ≡ length added → AreTrees kids
-      → flat (map (with_pair pairs) added ++ due) (lines_of_all kids ++ rest) ≡ kid_places pairs added kids ++ flat due rest
-  flat_kids [] no_trees pairs due rest count shapes = refl
-  flat_kids (first ∷ added) (tree t ts) pairs due rest count shapes =
+  pub flat_children : (added : List Pair) (children : Trees) (pairs : List Pair) (due : List (List Pair)) (rest : List Line) → count_trees children ≡ length added → AreTrees children
+      → flat (map (with_pair pairs) added ++ due) (lines_of_all children ++ rest) ≡ child_places pairs added children ++ flat due rest
+  flat_children [] no_trees pairs due rest count shapes = refl
+  flat_children (first ∷ added) (tree t ts) pairs due rest count shapes =
       ap (flat ((pairs ++ first ∷ []) ∷ (map (with_pair pairs) added ++ due))) (append_assoc (lines_of t) (lines_of_all ts) rest)
       ∙ flat_tree t (pairs ++ first ∷ []) (map (with_pair pairs) added ++ due) (lines_of_all ts ++ rest) shapes.0
-      ∙ ap (λ (xs : List Place). places (pairs ++ first ∷ []) t ++ xs) (flat_kids added ts pairs due rest (omega arith) shapes.1)
-      ∙ sym (append_assoc (places (pairs ++ first ∷ []) t) (kid_places pairs added ts) (flat due rest))
-  flat_kids added kids pairs due rest count shapes = absurd (omega arith)
+      ∙ ap (λ (xs : List Place). places (pairs ++ first ∷ []) t ++ xs) (flat_children added ts pairs due rest (omega arith) shapes.1)
+      ∙ sym (append_assoc (places (pairs ++ first ∷ []) t) (child_places pairs added ts) (flat due rest))
+  flat_children added children pairs due rest count shapes = absurd (omega arith)
 
 mutual
   pub length_places : (t : Tree) (pairs : List Pair) → IsTree t → length (places pairs t) ≡ length (lines_of t)
   length_places (force pair t) pairs shape = ap suc (length_places t (pairs ++ pair ∷ []) shape)
-  length_places (split resource members kids) pairs shape = ap suc (length_kids (ordered_pairs members) kids pairs (kid_for_each members kids shape.1) shape.2)
+  length_places (split resource members children) pairs shape = ap suc (length_children (ordered_pairs members) children pairs (child_for_each members children shape.1) shape.2)
   length_places t pairs shape = refl
 
-  pub length_kids : (added : List Pair) (kids : Trees) (pairs : List Pair) → count_trees kids ≡ length added → AreTrees kids → length (kid_places pairs added kids) ≡ length (lines_of_all kids)
-  length_kids [] no_trees pairs count shapes = refl
-  length_kids (first ∷ added) (tree t ts) pairs count shapes =
-      omega (arith, length-append (places (pairs ++ first ∷ []) t) (kid_places pairs added ts), length-append (lines_of t) (lines_of_all ts), length_places t (pairs ++ first ∷ []) shapes.0, length_kids added ts pairs (omega arith) shapes.1)
-  length_kids added kids pairs count shapes = absurd (omega arith)
+  pub length_children : (added : List Pair) (children : Trees) (pairs : List Pair) → count_trees children ≡ length added → AreTrees children → length (child_places pairs added children) ≡ length (lines_of_all children)
+  length_children [] no_trees pairs count shapes = refl
+  length_children (first ∷ added) (tree t ts) pairs count shapes =
+      omega (arith, length-append (places (pairs ++ first ∷ []) t) (child_places pairs added ts), length-append (lines_of t) (lines_of_all ts), length_places t (pairs ++ first ∷ []) shapes.0, length_children added ts pairs (omega arith) shapes.1)
+  length_children added children pairs count shapes = absurd (omega arith)
 
 -- the places of the tree, from its lines
 pub flat_whole : (t : Tree) (lines : List Line) → IsTree t → lines_of t ≡ lines → flat ([] ∷ []) lines ≡ places [] t
@@ -256,7 +256,7 @@ cut_lives : (p : Problem) (pairs : List Pair) (limit : Option ℤ) → IsCutUnde
 cut_lives p pairs None right = absurd right
 cut_lives p pairs (Some limit) right = right.is_live
 
-pub dead_alone : (p : Problem) (limit : Option ℤ) (pairs : List Pair) (line : Line) → IsDead p pairs → line ≢ kind.Dead → ¬ IsRightLine p limit pairs line
+pub dead_alone : (p : Problem) (limit : Option ℤ) (pairs : List Pair) (line : Line) → IsInfeasible p pairs → line ≢ kind.Dead → ¬ IsRightLine p limit pairs line
 dead_alone p limit pairs (kind.Force pair) died other right = not_both _ right.is_live died
 dead_alone p limit pairs kind.Solved died other right = not_both _ (solved_lives p pairs limit right) died
 dead_alone p limit pairs kind.Cut died other right = not_both _ (cut_lives p pairs limit right) died
@@ -276,7 +276,7 @@ head_of pairs (force pair t) = record { line = kind.Force pair; after = places (
 head_of pairs solved = record { line = kind.Solved; after = []; rest = []; placed = refl; spelled = refl }
 head_of pairs cut = record { line = kind.Cut; after = []; rest = []; placed = refl; spelled = refl }
 head_of pairs dead = record { line = kind.Dead; after = []; rest = []; placed = refl; spelled = refl }
-head_of pairs (split resource members kids) = record { line = kind.Split resource members; after = kid_places pairs (ordered_pairs members) kids; rest = _; placed = refl; spelled = refl }
+head_of pairs (split resource members children) = record { line = kind.Split resource members; after = child_places pairs (ordered_pairs members) children; rest = _; placed = refl; spelled = refl }
 
 pub tree_some : (lines : List Line) (t : Tree) → IsTreeOf lines t → 0 < length lines
 tree_some lines t of =
@@ -284,7 +284,7 @@ tree_some lines t of =
     let long : length lines ≡ length (head.line ∷ head.rest) = ap length (sym of.spelled ∙ head.spelled) in
     omega arith
 
-pub dead_right : (p : Problem) (limit : Option ℤ) (lines : List Line) (line : Line) (t : Tree) → IsTreeOf lines t → line ≡ get_or lines 0 line → line ≡ kind.Dead → IsDead p [] → AreRightLines p limit lines
+pub dead_right : (p : Problem) (limit : Option ℤ) (lines : List Line) (line : Line) (t : Tree) → IsTreeOf lines t → line ≡ get_or lines 0 line → line ≡ kind.Dead → IsInfeasible p [] → AreRightLines p limit lines
 dead_right p limit lines line t of at is died = record { whole = t; tree_of = of; right = by_tree t of.spelled }
   where
     first : get_or lines 0 line ≡ kind.Dead
@@ -295,9 +295,9 @@ dead_right p limit lines line t of at is died = record { whole = t; tree_of = of
     by_tree solved spelled = absurd (let bad : kind.Solved ≡ kind.Dead = ap (λ (ls : List Line). get_or ls 0 line) spelled ∙ first in cc)
     by_tree cut spelled = absurd (let bad : kind.Cut ≡ kind.Dead = ap (λ (ls : List Line). get_or ls 0 line) spelled ∙ first in cc)
     by_tree dead spelled = All-cons (IsRightPlace p limit) (place [] kind.Dead) [] died (All-nil (IsRightPlace p limit))
-    by_tree (split resource members kids) spelled = absurd (let bad : kind.Split resource members ≡ kind.Dead = ap (λ (ls : List Line). get_or ls 0 line) spelled ∙ first in cc)
+    by_tree (split resource members children) spelled = absurd (let bad : kind.Split resource members ≡ kind.Dead = ap (λ (ls : List Line). get_or ls 0 line) spelled ∙ first in cc)
 
-pub dead_wrong : (p : Problem) (limit : Option ℤ) (first : ℕ) (lines : List Line) (line : Line) (t : Tree) (fault : RecordFault) → IsTreeOf lines t → line ≡ get_or lines 0 line → line ≢ kind.Dead → IsDead p [] → fault ≡ record { line = first; why = why_wrong line } → IsFirstWrong p limit first lines fault
+pub dead_wrong : (p : Problem) (limit : Option ℤ) (first : ℕ) (lines : List Line) (line : Line) (t : Tree) (fault : RecordFault) → IsTreeOf lines t → line ≡ get_or lines 0 line → line ≢ kind.Dead → IsInfeasible p [] → fault ≡ record { line = first; why = why_wrong line } → IsFirstWrong p limit first lines fault
 dead_wrong p limit first lines line t fault of at other died is =
     let head = head_of [] t in
     let same : line ≡ head.line = at ∙ ap (λ (ls : List Line). get_or ls 0 line) (sym of.spelled ∙ head.spelled) in

@@ -8,14 +8,14 @@ use Rattle.network.specs.Problem.{Problem, IsProject, AreStarts}
 use Rattle.branching.specs.Subproblem.{ordered_pairs}
 use Rattle.branching.specs.Right.{AllForced}
 use Rattle.branching.proofs.OrderedPairs.{count_pairs}
-use Rattle.trail.specs.declared.trail.Origin.{Origin}
-use Rattle.branching.specs.Fates.{FateOf, is_kid, is_dead, is_cut}
-use Rattle.trail.specs.Trail.{Ending, not_ended, was_cut, was_solved, was_split, Entry, entry_at, path_after, paths_after, path_to}
-use Rattle.trail.specs.RightTrail.{IsKidUnder, IsRightFate, IsRightEnding, has_ended, IsWholeTree}
+use Rattle.search_log.specs.declared.log.Origin.{Origin}
+use Rattle.branching.specs.Fates.{FateOf, is_child, is_infeasible, is_cut}
+use Rattle.search_log.specs.SearchLog.{Ending, not_ended, was_cut, was_solved, was_split, Entry, entry_at, path_after, paths_after, path_to}
+use Rattle.search_log.specs.RightTrail.{IsChildUnder, IsRightFate, IsRightEnding, has_ended, IsWholeTree}
 use Rattle.record_text.specs.declared.line.Line.{Line}
 use Rattle.record_text.specs.declared.line.Line.TheVariants as kind
 use Rattle.record_text.specs.Tree.{Tree, cut, dead, Trees, count_trees, IsTree, AreTrees, SearchRecord, lines_of}
-use Rattle.search_record.specs.Due.{place, places, kid_places}
+use Rattle.search_record.specs.Due.{place, places, child_places}
 use Rattle.search_record.specs.Right.{IsRightLine, IsRightPlace, claim_of, IsKeptSchedule, limit_of, AreRightStarts, IsRight}
 use Rattle.search_record.specs.TrailTree.{with_forced, fate_tree, fate_trees, ending_tree, tree_within, tree_under}
 use Rattle.branching.specs.Fair.{ceiling_of}
@@ -44,25 +44,25 @@ forced_right p limit pairs (pair ∷ forced) t all below =
 
 -- the trees under the names that come up are right
 abbrev NamedAreRight : Problem → Option ℤ → List Entry → ℕ → (ℕ → Tree) → Type 0
-NamedAreRight p limit entries name named = (pair : Pair) (later : ℕ) → IsKidUnder p entries name pair later → IsRightTree p limit (path_to entries name ++ pair ∷ []) (named later)
+NamedAreRight p limit entries name named = (pair : Pair) (later : ℕ) → IsChildUnder p entries name pair later → IsRightTree p limit (path_to entries name ++ pair ∷ []) (named later)
 
 fate_right : (p : Problem) (limit : Option ℤ) (entries : List Entry) (name : ℕ) (named : ℕ → Tree) → NamedAreRight p limit entries name named → (pair : Pair) (fate : FateOf ℕ) → IsRightFate p limit entries name pair fate
     → IsRightTree p limit (path_to entries name ++ pair ∷ []) (fate_tree named fate)
-fate_right p limit entries name named later_right pair (is_kid later) h = later_right pair later h
-fate_right p limit entries name named later_right pair (is_dead forced) h =
+fate_right p limit entries name named later_right pair (is_child later) h = later_right pair later h
+fate_right p limit entries name named later_right pair (is_infeasible forced) h =
     let pairs = path_to entries name ++ pair ∷ [] in
     forced_right p limit pairs forced dead h.all_forced (leaf_right p limit (pairs ++ forced) dead kind.Dead tt refl h.dead)
 fate_right p limit entries name named later_right pair (is_cut forced) h =
     let pairs = path_to entries name ++ pair ∷ [] in
     forced_right p limit pairs forced cut h.all_forced (leaf_right p limit (pairs ++ forced) cut kind.Cut tt refl h.cut)
 
-record AreRightKids (p : Problem) (limit : Option ℤ) (pairs added : List Pair) (kids : Trees) : Type 0 where
-  count : count_trees kids ≡ length added
-  shapes : AreTrees kids
-  right : All (IsRightPlace p limit) (kid_places pairs added kids)
+record AreRightChildren (p : Problem) (limit : Option ℤ) (pairs added : List Pair) (children : Trees) : Type 0 where
+  count : count_trees children ≡ length added
+  shapes : AreTrees children
+  right : All (IsRightPlace p limit) (child_places pairs added children)
 
 fates_right : (p : Problem) (limit : Option ℤ) (entries : List Entry) (name : ℕ) (named : ℕ → Tree) → NamedAreRight p limit entries name named → (added : List Pair) (fates : List (FateOf ℕ)) → AllZip (IsRightFate p limit entries name) added fates
-    → AreRightKids p limit (path_to entries name) added (fate_trees named fates)
+    → AreRightChildren p limit (path_to entries name) added (fate_trees named fates)
 fates_right p limit entries name named later_right [] [] h = record { count = refl; shapes = tt; right = All-nil (IsRightPlace p limit) }
 fates_right p limit entries name named later_right (pair ∷ added) (fate ∷ fates) h =
     let one = fate_right p limit entries name named later_right pair fate h.0 in
@@ -70,7 +70,7 @@ fates_right p limit entries name named later_right (pair ∷ added) (fate ∷ fa
     record {
       count = ap suc others.count;
       shapes = (one.shape, others.shapes);
-      right = All-append (IsRightPlace p limit) (places (path_to entries name ++ pair ∷ []) (fate_tree named fate)) (kid_places (path_to entries name) added (fate_trees named fates)) one.right others.right;
+      right = All-append (IsRightPlace p limit) (places (path_to entries name ++ pair ∷ []) (fate_tree named fate)) (child_places (path_to entries name) added (fate_trees named fates)) one.right others.right;
     }
 fates_right p limit entries name named later_right _ _ h = absurd h
 
@@ -86,10 +86,10 @@ ending_right p limit entries name named later_right was_cut h ended = leaf_right
 ending_right p limit entries name named later_right was_solved h ended = leaf_right p limit (path_to entries name) (ending_tree named was_solved) kind.Solved tt refl h
 ending_right p limit entries name named later_right (was_split resource members fates) h ended =
     let pairs = path_to entries name in
-    let kids = fates_right p limit entries name named later_right (ordered_pairs members) fates h.2 in
+    let children = fates_right p limit entries name named later_right (ordered_pairs members) fates h.2 in
     record {
-      shape = (some_member p resource members h.1.forbidden, kids.count ∙ count_pairs members, kids.shapes);
-      right = All-cons (IsRightPlace p limit) (place pairs (kind.Split resource members)) (kid_places pairs (ordered_pairs members) (fate_trees named fates)) (h.0, h.1) kids.right;
+      shape = (some_member p resource members h.1.forbidden, children.count ∙ count_pairs members, children.shapes);
+      right = All-cons (IsRightPlace p limit) (place pairs (kind.Split resource members)) (child_places pairs (ordered_pairs members) (fate_trees named fates)) (h.0, h.1) children.right;
     }
 
 -- the tree under a name is right, below the pairs that its forced ones come after

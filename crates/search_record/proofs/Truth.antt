@@ -9,7 +9,7 @@ use Rattle.network.specs.Problem.{Problem, activity_count, IsProject, AreStarts,
 use Rattle.network.specs.Schedule.{Keeps, IsSchedule, IsFeasible, IsLeastSchedule, KeepsAll, makespan, StandsFor, start, Meets}
 use Rattle.network.specs.declared.parts.Lag.{Lag}
 use Rattle.network.proofs.Schedules.{no_schedule_on_cycle, walk_holds}
-use Rattle.earliest.proofs.Ends.{from_start}
+use Rattle.longest_path.proofs.Ends.{from_start}
 use Rattle.branching.specs.Subproblem.{ordered_pairs}
 use Rattle.branching.specs.Right.{IsCutUnder, IsSolvedUnder}
 use Rattle.branching.proofs.OrderedPairs.{contains_cases}
@@ -20,12 +20,12 @@ use Rattle.record_text.specs.declared.line.Claim.{Claim}
 use Rattle.record_text.specs.declared.line.Claim.TheVariants as claims
 use Rattle.record_text.specs.declared.line.Line.TheVariants as kind
 use Rattle.record_text.specs.Tree.{Tree, force, solved, cut, dead, split, Trees, tree, count_trees, IsTree, AreTrees, IsTreeOf, no_trees, lines_of, lines_of_all}
-use Rattle.search_record.specs.Due.{place, places, kid_places, Place}
+use Rattle.search_record.specs.Due.{place, places, child_places, Place}
 use Rattle.record_text.proofs.FirstWrong.{all_right, wrong_place, one_wrong, fault_is_wrong, other_is_none}
 use Rattle.search_record.specs.Right.{limit_of, IsRightPlace, AreRightStarts, RightIsTrue, AreRightLines, why_wrong_at, IsFirstWrong, IsRightLine, search_judge}
 use Rattle.record_text.specs.FirstWrong.{IsFactOf, FaultIsWrong, OtherFaultIsNone}
 use Rattle.record_text.specs.Kinds.{first_line}
-use Rattle.search_record.proofs.Steps.{kid_for_each, flat_whole}
+use Rattle.search_record.proofs.Steps.{child_for_each, flat_whole}
 use Rattle.record_text.specs.declared.fault.RecordFault.{RecordFault}
 use Rattle.record_text.specs.declared.line.Line.{Line}
 use Rattle.std.proofs.lemmas.List.{map-append}
@@ -69,22 +69,22 @@ mutual
   node_reaches p limit pairs cut s shape right stands = at_cut p limit pairs s (All-head (IsRightPlace p limit) (place pairs kind.Cut) [] right) stands
   node_reaches p limit pairs dead s shape right stands =
       absurd (no_schedule_on_cycle p pairs s (All-head (IsRightPlace p limit) (place pairs kind.Dead) [] right) stands.feasible.schedule stands.keeps)
-  node_reaches p limit pairs (split resource members kids) s shape right stands =
-      let rest = kid_places pairs (ordered_pairs members) kids in
+  node_reaches p limit pairs (split resource members children) s shape right stands =
+      let rest = child_places pairs (ordered_pairs members) children in
       let here = All-head (IsRightPlace p limit) (place pairs (kind.Split resource members)) rest right in
       let kept = some_pair_kept p s resource members stands.feasible here.1 in
-      kids_reach p limit pairs (ordered_pairs members) kids s (kid_for_each members kids shape.1) shape.2 (All-tail (IsRightPlace p limit) (place pairs (kind.Split resource members)) rest right) stands kept.0 kept.1.0 kept.1.1
+      children_reach p limit pairs (ordered_pairs members) children s (child_for_each members children shape.1) shape.2 (All-tail (IsRightPlace p limit) (place pairs (kind.Split resource members)) rest right) stands kept.0 kept.1.0 kept.1.1
 
-  kids_reach : (p : Problem) (limit : Option ℤ) (pairs added : List Pair) (kids : Trees) (s : List ℤ) → count_trees kids ≡ length added → AreTrees kids → All (IsRightPlace p limit) (kid_places pairs added kids) → StandsFor p pairs s →
+  children_reach : (p : Problem) (limit : Option ℤ) (pairs added : List Pair) (children : Trees) (s : List ℤ) → count_trees children ≡ length added → AreTrees children → All (IsRightPlace p limit) (child_places pairs added children) → StandsFor p pairs s →
       (pair : Pair) → Contains added pair → Keeps p s pair → ReachesLimit limit s
-  kids_reach p limit pairs (first ∷ added) (tree t ts) s count shapes right stands pair within keeps =
+  children_reach p limit pairs (first ∷ added) (tree t ts) s count shapes right stands pair within keeps =
       let mine = places (pairs ++ first ∷ []) t in
-      let others = kid_places pairs added ts in
+      let others = child_places pairs added ts in
       ⊎_elim
       (λ (same : first ≡ pair). node_reaches p limit (pairs ++ first ∷ []) t s shapes.0 (all_left (IsRightPlace p limit) mine others right) (with_pair p pairs first s stands (subst (Keeps p s) (sym same) keeps)))
-      (λ (later : Contains added pair). kids_reach p limit pairs added ts s (omega arith) shapes.1 (all_right (IsRightPlace p limit) mine others right) stands pair later keeps)
+      (λ (later : Contains added pair). children_reach p limit pairs added ts s (omega arith) shapes.1 (all_right (IsRightPlace p limit) mine others right) stands pair later keeps)
       (contains_cases first added pair within)
-  kids_reach p limit pairs added kids s count shapes right stands pair within keeps = absurd (omega arith)
+  children_reach p limit pairs added children s count shapes right stands pair within keeps = absurd (omega arith)
 
 pub right_is_true : RightIsTrue
 right_is_true p r right = by_claim r.claim right.starts (λ s feasible. node_reaches p (limit_of r.claim) [] right.lines.whole s right.lines.tree_of.shape right.lines.right (record { feasible = feasible; keeps = All-nil (Keeps p s) }))
@@ -138,16 +138,16 @@ spelled_places p limit is (here ∷ all) right =
 mutual
   lines_at : (t : Tree) (pairs : List Pair) → IsTree t → map line_at (places pairs t) ≡ lines_of t
   lines_at (force pair t) pairs shape = ap (λ (ls : List Line). kind.Force pair ∷ ls) (lines_at t (pairs ++ pair ∷ []) shape)
-  lines_at (split resource members kids) pairs shape = ap (λ (ls : List Line). kind.Split resource members ∷ ls) (lines_at_kids (ordered_pairs members) kids pairs (kid_for_each members kids shape.1) shape.2)
+  lines_at (split resource members children) pairs shape = ap (λ (ls : List Line). kind.Split resource members ∷ ls) (lines_at_children (ordered_pairs members) children pairs (child_for_each members children shape.1) shape.2)
   lines_at t pairs shape = refl
 
-  lines_at_kids : (added : List Pair) (kids : Trees) (pairs : List Pair) → count_trees kids ≡ length added → AreTrees kids → map line_at (kid_places pairs added kids) ≡ lines_of_all kids
-  lines_at_kids [] no_trees pairs count shapes = refl
-  lines_at_kids (first ∷ added) (tree t ts) pairs count shapes =
-      map-append line_at (places (pairs ++ first ∷ []) t) (kid_places pairs added ts)
-      ∙ ap (λ (ls : List Line). ls ++ map line_at (kid_places pairs added ts)) (lines_at t (pairs ++ first ∷ []) shapes.0)
-      ∙ ap (λ (ls : List Line). lines_of t ++ ls) (lines_at_kids added ts pairs (omega arith) shapes.1)
-  lines_at_kids added kids pairs count shapes = absurd (omega arith)
+  lines_at_children : (added : List Pair) (children : Trees) (pairs : List Pair) → count_trees children ≡ length added → AreTrees children → map line_at (child_places pairs added children) ≡ lines_of_all children
+  lines_at_children [] no_trees pairs count shapes = refl
+  lines_at_children (first ∷ added) (tree t ts) pairs count shapes =
+      map-append line_at (places (pairs ++ first ∷ []) t) (child_places pairs added ts)
+      ∙ ap (λ (ls : List Line). ls ++ map line_at (child_places pairs added ts)) (lines_at t (pairs ++ first ∷ []) shapes.0)
+      ∙ ap (λ (ls : List Line). lines_of t ++ ls) (lines_at_children added ts pairs (omega arith) shapes.1)
+  lines_at_children added children pairs count shapes = absurd (omega arith)
 
 pub spelled_tree : (p : Problem) (limit : Option ℤ) → IsProject p → (t : Tree) → IsTree t → All (IsRightPlace p limit) (places [] t) → AllByRecursion IsWritableLine (lines_of t)
 spelled_tree p limit is t shape right = rw (sym (lines_at t [] shape)) (spelled_places p limit is (places [] t) right)

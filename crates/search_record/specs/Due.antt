@@ -5,7 +5,7 @@ use Rattle.network.specs.Problem.{Problem, NameActivities}
 pub use Rattle.search_record.specs.declared.due.Later.{Later}
 use Rattle.branching.specs.Subproblem.{ordered_pairs}
 use Rattle.branching.specs.Path.{Path}
-use Rattle.branching.specs.Right.{IsDead}
+use Rattle.branching.specs.Right.{IsInfeasible}
 use Rattle.record_text.specs.declared.line.Line.{Line}
 use Rattle.record_text.specs.declared.line.Line.TheVariants as kind
 use Rattle.record_text.specs.Tree.{Tree, force, solved, cut, dead, split, Trees, tree}
@@ -52,7 +52,7 @@ pub record IsDueAlong (is_there : Bool) (next : Path) (later : List Later) : Typ
 -- the root alone is due; none where that is dead
 abbrev pub IsRootDue : Problem → Option DueNodes → Type 0
 IsRootDue p found =
-    MatchOption found (IsDead p []) (λ due. due ≡ record { project = p; nodes = [] ∷ [] })
+    MatchOption found (IsInfeasible p []) (λ due. due ≡ record { project = p; nodes = [] ∷ [] })
 
 -- the next node has a pair more
 abbrev pub due_forced : Pair → List (List Pair) → List (List Pair)
@@ -88,9 +88,9 @@ abbrev mutual
   places pairs solved = place pairs kind.Solved ∷ []
   places pairs cut = place pairs kind.Cut ∷ []
   places pairs dead = place pairs kind.Dead ∷ []
-  places pairs (split resource members kids) =
-      place pairs (kind.Split resource members) ∷ kid_places pairs (ordered_pairs members) kids
+  places pairs (split resource members children) =
+      place pairs (kind.Split resource members) ∷ child_places pairs (ordered_pairs members) children
 
-  pub kid_places : List Pair → List Pair → Trees → List Place
-  kid_places pairs (pair ∷ more) (tree t ts) = places (pairs ++ pair ∷ []) t ++ kid_places pairs more ts
-  kid_places pairs more ts = []
+  pub child_places : List Pair → List Pair → Trees → List Place
+  child_places pairs (pair ∷ more) (tree t ts) = places (pairs ++ pair ∷ []) t ++ child_places pairs more ts
+  child_places pairs more ts = []

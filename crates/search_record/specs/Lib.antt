@@ -1,4 +1,4 @@
 pub mod Due
 pub mod Right
-pub mod Node
+pub mod TreeNode
 pub mod TrailTree

@@ -6,7 +6,7 @@ use Rattle.network.specs.Problem.{Problem, activity_count, NameActivities, AreSt
 use Rattle.network.specs.Walk.{IsProjectMatrix, Rows}
 use Rattle.network.specs.Schedule.{IsFeasible, makespan, ScheduleOf}
 use Rattle.branching.specs.Subproblem.{IsLive}
-use Rattle.branching.specs.Right.{IsForced, IsRightSet, IsDead, IsCutUnder, IsSolvedUnder}
+use Rattle.branching.specs.Right.{IsForced, IsRightSet, IsInfeasible, IsCutUnder, IsSolvedUnder}
 use Rattle.record_text.specs.declared.line.Claim.{Claim}
 use Rattle.record_text.specs.declared.line.Claim.TheVariants as claims
 use Rattle.record_text.specs.declared.line.Line.{Line}
@@ -14,8 +14,8 @@ use Rattle.record_text.specs.declared.line.Line.TheVariants as kind
 use Rattle.record_text.specs.Tree.{SearchRecord, IsTreeOf, Tree}
 use Rattle.search_record.specs.Due.{Place, places}
 use Rattle.record_text.specs.declared.fault.RecordFault.{RecordFault}
-use Rattle.record_text.specs.declared.fault.Why.{Why}
-use Rattle.record_text.specs.declared.fault.Why.TheVariants as why
+use Rattle.record_text.specs.declared.fault.RecordFaultKind.{RecordFaultKind}
+use Rattle.record_text.specs.declared.fault.RecordFaultKind.TheVariants as why
 use Rattle.record_text.specs.FirstWrong.{HasMakespan, IsFactOf, IsFirstWrongOf, Judge, IsRightBy, IsFirstFaultBy}
 use Rattle.record_text.specs.Kinds.{first_line}
 use Rattle.record_text.specs.Text.{search_kind, says}
@@ -30,7 +30,7 @@ abbrev pub IsRightLine : Problem → Option ℤ → List Pair → Line → Type 
 IsRightLine p limit pairs (kind.Force pair) = IsForced p pairs pair
 IsRightLine p limit pairs kind.Solved = IsSolvedUnder p pairs limit
 IsRightLine p limit pairs kind.Cut = IsCutUnder p pairs limit
-IsRightLine p limit pairs kind.Dead = IsDead p pairs
+IsRightLine p limit pairs kind.Dead = IsInfeasible p pairs
 IsRightLine p limit pairs (kind.Split resource members) = IsLive p pairs × IsRightSet p resource members
 
 -- whatever pairs the rows are the matrix of, the test tells whether this holds of them
@@ -73,12 +73,12 @@ IsKeptSchedule s = IsFeasible s.project s.starts × AreStarts s.project s.starts
 -- ---- The first fault of a record that is not right.
 
 -- what is wrong where a line is
-abbrev pub why_wrong : Line → Why
+abbrev pub why_wrong : Line → RecordFaultKind
 why_wrong (kind.Force pair) = why.Force
 why_wrong (kind.Split resource members) = why.Set
 why_wrong leaf = why.Leaf
 
-abbrev pub why_wrong_at : Place → Why
+abbrev pub why_wrong_at : Place → RecordFaultKind
 why_wrong_at here = why_wrong here.line
 
 -- of the lines of a tree, which are numbered from this one, the first that is not right
@@ -91,7 +91,7 @@ pub record IsFirstWrong
 -- the same where the root of the tree is dead, whatever the project and the limit
 abbrev pub IsFirstWrongOfDead : ℕ → List Line → RecordFault → Type 0
 IsFirstWrongOfDead first lines fault =
-    (p : Problem) (limit : Option ℤ) → IsDead p [] → IsFirstWrong p limit first lines fault
+    (p : Problem) (limit : Option ℤ) → IsInfeasible p [] → IsFirstWrong p limit first lines fault
 
 -- ---- What is right in a record of a search.
 

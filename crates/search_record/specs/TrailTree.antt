@@ -1,8 +1,8 @@
 -- The tree that a trail tells of, and how its lines come one after another.
 use Rattle.std.specs.Prelude.{ℕ, zero, suc, ◌<◌, List, [], ◌∷◌, ◌++◌, map, length}
 use Rattle.network.specs.declared.parts.Pair.{Pair}
-use Rattle.branching.specs.Fates.{FateOf, is_kid, is_dead, is_cut}
-use Rattle.trail.specs.Trail.{Ending, not_ended, was_cut, was_solved, was_split, Entry, entry_at}
+use Rattle.branching.specs.Fates.{FateOf, is_child, is_infeasible, is_cut}
+use Rattle.search_log.specs.SearchLog.{Ending, not_ended, was_cut, was_solved, was_split, Entry, entry_at}
 use Rattle.record_text.specs.declared.line.Line.{Line}
 use Rattle.record_text.specs.declared.line.Line.TheVariants as kind
 use Rattle.record_text.specs.Tree.{Tree, force, solved, cut, dead, split, Trees, no_trees, tree}
@@ -14,8 +14,8 @@ with_forced (pair ∷ forced) t = force pair (with_forced forced t)
 
 -- the tree of a pair, where those under the names are known
 abbrev pub fate_tree : (ℕ → Tree) → FateOf ℕ → Tree
-fate_tree named (is_kid name) = named name
-fate_tree named (is_dead forced) = with_forced forced dead
+fate_tree named (is_child name) = named name
+fate_tree named (is_infeasible forced) = with_forced forced dead
 fate_tree named (is_cut forced) = with_forced forced cut
 
 abbrev pub fate_trees : (ℕ → Tree) → List (FateOf ℕ) → Trees
@@ -37,7 +37,7 @@ abbrev pub tree_within : List Entry → ℕ → ℕ → Tree
 tree_within entries zero name = dead
 tree_within entries (suc depth) name = entry_tree (tree_within entries depth) (entry_at entries name)
 
--- and to its end, since kids have later names; without entries it is dead
+-- and to its end, since children have later names; without entries it is dead
 abbrev pub tree_under : List Entry → ℕ → Tree
 tree_under entries name = tree_within entries (length entries) name
 
@@ -61,36 +61,36 @@ node_lines forced last = map kind.Force forced ++ last ∷ []
 
 -- the lines of a pair's own node
 abbrev pub fate_lines : List Entry → FateOf ℕ → List Line
-fate_lines entries (is_kid name) =
+fate_lines entries (is_child name) =
     node_lines (entry_at entries name).forced (ending_line (entry_at entries name).ending)
-fate_lines entries (is_dead forced) = node_lines forced kind.Dead
+fate_lines entries (is_infeasible forced) = node_lines forced kind.Dead
 fate_lines entries (is_cut forced) = node_lines forced kind.Cut
 
 -- the fates of the nodes below it
 abbrev pub fates_behind : List Entry → FateOf ℕ → List (FateOf ℕ)
-fates_behind entries (is_kid name) = ending_fates (entry_at entries name).ending
-fates_behind entries (is_dead forced) = []
+fates_behind entries (is_child name) = ending_fates (entry_at entries name).ending
+fates_behind entries (is_infeasible forced) = []
 fates_behind entries (is_cut forced) = []
 
 -- ---- names
 
 -- a name in the fate is one of so many
 abbrev pub IsNamed : ℕ → FateOf ℕ → Type 0
-IsNamed count (is_kid later) = later < count
-IsNamed count (is_dead forced) = Unit {0}
+IsNamed count (is_child later) = later < count
+IsNamed count (is_infeasible forced) = Unit {0}
 IsNamed count (is_cut forced) = Unit {0}
 
 -- and later than this one
 abbrev pub LeadsOn : ℕ → ℕ → FateOf ℕ → Type 0
-LeadsOn count name (is_kid later) = (name < later) × (later < count)
-LeadsOn count name (is_dead forced) = Unit {0}
+LeadsOn count name (is_child later) = (name < later) × (later < count)
+LeadsOn count name (is_infeasible forced) = Unit {0}
 LeadsOn count name (is_cut forced) = Unit {0}
 
 abbrev pub LeadOn : ℕ → ℕ → List (FateOf ℕ) → Type 0
 LeadOn count name [] = Unit {0}
 LeadOn count name (fate ∷ fates) = LeadsOn count name fate × LeadOn count name fates
 
--- each node's kids have later names
-abbrev pub KidsAreLater : List Entry → Type 0
-KidsAreLater entries =
+-- each node's children have later names
+abbrev pub ChildrenAreLater : List Entry → Type 0
+ChildrenAreLater entries =
     (name : ℕ) → name < length entries → LeadOn (length entries) name (ending_fates (entry_at entries name).ending)

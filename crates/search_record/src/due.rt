@@ -6,7 +6,7 @@ ghost use Rattle.network.specs.declared.parts.Pair.{Pair};
 ghost use Rattle.network.specs.Problem.{NameActivities};
 ghost use Rattle.branching.specs.Path.{Path};
 
-use crate::node::Node;
+use crate::node::TreeNode;
 use branching::ordered_pairs;
 use network::{Pair, Project};
 use record_text::Line;
@@ -40,7 +40,7 @@ pub(crate) fn push_later(
 #[derive(Drop)]
 pub(crate) struct Due<'a> {
     /// The next one, if it is there.
-    node: Node<'a>,
+    node: TreeNode<'a>,
     is_there: bool,
     /// The later ones, the next of them last.
     later: Vec<Later>,
@@ -69,7 +69,7 @@ impl<'a> Due<'a> {
     pub(crate) fn root(alloc: Global, project: &'a Project) -> Result<Option<Due<'a>>, AllocError>
         ensures { IfOk result (IsRootDue project.now) }
     {
-        match Node::root(alloc, project)? {
+        match TreeNode::root(alloc, project)? {
             Some(node) => Ok(Some(Due {
                 node,
                 is_there: true,
@@ -80,7 +80,7 @@ impl<'a> Due<'a> {
     }
 
     /// The next node.
-    pub(crate) fn next(&self) -> &Node<'a>
+    pub(crate) fn next(&self) -> &TreeNode<'a>
         requires { 0 < length self.now.nodes }
         ensures project { result.now.project ≡ self.now.project }
         ensures nodes { (rest : List (List Pair)) × (self.now.nodes ≡ result.now.pairs ∷ rest) }

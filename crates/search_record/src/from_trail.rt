@@ -2,14 +2,14 @@
 
 ghost use Rattle.std.specs.Prelude.{◌≡◌, IfOk, OnOk, IfSome, option_map};
 ghost use Rattle.branching.specs.Fair.{ceiling_of};
-ghost use Rattle.trail.specs.RightTrail.{IsWholeTree};
+ghost use Rattle.search_log.specs.RightTrail.{IsWholeTree};
 ghost use Rattle.search_record.specs.Right.{claim_of, IsKeptSchedule, IsRight};
 
 use crate::walk::trail_lines;
 use network::Schedule;
 use record_text::{Claim, Record, Starts};
+use search_log::SearchLog;
 use std::alloc::{AllocError, Global};
-use trail::Trail;
 
 /// What a search claims whose best schedule this is.
 fn claim_of(alloc: Global, best: Option<&Schedule>) -> Result<Claim, AllocError>
@@ -29,7 +29,11 @@ fn claim_of(alloc: Global, best: Option<&Schedule>) -> Result<Claim, AllocError>
 
 /// The record of a search that is over: the trail is a whole tree for the makespan of the search's best schedule. It
 /// claims that the best is a shortest schedule, or that there is none where none was found.
-pub fn of_trail(alloc: Global, trail: &Trail, best: Option<&Schedule>) -> Result<Record, AllocError>
+pub fn of_trail(
+    alloc: Global,
+    trail: &SearchLog,
+    best: Option<&Schedule>,
+) -> Result<Record, AllocError>
     requires whole { IsWholeTree trail.now.project
         (ceiling_of (option_map (λ schedule. schedule.now) best)) trail.now.entries }
     requires of_project { IfSome (option_map (λ schedule. schedule.now) best) (λ s. s.project ≡ trail.now.project) }

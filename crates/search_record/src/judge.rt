@@ -7,12 +7,11 @@ ghost use Rattle.branching.specs.Right.{IsTooLateFor, IsForced, IsCut, IsSolved,
 ghost use Rattle.search_record.specs.Right.{IsRightLine, Tells};
 
 use bounds::bound;
-use earliest::least_starts;
-use longest_path::Matrix;
+use forbidden_sets::are_incompatible;
+use longest_path::{Matrix, least_starts};
 use network::{Pair, Project};
 use profile::first_overload;
 use record_text::Line;
-use rivals::are_incompatible;
 use schedule_check::{are_members, is_forbidden};
 use std::alloc::{AllocError, Global};
 

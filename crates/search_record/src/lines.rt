@@ -2,29 +2,29 @@
 
 ghost use Rattle.std.specs.Prelude.{◌≡◌, ◌≢◌, ◌≤◌, ◌↔◌, [], ℤ, Option, IsTrue, OnOk, IfErr};
 ghost use Rattle.network.specs.Problem.{Problem};
-ghost use Rattle.branching.specs.Right.{IsDead};
+ghost use Rattle.branching.specs.Right.{IsInfeasible};
 ghost use Rattle.record_text.specs.Tree.{Tree, IsTreeOf};
 ghost use Rattle.record_text.specs.declared.line.Line.TheVariants as kind;
-ghost use Rattle.record_text.specs.declared.fault.Why.TheVariants.{Memory};
+ghost use Rattle.record_text.specs.declared.fault.RecordFaultKind.TheVariants.{Memory};
 ghost use Rattle.search_record.specs.Right.{AreRightLines, why_wrong, IsFirstWrong, IsFirstWrongOfDead};
 
 use crate::due::Due;
 use network::Project;
-use record_text::{Line, RecordFault, Why};
+use record_text::{Line, RecordFault, RecordFaultKind};
 use std::alloc::Global;
 
 /// What is wrong where a line is.
-fn why_wrong(line: &Line) -> Why
+fn why_wrong(line: &Line) -> RecordFaultKind
     ensures { result ≡ why_wrong line.now }
 {
     match line {
-        Line::Force(_) => Why::Force,
-        Line::Split { .. } => Why::Set,
-        Line::Solved | Line::Cut | Line::Dead => Why::Leaf,
+        Line::Force(_) => RecordFaultKind::Force,
+        Line::Split { .. } => RecordFaultKind::Set,
+        Line::Solved | Line::Cut | Line::Dead => RecordFaultKind::Leaf,
     }
 }
 
-fn is_dead(line: &Line) -> bool
+fn is_infeasible(line: &Line) -> bool
     ensures { IsTrue result ↔ (line.now ≡ kind.Dead) }
 {
     matches!(line, Line::Dead)
@@ -33,11 +33,11 @@ fn is_dead(line: &Line) -> bool
 /// Checks the lines of a tree whose first node is dead: only `dead` is right there.
 fn check_dead(first: usize, lines: &[Line]) -> Result<(), RecordFault>
     requires { (t : Tree) × IsTreeOf lines.now t }
-    ensures right { OnOk result ((p : Problem) (limit : Option ℤ) → IsDead p [] → AreRightLines p limit lines.now) }
+    ensures right { OnOk result ((p : Problem) (limit : Option ℤ) → IsInfeasible p [] → AreRightLines p limit lines.now) }
     ensures fault { IfErr result (IsFirstWrongOfDead first lines.now) }
 {
     let line = &lines[0];
-    if is_dead(line) {
+    if is_infeasible(line) {
         return Ok(());
     }
     Err(RecordFault {

@@ -4,8 +4,8 @@ ghost use Rattle.std.specs.Prelude.{◌≡◌, ◌≤◌, ◌↔◌, ◌++◌, �
 ghost use Rattle.network.specs.Problem.{NameActivities};
 ghost use Rattle.network.specs.Walk.{IsProjectMatrix};
 ghost use Rattle.branching.specs.Path.{Path};
-ghost use Rattle.branching.specs.Right.{IsDead};
-ghost use Rattle.search_record.specs.Node.{IsRootNode};
+ghost use Rattle.branching.specs.Right.{IsInfeasible};
+ghost use Rattle.search_record.specs.TreeNode.{IsRootNode};
 ghost use Rattle.search_record.specs.Right.{IsRightLine};
 
 use crate::judge::is_right_by;
@@ -19,7 +19,7 @@ use std::marker::Model;
 /// A node of a record's tree: a project and pairs. It moves from node to node by one matrix, which goes
 /// back where pairs are taken away.
 #[derive(Drop)]
-pub(crate) struct Node<'a> {
+pub(crate) struct TreeNode<'a> {
     project: &'a Project,
     /// The pairs before the first that closes a walk of positive weight.
     live: PairMatrix,
@@ -27,10 +27,10 @@ pub(crate) struct Node<'a> {
     dead: Vec<Pair>,
 }
 
-impl<'a> Model for Node<'a> {
+impl<'a> Model for TreeNode<'a> {
     ghost use Rattle.std.specs.Prelude.{◌++◌};
     ghost use Rattle.branching.specs.Path.{Path};
-    ghost use Rattle.search_record.specs.Node.{IsPathTo};
+    ghost use Rattle.search_record.specs.TreeNode.{IsPathTo};
 
     ghost Value = { Path };
 
@@ -39,14 +39,17 @@ impl<'a> Model for Node<'a> {
     ghost invariant = { λ s. IsPathTo s.project.now s.live s.dead.items };
 }
 
-impl<'a> Node<'a> {
+impl<'a> TreeNode<'a> {
     /// The node without pairs; none where the project itself has a closed walk of positive weight.
-    pub(crate) fn root(alloc: Global, project: &'a Project) -> Result<Option<Node<'a>>, AllocError>
+    pub(crate) fn root(
+        alloc: Global,
+        project: &'a Project,
+    ) -> Result<Option<TreeNode<'a>>, AllocError>
         ensures { IfOk result (IsRootNode project.now) }
     {
         prove!(project.activity_count() >= 2);
         match longest(alloc, project, &[]) {
-            Ok(matrix) => Ok(Some(Node {
+            Ok(matrix) => Ok(Some(TreeNode {
                 project,
                 live: PairMatrix::new(alloc, matrix),
                 dead: Vec::new(alloc),
@@ -66,7 +69,7 @@ impl<'a> Node<'a> {
     /// The matrix of the project and the pairs; none where these have a closed walk of positive weight.
     fn matrix(&self) -> Option<&Matrix>
         ensures { MatchOption result
-            (IsDead self.now.project self.now.pairs)
+            (IsInfeasible self.now.project self.now.pairs)
             (λ matrix. IsProjectMatrix self.now.project self.now.pairs matrix.now) }
     {
         if self.dead.is_empty() {

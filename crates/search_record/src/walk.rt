@@ -2,16 +2,16 @@
 
 ghost use Rattle.std.specs.Prelude.{◌≡◌, ◌<◌, ◌++◌, map, length, IfOk, OnOk};
 ghost use Rattle.branching.specs.Fates.{fate_value};
-ghost use Rattle.trail.specs.Trail.{node_ending, trail_entry};
+ghost use Rattle.search_log.specs.SearchLog.{node_ending, trail_entry};
 ghost use Rattle.record_text.specs.Tree.{lines_of};
 ghost use Rattle.record_text.specs.declared.line.Line.TheVariants as kind;
-ghost use Rattle.search_record.specs.TrailTree.{tree_under, ending_line, ending_fates, node_lines, fate_lines, fates_behind, IsNamed, KidsAreLater};
+ghost use Rattle.search_record.specs.TrailTree.{tree_under, ending_line, ending_fates, node_lines, fate_lines, fates_behind, IsNamed, ChildrenAreLater};
 
 use branching::Fate;
 use network::Pair;
 use record_text::{Line, Members};
+use search_log::{NodeEnding, NodeEntry};
 use std::alloc::{AllocError, Global};
-use trail::{NodeEnding, TrailEntry};
 
 /// Adds a line for each forced pair.
 fn write_forced(lines: &mut Vec<Line>, forced: &[Pair]) -> Result<(), AllocError>
@@ -65,26 +65,26 @@ fn write_node(lines: &mut Vec<Line>, forced: &[Pair], last: Line) -> Result<(), 
 }
 
 /// Adds the lines of a pair's own node, and answers the fates of the nodes below it, whose lines come next.
-fn write_kid<'a>(
+fn write_child<'a>(
     alloc: Global,
     lines: &mut Vec<Line>,
-    entries: &'a [TrailEntry],
-    kid: &Fate<u64>,
+    entries: &'a [NodeEntry],
+    child: &Fate<u64>,
 ) -> Result<&'a [Fate<u64>], AllocError>
-    requires { IsNamed (length entries.now) (fate_value kid.now) }
+    requires { IsNamed (length entries.now) (fate_value child.now) }
     ensures lines { OnOk result (lines.new.items
-        ≡ lines.old.items ++ fate_lines (map trail_entry entries.now) (fate_value kid.now)) }
+        ≡ lines.old.items ++ fate_lines (map trail_entry entries.now) (fate_value child.now)) }
     ensures behind { IfOk result (λ fates. map fate_value fates.now
-        ≡ fates_behind (map trail_entry entries.now) (fate_value kid.now)) }
+        ≡ fates_behind (map trail_entry entries.now) (fate_value child.now)) }
 {
-    match kid {
-        Fate::Kid(name) => {
+    match child {
+        Fate::Child(name) => {
             let entry = &entries[*name as usize];
             let last = line_of(alloc, &entry.ending)?;
             write_node(lines, &entry.forced, last)?;
             Ok(fates_of(&entry.ending))
         }
-        Fate::Dead { forced } => {
+        Fate::Infeasible { forced } => {
             write_node(lines, forced, Line::Dead)?;
             Ok(&[])
         }
@@ -97,19 +97,19 @@ fn write_kid<'a>(
 
 /// The lines of the tree under the first name. The stack has the fates that are left of each split. So it looks at no
 /// node twice, however deep the tree is.
-fn tree_lines(alloc: Global, entries: &[TrailEntry]) -> Result<Vec<Line>, AllocError>
+fn tree_lines(alloc: Global, entries: &[NodeEntry]) -> Result<Vec<Line>, AllocError>
     requires some { 0 < length entries.now }
-    requires later { KidsAreLater (map trail_entry entries.now) }
+    requires later { ChildrenAreLater (map trail_entry entries.now) }
     ensures { IfOk result (λ lines. lines.items ≡ lines_of (tree_under (map trail_entry entries.now) 0)) }
 {
-    let root = [Fate::Kid(0)];
+    let root = [Fate::Child(0)];
     let mut splits = Vec::new(alloc);
     splits.push(root.as_slice())?;
     let mut lines = Vec::new(alloc);
     while let Some(fates) = splits.pop() {
-        if let Some((kid, others)) = fates.split_first() {
+        if let Some((child, others)) = fates.split_first() {
             splits.push(others)?;
-            let behind = write_kid(alloc, &mut lines, entries, kid)?;
+            let behind = write_child(alloc, &mut lines, entries, child)?;
             splits.push(behind)?;
         }
     }
@@ -117,8 +117,8 @@ fn tree_lines(alloc: Global, entries: &[TrailEntry]) -> Result<Vec<Line>, AllocE
 }
 
 /// The lines of the tree of a trail: `dead` alone where no node was opened.
-pub(crate) fn trail_lines(alloc: Global, entries: &[TrailEntry]) -> Result<Vec<Line>, AllocError>
-    requires { KidsAreLater (map trail_entry entries.now) }
+pub(crate) fn trail_lines(alloc: Global, entries: &[NodeEntry]) -> Result<Vec<Line>, AllocError>
+    requires { ChildrenAreLater (map trail_entry entries.now) }
     ensures { IfOk result (λ lines. lines.items ≡ lines_of (tree_under (map trail_entry entries.now) 0)) }
 {
     if entries.is_empty() {

@@ -1,13 +1,13 @@
 //! The search of a cube: the whole search, under a path.
 
-use crate::solver::Limits;
-use engine::{Counts, Engine, Found, Options, Pace, Path, Piece, Run};
-use instance::{Instance, Walks};
-use large_neighbourhoods::shortened;
-use literals::Literal;
+use crate::shortened;
+use crate::solver::SolverOptions;
+use engine::{
+    Engine, LoggedEvent, Options, Pace, Path, Piece, SearchCounts, Subsearch, SubsearchState,
+};
+use instance::{Instance, Result, Walks};
 use network::Lag;
-use proof_log::Told;
-use tables::Result;
+use propagation::Literal;
 
 /// The search for schedules of a project that meet the arcs of a path.
 ///
@@ -19,7 +19,7 @@ pub struct CubeSearch<'a> {
     pub(crate) engine: Engine<'a>,
     /// The decisions of the path.
     path: Vec<Literal>,
-    run: Run,
+    run: Subsearch,
     /// The starts of the shortest schedule that it has found or taken, in periods.
     best: Option<Vec<i32>>,
     memory: u64,
@@ -41,7 +41,7 @@ impl<'a> CubeSearch<'a> {
     /// A search for schedules that end before a ceiling and meet a path. It has looked at what always holds.
     pub fn open(
         instance: &'a Instance,
-        limits: Limits,
+        limits: SolverOptions,
         ceiling: Option<i32>,
         arcs: &[Lag],
     ) -> Result<Cubed<'a>> {
@@ -56,7 +56,7 @@ impl<'a> CubeSearch<'a> {
     pub(crate) fn under(
         instance: &'a Instance,
         walks: Walks,
-        limits: Limits,
+        limits: SolverOptions,
         ceiling: Option<i32>,
         arcs: &[Lag],
     ) -> Result<Cubed<'a>> {
@@ -66,7 +66,7 @@ impl<'a> CubeSearch<'a> {
             has_cliques: true,
             seed: limits.seed,
             slots: limits.slots,
-            done: Counts::default(),
+            done: SearchCounts::default(),
         };
         let mut engine = Engine::open(instance, walks, options)?;
         let (path, is_refuted) = match engine.path(arcs)? {
@@ -130,9 +130,9 @@ impl<'a> CubeSearch<'a> {
             return Ok(());
         }
         match self.engine.search(&mut self.run, steps)? {
-            Found::Open | Found::Stopped => {}
-            Found::Refuted => self.is_refuted = true,
-            Found::Schedule => {
+            SubsearchState::Open | SubsearchState::Stopped => {}
+            SubsearchState::Refuted => self.is_refuted = true,
+            SubsearchState::Schedule => {
                 let (early, _) = shortened(self.instance, &self.engine.schedule()?)?;
                 self.take(&early)?;
             }
@@ -156,12 +156,12 @@ impl<'a> CubeSearch<'a> {
     }
 
     /// How much was done.
-    pub fn counts(&self) -> Counts {
+    pub fn counts(&self) -> SearchCounts {
         self.engine.counts
     }
 
     /// What it has proved since it was asked last, in order.
-    pub fn events(&mut self) -> Vec<Told> {
+    pub fn events(&mut self) -> Vec<LoggedEvent> {
         self.engine.log.take()
     }
 

@@ -1,7 +1,7 @@
 //! What strategies cost and gain, and whose turn it is.
 
+use instance::{Result, Table};
 use std::alloc::Global;
-use tables::{Result, Table};
 
 /// What is left of a gain or a cost after another turn.
 const FADE: f64 = 0.98;
@@ -26,7 +26,7 @@ pub(crate) const FIRST_NEAR: u32 = 2;
 
 /// The accounts of all strategies.
 #[derive(Drop)]
-pub(crate) struct Effort {
+pub(crate) struct Accounts {
     /// What each strategy cost and gained of late: events that were followed, and periods.
     accounts: Table<(f64, f64)>,
     /// The effort of all turns, and up to the last gain of a neighbourhood.
@@ -34,10 +34,10 @@ pub(crate) struct Effort {
     last: f64,
 }
 
-impl Effort {
+impl Accounts {
     /// Nothing was done by so many strategies.
-    pub(crate) fn new(alloc: Global, count: usize) -> Result<Effort> {
-        Ok(Effort {
+    pub(crate) fn new(alloc: Global, count: usize) -> Result<Accounts> {
+        Ok(Accounts {
             accounts: Table::filled(alloc, count, (0.0, 0.0), (0.0, 0.0))?,
             all: 1.0,
             last: 1.0,

@@ -6,11 +6,14 @@
 
 mod cube;
 mod effort;
+mod neighbourhoods;
+mod shifting;
 mod solver;
 mod turns;
 
 pub use cube::{CubeSearch, Cubed};
-pub use engine::{Counts, Piece};
-pub use proof_log::{Slots, Told};
-pub use solver::{Limits, Solver, State};
+pub use engine::{LoggedEvent, Piece, SearchCounts, Slots};
+pub use neighbourhoods::{Form, Kind, Random, WAYS, first_decisions};
+pub use shifting::shortened;
+pub use solver::{Solver, SolverOptions, State};
 pub use turns::Finder;

@@ -1,19 +1,17 @@
 //! The search of a project, as callers see it.
 
 use crate::cube::{CubeSearch, Cubed};
+use crate::shortened;
 use crate::turns::{Finder, Turns};
-use engine::{Counts, Engine, Found, Options, Pace, Run};
-use instance::{Instance, Walks};
-use large_neighbourhoods::shortened;
+use engine::{Engine, LoggedEvent, Options, Pace, SearchCounts, Slots, Subsearch, SubsearchState};
+use instance::{Instance, Result, Walks};
 use network::Lag;
-use proof_log::{Slots, Told};
 use std::alloc::Global;
 use std::mem;
-use tables::Result;
 
 /// How far a search may go, and from where it breaks ties.
 #[derive(Clone, Copy, PartialEq, Eq, Debug)]
-pub struct Limits {
+pub struct SolverOptions {
     /// How many bytes its lemmas may take, besides what a project of its size takes anyway.
     pub memory: u64,
     pub seed: u64,
@@ -51,7 +49,7 @@ enum Stage<'a> {
     /// A dive starts one activity after the other as early as it can.
     First {
         engine: Engine<'a>,
-        run: Run,
+        run: Subsearch,
         dive: Option<i32>,
     },
     /// Strategies take turns from the next step on, with a first schedule or none.
@@ -70,16 +68,16 @@ pub struct Solver<'a> {
     /// The longest walks, until strategies take turns.
     walks: Option<Walks>,
     stage: Stage<'a>,
-    limits: Limits,
+    limits: SolverOptions,
     /// What engines that are gone have told, and how much was done by them.
-    told: Vec<Told>,
-    done: Counts,
+    told: Vec<LoggedEvent>,
+    done: SearchCounts,
     is_full: bool,
 }
 
 impl<'a> Solver<'a> {
     /// A search that has done nothing yet.
-    pub fn new(alloc: Global, instance: &'a Instance, limits: Limits) -> Result<Solver<'a>> {
+    pub fn new(alloc: Global, instance: &'a Instance, limits: SolverOptions) -> Result<Solver<'a>> {
         let walks = Walks::new(instance)?;
         let is_contradiction = walks.has_loop() || instance.asks_too_much();
         let mut solver = Solver {
@@ -89,7 +87,7 @@ impl<'a> Solver<'a> {
             stage: Stage::Contradiction,
             limits,
             told: Vec::new(alloc),
-            done: Counts::default(),
+            done: SearchCounts::default(),
             is_full: false,
         };
         if let (Some(below), false) = (limits.below, is_contradiction) {
@@ -114,7 +112,7 @@ impl<'a> Solver<'a> {
         has_log: bool,
         has_cliques: bool,
     ) -> Result<Engine<'a>> {
-        let Limits { seed, slots, .. } = self.limits;
+        let SolverOptions { seed, slots, .. } = self.limits;
         let options = Options {
             most: ceiling.wrapping_sub(1),
             has_log,
@@ -225,11 +223,11 @@ impl<'a> Solver<'a> {
             _ => return Ok(()),
         };
         let found = engine.search(&mut run, steps)?;
-        if found == Found::Open {
+        if found == SubsearchState::Open {
             self.stage = Stage::First { engine, run, dive };
             return Ok(());
         }
-        if found == Found::Refuted && dive.is_none() {
+        if found == SubsearchState::Refuted && dive.is_none() {
             let ceiling = self.last_ceiling();
             let turns = Turns::new(self.instance, engine, ceiling, self.limits.seed)?;
             self.stage = Stage::Turns(turns);
@@ -238,14 +236,14 @@ impl<'a> Solver<'a> {
         let starts = engine.schedule()?;
         self.retire(engine)?;
         match (found, dive) {
-            (Found::Schedule, _) => self.begin_with(&starts),
-            (Found::Stopped, None) => {
+            (SubsearchState::Schedule, _) => self.begin_with(&starts),
+            (SubsearchState::Stopped, None) => {
                 let end = self.instance.end();
                 let walk = self.walks.as_ref().and_then(|walks| walks.longest(0, end));
                 let likely = self.instance.likely_end(walk.unwrap_or(0));
                 self.begin_first(Some(likely.saturating_add(1)))
             }
-            (Found::Refuted, Some(ceiling)) if ceiling <= self.instance.horizon => {
+            (SubsearchState::Refuted, Some(ceiling)) if ceiling <= self.instance.horizon => {
                 self.begin_first(Some(ceiling.saturating_mul(2)))
             }
             _ => self.begin_turns(None),
@@ -316,13 +314,13 @@ impl<'a> Solver<'a> {
     }
 
     /// How much was done.
-    pub fn counts(&self) -> Counts {
+    pub fn counts(&self) -> SearchCounts {
         self.engine().map_or(self.done, |engine| engine.counts)
     }
 
     /// What the search has proved since it was asked last, in order. Each lemma holds below the shortest schedule that is
     /// known.
-    pub fn events(&mut self) -> Result<Vec<Told>> {
+    pub fn events(&mut self) -> Result<Vec<LoggedEvent>> {
         let mut events = mem::replace(&mut self.told, Vec::new(self.alloc));
         if let Some(engine) = self.engine_mut() {
             let mut heard = engine.log.take();

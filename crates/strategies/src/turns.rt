@@ -1,11 +1,10 @@
 //! The turns of a search below a ceiling: what each strategy decides first, and what it learns from how that ended.
 
-use crate::effort::{Effort, FIRST_NEAR, PROBE, WHOLE};
-use engine::{Engine, Found, Pace, Run};
-use instance::Instance;
-use large_neighbourhoods::{Random, WAYS, first_decisions, shortened};
-use literals::Literal;
-use tables::{Result, Table};
+use crate::effort::{Accounts, FIRST_NEAR, PROBE, WHOLE};
+use crate::{Random, WAYS, first_decisions, shortened};
+use engine::{Engine, Pace, Subsearch, SubsearchState};
+use instance::{Instance, Result, Table};
+use propagation::Literal;
 
 /// The most conflicts of a neighbourhood, of a longer step of the whole search, and of the first probes.
 const NEAR: u64 = 100;
@@ -54,7 +53,7 @@ pub enum Finder {
 #[derive(Drop)]
 struct Turn {
     strategy: u32,
-    run: Run,
+    run: Subsearch,
     /// The events that were followed before it, and the ceiling then.
     events: u64,
     ceiling: i32,
@@ -73,7 +72,7 @@ pub(crate) struct Turns<'a> {
     pub(crate) ceiling: i32,
     /// No schedule ends before it, as far as the root knew at the last turn.
     bound: i32,
-    effort: Effort,
+    effort: Accounts,
     /// How many activities are free, in hundredths, by strategy.
     sizes: Table<u64>,
     /// Of the whole search and probes, and of neighbourhoods.
@@ -105,7 +104,7 @@ impl<'a> Turns<'a> {
             finder: Finder::Other,
             ceiling,
             bound: 0,
-            effort: Effort::new(alloc, strategies)?,
+            effort: Accounts::new(alloc, strategies)?,
             sizes: Table::filled(alloc, strategies, FIRST_FREE, FIRST_FREE)?,
             paces: Table::filled(alloc, 2, Pace::default(), Pace::default())?,
             above: 1,
@@ -182,10 +181,10 @@ impl<'a> Turns<'a> {
     }
 
     /// A neighbourhood was refuted, stopped, or had a shorter schedule.
-    fn note_neighbourhood(&mut self, strategy: u32, found: Found) {
+    fn note_neighbourhood(&mut self, strategy: u32, found: SubsearchState) {
         let next = self.sizes[strategy].wrapping_mul(match found {
-            Found::Refuted => REFUTED,
-            Found::Schedule => 100,
+            SubsearchState::Refuted => REFUTED,
+            SubsearchState::Schedule => 100,
             _ => STOPPED,
         }) / 100;
         let most = u64::from(self.instance.count()).wrapping_mul(100);
@@ -193,21 +192,21 @@ impl<'a> Turns<'a> {
     }
 
     /// A turn is over.
-    fn end_turn(&mut self, turn: Turn, found: Found) -> Result<()> {
+    fn end_turn(&mut self, turn: Turn, found: SubsearchState) -> Result<()> {
         self.paces[u32::from(turn.strategy >= FIRST_NEAR)] = turn.run.pace;
         let finder = match turn.strategy {
             WHOLE => Finder::Whole,
             PROBE => Finder::Probe,
             _ => Finder::Neighbourhood,
         };
-        if found == Found::Schedule {
+        if found == SubsearchState::Schedule {
             let starts = self.engine.schedule()?;
             self.take(&starts, finder)?;
         }
         match turn.strategy {
-            WHOLE => self.below = next_step(self.below, found == Found::Schedule),
+            WHOLE => self.below = next_step(self.below, found == SubsearchState::Schedule),
             PROBE => {
-                let is_refuted = found == Found::Refuted;
+                let is_refuted = found == SubsearchState::Refuted;
                 self.has_probed = self.has_probed || self.above == 1 && !is_refuted;
                 self.above = next_step(self.above, is_refuted);
             }
@@ -247,7 +246,7 @@ impl<'a> Turns<'a> {
     /// The turn that goes on is over.
     pub(crate) fn stop(&mut self) -> Result<()> {
         let turn = self.turn.take();
-        turn.map_or(Ok(()), |turn| self.end_turn(turn, Found::Stopped))
+        turn.map_or(Ok(()), |turn| self.end_turn(turn, SubsearchState::Stopped))
     }
 
     /// Searches for so many steps: conflicts and decisions.
@@ -257,7 +256,7 @@ impl<'a> Turns<'a> {
             None => self.next_turn()?,
         };
         match self.engine.search(&mut turn.run, steps)? {
-            Found::Open => self.turn = Some(turn),
+            SubsearchState::Open => self.turn = Some(turn),
             found => self.end_turn(turn, found)?,
         }
         Ok(())

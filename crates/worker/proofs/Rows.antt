@@ -2,16 +2,16 @@
 use Rattle.std.proofs.Common.{◌≡◌, ℕ, ◌+◌, List, [], ◌∷◌, ◌++◌, length, arith, refl, Option, Some, None, Result}
 use Rattle.std.specs.Option.{option_or}
 use Rattle.std.specs.Result.{result_err}
-use Rattle.worker.specs.declared.desk.Desk.{Desk}
-use Rattle.best_word.specs.Word.{Word}
+use Rattle.worker.specs.declared.state.WorkerState.{WorkerState}
+use Rattle.worker.specs.Ceiling.{CeilingId}
 use Rattle.worker.specs.Desks.{IsRowAt}
 use Rattle.worker.specs.Solving.{first_fault}
 use Rattle.worker.specs.declared.fault.WorkFault.{WorkFault}
 
-pub IsRowAt-push : {L S : Type 0} (word : Word) (first : ℕ) (ds : List (Desk L S)) (d : Desk L S) → IsRowAt word first ds → d.number ≡ first + length ds → d.seat.word ≡ word
-    → IsRowAt word first (ds ++ d ∷ [])
-IsRowAt-push word first [] d row number seat = (omega arith, seat, tt)
-IsRowAt-push word first (x ∷ xs) d row number seat = (row.0, row.1, IsRowAt-push word (first + 1) xs d row.2 (omega arith) seat)
+pub IsRowAt-push : {L S : Type 0} (ceiling : CeilingId) (first : ℕ) (ds : List (WorkerState L S)) (d : WorkerState L S) → IsRowAt ceiling first ds → d.number ≡ first + length ds → d.seat.ceiling ≡ ceiling
+    → IsRowAt ceiling first (ds ++ d ∷ [])
+IsRowAt-push ceiling first [] d row number seat = (omega arith, seat, tt)
+IsRowAt-push ceiling first (x ∷ xs) d row number seat = (row.0, row.1, IsRowAt-push ceiling (first + 1) xs d row.2 (omega arith) seat)
 
 or_none : {A : Type 0} (o : Option A) → option_or o None ≡ o
 or_none None = refl

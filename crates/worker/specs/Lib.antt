@@ -1,3 +1,4 @@
 pub mod Desks
 pub mod Solving
 pub mod Locking
+pub mod Ceiling

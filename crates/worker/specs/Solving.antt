@@ -10,9 +10,9 @@ use Rattle.plain_search.specs.declared.search.Outcome.{Outcome}
 use Rattle.plain_search.specs.declared.search.Outcome.TheVariants.{Optimal, NoSchedule, Stopped}
 use Rattle.branching.specs.Right.{IsLeast}
 use Rattle.book.specs.State.{BookState, live, AddUp}
-use Rattle.trail.specs.Trail.{TrailOf}
+use Rattle.search_log.specs.SearchLog.{TrailOf}
 use Rattle.book.specs.Sound.{known_bounds}
-use Rattle.trail.specs.RightTrail.{IsWholeTree}
+use Rattle.search_log.specs.RightTrail.{IsWholeTree}
 use Rattle.worker.specs.declared.solution.Solved.{Solved}
 use Rattle.book.specs.Steps.{AreAllowed, Improves}
 use Rattle.book.specs.declared.answers.BookFault.{BookFault}

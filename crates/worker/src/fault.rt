@@ -7,7 +7,7 @@ use std::alloc::AllocError;
 #[derive(Clone, Copy, Debug, PartialEq, Eq)]
 pub enum SolveFault {
     /// There are not 1 to [`MAX_WORKERS`](book::MAX_WORKERS) workers, or not 1 to
-    /// [`MAX_TAKES`](plain_search::MAX_TAKES) takes.
+    /// [`MAX_EXPANDED`](plain_search::MAX_EXPANDED) takes.
     Limit,
     /// Memory ran out.
     Memory,

@@ -4,7 +4,7 @@ ghost use Rattle.std.specs.Prelude.{◌≡◌};
 ghost use Rattle.std.specs.Arc.{arc_value};
 ghost use Rattle.branching.specs.Path.{IsAt};
 
-use branching::{Lean, Report, Searcher};
+use branching::{OpenNode, Report, Searcher};
 use std::alloc::{AllocError, Global};
 use std::marker::Sync;
 use std::sync::{Arc, Wait};
@@ -32,7 +32,7 @@ pub trait Gate: Sync {
         _rt: &R,
         alloc: Global,
         searcher: &mut Searcher,
-        node: &Arc<Lean>,
+        node: &Arc<OpenNode>,
         ceiling: Option<i64>,
     ) -> Result<Report, AllocError>
         requires { IsAt searcher.old (arc_value node.now) }

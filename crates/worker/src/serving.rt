@@ -7,18 +7,22 @@ ghost use Rattle.worker.specs.Desks.{SeatedAt, StaysAt, CountsAccepted, CountsEn
 ghost use Rattle.worker.specs.Locking.{MakesAtMost, TakesNone};
 ghost use Rattle.worker.specs.Solving.{IsOfWork};
 
-use crate::desk::Desk;
 use crate::fault::{SolveFault, WorkFault};
 use crate::gate::{Gate, Moment};
 use crate::shared::Shared;
+use crate::state::WorkerState;
 use book::{CheckFault, Ticket};
-use branching::{Lean, Searcher, lesser};
+use branching::{OpenNode, Searcher, lesser};
 use std::alloc::{AllocError, Global};
 use std::sync::ledger::Ledger;
 use std::sync::{Arc, Wait};
 
 /// The kept searcher, if it is one of the node's project, else a new one.
-fn searcher_for(alloc: Global, kept: Option<Searcher>, node: &Lean) -> Result<Searcher, AllocError>
+fn searcher_for(
+    alloc: Global,
+    kept: Option<Searcher>,
+    node: &OpenNode,
+) -> Result<Searcher, AllocError>
     ensures { IfOk result (λ searcher. searcher.project ≡ node.now.project) }
 {
     if let Some(searcher) = kept {
@@ -30,7 +34,11 @@ fn searcher_for(alloc: Global, kept: Option<Searcher>, node: &Lean) -> Result<Se
 }
 
 /// A searcher that is at the node: the kept one, if it is one of the node's project.
-fn searcher_at(alloc: Global, kept: Option<Searcher>, node: &Lean) -> Result<Searcher, AllocError>
+fn searcher_at(
+    alloc: Global,
+    kept: Option<Searcher>,
+    node: &OpenNode,
+) -> Result<Searcher, AllocError>
     ensures { IfOk result (λ searcher. IsAt searcher node.now) }
 {
     let mut searcher = searcher_for(alloc, kept, node)?;
@@ -44,7 +52,7 @@ impl<L: Ledger, S: Ledger> Shared<L, S> {
         &self,
         rt: &R,
         alloc: Global,
-        desk: &mut Desk<L, S>,
+        desk: &mut WorkerState<L, S>,
         gate: &G,
         searcher: &mut Searcher,
         ticket: &Ticket,
@@ -68,13 +76,13 @@ impl<L: Ledger, S: Ledger> Shared<L, S> {
         }
     }
 
-    /// Expands a node under the lesser of the ticket's ceiling and the best word. If the book knows of no schedule so
+    /// Expands a node under the lesser of the ticket's ceiling and the shared ceiling. If the book knows of no schedule so
     /// short, it expands the node again, under the best that the book has.
     fn settle<G: Gate, R: Wait>(
         &self,
         rt: &R,
         alloc: Global,
-        desk: &mut Desk<L, S>,
+        desk: &mut WorkerState<L, S>,
         gate: &G,
         mut ticket: Ticket,
     ) -> Result<Option<i64>, CheckFault>
@@ -86,8 +94,8 @@ impl<L: Ledger, S: Ledger> Shared<L, S> {
         let Ok(mut searcher) = searcher_at(alloc, desk.searcher.take(), &ticket.node) else {
             return Err(CheckFault::Memory);
         };
-        let word = self.best.look(&mut desk.seat);
-        ticket.ceiling = lesser(ticket.ceiling, i64::try_from(word).ok());
+        let shared = self.best.look(&mut desk.seat);
+        ticket.ceiling = lesser(ticket.ceiling, i64::try_from(shared).ok());
         let mut settled = self.attempt(rt, alloc, desk, gate, &mut searcher, &ticket);
         if let Err(CheckFault::AheadOfBook { best }) = settled {
             ticket.ceiling = best;
@@ -97,12 +105,12 @@ impl<L: Ledger, S: Ledger> Shared<L, S> {
         settled
     }
 
-    /// Settles one node, and offers what was found to the best word.
+    /// Settles one node, and offers what was found to the shared ceiling.
     fn serve<G: Gate, R: Wait>(
         &self,
         rt: &R,
         alloc: Global,
-        desk: &mut Desk<L, S>,
+        desk: &mut WorkerState<L, S>,
         gate: &G,
         ticket: Ticket,
     ) -> Result<(), WorkFault>
@@ -129,7 +137,7 @@ impl<L: Ledger, S: Ledger> Shared<L, S> {
         &self,
         rt: &R,
         alloc: Global,
-        desk: &mut Desk<L, S>,
+        desk: &mut WorkerState<L, S>,
         gate: &G,
     ) -> Result<(), WorkFault>
         requires { SeatedAt self.now desk.old }
@@ -151,7 +159,7 @@ impl<L: Ledger, S: Ledger> Shared<L, S> {
         &self,
         rt: &R,
         alloc: Global,
-        desk: &mut Desk<L, S>,
+        desk: &mut WorkerState<L, S>,
         gate: &G,
     ) -> Result<(), WorkFault>
         requires { SeatedAt self.now desk.old }
@@ -172,7 +180,7 @@ pub fn work<L: Ledger, S: Ledger, G: Gate, R: Wait>(
     rt: &R,
     alloc: Global,
     shared: &Shared<L, S>,
-    desk: &mut Desk<L, S>,
+    desk: &mut WorkerState<L, S>,
     gate: &G,
 ) -> Result<(), SolveFault>
     requires { SeatedAt shared.now desk.old }

@@ -1,18 +1,18 @@
 //! The book that workers share, under its lock.
 
 ghost use Rattle.std.specs.Prelude.{◌≡◌, ◌+◌, ◌*◌, ℕ, IfOk, IfErr, map, sum_by, vec_len};
-ghost use Rattle.best_word.specs.Word.{Lowers};
+ghost use Rattle.worker.specs.Ceiling.{Lowers};
 ghost use Rattle.worker.specs.Desks.{IsRow, IsRowAt, SeatedAt, CountsAccepted, tally_of};
 ghost use Rattle.branching.specs.Fair.{AreListsOf};
 ghost use Rattle.worker.specs.Solving.{IsOfGivingBack};
 ghost use Rattle.worker.specs.Locking.{CountsAnswer, CountsStop, IsEndFor, IsOneMore, steps_of_none};
 
 use crate::blanks::Blanks;
-use crate::desk::{Desk, Tally};
 use crate::fault::WorkFault;
 use crate::key::Key;
 use crate::locked::Locked;
-use best_word::{BestSeat, BestWord};
+use crate::state::{Tally, WorkerState};
+use crate::{BestSeat, SharedCeiling};
 use book::{Book, CheckFault, OtherProject, Take, Ticket};
 use branching::{Branches, Report};
 use network::Schedule;
@@ -20,13 +20,13 @@ use std::alloc::{AllocError, Global};
 use std::sync::ledger::{Ledger, Share};
 use std::sync::{Condvar, Mutex, MutexGuard, Wait};
 
-/// What workers share: the book under its lock, a bell that tells of its changes, and the best word. Each method that
+/// What workers share: the book under its lock, a bell that tells of its changes, and the shared ceiling. Each method that
 /// locks takes a key, and makes one step with it, but `stop`, which may make two.
 #[derive(Drop)]
 pub struct Shared<L: Ledger, S: Ledger> {
     locked: Mutex<Locked<L, S>>,
     changed: Condvar,
-    pub(crate) best: BestWord,
+    pub(crate) best: SharedCeiling,
 }
 
 fn new_desk<L: Ledger, S: Ledger>(
@@ -34,11 +34,11 @@ fn new_desk<L: Ledger, S: Ledger>(
     share: Share<L>,
     key: Key<S>,
     seat: BestSeat,
-) -> Desk<L, S>
+) -> WorkerState<L, S>
     requires { (share.parts ≡ 1) × (share.amount ≡ 0) }
     ensures { (result.number ≡ number) × (result.accepted ≡ 0) × (result.ahead ≡ 0) × (result.seat ≡ seat) }
 {
-    Desk {
+    WorkerState {
         number,
         accepted: 0,
         ahead: 0,
@@ -53,12 +53,12 @@ fn new_desk<L: Ledger, S: Ledger>(
 fn desks_for<L: Ledger, S: Ledger>(
     alloc: Global,
     workers: usize,
-    best: &BestWord,
+    best: &SharedCeiling,
     mut seat: BestSeat,
     mut all: Share<L>,
     mut keys: Share<S>,
-) -> Result<(Vec<Desk<L, S>>, Share<L>, Key<S>), AllocError>
-    requires parts { (all.parts ≡ workers) × (all.amount ≡ 0) × (seat.word ≡ best.now) }
+) -> Result<(Vec<WorkerState<L, S>>, Share<L>, Key<S>), AllocError>
+    requires parts { (all.parts ≡ workers) × (all.amount ≡ 0) × (seat.ceiling ≡ best.now) }
     requires keys { (keys.parts ≡ 3 * (workers + 1)) × (keys.amount ≡ 0) }
     ensures count { IfOk result (λ r. vec_len r.0 ≡ workers) }
     ensures each { IfOk result (λ r. IsRowAt best.now 0 r.0.items) }
@@ -78,7 +78,7 @@ fn desks_for<L: Ledger, S: Ledger>(
 /// What the desks counted, and their shares as one.
 fn gather<L: Ledger, S: Ledger>(
     alloc: Global,
-    desks: Vec<Desk<L, S>>,
+    desks: Vec<WorkerState<L, S>>,
     mut all: Share<L>,
 ) -> Result<(Vec<Tally>, Share<L>), AllocError>
     ensures tallies { IfOk result (λ r. r.0.items ≡ map tally_of desks.items) }
@@ -87,7 +87,7 @@ fn gather<L: Ledger, S: Ledger>(
 {
     let mut tallies = Vec::with_capacity(alloc, desks.len())?;
     for desk in desks {
-        let Desk {
+        let WorkerState {
             accepted,
             ahead,
             share,
@@ -107,7 +107,7 @@ impl<L: Ledger, S: Ledger> Shared<L, S> {
         blanks: Blanks,
         book: Book,
         workers: usize,
-    ) -> Result<(Shared<L, S>, Vec<Desk<L, S>>, Key<S>), AllocError>
+    ) -> Result<(Shared<L, S>, Vec<WorkerState<L, S>>, Key<S>), AllocError>
         requires accepted { (blanks.accepted.name ≡ L.name) × (blanks.accepted.parts ≡ L.parts) }
         requires steps { (blanks.steps.name ≡ S.name) × (blanks.steps.parts ≡ S.parts) }
         requires one_each { blanks.accepted.parts ≡ workers }
@@ -116,7 +116,7 @@ impl<L: Ledger, S: Ledger> Shared<L, S> {
         ensures each { IfOk result (λ r. IsRow r.0 r.1.items) }
     {
         let Blanks { accepted, steps } = blanks;
-        let (best, seat) = BestWord::open(alloc, u64::MAX)?;
+        let (best, seat) = SharedCeiling::open(alloc, u64::MAX)?;
         let (shares, all) = accepted.open::<L>();
         let (steps, keys) = steps.open::<S>();
         let (desks, rest, key) = desks_for(alloc, workers, &best, seat, all, keys)?;
@@ -165,7 +165,7 @@ impl<L: Ledger, S: Ledger> Shared<L, S> {
     pub(crate) fn check_in<R: Wait>(
         &self,
         rt: &R,
-        desk: &mut Desk<L, S>,
+        desk: &mut WorkerState<L, S>,
         name: u64,
         report: Report,
     ) -> Result<Branches, CheckFault>
@@ -174,7 +174,7 @@ impl<L: Ledger, S: Ledger> Shared<L, S> {
         ensures counts { CountsAccepted desk.old result desk.new }
         ensures lists { IfOk result (AreListsOf report) }
     {
-        let Desk {
+        let WorkerState {
             accepted,
             ahead,
             share,
@@ -253,9 +253,9 @@ impl<L: Ledger, S: Ledger> Shared<L, S> {
         offered
     }
 
-    /// Offers a makespan, in periods, to the best word, through the desk's seat. The book knows nothing of it. A number
+    /// Offers a makespan, in periods, to the shared ceiling, through the desk's seat. The book knows nothing of it. A number
     /// that no schedule has costs expansions and no truth.
-    pub fn tell(&self, desk: &mut Desk<L, S>, makespan: u64)
+    pub fn tell(&self, desk: &mut WorkerState<L, S>, makespan: u64)
         requires { SeatedAt self.now desk.old }
         ensures seated { SeatedAt self.now desk.new }
         ensures same { (desk.new.number ≡ desk.old.number) × (desk.new.accepted ≡ desk.old.accepted) }
@@ -269,7 +269,7 @@ impl<L: Ledger, S: Ledger> Shared<L, S> {
     pub fn close(
         self,
         alloc: Global,
-        desks: Vec<Desk<L, S>>,
+        desks: Vec<WorkerState<L, S>>,
     ) -> Result<(Book, Vec<Tally>), AllocError>
         requires { vec_len desks ≡ L.parts }
         ensures shares { IfOk result (λ r. sum_by (λ t. t.accepted) r.1.items ≡ r.0.checked) }

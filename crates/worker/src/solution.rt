@@ -9,22 +9,22 @@ ghost use Rattle.worker.specs.Desks.{HasTold, IsRow};
 ghost use Rattle.worker.specs.Solving.{IsNotLimit, RefusesLimits, HasBestWithin, IsBestAfter, IsOutcomeAfter, IsOutcomeOf, IsSolution, IsTrailOf};
 
 use crate::blanks::Blanks;
-use crate::desk::{Desk, Tally};
 use crate::fault::SolveFault;
 use crate::gate::Gate;
 use crate::key::Key;
 use crate::shared::Shared;
+use crate::state::{Tally, WorkerState};
 use crate::threads::run_workers;
 use book::{Book, Counts, NodesLeft, Verdict, are_allowed};
 use network::{Project, Schedule};
 use plain_search::Outcome;
+use search_log::SearchLog;
 use std::alloc::{AllocError, Global};
 use std::marker::Brand;
 use std::sync::ledger::Ledger;
 use std::sync::{Arc, Wait};
 use std::thread;
 use std::thread::Threads;
-use trail::Trail;
 
 /// The outcome of a search by workers, the counts of its book, and how many reports of each worker were accepted.
 #[derive(Drop, Debug)]
@@ -40,10 +40,10 @@ fn accepted(alloc: Global, tallies: &[Tally]) -> Result<Vec<u64>, AllocError>
     tallies.iter().map(|tally| tally.accepted).collect(alloc)
 }
 
-/// Offers a makespan to the best word, through the first desk.
+/// Offers a makespan to the shared ceiling, through the first desk.
 fn tell_first<L: Ledger, S: Ledger>(
     shared: &Shared<L, S>,
-    desks: &mut Vec<Desk<L, S>>,
+    desks: &mut Vec<WorkerState<L, S>>,
     makespan: i64,
 )
     requires { IsRow shared.now desks.old.items }
@@ -56,12 +56,12 @@ fn tell_first<L: Ledger, S: Ledger>(
     }
 }
 
-/// Offers a schedule to the book, and its makespan to the best word.
+/// Offers a schedule to the book, and its makespan to the shared ceiling.
 fn offer_start<L: Ledger, S: Ledger, R: Wait>(
     rt: &R,
     shared: &Shared<L, S>,
     key: &mut Key<S>,
-    desks: &mut Vec<Desk<L, S>>,
+    desks: &mut Vec<WorkerState<L, S>>,
     start: Schedule,
 ) -> Result<(), SolveFault>
     requires { IsRow shared.now desks.old.items }
@@ -110,7 +110,7 @@ fn drop_beside<R: Threads>(rt: &R, nodes: NodesLeft) {
 }
 
 /// What a book says in the end, and its trail, if it kept one.
-fn outcome_of<R: Threads>(rt: &R, book: Book) -> (Outcome, Option<Trail>)
+fn outcome_of<R: Threads>(rt: &R, book: Book) -> (Outcome, Option<SearchLog>)
     ensures true_of { IsTrueOf book.project result.0 }
     ensures told { IsOutcomeOf book result.0 }
     ensures trail { IfSome result.1 (IsTrailOf book.project result.0) }
@@ -143,7 +143,7 @@ fn conclude<R: Threads>(
     start: Option<Schedule>,
     mut book: Book,
     tallies: &[Tally],
-) -> Result<(Solved, Option<Trail>), SolveFault>
+) -> Result<(Solved, Option<SearchLog>), SolveFault>
     requires { sum_by (λ t. t.accepted) tallies.now ≡ book.checked }
     ensures solution { IfOk result (λ r. IsSolution project.now (length tallies.now) takes start r.0) }
     ensures told { IfOk result (λ r. IsOutcomeAfter book start r.0.outcome) }
@@ -179,7 +179,7 @@ fn search_with<L: Ledger + Send + Sync, S: Ledger + Send + Sync, G: Gate, R: Thr
     takes: u64,
     start: Option<Schedule>,
     gate: &G,
-) -> Result<(Solved, Option<Trail>), SolveFault>
+) -> Result<(Solved, Option<SearchLog>), SolveFault>
     requires accepted { (blanks.accepted.name ≡ L.name) × (blanks.accepted.parts ≡ L.parts) }
     requires steps { (blanks.steps.name ≡ S.name) × (blanks.steps.parts ≡ S.parts) }
     requires one_each { blanks.accepted.parts ≡ workers }
@@ -199,7 +199,7 @@ fn search_with<L: Ledger + Send + Sync, S: Ledger + Send + Sync, G: Gate, R: Thr
 }
 
 /// Searches a project with workers in their own threads: 1 to [`MAX_WORKERS`](book::MAX_WORKERS) of them. They take 1
-/// to [`MAX_TAKES`](plain_search::MAX_TAKES) nodes in all. A schedule that is known is offered before they start, so
+/// to [`MAX_EXPANDED`](plain_search::MAX_EXPANDED) nodes in all. A schedule that is known is offered before they start, so
 /// that no longer one is the outcome. A recorded search keeps a trail: what became of each node that was opened. If no
 /// limit stopped it, the trail and the shortest schedule give a record of it.
 ///
@@ -214,7 +214,7 @@ pub fn search<G: Gate, R: Threads + Wait + Sync>(
     start: Option<Schedule>,
     recorded: bool,
     gate: &G,
-) -> Result<(Solved, Option<Trail>), SolveFault>
+) -> Result<(Solved, Option<SearchLog>), SolveFault>
     ensures solution { IfOk result (λ r. IsSolution (arc_value project) workers takes start r.0) }
     ensures trail { IfOk result (λ r. IfSome r.1 (IsTrailOf (arc_value project) r.0.outcome)) }
     ensures recorded { IfOk result (λ r. is_some r.1 ≡ recorded) }

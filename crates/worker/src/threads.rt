@@ -4,11 +4,11 @@ ghost use Rattle.std.specs.Prelude.{◌≡◌, ◌≤◌, IfOk, IfErr, vec_len, 
 ghost use Rattle.worker.specs.Desks.{IsRow};
 ghost use Rattle.worker.specs.Solving.{EndsSearch, IsNotLimit, first_fault};
 
-use crate::desk::Desk;
 use crate::fault::{SolveFault, WorkFault};
 use crate::gate::Gate;
 use crate::key::Key;
 use crate::shared::Shared;
+use crate::state::WorkerState;
 use std::alloc::Global;
 use std::sync::Wait;
 use std::sync::ledger::Ledger;
@@ -16,14 +16,14 @@ use std::thread;
 use std::thread::{JoinHandle, Threads};
 
 /// A worker's desk after its end, and how it ended.
-type Ended<L, S> = (Desk<L, S>, Result<(), WorkFault>);
+type WorkerEnd<L, S> = (WorkerState<L, S>, Result<(), WorkFault>);
 
 /// Joins the threads: their ends, in order.
 fn join_all<L: Ledger, S: Ledger, R: Threads>(
     rt: &R,
-    running: Vec<JoinHandle<Ended<L, S>>>,
-    places: Vec<Ended<L, S>>,
-) -> Vec<Ended<L, S>>
+    running: Vec<JoinHandle<WorkerEnd<L, S>>>,
+    places: Vec<WorkerEnd<L, S>>,
+) -> Vec<WorkerEnd<L, S>>
     requires empty { places.items ≡ [] }
     requires room { vec_len running ≤ vec_capacity places }
     ensures { vec_len result ≡ vec_len running }
@@ -37,9 +37,9 @@ fn join_all<L: Ledger, S: Ledger, R: Threads>(
 
 /// The desks of these ends, and the fault of the first of them that has one.
 fn parted<L: Ledger, S: Ledger>(
-    ends: Vec<Ended<L, S>>,
-    places: Vec<Desk<L, S>>,
-) -> (Vec<Desk<L, S>>, Option<WorkFault>)
+    ends: Vec<WorkerEnd<L, S>>,
+    places: Vec<WorkerState<L, S>>,
+) -> (Vec<WorkerState<L, S>>, Option<WorkFault>)
     requires empty { places.items ≡ [] }
     requires room { vec_len ends ≤ vec_capacity places }
     ensures desks { vec_len result.0 ≡ vec_len ends }
@@ -79,9 +79,9 @@ pub(crate) fn run_workers<
     alloc: Global,
     shared: &Shared<L, S>,
     key: Key<S>,
-    desks: Vec<Desk<L, S>>,
+    desks: Vec<WorkerState<L, S>>,
     gate: &G,
-) -> Result<Vec<Desk<L, S>>, SolveFault>
+) -> Result<Vec<WorkerState<L, S>>, SolveFault>
     requires { IsRow shared.now desks.items }
     ensures count { IfOk result (λ back. vec_len back ≡ vec_len desks) }
     ensures fault { IfErr result IsNotLimit }
@@ -92,7 +92,7 @@ pub(crate) fn run_workers<
     thread::scope(
         thread::scope_env(),
         rt,
-        move |scope| -> Result<Vec<Desk<L, S>>, SolveFault>
+        move |scope| -> Result<Vec<WorkerState<L, S>>, SolveFault>
             requires row { IsRow shared.now desks.items }
             requires room { room.items ≡ [] }
             requires ends { ends.items ≡ [] }
@@ -103,12 +103,12 @@ pub(crate) fn run_workers<
             ensures count { IfOk result (λ back. vec_len back ≡ vec_len desks) }
             ensures fault { IfErr result IsNotLimit }
         {
-            let mut running: Vec<JoinHandle<Ended<L, S>>> = room;
+            let mut running: Vec<JoinHandle<WorkerEnd<L, S>>> = room;
             let mut key = key;
             let mut started = true;
             for desk in desks {
-                let worker = move || -> Ended<L, S>
-                    requires { desk.seat.word ≡ shared.now.best }
+                let worker = move || -> WorkerEnd<L, S>
+                    requires { desk.seat.ceiling ≡ shared.now.best }
                 {
                     let mut desk = desk;
                     let ended = shared.serve_to_end(rt, alloc, &mut desk, gate);

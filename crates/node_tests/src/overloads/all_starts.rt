@@ -1,12 +1,12 @@
 //! Overloads of all starts of small projects.
 
 use super::seeded::assert_first;
+use crate::projects::{backward_lag, one_machine, three_on_two, two_between};
 use network::Project;
 use profile::OverloadSweep;
 use std::alloc::Global;
 use std::process::Abort;
 use std::test::Fail;
-use test_projects::{backward_lag, one_machine, three_on_two, two_between};
 
 /// Beyond the starts of the least schedules of these projects and some ordered pairs.
 const SIDES: i64 = 14;

@@ -5,12 +5,12 @@ ghost use Rattle.network.specs.Problem.{resource_count};
 ghost use Rattle.profile.specs.Overloads.{IsSweepFor};
 
 use super::next;
+use crate::projects::project;
 use network::Project;
 use profile::{Overload, OverloadSweep};
 use std::alloc::{AllocError, Global};
 use std::process::Abort;
 use std::test::Fail;
-use test_projects::project;
 
 /// Numbers that look thrown, the same in each run.
 #[derive(Drop)]

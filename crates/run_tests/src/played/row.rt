@@ -1,11 +1,11 @@
 //! Calls that are played through devices, and what they have to tell.
 
-use crate::gates::{Holds, Watch};
+use crate::gates::{HoldingGate, Holds};
 use crate::played::devices::{Limits, giving, taking};
 use crate::played::text_of;
-use calls::{WordsFault, call_of};
-use parallel_runs::run_parallel;
-use runs::{Ended, Reader, Writer};
+use calls::{ArgumentsFault, call_of};
+use psmax_run::run_parallel;
+use runs::{Ended, InputReader, OutputWriter, run};
 use std::alloc::{AllocError, Global};
 use std::process::Abort;
 use std::sync::Wait;
@@ -26,12 +26,18 @@ fn words_of(alloc: Global, line: &str) -> Result<Vec<String>, AllocError> {
 pub(super) fn call_text(alloc: Global, line: &str) -> Result<String, AllocError> {
     match call_of(alloc, &words_of(alloc, line)?) {
         Ok(call) => {
-            let (second, record) = (call.second.is_some(), call.record_file.is_some());
+            let (second, record) = (
+                call.names.second.is_some(),
+                call.names.record_file.is_some(),
+            );
             format!(in alloc; "{:?}, second {second}, record {record}", call.job)
         }
-        Err(WordsFault::Help { .. }) => String::from_str(alloc, "help"),
-        Err(WordsFault::Bad { .. } | WordsFault::NoText) => String::from_str(alloc, "bad words"),
-        Err(WordsFault::Memory) => Err(AllocError),
+        Err(ArgumentsFault::Help { .. }) => String::from_str(alloc, "help"),
+        Err(ArgumentsFault::Bad { .. } | ArgumentsFault::NoText) => String::from_str(
+            alloc,
+            "bad words",
+        ),
+        Err(ArgumentsFault::Memory) => Err(AllocError),
     }
 }
 
@@ -98,7 +104,7 @@ impl<'a> Row<'a> {
         rt: &R,
         alloc: Global,
         limits: Limits,
-        gate: &Watch,
+        gate: &HoldingGate,
     ) -> Result<String, Fail> {
         let (told, _) = self.played(rt, alloc, limits, gate)?;
         Ok(told)
@@ -110,28 +116,31 @@ impl<'a> Row<'a> {
         rt: &R,
         alloc: Global,
         limits: Limits,
-        gate: &Watch,
+        gate: &HoldingGate,
     ) -> Result<(String, usize), Fail> {
         let call = match call_of(alloc, &words_of(alloc, self.line)?) {
             Ok(call) => call,
-            Err(WordsFault::Memory) => return Err(AllocError.into()),
+            Err(ArgumentsFault::Memory) => return Err(AllocError.into()),
             Err(_) => return Err("these words make no call".into()),
         };
         let [text, second] = self.texts;
-        let mut input = Reader::new(giving(text, limits.input));
-        let mut second = Reader::new(giving(second, limits.second));
-        let mut out = Writer::new(taking(alloc, limits.out, limits));
-        let mut record = Writer::new(taking(alloc, limits.record, limits));
-        let ended = run_parallel(
-            rt,
-            alloc,
-            call.job,
-            &mut input,
-            &mut second,
-            &mut out,
-            &mut record,
-            gate,
-        );
+        let mut input = InputReader::new(giving(text, limits.input));
+        let mut second = InputReader::new(giving(second, limits.second));
+        let mut out = OutputWriter::new(taking(alloc, limits.out, limits));
+        let mut record = OutputWriter::new(taking(alloc, limits.record, limits));
+        let ended = match call.job.by_workers() {
+            Some(options) => run_parallel(
+                rt,
+                alloc,
+                options,
+                &mut input,
+                &mut second,
+                &mut out,
+                &mut record,
+                gate,
+            ),
+            None => run(alloc, call.job, &mut input, &mut second, &mut out),
+        };
         let (out, record) = (out.into_inner(), record.into_inner());
         let told = ended_text(alloc, ended, &out.taken, &record.taken)?;
         Ok((told, out.writes.saturating_add(record.writes)))
@@ -148,7 +157,7 @@ impl<'a> Row<'a> {
                 chunk,
                 ..Limits::NONE
             };
-            let (told, writes) = self.played(rt, alloc, limits, &Watch::new(Holds::Nobody))?;
+            let (told, writes) = self.played(rt, alloc, limits, &HoldingGate::new(Holds::Nobody))?;
             assert_eq!(rt; told.as_str(), self.wanted, "{self:?}: {chunk}");
             let least = [self.answer, self.record].map(|text| text.len().div_ceil(chunk));
             assert_eq!(rt;
@@ -184,7 +193,7 @@ impl<'a> Row<'a> {
                 let wanted = self.cut_short(alloc, device, room)?;
                 for (chunk, silent) in [(1, false), (7, false), (1_000, true)] {
                     let limits = Limits::of(device, room, chunk, silent);
-                    let told = self.told(rt, alloc, limits, &Watch::new(Holds::Nobody))?;
+                    let told = self.told(rt, alloc, limits, &HoldingGate::new(Holds::Nobody))?;
                     assert_eq!(rt; told, wanted, "{self:?}: {limits:?}");
                 }
             }

@@ -2,15 +2,15 @@
 
 use crate::gates::Holds;
 use network::{Project, Schedule};
+use node_tests::{are_starts, backward_lag, both_orders_dead, lag, one_machine, three_on_two};
 use schedule_check::accept;
 use std::alloc::Global;
 use std::sync::Arc;
 use std::test::Fail;
-use test_projects::{are_starts, backward_lag, both_orders_dead, lag, one_machine, three_on_two};
 
 /// What the words of a row ask for, with a semicolon between.
 #[derive(Drop)]
-pub(super) struct Asked<'a> {
+pub(super) struct WorkerRow<'a> {
     pub(super) project: &'a str,
     pub(super) workers: usize,
     pub(super) takes: u64,
@@ -18,7 +18,7 @@ pub(super) struct Asked<'a> {
     pub(super) starts: &'a str,
     pub(super) recorded: bool,
     pub(super) holds: Holds,
-    /// A makespan that is offered to the best word.
+    /// A makespan that is offered to the shared ceiling.
     pub(super) tells: u64,
     /// A node that is given back behind its worker's back.
     pub(super) gives_back: Option<u64>,
@@ -28,9 +28,9 @@ pub(super) struct Asked<'a> {
 }
 
 /// What a row asks for: one worker, 100 takes and a gate that holds nobody unless it says more.
-pub(super) fn asked_by(row: &str) -> Result<Asked<'_>, Fail> {
+pub(super) fn asked_by(row: &str) -> Result<WorkerRow<'_>, Fail> {
     let (project, rest) = row.split_once("; ").unwrap_or((row, ""));
-    let mut asked = Asked {
+    let mut asked = WorkerRow {
         project,
         workers: 1,
         takes: 100,

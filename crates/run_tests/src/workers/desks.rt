@@ -3,10 +3,11 @@
 ghost use Rattle.std.specs.Prelude.{◌≡◌};
 ghost use Rattle.worker.specs.Desks.{SeatedAt};
 
-use crate::gates::{Holds, Meddler, Waker, Watch};
-use crate::workers::asked::{Asked, asked_by, schedule_of};
+use crate::gates::{HoldingGate, Holds, Meddler, Waker};
+use crate::workers::asked::{WorkerRow, asked_by, schedule_of};
 use crate::workers::solving::{numbers, starts_of};
 use book::{Book, CheckFault, Take};
+use node_tests::one_machine;
 use std::alloc::Global;
 use std::marker::Brand;
 use std::sync::atomic::{AtomicU64, Ordering};
@@ -15,7 +16,6 @@ use std::sync::{Arc, Mutex, Wait};
 use std::test::Fail;
 use std::thread;
 use std::thread::Threads;
-use test_projects::one_machine;
 use worker::{Blanks, Shared, SolveFault, Tally, work};
 
 /// How a worker ended, what its desk counted, and whether the desk tells that; the counts of the book, its best starts,
@@ -48,7 +48,7 @@ impl Left {
     }
 
     /// Whether a gate without memory was called, and the node that it was called for is open again.
-    fn is_given_back(&self, asked: &Asked<'_>) -> bool {
+    fn is_given_back(&self, asked: &WorkerRow<'_>) -> bool {
         let [_, _, _, _, waiting, hand] = self.counts;
         asked.holds == Holds::WithoutMemory && self.calls > 0 && waiting > 0 && hand == 0
     }
@@ -59,7 +59,7 @@ fn left_by<L: Ledger + Sync, S: Ledger + Send + Sync, R: Wait>(
     rt: &R,
     alloc: Global,
     blanks: Blanks,
-    asked: &Asked<'_>,
+    asked: &WorkerRow<'_>,
 ) -> Result<Left, Fail>
     requires accepted { (blanks.accepted.name ≡ L.name) × (blanks.accepted.parts ≡ L.parts) }
     requires steps { (blanks.steps.name ≡ S.name) × (blanks.steps.parts ≡ S.parts) }
@@ -104,7 +104,7 @@ fn left_by<L: Ledger + Sync, S: Ledger + Send + Sync, R: Wait>(
 }
 
 /// How a worker ended. The want of memory of a book that it left sound ends the test, but where it is asked for.
-fn end_of(alloc: Global, left: &Left, asked: &Asked<'_>) -> Result<String, Fail> {
+fn end_of(alloc: Global, left: &Left, asked: &WorkerRow<'_>) -> Result<String, Fail> {
     match left.ended {
         Ok(()) => Ok(String::from_str(alloc, "over")?),
         Err(SolveFault::Memory) if left.is_halted() && !left.is_given_back(asked) => {
@@ -154,7 +154,7 @@ fn ends_of_two<L: Ledger + Send + Sync, S: Ledger + Send + Sync, R: Threads + Wa
         shared: &shared,
         key: Mutex::new(key),
         taken: AtomicU64::new(0),
-        watch: Watch::new(Holds::Nobody),
+        watch: HoldingGate::new(Holds::Nobody),
     };
     let (shared, gate) = (&shared, &gate);
     let (one, other) = thread::join(

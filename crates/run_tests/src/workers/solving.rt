@@ -1,7 +1,7 @@
 //! Searches by threads, and what is told of them.
 
-use crate::gates::{Holds, Seen, Watch};
-use crate::workers::asked::{Asked, asked_by, project_of, schedule_of};
+use crate::gates::{HoldingGate, Holds, Seen};
+use crate::workers::asked::{WorkerRow, asked_by, project_of, schedule_of};
 use book::Counts;
 use network::Schedule;
 use plain_search::Outcome;
@@ -30,8 +30,8 @@ type Searched = Result<(Solved, usize), SolveFault>;
 fn searched<R: Threads + Wait + Sync>(
     rt: &R,
     alloc: Global,
-    asked: &Asked<'_>,
-    gate: &Watch,
+    asked: &WorkerRow<'_>,
+    gate: &HoldingGate,
 ) -> Result<Searched, Fail> {
     let start = schedule_of(alloc, asked.starts)?;
     let project = Arc::new(alloc, project_of(alloc, asked.project)?)?;
@@ -92,7 +92,7 @@ pub(super) fn told<R: Threads + Wait + Sync>(
     row: &str,
 ) -> Result<String, Fail> {
     let asked = asked_by(row)?;
-    let gate = Watch::new(asked.holds);
+    let gate = HoldingGate::new(asked.holds);
     let searched = searched(rt, alloc, &asked, &gate)?;
     let seen = gate.seen();
     let (calls, ended, gave_up, ceiling) = (seen.calls, seen.ended, seen.gave_up, seen.ceiling);

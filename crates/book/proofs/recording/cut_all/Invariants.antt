@@ -1,6 +1,6 @@
 use Rattle.std.proofs.Common.{◌≡◌, length}
 use Rattle.book.specs.Sound.{note_cut}
-use Rattle.trail.specs.Trail.{with_entries}
+use Rattle.search_log.specs.SearchLog.{with_entries}
 use Rattle.book.proofs.recording.cut_all.Given as goal
 
 abbrev pub invariant-loop-held : goal.invariant-loop-held

@@ -1,6 +1,6 @@
 use Rattle.std.proofs.Common.{◌≡◌, refl, ap, ◌∙◌, ℕ, ◌-◌, ◌<◌, ◌≤◌, pos, length, get_or, unsigned_abs, rules, arith, w64, FitsSigned}
 use Rattle.std.proofs.lemmas.Int.{to_z-of_z}
-use Rattle.orders.specs.Orders.{key_at}
+use Rattle.profile.specs.Orders.{key_at}
 use Rattle.bounds.proofs.Ranking.{ranked_start, ranked_new, ranked_same, last_least}
 use Rattle.bounds.proofs.Ranked.{amounts_rise}
 use Rattle.bounds.proofs.load.rank_keys.Goals as goal

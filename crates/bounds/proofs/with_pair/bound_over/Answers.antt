@@ -8,7 +8,7 @@ use Rattle.network.specs.Problem.{Problem, activity_count, end_of, pair_arc, Nam
 use Rattle.network.specs.Walk.{IsProjectMatrix, Rows, weights_from}
 use Rattle.network.specs.Schedule.{start}
 use Rattle.longest_path.specs.Insert.{rows_over, ClosesNone}
-use Rattle.earliest.specs.Ends.{tail_weights}
+use Rattle.longest_path.specs.Ends.{tail_weights}
 pub use Rattle.bounds.specs.declared.limits.TheConstants.{MAX_END, MAX_ENVELOPE}
 use Rattle.bounds.specs.Energy.{AreEnds}
 use Rattle.bounds.specs.Bound.{critical_weight, IsBoundUnder}

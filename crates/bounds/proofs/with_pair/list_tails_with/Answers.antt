@@ -2,7 +2,7 @@ use Rattle.std.proofs.Common.{rules, refl, ◌≡◌, ◌∙◌, ap, pos, w64, F
 use Rattle.std.specs.Option.{unwrap_or}
 use Rattle.std.proofs.lemmas.Int.{ints, to_z-of_z}
 use Rattle.longest_path.specs.declared.insert.TheConstants.{MAX_WAY_WITH}
-use Rattle.earliest.proofs.Ends.{difference_fits}
+use Rattle.longest_path.proofs.Ends.{difference_fits}
 use Rattle.network.specs.Problem.{duration, end_of}
 use Rattle.network.specs.Walk.{entry}
 use Rattle.longest_path.specs.Matrix.{greater, joined}

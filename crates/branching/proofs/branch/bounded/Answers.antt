@@ -7,9 +7,9 @@ use Rattle.network.specs.Problem.{Problem}
 use Rattle.network.specs.Walk.{Rows}
 use Rattle.bounds.specs.Bound.{IsBoundOf, IsBoundWith, IsBoundUnder}
 use Rattle.bounds.proofs.WithLaws.{IsBoundWith-exists}
-use Rattle.branching.specs.Subproblem.{Subproblem, kid_of}
+use Rattle.branching.specs.Subproblem.{Subproblem, child_of}
 use Rattle.branching.specs.Right.{IsUnder, Reaches}
-use Rattle.branching.proofs.Forcings.{cut_from, kid_at}
+use Rattle.branching.proofs.Forcings.{cut_from, child_at}
 use Rattle.branching.proofs.Again.{again, closes_none_again}
 use Rattle.branching.proofs.branch.bounded.Goals as goal
 
@@ -51,5 +51,5 @@ returns-clause-branch c =
     let told : IsBoundUnder c.args.node.now.project c.args.matrix.now c.args.first c.args.ceiling c.bound_under-bound.result = rw (c.deref.ensures ∙ c.project.ensures.project) at c.bound_under-bound.ensures.value in
     let with_first : IsBoundWith c.args.node.now.project c.args.matrix.now c.args.first c.bound_under-bound.result = told.exact under in
     let of : IsBoundOf c.args.node.now.project c.args.matrix.now c.bound_under-bound.result = with_first pairs c.args.matrix.now c.requires.matrix.matrix (again c.args.node.now.project pairs c.args.first c.args.matrix.now at c.requires.matrix.matrix) in
-    let kid : Subproblem = kid_of c.args.node.now c.args.first c.args.forced.items c.bound_under-bound.result in
-    simp to_z-of_z (kid_at c.args.node.now kid c.args.ceiling c.args.first c.args.forced.items c.args.matrix.now c.bound_under-bound.result c.requires.matrix of under refl)
+    let child : Subproblem = child_of c.args.node.now c.args.first c.args.forced.items c.bound_under-bound.result in
+    simp to_z-of_z (child_at c.args.node.now child c.args.ceiling c.args.first c.args.forced.items c.args.matrix.now c.bound_under-bound.result c.requires.matrix of under refl)

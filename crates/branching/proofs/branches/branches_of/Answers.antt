@@ -5,9 +5,9 @@ use Rattle.std.proofs.lemmas.List.{map-append, take_more}
 use Rattle.network.specs.declared.parts.Pair.{Pair}
 use Rattle.branching.specs.Fates.{fate_value}
 use Rattle.branching.proofs.Again.{named_one}
-use Rattle.branching.proofs.Fates.{fate_kid, fate_dead, fate_cut}
+use Rattle.branching.proofs.Fates.{fate_child, fate_infeasible, fate_cut}
 use Rattle.branching.proofs.branches.branches_of.Goals as goal
-use Rattle.branching.proofs.branches.branches_of.Goals.{in-Kid+in_ok-parent-in-Kid+in_ok-with_pairs-in-Kid+in_ok-push-in-Kid, in-Dead, in-Cut}
+use Rattle.branching.proofs.branches.branches_of.Goals.{in-Child+in_ok-parent-in-Child+in_ok-with_pairs-in-Child+in_ok-push-in-Child, in-Infeasible, in-Cut}
 
 pub branch_of-requires-clause-named : goal.branch_of-requires-clause-named
 branch_of-requires-clause-named c =
@@ -24,21 +24,21 @@ loop-pair-preserved c =
       unchanged = c.branch_of.ensures.unchanged ∙ c.loop-pair.invariant.unchanged;
       bounds = c.branch_of.ensures.bounds ∙ c.loop-pair.invariant.bounds;
       parent = elim c.match-branch-2.branch [
-        | in-Kid+in_ok-parent-in-Kid+in_ok-with_pairs-in-Kid+in_ok-push-in-Kid w ↦ rw w.made-is w.parent_of.ensures.made
-        | in-Dead w ↦ rw w.made-is c.loop-pair.invariant.parent
+        | in-Child+in_ok-parent-in-Child+in_ok-with_pairs-in-Child+in_ok-push-in-Child w ↦ rw w.made-is w.parent_of.ensures.made
+        | in-Infeasible w ↦ rw w.made-is c.loop-pair.invariant.parent
         | in-Cut w ↦ rw w.made-is c.loop-pair.invariant.parent
       ];
       fates = elim c.match-branch-2.branch [
-        | in-Kid+in_ok-parent-in-Kid+in_ok-with_pairs-in-Kid+in_ok-push-in-Kid w ↦
-            let made = rw w.in-Kid.is at c.in_ok-kid.ensures.branch in
-            let fits : SFits w64 w.in-Kid.kid.bound = search rules in
-            let is = simp to_z-of_z at w.in_ok-with_pairs-in-Kid.ensures in
-            rw (more, pushed, w.fate-is, w.kids-is, w.in_ok-push-in-Kid.ensures.items, map-append fate_value c.loop-pair.fates.items, map-append arc_value c.loop-pair.kids.items, is) (fate_kid _ _ _ _ _ _ _ c.loop-pair.invariant.fates made.0 made.1)
-        | in-Dead w ↦
-            let made = rw w.in-Dead.is at c.in_ok-kid.ensures.branch in
-            rw (more, pushed, w.fate-is, w.kids-is, map-append fate_value c.loop-pair.fates.items) (fate_dead _ _ _ _ _ _ _ c.loop-pair.invariant.fates made)
+        | in-Child+in_ok-parent-in-Child+in_ok-with_pairs-in-Child+in_ok-push-in-Child w ↦
+            let made = rw w.in-Child.is at c.in_ok-child.ensures.branch in
+            let fits : SFits w64 w.in-Child.child.bound = search rules in
+            let is = simp to_z-of_z at w.in_ok-with_pairs-in-Child.ensures in
+            rw (more, pushed, w.fate-is, w.children-is, w.in_ok-push-in-Child.ensures.items, map-append fate_value c.loop-pair.fates.items, map-append arc_value c.loop-pair.children.items, is) (fate_child _ _ _ _ _ _ _ c.loop-pair.invariant.fates made.0 made.1)
+        | in-Infeasible w ↦
+            let made = rw w.in-Infeasible.is at c.in_ok-child.ensures.branch in
+            rw (more, pushed, w.fate-is, w.children-is, map-append fate_value c.loop-pair.fates.items) (fate_infeasible _ _ _ _ _ _ _ c.loop-pair.invariant.fates made)
         | in-Cut w ↦
-            let made = rw w.in-Cut.is at c.in_ok-kid.ensures.branch in
-            rw (more, pushed, w.fate-is, w.kids-is, map-append fate_value c.loop-pair.fates.items) (fate_cut _ _ _ _ _ _ _ c.loop-pair.invariant.fates made)
+            let made = rw w.in-Cut.is at c.in_ok-child.ensures.branch in
+            rw (more, pushed, w.fate-is, w.children-is, map-append fate_value c.loop-pair.fates.items) (fate_cut _ _ _ _ _ _ _ c.loop-pair.invariant.fates made)
       ];
     }

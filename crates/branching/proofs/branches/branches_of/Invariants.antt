@@ -9,5 +9,5 @@ invariant-loop-pair l = record {
   unchanged : l.matrix ≡ l.initial.matrix;
   parent : IfSome l.made (λ parent. IsParent l.node (arc_value parent));
   bounds : l.bounds ≡ l.initial.bounds;
-  fates : AreFates l.node l.ceiling (take l.pair-index l.pairs) (map fate_value l.fates.items) (map arc_value l.kids.items);
+  fates : AreFates l.node l.ceiling (take l.pair-index l.pairs) (map fate_value l.fates.items) (map arc_value l.children.items);
 }

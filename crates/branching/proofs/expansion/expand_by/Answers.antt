@@ -11,7 +11,7 @@ use Rattle.branching.proofs.expansion.expand_by.Goals as goal
 use Rattle.branching.proofs.expansion.expand_by.Goals.{Else-not-is_below}
 
 -- at a node below the ceiling nothing is to be shown
-not_over : {P : Type 0} (result : Result Expansion AllocError) → P → IfOk result (λ report. ¬ P → (report.found ≡ None) × (report.kids ≡ []))
+not_over : {P : Type 0} (result : Result Expansion AllocError) → P → IfOk result (λ report. ¬ P → (report.found ≡ None) × (report.children ≡ []))
 not_over (Ok report) under = λ over. absurd (over under)
 not_over (Err e) under = tt
 
@@ -22,7 +22,7 @@ new-requires c =
     let bound_is : c.bound.result ≡ node.bound = c.bound.ensures.bound ∙ ap (λ (n : Subproblem). n.bound) c.deref.ensures in
     let fits : SFits w64 c.bound.result = search rules in
     let reaches : Reaches c.args.ceiling c.bound.result = simp to_z-of_z at c.if-not-is_below.ensures.reached in
-    rw (c.new-fates.ensures.items, c.new-kids.ensures.items, c.in_ok-node.ensures)
+    rw (c.new-fates.ensures.items, c.new-children.ensures.items, c.in_ok-node.ensures)
     (report_cut node c.args.ceiling is (rw bound_is at reaches) (λ s stands. reached_over c.args.ceiling c.bound.result s reaches (rw bound_is (is.true_bound s stands))))
 
 pub first-requires-clause-starts : goal.first-requires-clause-starts

@@ -43,5 +43,5 @@ new-requires-2 c =
     let together : IsRightSet node.project k set.members = minimal_together node.project c.args.starts.now t k _ set.members c.requires.first.least_resource.in_range runs c.in_ok-set.ensures.among minimal in
     let right : IsRightSet node.project set.resource set.members = rw c.in_ok-set.ensures.resource together in
     let new : All (IsNewTo node) (ordered_pairs set.members) = new_pairs node c.args.starts.now t set.members c.requires.earliest.least run in
-    let are : AreFates node c.args.ceiling (ordered_pairs set.members) (map fate_value c.in_ok-made.made.fates.items) (map arc_value c.in_ok-made.made.kids.items) = rw (c.deref-3.ensures, pairs) at c.in_ok-made.ensures.fates in
+    let are : AreFates node c.args.ceiling (ordered_pairs set.members) (map fate_value c.in_ok-made.made.fates.items) (map arc_value c.in_ok-made.made.children.items) = rw (c.deref-3.ensures, pairs) at c.in_ok-made.ensures.fates in
     rw c.in_ok-node.ensures (report_split node c.args.ceiling set _ _ c.requires.tied.is_node right new are)

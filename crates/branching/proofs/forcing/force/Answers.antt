@@ -5,9 +5,9 @@ use Rattle.network.specs.Problem.{Problem, pair_arc}
 use Rattle.network.specs.Walk.{Rows}
 use Rattle.longest_path.specs.Insert.{AddsArc, IsInsertFault}
 use Rattle.branching.specs.Subproblem.{BaseOf}
-use Rattle.rivals.specs.Incompatible.{AreIncompatible, AllIncompatible, pairs_of, AreRowsOf}
+use Rattle.forbidden_sets.specs.Incompatible.{AreIncompatible, AllIncompatible, pairs_of, AreRowsOf}
 use Rattle.branching.specs.Forcing.{IsFirstForced}
-use Rattle.branching.proofs.Forcings.{both_named, one_forced, dead_forced, first_among, first_incompatible, rows_incompatible}
+use Rattle.branching.proofs.Forcings.{both_named, one_forced, infeasible_forced, first_among, first_incompatible, rows_incompatible}
 use Rattle.branching.proofs.Paths.{matrix_more}
 use Rattle.branching.proofs.Rounds.{fewer_left}
 use Rattle.branching.proofs.forcing.force.Goals as goal
@@ -62,4 +62,4 @@ returns-in-Err-PositiveCycle-clause-forcing c =
     let fits : SFits w64 c.pair_arc-arc.result.weight = search rules in
     let fault : IsInsertFault c.pair_arc-arc.result c.loop-pair.matrix.rows c.in-Err-PositiveCycle.field-0 = simp to_z-of_z at c.in-Err-PositiveCycle.ensures.fault in
     let cycle = rw (c.in-Err-PositiveCycle.field-0-is, arc) at fault in
-    rw c.in_ok-push.ensures.items (dead_forced c.args.node.now c.args.first c.loop-pair.forced.items c.in-Some.pair c.loop-pair.matrix.rows c.loop-pair.invariant.forced n.apart n.first.forced cycle.1)
+    rw c.in_ok-push.ensures.items (infeasible_forced c.args.node.now c.args.first c.loop-pair.forced.items c.in-Some.pair c.loop-pair.matrix.rows c.loop-pair.invariant.forced n.apart n.first.forced cycle.1)

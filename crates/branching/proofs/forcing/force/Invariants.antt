@@ -1,7 +1,7 @@
 use Rattle.std.proofs.Common.{[], ◌∷◌, ◌++◌, ◌≡◌, length}
 use Rattle.std.specs.List.{filter}
 use Rattle.branching.specs.Forcing.{IsForcedMatrix}
-use Rattle.rivals.specs.Incompatible.{pairs_of}
+use Rattle.forbidden_sets.specs.Incompatible.{pairs_of}
 use Rattle.branching.proofs.Rounds.{is_left}
 use Rattle.branching.proofs.forcing.force.Given as goal
 

@@ -6,9 +6,9 @@ use Rattle.network.specs.declared.parts.Pair.{Pair}
 use Rattle.network.specs.Problem.{duration, pair_arc, pair_of}
 use Rattle.network.specs.Walk.{entry}
 use Rattle.longest_path.specs.Matrix.{greater, joined}
-pub use Rattle.rivals.specs.declared.incompatible.Incompatible.{Incompatible}
+pub use Rattle.forbidden_sets.specs.declared.incompatible.Incompatible.{Incompatible}
 use Rattle.branching.specs.Forcing.{IsForcedWith}
-use Rattle.rivals.specs.Incompatible.{pairs_before}
+use Rattle.forbidden_sets.specs.Incompatible.{pairs_before}
 use Rattle.branching.proofs.Forcings.{unless, when, forced_over, no_way, none_before, none_over, none_from, none_of_all, pair_more, some_of_row, row_at, both_named}
 use Rattle.branching.proofs.forcing.forces_in_row.Goals as goal
 use Rattle.branching.proofs.forcing.forces_in_row.Goals.{After-then_arc}

@@ -1,7 +1,7 @@
 use Rattle.std.proofs.Common.{refl, ◌≤◌, length, take_all}
 use Rattle.std.specs.List.{All}
 use Rattle.branching.specs.Forcing.{IsForcedWith}
-use Rattle.rivals.specs.Incompatible.{pairs_of}
+use Rattle.forbidden_sets.specs.Incompatible.{pairs_of}
 use Rattle.branching.proofs.Forcings.{unless, when, all_more, none_in_row, none_of_all, some_of_rows}
 use Rattle.branching.proofs.forcing.forces_some.Goals as goal
 

@@ -1,7 +1,7 @@
 use Rattle.std.proofs.Common.{take}
 use Rattle.std.specs.List.{All}
 use Rattle.branching.specs.Forcing.{IsForcedWith}
-use Rattle.rivals.specs.Incompatible.{pairs_of}
+use Rattle.forbidden_sets.specs.Incompatible.{pairs_of}
 use Rattle.branching.proofs.forcing.forces_some.Given as goal
 
 abbrev pub invariant-loop-row : goal.invariant-loop-row

@@ -1,7 +1,7 @@
 use Rattle.std.proofs.Common.{◌≤◌, length, take_all}
 use Rattle.std.specs.List.{All}
 use Rattle.branching.specs.Forcing.{IsForcedIn}
-use Rattle.rivals.specs.Incompatible.{pairs_of}
+use Rattle.forbidden_sets.specs.Incompatible.{pairs_of}
 use Rattle.branching.proofs.Forcings.{all_more, first_of_rows}
 use Rattle.branching.proofs.forcing.next_forced.Goals as goal
 

@@ -1,7 +1,7 @@
 use Rattle.std.proofs.Common.{take}
 use Rattle.std.specs.List.{All}
 use Rattle.branching.specs.Forcing.{IsForcedIn}
-use Rattle.rivals.specs.Incompatible.{pairs_of}
+use Rattle.forbidden_sets.specs.Incompatible.{pairs_of}
 use Rattle.branching.proofs.forcing.next_forced.Given as goal
 
 abbrev pub invariant-loop-row : goal.invariant-loop-row

@@ -1,8 +1,8 @@
 use Rattle.std.proofs.Common.{◌≡◌, ℕ, ◌<◌, ◌≤◌, length, get_or, take_all}
 use Rattle.std.specs.List.{All}
-pub use Rattle.rivals.specs.declared.incompatible.Incompatible.{Incompatible}
+pub use Rattle.forbidden_sets.specs.declared.incompatible.Incompatible.{Incompatible}
 use Rattle.branching.specs.Forcing.{IsForcedIn}
-use Rattle.rivals.specs.Incompatible.{pairs_before}
+use Rattle.forbidden_sets.specs.Incompatible.{pairs_before}
 use Rattle.network.specs.Problem.{pair_of}
 use Rattle.branching.proofs.Forcings.{unless, when, pair_more, first_of_row, row_at, both_named}
 use Rattle.branching.proofs.forcing.next_in_row.Goals as goal

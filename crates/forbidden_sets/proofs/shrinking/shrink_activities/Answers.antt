@@ -2,7 +2,7 @@ use Rattle.std.proofs.Common.{◌≡◌, ◌<◌, ◌-◌, ◌∙◌, refl, ap, 
 use Rattle.std.specs.List.{All}
 use Rattle.std.proofs.lemmas.List.Elements.{All-contains}
 use Rattle.network.specs.Problem.{demand, capacity, activity_count}
-use Rattle.forbidden_sets.specs.declared.shrinking.Load.{Load}
+use Rattle.forbidden_sets.specs.declared.shrinking.Demand.{Demand}
 use Rattle.forbidden_sets.specs.MinimalSet.{AreShrunk, MinimalSet}
 use Rattle.forbidden_sets.proofs.Shrunken.{is_minimal_set, is_minimal_forbidden, length_rising, loads_few, shrunk}
 use Rattle.forbidden_sets.proofs.shrinking.shrink_activities.Goals as goal
@@ -17,7 +17,7 @@ spared-count-requires-clause-few c =
 are_shrunk : (c : In_ok-members) → AreShrunk (demand c.args.project.now c.args.resource) (capacity c.args.project.now c.args.resource) c.args.activities.now c.in_ok-members.members.items
 are_shrunk c =
     let loads : c.as_slice-loads.result.now ≡ c.in_ok-loads.loads.items = c.as_slice-loads.ensures in
-    let rest : take (length c.in_ok-loads.loads.items - c.spared-count.result) (drop c.spared-count.result c.in_ok-loads.loads.items) ≡ drop c.spared-count.result c.in_ok-loads.loads.items = take_all (length c.in_ok-loads.loads.items - c.spared-count.result) (drop c.spared-count.result c.in_ok-loads.loads.items) (omega (arith, length-drop {A = Load})) in
+    let rest : take (length c.in_ok-loads.loads.items - c.spared-count.result) (drop c.spared-count.result c.in_ok-loads.loads.items) ≡ drop c.spared-count.result c.in_ok-loads.loads.items = take_all (length c.in_ok-loads.loads.items - c.spared-count.result) (drop c.spared-count.result c.in_ok-loads.loads.items) (omega (arith, length-drop {A = Demand})) in
     shrunk (demand c.args.project.now c.args.resource) (capacity c.args.project.now c.args.resource) c.args.activities.now c.in_ok-loads.loads.items c.spared-count.result c.in_ok-members.members.items
     c.requires.rising
     c.in_ok-loads.ensures.loads

@@ -1,6 +1,6 @@
 use Rattle.std.proofs.Common.{◌≡◌, arith, sym, ◌∙◌, rules, w64, SFits, pos, ◌+ℤ◌, false}
 use Rattle.std.proofs.lemmas.Int.{ints, to_z-of_z}
-use Rattle.horizon.specs.Horizon.{horizon}
+use Rattle.network.specs.Horizon.{horizon}
 use Rattle.lemma_book.specs.Ledger.{asks_too_much}
 use Rattle.lemma_book.proofs.Ledgers.{first_root_is, of_sum, root_from, rules_and}
 use Rattle.lemma_book.proofs.TooMuch.{asked_cycle}

@@ -2,7 +2,7 @@ use Rattle.std.proofs.Common.{rules, pos, get_or, w64, SFits}
 use Rattle.std.proofs.lemmas.Int.{to_z-of_z}
 use Rattle.std.proofs.lemmas.List.Elements.{All-more}
 use Rattle.network.specs.Problem.{IsTime}
-use Rattle.reasons.proofs.Loops.{none_fails, tells_both}
+use Rattle.lemma_proof.proofs.Loops.{none_fails, tells_both}
 use Rattle.lemma_book.proofs.leading.are_times.Goals as goal
 
 pub loop-start-preserved : goal.loop-start-preserved

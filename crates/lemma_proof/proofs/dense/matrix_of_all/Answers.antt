@@ -3,8 +3,8 @@ use Rattle.std.specs.List.{All, Contains}
 use Rattle.std.proofs.lemmas.Result.{IfOk-weaker}
 use Rattle.std.proofs.lemmas.List.Elements.{All-weaker, All-contains_itself}
 use Rattle.longest_path.specs.Saved.{Marked}
-use Rattle.block.specs.Heads.{IsLight}
-use Rattle.block.specs.Block.{IsMatrixWith}
+use Rattle.lemma_proof.specs.Heads.{IsLight}
+use Rattle.lemma_proof.specs.Block.{IsMatrixWith}
 use Rattle.lemma_proof.specs.Bench.{IsWide}
 use Rattle.lemma_proof.proofs.Wide.{wide_with}
 use Rattle.lemma_proof.proofs.dense.matrix_of_all.Goals as goal

@@ -2,7 +2,7 @@ use Rattle.std.proofs.Common.{◌≡◌, refl, sym, ◌∙◌, false, is_some, g
 use Rattle.std.proofs.lemmas.List.Elements.{Contains-get_or}
 use Rattle.std.proofs.lemmas.Option.{slice_get-get_or}
 use Rattle.network.specs.declared.parts.Lag.{Lag}
-use Rattle.reasons.proofs.Loops.{tells_false}
+use Rattle.lemma_proof.proofs.Loops.{tells_false}
 use Rattle.std.proofs.lemmas.Bool.{false≢true}
 use Rattle.lemma_proof.proofs.OneLeft.{AllBefore, before_implied, before_left, second_left, left_at_end, there_at_end}
 use Rattle.lemma_proof.proofs.left.arc_left.Goals as goal

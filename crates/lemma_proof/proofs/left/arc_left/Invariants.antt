@@ -1,7 +1,7 @@
 use Rattle.std.proofs.Common.{Bool, List, length, IfSome}
 use Rattle.std.specs.List.{Contains}
 use Rattle.network.specs.declared.parts.Lag.{Lag}
-use Rattle.reasons.specs.Reasons.{IsKnown}
+use Rattle.lemma_proof.specs.Reasons.{IsKnown}
 use Rattle.lemma_proof.proofs.OneLeft.{LeftBefore}
 use Rattle.lemma_proof.proofs.left.arc_left.Given as goal
 

@@ -1,7 +1,7 @@
 use Rattle.std.proofs.Common.{rules, arith, ◌-ℤ◌, pos, w64, SFits}
 use Rattle.std.proofs.lemmas.Int.{ints, to_z-of_z}
 use Rattle.longest_path.specs.Insert.{arc_of}
-use Rattle.reasons.specs.Reasons.{Tells, Implies, EndsAfterStart}
+use Rattle.lemma_proof.specs.Reasons.{Tells, Implies, EndsAfterStart}
 use Rattle.lemma_proof.proofs.overload.is_late.Goals as goal
 
 pub returns : goal.returns

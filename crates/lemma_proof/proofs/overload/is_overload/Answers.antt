@@ -1,6 +1,6 @@
 use Rattle.std.proofs.Common.{rules, w64, SFits}
 use Rattle.std.proofs.lemmas.Int.{to_z-of_z}
-use Rattle.reasons.specs.Reasons.{IsClique, IsLoad, Tells}
+use Rattle.lemma_proof.specs.Reasons.{IsClique, IsLoad, Tells}
 use Rattle.lemma_proof.specs.Lines.{IsWindow}
 use Rattle.lemma_proof.proofs.overload.is_overload.Goals as goal
 

@@ -2,7 +2,7 @@ use Rattle.std.proofs.Common.{pos}
 use Rattle.std.proofs.lemmas.List.Elements.{All-more}
 use Rattle.network.specs.declared.parts.Lag.{Lag}
 use Rattle.lemma_proof.specs.Lines.{IsArc}
-use Rattle.reasons.proofs.Loops.{none_fails, tells_both}
+use Rattle.lemma_proof.proofs.Loops.{none_fails, tells_both}
 use Rattle.lemma_proof.proofs.refute.are_arcs.Goals as goal
 
 pub loop-arc-preserved : goal.loop-arc-preserved

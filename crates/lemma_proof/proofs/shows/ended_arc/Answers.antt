@@ -1,5 +1,5 @@
 use Rattle.std.proofs.Common.{refl}
-use Rattle.reasons.proofs.Loops.{tells_false}
+use Rattle.lemma_proof.proofs.Loops.{tells_false}
 use Rattle.lemma_proof.proofs.shows.ended_arc.Goals as goal
 
 pub returns-then-is_overload-clause-told : goal.returns-then-is_overload-clause-told

@@ -1,4 +1,4 @@
-use Rattle.reasons.proofs.Loops.{tells_false}
+use Rattle.lemma_proof.proofs.Loops.{tells_false}
 use Rattle.lemma_proof.proofs.shows.forced_arc.Goals as goal
 
 pub returns-then-is_late-clause-told : goal.returns-then-is_late-clause-told

@@ -3,10 +3,10 @@ use Rattle.network.specs.Problem.{activity_count}
 use Rattle.network.specs.Walk.{IsMatrixOf}
 use Rattle.longest_path.specs.Insert.{rows_over}
 use Rattle.longest_path.proofs.Inserted.{length-rows_over}
-use Rattle.reasons.specs.Reasons.{Tells, Implies, entries_of_matrix, reverse_of}
-use Rattle.reasons.proofs.Loops.{tells_false}
-use Rattle.reasons.proofs.KnownWalks.{known_matrix}
-use Rattle.reasons.proofs.Weighing.{reversed}
+use Rattle.lemma_proof.specs.Reasons.{Tells, Implies, entries_of_matrix, reverse_of}
+use Rattle.lemma_proof.proofs.Loops.{tells_false}
+use Rattle.lemma_proof.proofs.KnownWalks.{known_matrix}
+use Rattle.lemma_proof.proofs.Weighing.{reversed}
 use Rattle.lemma_proof.specs.Lines.{IsOverload}
 use Rattle.lemma_proof.proofs.shows.is_pushed.Goals as goal
 

@@ -1,9 +1,9 @@
 use Rattle.std.proofs.Common.{◌≡◌, sym, ◌∙◌, ap, ◌++◌, ◌∷◌, [], length, false, None, Some, inl}
 use Rattle.network.specs.Problem.{activity_count}
-use Rattle.block.specs.Block.{AreEnds}
-use Rattle.reasons.specs.Reasons.{Entries, TellsWhether, Implies, entries_of_block, reverse_of}
-use Rattle.reasons.proofs.KnownWalks.{length-entries}
-use Rattle.reasons.proofs.KnownBlocks.{shown_by_trial, told_by}
+use Rattle.lemma_proof.specs.Block.{AreEnds}
+use Rattle.lemma_proof.specs.Reasons.{Entries, TellsWhether, Implies, entries_of_block, reverse_of}
+use Rattle.lemma_proof.proofs.KnownWalks.{length-entries}
+use Rattle.lemma_proof.proofs.KnownBlocks.{shown_by_trial, told_by}
 use Rattle.lemma_proof.specs.Lines.{IsOverload}
 use Rattle.lemma_proof.proofs.shows.is_seen_pushed.Goals as goal
 

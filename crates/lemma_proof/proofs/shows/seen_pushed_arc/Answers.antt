@@ -1,8 +1,8 @@
 use Rattle.std.proofs.Common.{◌≡◌, ap, ◌∙◌, length, None, List}
 use Rattle.network.specs.declared.parts.Lag.{Lag}
 use Rattle.network.specs.Problem.{activity_count}
-use Rattle.reasons.specs.Reasons.{Entries}
-use Rattle.reasons.proofs.KnownWalks.{length-entries}
+use Rattle.lemma_proof.specs.Reasons.{Entries}
+use Rattle.lemma_proof.proofs.KnownWalks.{length-entries}
 use Rattle.lemma_proof.specs.Lines.{IsOverload, impossible}
 use Rattle.lemma_proof.proofs.Told.{told_seen}
 use Rattle.lemma_proof.proofs.shows.seen_pushed_arc.Goals as goal

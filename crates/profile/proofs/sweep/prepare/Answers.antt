@@ -1,7 +1,7 @@
 use Rattle.std.proofs.Common.{◌≡◌, ◌∙◌, ap, List, length, ℤ}
 use Rattle.std.specs.Global.{Vec}
 use Rattle.network.specs.Problem.{activity_count}
-use Rattle.orders.proofs.OrderLaws.{have_keys}
+use Rattle.profile.proofs.OrderLaws.{have_keys}
 use Rattle.profile.proofs.Counted.{count_none, written}
 use Rattle.profile.proofs.sweep.prepare.Goals as goal
 

@@ -3,7 +3,7 @@ use Rattle.std.proofs.lemmas.Result.{err_from_is_err_and}
 use Rattle.record_text.specs.Rows.{form, trailing, missing}
 use Rattle.record_text.specs.Kinds.{AreRows, head_rows}
 use Rattle.record_text.proofs.Rows.{not_nil}
-use Rattle.record_text.proofs.Leads.{reached_more, reached_missing, reached_form, reached_trailing}
+use Rattle.record_text.proofs.IsDueAfter.{reached_more, reached_missing, reached_form, reached_trailing}
 use Rattle.record_text.proofs.KindLaws.{grammar, named, record_from}
 use Rattle.record_text.proofs.read.read_lines.Goals as goal
 

@@ -1,6 +1,6 @@
 use Rattle.std.proofs.Common.{◌+◌, ◌*◌, ◌≤◌, length}
 use Rattle.record_text.specs.Kinds.{head_rows, MAX_RECORD_BYTES}
-use Rattle.record_text.proofs.Leads.{Reached}
+use Rattle.record_text.proofs.IsDueAfter.{Reached}
 use Rattle.record_text.proofs.read.read_lines.Given as goal
 
 abbrev pub invariant-loop-due : goal.invariant-loop-due

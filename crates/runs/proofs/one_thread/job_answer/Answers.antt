@@ -51,9 +51,9 @@ returns-in_ok-project-in-Verify-clause-refused g c =
 
 pub returns-in_ok-solve-in-Solve-clause-said : goal.returns-in_ok-solve-in-Solve-clause-said
 returns-in_ok-solve-in-Solve-clause-said g c = λ text more told told_more.
-    answers_alone c.args.job c.in-Solve.workers c.in-Solve.takes c.in-Solve.start c.in-Solve.json c.in-Solve.recorded text more c.in_ok-solve-in-Solve.field-0.exit c.in_ok-solve-in-Solve.field-0.text.items c.in-Solve.is c.requires.alone
+    answers_alone c.args.job c.in-Solve.options text more c.in_ok-solve-in-Solve.field-0.exit c.in_ok-solve-in-Solve.field-0.text.items c.in-Solve.is c.requires.alone
     (spells_one c.in_ok-project-in-Solve.project text _ c.in_ok-project-in-Solve.ensures.project told c.in_ok-solve-in-Solve.ensures)
 
-pub returns-in_ok-project-in-Verify-clause-cause : goal.returns-in_ok-project-in-Verify-clause-cause
-returns-in_ok-project-in-Verify-clause-cause g c =
-    MatchResult-weaker c.verified.result c.verified.ensures.cause (λ _ _. tt) (λ fault is. (is.0.1, is.1))
+pub returns-in_ok-project-in-Verify-clause-fault : goal.returns-in_ok-project-in-Verify-clause-fault
+returns-in_ok-project-in-Verify-clause-fault g c =
+    MatchResult-weaker c.verified.result c.verified.ensures.fault (λ _ _. tt) (λ fault is. (is.0.1, is.1))

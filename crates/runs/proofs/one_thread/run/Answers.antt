@@ -1,5 +1,6 @@
 use Rattle.std.proofs.Common.{None}
 use Rattle.runs.proofs.CallLaws.{MatchOption-weaker, read_is_told, records_nothing, write_has_reply}
+use Rattle.runs.specs.Outcome.{inputs_of}
 pub use Rattle.answers.specs.declared.answer.Answer.{Answer}
 use Rattle.runs.proofs.one_thread.run.Goals as goal
 
@@ -29,9 +30,9 @@ returns-in-Ok-clause-refused g c =
 pub returns-in-Err-clause-refused : goal.returns-in-Err-clause-refused
 returns-in-Err-clause-refused g c = rw c.with.ensures.fault (record {
   of_text = c.in-Err.ensures.refused;
-  of_workers = λ bad. absurd (c.in-Err.ensures.cause.1 bad);
-  of_search = λ bad. absurd (c.in-Err.ensures.cause.1 bad);
+  of_workers = λ bad. absurd (c.in-Err.ensures.fault.1 bad);
+  of_search = λ bad. absurd (c.in-Err.ensures.fault.1 bad);
 })
 
 pub returns-in-Err-clause-read : goal.returns-in-Err-clause-read
-returns-in-Err-clause-read g c = read_is_told Answer c.args.job _ _ c.in-Err.fault c.with.result.fault c.with.ensures.fault c.in-Err.ensures.read
+returns-in-Err-clause-read g c = read_is_told Answer (inputs_of c.args.job) _ _ c.in-Err.fault c.with.result.fault c.with.ensures.fault c.in-Err.ensures.read

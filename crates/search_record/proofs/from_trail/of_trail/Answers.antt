@@ -2,16 +2,16 @@ use Rattle.std.proofs.Common.{List, Option, sym, subst, ap, ◌∙◌, option_ma
 use Rattle.network.specs.Problem.{IsProject}
 use Rattle.network.specs.Schedule.{ScheduleOf}
 use Rattle.branching.specs.Fair.{ceiling_of}
-use Rattle.trail.specs.Trail.{Entry}
+use Rattle.search_log.specs.SearchLog.{Entry}
 use Rattle.record_text.specs.Tree.{SearchRecord, lines_of}
-use Rattle.search_record.specs.TrailTree.{KidsAreLater, tree_under}
-use Rattle.search_record.proofs.TrailLines.{kids_are_later}
+use Rattle.search_record.specs.TrailTree.{ChildrenAreLater, tree_under}
+use Rattle.search_record.proofs.TrailLines.{children_are_later}
 use Rattle.search_record.proofs.TrailTrees.{IsOver, trail_record, record_right}
 use Rattle.search_record.proofs.from_trail.of_trail.Goals as goal
 
 pub trail_lines-requires : goal.trail_lines-requires
 trail_lines-requires c =
-    subst KidsAreLater (sym c.entries.ensures) (kids_are_later c.args.trail.now.project (ceiling_of (option_map (λ schedule. schedule.now) c.args.best)) c.args.trail.now.entries c.requires.whole.right)
+    subst ChildrenAreLater (sym c.entries.ensures) (children_are_later c.args.trail.now.project (ceiling_of (option_map (λ schedule. schedule.now) c.args.best)) c.args.trail.now.entries c.requires.whole.right)
 
 pub new-requires : goal.new-requires
 new-requires c =

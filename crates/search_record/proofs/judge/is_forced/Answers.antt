@@ -1,5 +1,5 @@
 use Rattle.std.proofs.Common.{rules}
-use Rattle.rivals.specs.Incompatible.{AreIncompatible}
+use Rattle.forbidden_sets.specs.Incompatible.{AreIncompatible}
 use Rattle.branching.specs.Right.{IsForced}
 use Rattle.search_record.proofs.judge.is_forced.Goals as goal
 

@@ -1,6 +1,6 @@
 use Rattle.std.proofs.Common.{◌≡◌, ◌≢◌, ◌∙◌, ap, inr, rules}
 use Rattle.std.proofs.lemmas.Result.{err_from_is_err_and}
-pub use Rattle.record_text.specs.declared.fault.Why.TheVariants.{Memory}
+pub use Rattle.record_text.specs.declared.fault.RecordFaultKind.TheVariants.{Memory}
 use Rattle.record_text.specs.Kinds.{first_line}
 use Rattle.record_text.specs.Text.{search_kind, says}
 use Rattle.record_text.proofs.FirstWrong.{refused}

@@ -1,7 +1,7 @@
 use Rattle.std.proofs.Common.{◌≡◌, ℕ, ◌<◌, ◌∷◌, [], List, length, map, reverse, ap, refl, arith, Bor}
 use Rattle.std.proofs.lemmas.List.{length-map}
 use Rattle.branching.specs.Fates.{fate_value}
-use Rattle.trail.specs.Trail.{trail_entry}
+use Rattle.search_log.specs.SearchLog.{trail_entry}
 pub use Rattle.branching.specs.declared.fate.Fate.{Fate}
 use Rattle.search_record.specs.TrailTree.{IsNamed}
 use Rattle.search_record.proofs.TrailLines.{Walked, left, stack_past, stack_known, stack_more}
@@ -17,19 +17,19 @@ loop-fates-preserved c =
     stack_past (λ fates. map fate_value fates.now) (map trail_entry c.args.entries.now) c.loop-fates.lines.items c.loop-fates.splits.items c.pop.new.self.items c.in-Some.fates
     c.in-Some.ensures.items (none_shown c.in-Some.fates.now c.in_default-split_first.ensures.cases) c.loop-fates.invariant
 
-pub write_kid-requires : goal.write_kid-requires
-write_kid-requires c =
-    let known : IsNamed (length (map trail_entry c.args.entries.now)) (fate_value c.in-Some-split_first.kid.now) =
+pub write_child-requires : goal.write_child-requires
+write_child-requires c =
+    let known : IsNamed (length (map trail_entry c.args.entries.now)) (fate_value c.in-Some-split_first.child.now) =
     stack_known (λ fates. map fate_value fates.now) (map trail_entry c.args.entries.now) c.loop-fates.lines.items c.loop-fates.splits.items c.pop.new.self.items c.in-Some.fates
-    (fate_value c.in-Some-split_first.kid.now) (map fate_value c.in-Some-split_first.others.now)
+    (fate_value c.in-Some-split_first.child.now) (map fate_value c.in-Some-split_first.others.now)
     c.in-Some.ensures.items (ap (λ (fates : List (Fate ℕ)). map fate_value fates) c.in-Some-split_first.ensures.cases.0) c.loop-fates.invariant in
     rw (length-map c.args.entries.now trail_entry) at known
 
 walked_on : (c : In_ok-push-3) → let shown = λ (fates : Bor (List (Fate ℕ))). map fate_value fates.now in let entries = map trail_entry c.args.entries.now in
-    Walked entries c.write_kid.new.lines.items (map shown (reverse c.push-in-Some-split_first-2.new.self.items)) × (left entries (map shown (reverse c.push-in-Some-split_first-2.new.self.items)) < left entries (map shown (reverse c.loop-fates.splits.items)))
+    Walked entries c.write_child.new.lines.items (map shown (reverse c.push-in-Some-split_first-2.new.self.items)) × (left entries (map shown (reverse c.push-in-Some-split_first-2.new.self.items)) < left entries (map shown (reverse c.loop-fates.splits.items)))
 walked_on c =
-    stack_more (λ fates. map fate_value fates.now) (map trail_entry c.args.entries.now) c.loop-fates.lines.items c.write_kid.new.lines.items c.loop-fates.splits.items c.pop.new.self.items
-    c.push-in-Some-split_first.new.self.items c.push-in-Some-split_first-2.new.self.items c.in-Some.fates c.in-Some-split_first.others c.in_ok-behind.behind (fate_value c.in-Some-split_first.kid.now) c.requires.later
+    stack_more (λ fates. map fate_value fates.now) (map trail_entry c.args.entries.now) c.loop-fates.lines.items c.write_child.new.lines.items c.loop-fates.splits.items c.pop.new.self.items
+    c.push-in-Some-split_first.new.self.items c.push-in-Some-split_first-2.new.self.items c.in-Some.fates c.in-Some-split_first.others c.in_ok-behind.behind (fate_value c.in-Some-split_first.child.now) c.requires.later
     c.in-Some.ensures.items (ap (λ (fates : List (Fate ℕ)). map fate_value fates) c.in-Some-split_first.ensures.cases.0) c.in_ok-push-2.ensures.items c.in_ok-push-3.ensures.items c.in_ok-behind.ensures.behind c.in_ok-behind.ensures.lines
     c.loop-fates.invariant
 

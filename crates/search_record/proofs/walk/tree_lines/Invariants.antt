@@ -1,6 +1,6 @@
 use Rattle.std.proofs.Common.{map, reverse}
 use Rattle.branching.specs.Fates.{fate_value}
-use Rattle.trail.specs.Trail.{trail_entry}
+use Rattle.search_log.specs.SearchLog.{trail_entry}
 use Rattle.search_record.proofs.TrailLines.{Walked, left}
 use Rattle.search_record.proofs.walk.tree_lines.Given as goal
 

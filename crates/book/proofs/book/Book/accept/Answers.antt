@@ -7,9 +7,9 @@ use Rattle.std.proofs.Math.ListN.{set}
 use Rattle.std.proofs.lemmas.Option.{slice_get_within}
 use Rattle.book.specs.State.{Named, BookState}
 use Rattle.book.specs.Steps.{MayCheckIn, Accepts, IsShorterFound, CheckedIn}
-use Rattle.book.specs.OpenNodes.{InsertsKids}
-use Rattle.trail.specs.Trail.{TrailOf, with_entries}
-use Rattle.trail.specs.Recording.{checked_in}
+use Rattle.book.specs.OpenNodes.{InsertsChildren}
+use Rattle.search_log.specs.SearchLog.{TrailOf, with_entries}
+use Rattle.search_log.specs.Recording.{checked_in}
 use Rattle.book.specs.Views.{state_of, IsKept, KeepsBook}
 pub use Rattle.book.specs.declared.book.Book.TheInside.{Inside}
 use Rattle.book.proofs.Steps.{not_improved, improved, accepts, older_than_next, names_last_opened, kept_accepted}
@@ -19,11 +19,11 @@ use Rattle.book.proofs.book.Book.accept.Goals as goal
 may_check_in : (b : Inside) (s : BookState) (worker name : ℕ) (report : Expansion) → state_of b ≡ s → MayCheckIn s worker name report → MayCheckIn (state_of b) worker name report
 may_check_in b s worker name report is may = subst (λ (s : BookState). MayCheckIn s worker name report) (sym is) may
 
-pub open_kids-requires-clause-older : goal.open_kids-requires-clause-older
-open_kids-requires-clause-older c = older_than_next (state_of c.self.inside) c.self.invariant.kept
+pub open_children-requires-clause-older : goal.open_children-requires-clause-older
+open_children-requires-clause-older c = older_than_next (state_of c.self.inside) c.self.invariant.kept
 
-pub open_kids-requires-clause-known : goal.open_kids-requires-clause-known
-open_kids-requires-clause-known c =
+pub open_children-requires-clause-known : goal.open_children-requires-clause-known
+open_children-requires-clause-known c =
     let may = may_check_in c.self.inside c.args.self.now c.args.worker c.args.name c.args.report c.self.view_is c.requires in
     held_known c.self.inside.trail (state_of c.self.inside) c.args.worker may.held c.args.name c.self.invariant.kept.recorded c.self.invariant.kept.sound may.holds may.named
 
@@ -36,7 +36,7 @@ pub overflow_add-self-2 : goal.overflow_add-self-2
 overflow_add-self-2 c =
     let told : IsReport c.args.report = c.into_parts-found.ensures.report in
     let fair : IsFair c.args.report = told.fair in
-    let inserts : InsertsKids c.self.inside.opened c.or-limit.result c.args.report.kids c.in-Ok.opened c.self.inside.waiting c.open_kids.new.nodes = c.in-Ok.ensures.opened in
+    let inserts : InsertsChildren c.self.inside.opened c.or-limit.result c.args.report.children c.in-Ok.opened c.self.inside.waiting c.open_children.new.nodes = c.in-Ok.ensures.opened in
     omega (arith, names_last_opened (state_of c.self.inside) c.args.report c.or-limit.result c.in-Ok.opened c.self.invariant.kept fair inserts.count_is)
 
 -- the state that is left
@@ -47,13 +47,13 @@ same_left : (b : Inside) (best : Option ScheduleOf) (waiting : List Named) (hand
 same_left b best waiting hands others count trail e = λ i. left b best waiting (e i) count trail
 
 -- the report was accepted, and nothing shorter was found
-accepted_as_before : (b : Inside) (worker name : ℕ) (report : Expansion) (shorter best limit : Option ℤ) (count : ℕ) (waiting : List Named) (hands : List (Option Named)) (trail : Option TrailOf) → best ≡ ceiling_of b.best → IsShorterFound report.found best shorter → limit ≡ option_or shorter best → is_some shorter ≡ false → InsertsKids b.opened limit report.kids count b.waiting waiting → hands ≡ set b.hands worker None → trail ≡ option_map (with_entries (checked_in limit name report)) b.trail → Accepts (state_of b) worker name report (record { opened = count; improved = false }) (left b b.best waiting hands count trail)
+accepted_as_before : (b : Inside) (worker name : ℕ) (report : Expansion) (shorter best limit : Option ℤ) (count : ℕ) (waiting : List Named) (hands : List (Option Named)) (trail : Option TrailOf) → best ≡ ceiling_of b.best → IsShorterFound report.found best shorter → limit ≡ option_or shorter best → is_some shorter ≡ false → InsertsChildren b.opened limit report.children count b.waiting waiting → hands ≡ set b.hands worker None → trail ≡ option_map (with_entries (checked_in limit name report)) b.trail → Accepts (state_of b) worker name report (record { opened = count; improved = false }) (left b b.best waiting hands count trail)
 accepted_as_before b worker name report shorter best limit count waiting hands trail is found under e inserts emptied noted =
     let kept = not_improved b.best report.found shorter best is found e in
     accepts (state_of b) worker name report false limit count (left b b.best waiting hands count trail) kept.0 (under ∙ kept.1) inserts (ap entries_in noted ∙ entries_changed b.trail (checked_in limit name report)) (same_left b b.best waiting hands (set b.hands worker None) count trail emptied)
 
 -- the report was accepted, and what was found is the best
-accepted_as_better : (b : Inside) (worker name : ℕ) (report : Expansion) (now : Option ScheduleOf) (shorter best limit : Option ℤ) (count : ℕ) (waiting : List Named) (hands : List (Option Named)) (trail : Option TrailOf) → best ≡ ceiling_of b.best → IsShorterFound report.found best shorter → limit ≡ option_or shorter best → is_some shorter ≡ true → now ≡ report.found → InsertsKids b.opened limit report.kids count b.waiting waiting → hands ≡ set b.hands worker None → trail ≡ option_map (with_entries (checked_in limit name report)) b.trail → Accepts (state_of b) worker name report (record { opened = count; improved = true }) (left b now waiting hands count trail)
+accepted_as_better : (b : Inside) (worker name : ℕ) (report : Expansion) (now : Option ScheduleOf) (shorter best limit : Option ℤ) (count : ℕ) (waiting : List Named) (hands : List (Option Named)) (trail : Option TrailOf) → best ≡ ceiling_of b.best → IsShorterFound report.found best shorter → limit ≡ option_or shorter best → is_some shorter ≡ true → now ≡ report.found → InsertsChildren b.opened limit report.children count b.waiting waiting → hands ≡ set b.hands worker None → trail ≡ option_map (with_entries (checked_in limit name report)) b.trail → Accepts (state_of b) worker name report (record { opened = count; improved = true }) (left b now waiting hands count trail)
 accepted_as_better b worker name report now shorter best limit count waiting hands trail is found under e same inserts emptied noted =
     let better = improved b.best report.found now shorter best is found e same in
     accepts (state_of b) worker name report true limit count (left b now waiting hands count trail) better.0 (under ∙ better.1) inserts (ap entries_in noted ∙ entries_changed b.trail (checked_in limit name report)) (same_left b now waiting hands (set b.hands worker None) count trail emptied)
@@ -68,22 +68,22 @@ kept_after b worker name report s done limit new trail is may told kept accepted
 
 pub returns-then-is_none-clause-ok : goal.returns-then-is_none-clause-ok
 returns-then-is_none-clause-ok c =
-    rw (← c.self.view_is) (accepted_as_before c.self.inside c.args.worker c.args.name c.args.report c.shorter_found-shorter.result c.makespan_of-best.result c.or-limit.result c.in-Ok.opened c.open_kids.new.nodes c.empty.new.self c.open_kids.new.trail c.makespan_of-best.ensures c.shorter_found-shorter.ensures c.or-limit.ensures (search rules) c.in-Ok.ensures.opened c.empty.ensures c.in-Ok.ensures.noted)
+    rw (← c.self.view_is) (accepted_as_before c.self.inside c.args.worker c.args.name c.args.report c.shorter_found-shorter.result c.makespan_of-best.result c.or-limit.result c.in-Ok.opened c.open_children.new.nodes c.empty.new.self c.open_children.new.trail c.makespan_of-best.ensures c.shorter_found-shorter.ensures c.or-limit.ensures (search rules) c.in-Ok.ensures.opened c.empty.ensures c.in-Ok.ensures.noted)
 
 pub invariant_of-self-then-is_none : goal.invariant_of-self-then-is_none
 invariant_of-self-then-is_none c =
-    let done = accepted_as_before c.self.inside c.args.worker c.args.name c.args.report c.shorter_found-shorter.result c.makespan_of-best.result c.or-limit.result c.in-Ok.opened c.open_kids.new.nodes c.empty.new.self c.open_kids.new.trail c.makespan_of-best.ensures c.shorter_found-shorter.ensures c.or-limit.ensures (search rules) c.in-Ok.ensures.opened c.empty.ensures c.in-Ok.ensures.noted in
-    let after = kept_after c.self.inside c.args.worker c.args.name c.args.report c.args.self.now _ c.or-limit.result _ c.open_kids.new.trail c.self.view_is c.requires c.into_parts-found.ensures.report c.self.invariant done c.in-Ok.ensures.noted in
+    let done = accepted_as_before c.self.inside c.args.worker c.args.name c.args.report c.shorter_found-shorter.result c.makespan_of-best.result c.or-limit.result c.in-Ok.opened c.open_children.new.nodes c.empty.new.self c.open_children.new.trail c.makespan_of-best.ensures c.shorter_found-shorter.ensures c.or-limit.ensures (search rules) c.in-Ok.ensures.opened c.empty.ensures c.in-Ok.ensures.noted in
+    let after = kept_after c.self.inside c.args.worker c.args.name c.args.report c.args.self.now _ c.or-limit.result _ c.open_children.new.trail c.self.view_is c.requires c.into_parts-found.ensures.report c.self.invariant done c.in-Ok.ensures.noted in
     record { kept = after.0; of_trail = after.1 }
 
 pub returns-clause-ok : goal.returns-clause-ok
 returns-clause-ok c =
-    rw (← c.self.view_is) (accepted_as_better c.self.inside c.args.worker c.args.name c.args.report c.into_parts-found.result.0 c.shorter_found-shorter.result c.makespan_of-best.result c.or-limit.result c.in-Ok.opened c.open_kids.new.nodes c.empty.new.self c.open_kids.new.trail c.makespan_of-best.ensures c.shorter_found-shorter.ensures c.or-limit.ensures (search rules) c.into_parts-found.ensures.found c.in-Ok.ensures.opened c.empty.ensures c.in-Ok.ensures.noted)
+    rw (← c.self.view_is) (accepted_as_better c.self.inside c.args.worker c.args.name c.args.report c.into_parts-found.result.0 c.shorter_found-shorter.result c.makespan_of-best.result c.or-limit.result c.in-Ok.opened c.open_children.new.nodes c.empty.new.self c.open_children.new.trail c.makespan_of-best.ensures c.shorter_found-shorter.ensures c.or-limit.ensures (search rules) c.into_parts-found.ensures.found c.in-Ok.ensures.opened c.empty.ensures c.in-Ok.ensures.noted)
 
 pub invariant_of-self-2 : goal.invariant_of-self-2
 invariant_of-self-2 c =
-    let done = accepted_as_better c.self.inside c.args.worker c.args.name c.args.report c.into_parts-found.result.0 c.shorter_found-shorter.result c.makespan_of-best.result c.or-limit.result c.in-Ok.opened c.open_kids.new.nodes c.empty.new.self c.open_kids.new.trail c.makespan_of-best.ensures c.shorter_found-shorter.ensures c.or-limit.ensures (search rules) c.into_parts-found.ensures.found c.in-Ok.ensures.opened c.empty.ensures c.in-Ok.ensures.noted in
-    let after = kept_after c.self.inside c.args.worker c.args.name c.args.report c.args.self.now _ c.or-limit.result _ c.open_kids.new.trail c.self.view_is c.requires c.into_parts-found.ensures.report c.self.invariant done c.in-Ok.ensures.noted in
+    let done = accepted_as_better c.self.inside c.args.worker c.args.name c.args.report c.into_parts-found.result.0 c.shorter_found-shorter.result c.makespan_of-best.result c.or-limit.result c.in-Ok.opened c.open_children.new.nodes c.empty.new.self c.open_children.new.trail c.makespan_of-best.ensures c.shorter_found-shorter.ensures c.or-limit.ensures (search rules) c.into_parts-found.ensures.found c.in-Ok.ensures.opened c.empty.ensures c.in-Ok.ensures.noted in
+    let after = kept_after c.self.inside c.args.worker c.args.name c.args.report c.args.self.now _ c.or-limit.result _ c.open_children.new.trail c.self.view_is c.requires c.into_parts-found.ensures.report c.self.invariant done c.in-Ok.ensures.noted in
     record { kept = after.0; of_trail = after.1 }
 
 pub returns-then-is_none-clause-sound : goal.returns-then-is_none-clause-sound

@@ -7,7 +7,7 @@ use Rattle.branching.specs.Right.{IsUnder, Reaches, IsLeast}
 use Rattle.book.specs.State.{Named, BookState, best_makespan}
 use Rattle.book.specs.Sound.{bounds_of, note_cut}
 use Rattle.book.specs.Views.{state_of, IsKept}
-use Rattle.trail.specs.Trail.{Entry, TrailOf}
+use Rattle.search_log.specs.SearchLog.{Entry, TrailOf}
 use Rattle.book.proofs.Recorded.{entries_in, entries_changed, project_kept, cut_state}
 use Rattle.book.proofs.Steps.{kept_cut}
 use Rattle.book.proofs.book.Book.cut_settled.Goals as goal

@@ -3,7 +3,7 @@ use Rattle.std.specs.Arc.{arc_value}
 use Rattle.std.proofs.Math.ListN.{replicate}
 use Rattle.network.specs.Problem.{Problem}
 use Rattle.book.specs.State.{Named, BookState}
-use Rattle.book.specs.Steps.{AreAllowed, AreFirst}
+use Rattle.book.specs.Steps.{AreAllowed, AreRoots}
 use Rattle.book.specs.Views.{IsKept}
 use Rattle.book.proofs.Steps.{kept_opened}
 use Rattle.book.proofs.book.Book.open.Goals as goal
@@ -18,7 +18,7 @@ pub invariant_of-result : goal.invariant_of-result
 invariant_of-result c =
     let nodes : List Named = c.in_ok-waiting.waiting in
     let allowed : AreAllowed c.args.workers c.args.takes = search rules in
-    let first : AreFirst (arc_value c.args.project) nodes = search rules in
+    let first : AreRoots (arc_value c.args.project) nodes = search rules in
     let hands : c.in_ok-hands.hands ≡ replicate c.args.workers None = search rules in
     let count : c.len-opened.result ≡ length nodes = search rules in
     let kept = subst IsKept (sym (same_state (arc_value c.args.project) nodes c.args.takes c.in_ok-hands.hands (replicate c.args.workers None) c.len-opened.result (length nodes) hands count))

@@ -3,7 +3,7 @@ use Rattle.std.specs.Arc.{arc_value}
 use Rattle.std.proofs.Math.ListN.{replicate}
 use Rattle.network.specs.Problem.{Problem}
 use Rattle.book.specs.State.{Named, BookState}
-use Rattle.trail.specs.Trail.{Entry, no_entry, TrailOf, trail_for}
+use Rattle.search_log.specs.SearchLog.{Entry, no_entry, TrailOf, trail_for}
 use Rattle.book.specs.Steps.{AreAllowed, IsOpened, new_state, first_entries}
 use Rattle.book.specs.Views.{state_of}
 use Rattle.book.proofs.book.Book.open_recorded.Goals as goal

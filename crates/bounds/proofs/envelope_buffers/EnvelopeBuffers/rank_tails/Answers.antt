@@ -1,5 +1,5 @@
 use Rattle.std.proofs.Common.{sym, ap, ◌∙◌, length, arith}
-use Rattle.orders.specs.Orders.{IsOrder}
+use Rattle.profile.specs.Orders.{IsOrder}
 use Rattle.bounds.specs.Loads.{AreKeysOf}
 use Rattle.bounds.proofs.Ranked.{order_long, order_has_keys, keys_are_ends, keys_long, ranked_tasks, refilled}
 use Rattle.bounds.proofs.envelope_buffers.EnvelopeBuffers.rank_tails.Goals as goal

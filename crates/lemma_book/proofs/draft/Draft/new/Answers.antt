@@ -1,7 +1,7 @@
 use Rattle.std.proofs.Common.{◌≡◌, arith, pos, ◌+◌}
 use Rattle.std.proofs.lemmas.Int.{ints}
 use Rattle.network.specs.Problem.{IsBetween}
-use Rattle.horizon.specs.Horizon.{horizon}
+use Rattle.network.specs.Horizon.{horizon}
 use Rattle.lemma_book.specs.declared.deadline.TheConstants.{MAX_CEILING}
 use Rattle.lemma_book.proofs.Ledgers.{first_is}
 use Rattle.lemma_book.proofs.draft.Draft.new.Goals as goal

@@ -1,5 +1,5 @@
 use Rattle.std.proofs.Common.{◌≡◌, sym, [], ◌∷◌, None, Some}
-use Rattle.block.specs.Heads.{IsLight}
+use Rattle.lemma_proof.specs.Heads.{IsLight}
 use Rattle.network.specs.Problem.{activity_count}
 use Rattle.network.specs.Walk.{HasPositiveCycle, IsMatrixOf}
 use Rattle.lemma_book.specs.Premises.{PremisesOf, premises_of, root_arcs}

@@ -1,8 +1,8 @@
 use Rattle.std.proofs.Common.{◌≡◌, sym, ap, ◌∙◌, true, None, Some, length, ◌++◌}
 use Rattle.network.specs.Walk.{IsMatrixOf, HasNoPositiveCycle}
-use Rattle.reasons.specs.Reasons.{Entries, Implies, TellsWhether}
-use Rattle.reasons.proofs.KnownBlocks.{told_by}
-use Rattle.reasons.proofs.KnownWalks.{known_matrix, length-entries}
+use Rattle.lemma_proof.specs.Reasons.{Entries, Implies, TellsWhether}
+use Rattle.lemma_proof.proofs.KnownBlocks.{told_by}
+use Rattle.lemma_proof.proofs.KnownWalks.{known_matrix, length-entries}
 use Rattle.lemma_proof.specs.Bench.{BenchOf}
 use Rattle.lemma_proof.proofs.Held.{all_there, live_there}
 use Rattle.lemma_proof.proofs.bench.Bench.implies.Goals as goal

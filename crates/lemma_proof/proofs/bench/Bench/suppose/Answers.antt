@@ -1,7 +1,7 @@
 use Rattle.std.proofs.Common.{sym, ap, ◌∙◌, take, pos}
 use Rattle.std.proofs.lemmas.List.{take_all, take_more}
 use Rattle.network.specs.declared.parts.Lag.{Lag}
-use Rattle.block.proofs.Existing.{taken_part}
+use Rattle.lemma_proof.proofs.Existing.{taken_part}
 use Rattle.lemma_proof.specs.Bench.{BenchOf}
 use Rattle.lemma_proof.proofs.Held.{held_begun, held_dead}
 use Rattle.lemma_proof.proofs.bench.Bench.suppose.Goals as goal
@@ -25,7 +25,7 @@ pub returns-then-self-clause-rows : goal.returns-then-self-clause-rows
 returns-then-self-clause-rows c = c.loop-arc.invariant.rows
 
 pub returns-then-self-clause-supposed : goal.returns-then-self-clause-supposed
-returns-then-self-clause-supposed c = λ own m. held_dead own (take c.loop-arc.arc-index c.args.arcs.now) c.args.arcs.now c.loop-arc.self (sym (ap (λ (x : BenchOf). x.is_dead) c.self.view_is) ∙ c.if-self.true) (taken_part own c.args.arcs.now c.loop-arc.arc-index) (c.loop-arc.invariant.so_far own m)
+returns-then-self-clause-supposed c = λ own m. held_dead own (take c.loop-arc.arc-index c.args.arcs.now) c.args.arcs.now c.loop-arc.self (sym (ap (λ (x : BenchOf). x.is_infeasible) c.self.view_is) ∙ c.if-self.true) (taken_part own c.args.arcs.now c.loop-arc.arc-index) (c.loop-arc.invariant.so_far own m)
 
 pub returns-clause-rows : goal.returns-clause-rows
 returns-clause-rows c = c.loop-arc.invariant.rows

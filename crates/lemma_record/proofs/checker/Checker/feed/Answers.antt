@@ -1,7 +1,7 @@
 use Rattle.std.proofs.Common.{◌≡◌, ◌++◌, ◌∙◌, sym, false, is_some, true, Err}
 use Rattle.std.proofs.lemmas.Result.{MatchResult-weaker}
 use Rattle.lemma_record.specs.Reached.{CheckerOf, IsAt, checker_of}
-use Rattle.lemma_log.specs.declared.fault.LogFault.TheVariants.{Short}
+use Rattle.lemma_log.specs.declared.fault.DecodeFault.TheVariants.{Short}
 use Rattle.lemma_log.specs.Reading.{read_in}
 use Rattle.lemma_record.proofs.Stepping.{event_piece, event_waits, title_piece, trailing_piece}
 use Rattle.lemma_record.proofs.checker.Checker.feed.Goals as goal

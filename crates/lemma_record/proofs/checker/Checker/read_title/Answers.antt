@@ -1,6 +1,6 @@
 use Rattle.std.proofs.Common.{◌≡◌, sym, Ok, Err, ℕ, drop}
 use Rattle.std.proofs.lemmas.Result.{MatchResult-weaker}
-use Rattle.lemma_log.specs.declared.fault.LogFault.TheVariants.{Short}
+use Rattle.lemma_log.specs.declared.fault.DecodeFault.TheVariants.{Short}
 use Rattle.lemma_log.specs.Reading.{title_in}
 use Rattle.lemma_record.specs.Reached.{CheckerOf, IsAtTitle, checker_of}
 use Rattle.lemma_record.proofs.Stepping.{title_at, title_waits}

@@ -20,8 +20,8 @@ invariant_of-result c =
 
 pub invariant_of-result-2 : goal.invariant_of-result-2
 invariant_of-result-2 c =
-    let kids : map arc_value c.append.new.self.items ≡ map arc_value c.next_node.new.stack.items ++ c.in_ok-report.report.kids =
-    ap (map arc_value) c.in_ok-append.ensures.items ∙ map-append arc_value c.next_node.new.stack.items c.into_parts-found.result.1.kids.items ∙ ap (λ (ks : List Subproblem). map arc_value c.next_node.new.stack.items ++ ks) c.into_parts-found.ensures.kids in
+    let children : map arc_value c.append.new.self.items ≡ map arc_value c.next_node.new.stack.items ++ c.in_ok-report.report.children =
+    ap (map arc_value) c.in_ok-append.ensures.items ∙ map-append arc_value c.next_node.new.stack.items c.into_parts-found.result.1.children.items ∙ ap (λ (ks : List Subproblem). map arc_value c.next_node.new.stack.items ++ ks) c.into_parts-found.ensures.children in
     let old : SearchState = record { project = c.self.inside.project.value; best = c.self.inside.best; nodes = map arc_value c.self.inside.stack.items } in
     let new : SearchState = record { project = c.self.inside.project.value; best = c.shorter_of-best.result; nodes = map arc_value c.append.new.self.items } in
     let take : IsTake old new = record {
@@ -33,6 +33,6 @@ invariant_of-result-2 c =
       is_report = c.into_parts-found.ensures.report;
       project = refl;
       best = rw c.into_parts-found.ensures.found at c.shorter_of-best.ensures;
-      nodes = kids;
+      nodes = children;
     } in
     take_keeps old new take c.self.invariant

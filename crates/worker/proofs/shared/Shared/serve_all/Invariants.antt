@@ -3,7 +3,7 @@ use Rattle.worker.proofs.shared.Shared.serve_all.Given as goal
 
 abbrev pub invariant-loop : goal.invariant-loop
 invariant-loop g l = record {
-  seated : l.desk.seat.word ≡ l.self.best;
+  seated : l.desk.seat.ceiling ≡ l.self.best;
   number : l.desk.number ≡ l.initial.desk.number;
   accepted : l.initial.desk.accepted ≤ l.desk.accepted;
   dismissals : l.desk.key.dismissals ≡ l.initial.desk.key.dismissals;

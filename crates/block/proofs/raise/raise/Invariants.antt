@@ -1,5 +1,0 @@
-use Rattle.block.proofs.Raising.{IsPartlyRaised}
-use Rattle.block.proofs.raise.raise.Given as goal
-
-abbrev pub invariant-loop-k : goal.invariant-loop-k
-invariant-loop-k l = IsPartlyRaised l.k l.by l.via l.fn.row l.row

@@ -1,6 +1,0 @@
-use Rattle.block.specs.Heads.{table_rows}
-use Rattle.block.specs.Rising.{HaveRisen}
-use Rattle.block.proofs.rise.settle.Given as goal
-
-abbrev pub invariant-loop-pass : goal.invariant-loop-pass
-invariant-loop-pass l = HaveRisen (table_rows l.table) l.arcs l.back l.fn.there l.there

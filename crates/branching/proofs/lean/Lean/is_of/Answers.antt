@@ -1,5 +1,0 @@
-use Rattle.std.proofs.Common.{◌∙◌}
-use Rattle.branching.proofs.lean.Lean.is_of.Goals as goal
-
-pub returns : goal.returns
-returns c = rw (c.deref.ensures ∙ c.project.ensures.project) at c.is_same.ensures

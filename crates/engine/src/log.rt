@@ -1,0 +1,306 @@
+//! The log of a proof.
+
+use crate::reason::{Inference, LineReason};
+use instance::{Edge, Instance, Result, Rivals, Rows};
+use lemma_log::{Event, Lines};
+use lemma_proof::{Lags, Line, WindowOverload};
+use network::{Lag, Pair};
+use propagation::{Literal, NEVER};
+use record_text::Members;
+use std::alloc::Global;
+use std::collections::BTreeSet;
+use std::mem;
+
+/// The slots of a record that the lemmas of a search go to: every `jobs`-th one, from `job` on.
+#[derive(Clone, Copy, PartialEq, Eq, Debug)]
+pub struct Slots {
+    pub job: u32,
+    pub jobs: u32,
+    /// How many slots of the record are taken at first.
+    pub taken: u32,
+}
+
+impl Slots {
+    /// How many of the search's own are taken at first.
+    fn taken_of_own(self) -> u32 {
+        let others = self.jobs.saturating_sub(1);
+        let taken = self.taken.saturating_add(others);
+        taken.checked_div(self.jobs).unwrap_or(0)
+    }
+}
+
+/// An event, and of how many levels the literals of its lemma are (the LBD of Audemard and Simon 2009).
+#[derive(Drop)]
+pub struct LoggedEvent {
+    pub event: Event,
+    pub lbd: u32,
+}
+
+/// The events of a proof that were not handed on yet, and the numbers of lemmas. Each is the slot that the lemma has in a
+/// record, so that searches know each other's.
+#[derive(Drop)]
+pub struct Log<'a> {
+    alloc: Global,
+    instance: &'a Instance,
+    /// The order of `pairs[k]` is the variable after the activities and k others.
+    pairs: Vec<Rivals>,
+    /// Whether events are kept.
+    pub is_kept: bool,
+    told: Vec<LoggedEvent>,
+    /// Sets of members of cliques.
+    sets: Rows<u32>,
+    slots: Slots,
+    /// The numbers of lemmas in use, and of those that this search does without, and another one may not.
+    used: BTreeSet<u32>,
+    forgotten: BTreeSet<u32>,
+    /// Of the search's own: how many were ever used, and those that are free again.
+    count: u32,
+    free: Vec<u32>,
+}
+
+/// An arc of a record.
+fn lag(edge: Edge) -> Lag {
+    Lag {
+        from: edge.from as usize,
+        to: edge.to as usize,
+        weight: i64::from(edge.weight),
+    }
+}
+
+/// The arc that holds where this one does not.
+fn reverse(arc: Lag) -> Lag {
+    Lag {
+        from: arc.to,
+        to: arc.from,
+        weight: 1i64.wrapping_sub(arc.weight),
+    }
+}
+
+/// The line that says that the second of two rivals can't come first.
+fn force(edge: Edge) -> Line {
+    let (before, after) = (edge.from as usize, edge.to as usize);
+    Line::Force(Pair { before, after })
+}
+
+impl<'a> Log<'a> {
+    /// An empty log of a search over orders of pairs, whose lemmas go to these slots. One that isn't kept forgets all.
+    pub fn new(
+        instance: &'a Instance,
+        pairs: &[Rivals],
+        is_kept: bool,
+        slots: Slots,
+    ) -> Result<Log<'a>> {
+        let alloc = instance.alloc;
+        Ok(Log {
+            alloc,
+            instance,
+            pairs: Vec::from_slice(alloc, pairs)?,
+            is_kept,
+            told: Vec::new(alloc),
+            sets: Rows::new(alloc, 0),
+            slots,
+            used: BTreeSet::new(alloc),
+            forgotten: BTreeSet::new(alloc),
+            count: slots.taken_of_own(),
+            free: Vec::new(alloc),
+        })
+    }
+
+    /// The activities of the literal of an order, the one that is first before the other.
+    fn order_of(&self, literal: Literal) -> Option<(u32, u32)> {
+        let place = literal.variable().checked_sub(self.instance.count())?;
+        let Rivals { first, second } = self.pairs.get(place as usize).copied()?;
+        Some(if literal.is_lower() {
+            (first, second)
+        } else {
+            (second, first)
+        })
+    }
+
+    /// The arc of a literal.
+    fn arc(&self, literal: Literal) -> Edge {
+        let activity = literal.variable();
+        match self.order_of(literal) {
+            Some((first, second)) => Edge::new(first, second, self.instance.durations[first]),
+            None if literal.is_lower() => Edge::new(0, activity, literal.value),
+            None => Edge::new(activity, 0, literal.value),
+        }
+    }
+
+    /// The arc of a literal in a lemma. That of an order says only that the second activity does not end before the
+    /// first one starts: so the lemma's reverse is the whole of the other order.
+    fn supposed(&self, literal: Literal) -> Lag {
+        let mut edge = self.arc(literal);
+        if self.order_of(literal).is_some() {
+            edge.weight = 1i32.wrapping_sub(self.instance.durations[edge.to]);
+        }
+        lag(edge)
+    }
+
+    /// The arc of a decision that is one side of a split: the arcs of two sides are each other's reverse.
+    pub fn side(&self, literal: Literal, is_second: bool) -> Lag {
+        match is_second {
+            true => lag(self.arc(literal)),
+            false => self.supposed(literal),
+        }
+    }
+
+    /// Adds the line that shows an arc, or that none is left. What arcs alone show needs none.
+    fn put(&self, lines: &mut Vec<Line>, reason: LineReason, edge: Option<Edge>) -> Result<()> {
+        let over = match reason {
+            LineReason::Arcs => return Ok(()),
+            LineReason::Force => return lines.extend(edge.map(force)),
+            LineReason::Use { lemma } => return lines.extend(Some(Line::Use(lemma as usize))),
+            LineReason::Load { resource, from, to } => WindowOverload::Load {
+                resource: resource as usize,
+                from: i64::from(from),
+                to: i64::from(to),
+            },
+            LineReason::Clique { members, from, to } => {
+                let members = self.sets.row(members).iter().map(|member| *member as usize);
+                WindowOverload::Clique {
+                    from: i64::from(from),
+                    to: i64::from(to),
+                    members: Members::new(members.collect(self.alloc)?),
+                }
+            }
+        };
+        let arc = edge.map(lag);
+        lines.push(Line::Push { arc, over })?;
+        Ok(())
+    }
+
+    /// Tells a lemma with its lines.
+    fn tell(&mut self, number: u32, lbd: u32, arcs: Vec<Lag>, lines: Vec<Line>) -> Result<()> {
+        let event = Event::Lemma {
+            slot: number as usize,
+            arcs: Lags::new(arcs),
+            lines: Lines::new(lines),
+        };
+        self.told.push(LoggedEvent { event, lbd })?;
+        Ok(())
+    }
+
+    /// A lemma of one arc, which always holds, or of none.
+    fn tell_root(&mut self, reason: LineReason, edge: Option<Edge>) -> Result<()> {
+        let (mut arcs, mut lines) = (Vec::new(self.alloc), Vec::new(self.alloc));
+        if let Some(edge) = edge {
+            arcs.push(reverse(lag(edge)))?;
+        }
+        self.put(&mut lines, reason, edge)?;
+        match self.is_kept {
+            true => self.tell(0, 0, arcs, lines),
+            false => Ok(()),
+        }
+    }
+
+    /// The order of an edge always holds, as the other order does not fit.
+    pub fn order(&mut self, edge: Edge) -> Result<()> {
+        self.tell_root(LineReason::Force, Some(edge))
+    }
+
+    /// A literal always holds. What holds by lags and orders alone needs no event.
+    pub fn root(&mut self, link: Inference) -> Result<()> {
+        match link.reason {
+            LineReason::Arcs => Ok(()),
+            reason => self.tell_root(reason, Some(self.arc(link.literal))),
+        }
+    }
+
+    /// No schedule is left.
+    pub fn end(&mut self, reason: LineReason) -> Result<()> {
+        self.tell_root(reason, None)
+    }
+
+    /// A number that no lemma has.
+    fn number(&mut self) -> Result<u32> {
+        let next = self
+            .count
+            .wrapping_mul(self.slots.jobs)
+            .wrapping_add(self.slots.job);
+        let number = self.free.pop().unwrap_or(next);
+        self.count = self.count.wrapping_add(u32::from(number == next));
+        self.used.insert(number)?;
+        Ok(number)
+    }
+
+    /// Not all literals of a nogood hold, since these links follow from them, in the order of their events, up to the one
+    /// that contradicts them, which has no literal. Gives the lemma's number; one of one literal, which always fails, has
+    /// none of its own.
+    pub fn lemma(
+        &mut self,
+        nogood: &[Literal],
+        lbd: u32,
+        links: &[(u32, Inference)],
+    ) -> Result<u32> {
+        if !self.is_kept {
+            return Ok(0);
+        }
+        let number = match nogood.len() {
+            0 | 1 => 0,
+            _ => self.number()?,
+        };
+        let (mut arcs, mut lines) = (Vec::new(self.alloc), Vec::new(self.alloc));
+        for literal in nogood {
+            arcs.push(self.supposed(*literal))?;
+            if self.order_of(*literal).is_some() {
+                lines.push(force(self.arc(*literal)))?;
+            }
+        }
+        for (_, Inference { literal, reason }) in links {
+            let edge = (*literal != NEVER).then_some(self.arc(*literal));
+            self.put(&mut lines, *reason, edge)?;
+        }
+        self.tell(number, lbd, arcs, lines)?;
+        Ok(number)
+    }
+
+    /// The lemma of a number, which is another search's, is used from now on.
+    pub fn import(&mut self, number: u32) -> Result<()> {
+        self.forgotten.remove(&number);
+        self.used.insert(number)?;
+        Ok(())
+    }
+
+    /// The lemma of a number is forgotten.
+    pub fn forget(&mut self, number: u32) -> Result<()> {
+        if self.used.remove(&number) {
+            self.forgotten.insert(number)?;
+            let (slot, lbd) = (number as usize, 0);
+            let event = Event::Drop { slot };
+            self.told.push(LoggedEvent { event, lbd })?;
+        }
+        Ok(())
+    }
+
+    /// All lemmas are forgotten.
+    pub fn forget_all(&mut self) -> Result<()> {
+        let used: Vec<u32> = self.used.iter().copied().collect(self.alloc)?;
+        for number in &used {
+            self.forget(*number)?;
+        }
+        Ok(())
+    }
+
+    /// No search uses the lemma of a number any more: one of the search's own is free again.
+    pub fn release(&mut self, number: u32) -> Result<()> {
+        if self.forgotten.remove(&number) {
+            self.free.push(number)?;
+        }
+        Ok(())
+    }
+
+    /// Keeps a set of members of a clique, which rise, until the events are handed on. Gives its number.
+    pub fn set(&mut self, members: &[u32]) -> Result<u32> {
+        if self.is_kept {
+            self.sets.push_row(members)?;
+        }
+        Ok(self.sets.count().wrapping_sub(1))
+    }
+
+    /// Hands on the events.
+    pub fn take(&mut self) -> Vec<LoggedEvent> {
+        self.sets = Rows::new(self.alloc, 0);
+        mem::replace(&mut self.told, Vec::new(self.alloc))
+    }
+}

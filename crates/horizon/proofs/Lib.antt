@@ -1,3 +1,0 @@
-pub mod Squeezed
-pub mod Sooner
-pub mod Stretches

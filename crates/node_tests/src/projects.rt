@@ -1,0 +1,111 @@
+//! Projects that tests share.
+
+ghost use Rattle.std.specs.Prelude.{◌≡◌, IsTrue};
+ghost use Rattle.network.specs.Problem.{AreStarts};
+
+use network::{Lag, MAX_START, Pair, Parts, Project};
+use std::alloc::Global;
+use std::test::Fail;
+
+/// An arc.
+pub fn lag(from: usize, to: usize, weight: i64) -> Lag
+    ensures { result ≡ record { from = from; to = to; weight = weight } }
+{
+    Lag { from, to, weight }
+}
+
+/// A pair.
+pub fn pair(before: usize, after: usize) -> Pair
+    ensures { result ≡ record { before = before; after = after } }
+{
+    Pair { before, after }
+}
+
+/// Whether there is a start within the limits for each activity.
+pub fn are_starts(project: &Project, starts: &[i64]) -> bool
+    ensures { IsTrue result → AreStarts project.now starts.now }
+{
+    starts.len() == project.activity_count()
+        && starts
+            .iter()
+            .all(|start| -MAX_START <= *start && *start <= MAX_START)
+}
+
+fn of_rows(
+    alloc: Global,
+    durations: &[i64],
+    rows: Vec<Vec<i64>>,
+    capacities: &[i64],
+    lags: &[Lag],
+) -> Result<Project, Fail> {
+    let parts = Parts {
+        durations: Vec::from_slice(alloc, durations)?,
+        demands: rows,
+        capacities: Vec::from_slice(alloc, capacities)?,
+        lags: Vec::from_slice(alloc, lags)?,
+    };
+    Ok(Project::new(parts)?)
+}
+
+/// The project of these lists, with a row of demands for each activity.
+pub fn project(
+    alloc: Global,
+    durations: &[i64],
+    demands: &[&[i64]],
+    capacities: &[i64],
+    lags: &[Lag],
+) -> Result<Project, Fail> {
+    let mut rows = Vec::new(alloc);
+    for row in demands {
+        rows.push(Vec::from_slice(alloc, row)?)?;
+    }
+    of_rows(alloc, durations, rows, capacities, lags)
+}
+
+/// A project with one resource.
+pub fn with_one_resource(
+    alloc: Global,
+    durations: &[i64],
+    demands: &[i64],
+    capacity: i64,
+    lags: &[Lag],
+) -> Result<Project, Fail> {
+    let mut rows = Vec::new(alloc);
+    for demand in demands {
+        rows.push(vec![in alloc; *demand]?)?;
+    }
+    of_rows(alloc, durations, rows, &[capacity], lags)
+}
+
+/// Two activities of 3 and 4 periods that ask for the one unit of a resource.
+pub fn one_machine(alloc: Global, lags: &[Lag]) -> Result<Project, Fail> {
+    with_one_resource(alloc, &[0, 3, 4, 0], &[0, 1, 1, 0], 1, lags)
+}
+
+/// The same, where each of them has to start before the other ends.
+pub fn both_orders_dead(alloc: Global) -> Result<Project, Fail> {
+    one_machine(alloc, &[lag(1, 2, 0), lag(2, 1, -2)])
+}
+
+/// Three activities of 3, 4 and 2 periods that ask for the one unit of a resource.
+pub fn three_in_turn(alloc: Global, lags: &[Lag]) -> Result<Project, Fail> {
+    with_one_resource(alloc, &[0, 3, 4, 2, 0], &[0, 1, 1, 1, 0], 1, lags)
+}
+
+/// Three activities of 2 periods that ask for one of two units of a resource.
+pub fn three_on_two(alloc: Global) -> Result<Project, Fail> {
+    with_one_resource(alloc, &[0, 2, 2, 2, 0], &[0, 1, 1, 1, 0], 2, &[])
+}
+
+/// Three activities on three units of a resource, the third from 1 to 3 periods after the first.
+pub fn backward_lag(alloc: Global) -> Result<Project, Fail> {
+    let lags = [lag(1, 3, 1), lag(3, 1, -3)];
+    with_one_resource(alloc, &[0, 2, 3, 2, 0], &[0, 2, 2, 1, 0], 3, &lags)
+}
+
+/// An activity of 5 periods, two of 4 after it that ask for the one unit of a resource, and one of 3 after
+/// these.
+pub fn two_between(alloc: Global) -> Result<Project, Fail> {
+    let lags = [lag(1, 2, 5), lag(1, 3, 5), lag(2, 4, 4), lag(3, 4, 4)];
+    with_one_resource(alloc, &[0, 5, 4, 4, 3, 0], &[0, 0, 1, 1, 0, 0], 1, &lags)
+}

@@ -1,0 +1,87 @@
+//! `psmax`: solves projects with resources and time lags, and proves every answer.
+#![tactic(auto)]
+
+ghost use Rattle.calls.specs.Calls.{IsCall};
+ghost use Rattle.runs.specs.Outcome.{IsJob, has_workers};
+ghost use Rattle.runs.specs.declared.job.Job.TheVariants as jobs;
+ghost use Rattle.std.specs.Prelude.{◌≡◌, false, true, IfOk};
+
+use calls::{ArgumentsFault, Call, FOLDER, Opener, call_of, refuse, refuse_files, report, words};
+use psmax_run::run_parallel;
+use runs::{InputReader, OutputWriter, SearchOptions, run};
+use std::alloc::Global;
+use std::process::ExitCode;
+use std::rt::Runtime;
+use std::sync::Wait;
+use std::thread::Threads;
+use std::{fs, io};
+use worker::OpenGate;
+
+/// The program's name in what it prints.
+const PROGRAM: &str = "psmax";
+
+/// Opens the files that a call without workers names, and runs its job. The devices are standard input and output, and
+/// the second input.
+fn perform<R: Runtime>(rt: &R, alloc: Global, call: &Call) -> ExitCode
+    requires call { IsCall call.now }
+    requires alone { has_workers call.now.job ≡ false }
+{
+    let mut files = match Opener::new(rt).open(&call.names) {
+        Ok(files) => files,
+        Err(fault) => return refuse_files(rt, PROGRAM, &call.names, fault),
+    };
+    let mut input = InputReader::new(rt.reader());
+    let mut out = OutputWriter::new(io::writer(rt));
+    let ended = run(alloc, call.job, &mut input, &mut files.second, &mut out);
+    report(rt, PROGRAM, &ended)
+}
+
+/// Opens the files that a call with workers names, and runs its search. The devices are also the output of the record.
+fn search<R: Runtime + Threads + Wait + Sync>(
+    rt: &R,
+    alloc: Global,
+    call: &Call,
+    options: SearchOptions,
+) -> ExitCode
+    requires job { IsJob (jobs.Solve options) }
+    requires workers { has_workers (jobs.Solve options) ≡ true }
+{
+    let mut files = match Opener::new(rt).open(&call.names) {
+        Ok(files) => files,
+        Err(fault) => return refuse_files(rt, PROGRAM, &call.names, fault),
+    };
+    let mut input = InputReader::new(rt.reader());
+    let mut out = OutputWriter::new(io::writer(rt));
+    let ended = run_parallel(
+        rt,
+        alloc,
+        options,
+        &mut input,
+        &mut files.second,
+        &mut out,
+        &mut files.record_file,
+        &OpenGate,
+    );
+    report(rt, PROGRAM, &ended)
+}
+
+/// The call that the words of the command line make.
+fn line_call(rt: &HostRuntime) -> Result<Call, ArgumentsFault>
+    ensures { IfOk result IsCall }
+{
+    call_of(rt.alloc(), &words(rt)?)
+}
+
+fn main(rt: HostRuntime) -> ExitCode {
+    let _input = fs::open(&rt, FOLDER);
+    let _output = fs::open(&rt, FOLDER);
+    let _faults = fs::open(&rt, FOLDER);
+    let call = match line_call(&rt) {
+        Ok(call) => call,
+        Err(fault) => return refuse(&rt, PROGRAM, &fault),
+    };
+    match call.job.by_workers() {
+        Some(options) => search(&rt, rt.alloc(), &call, options),
+        None => perform(&rt, rt.alloc(), &call),
+    }
+}

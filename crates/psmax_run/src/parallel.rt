@@ -1,0 +1,96 @@
+//! A run over devices in which workers search.
+
+ghost use Rattle.std.specs.Prelude.{◌≡◌, ◌≢◌, ◌<◌, true, Some, Err, IfOk, IfErr, IfSome, IfNone};
+ghost use Rattle.answers.specs.declared.fault.Fault.TheVariants as faults;
+ghost use Rattle.answers.specs.Faults.{exit_of};
+ghost use Rattle.runs.specs.declared.job.Job.TheVariants as jobs;
+ghost use Rattle.runs.specs.Runs.{span, IsUntouched, OneFailedWhere, HasRead, IsCutShort, IsNoReply, IsReply, IsWritten, RecordsWhereAsked, Replies};
+ghost use Rattle.runs.specs.Outcome.{IsJob, has_workers, search_inputs, IfTextsKnown};
+
+use crate::workers::{searched, searched_from};
+use answers::Fault;
+use runs::{Ended, Input, Output, Reply, SearchOptions, read_project, read_text, write_reply};
+use std::alloc::Global;
+use std::sync::{Arc, Wait};
+use std::thread::Threads;
+use words::MAX_TEXT_BYTES;
+use worker::Gate;
+
+/// The reply of a search by workers to what its inputs hold. The project is read and judged before the
+/// starts, and these before anything is searched.
+fn searched_reply<I: Input, S: Input, G: Gate, R: Threads + Wait + Sync>(
+    rt: &R,
+    alloc: Global,
+    options: SearchOptions,
+    input: &mut I,
+    second: &mut S,
+    gate: &G,
+) -> Result<Reply, Fault>
+    requires job { IsJob (jobs.Solve options) }
+    requires workers { has_workers (jobs.Solve options) ≡ true }
+    requires input { I.failed input.old < u64.MAX }
+    requires second { S.failed second.old < u64.MAX }
+    ensures said { IfOk result (λ reply. IfTextsKnown options.start (I.left input.old) (S.left second.old)
+        (IsReply (jobs.Solve options) reply)) }
+    ensures records { IfOk result (RecordsWhereAsked (jobs.Solve options)) }
+    ensures refused { IfErr result (IsNoReply (jobs.Solve options) (I.left input.old) (S.left second.old)) }
+    ensures unwritten { IfErr result (λ fault. fault ≢ faults.WriteFailed) }
+    ensures read { HasRead (search_inputs options.start) (result ≡ Err faults.ReadFailed)
+        (span I.left I.failed input.old input.new) (span S.left S.failed second.old second.new) }
+{
+    let project = read_project(alloc, input)?;
+    if !options.start {
+        let project = Arc::new(alloc, project)?;
+        return searched(rt, alloc, options, project, None, gate);
+    }
+    let starts = read_text(alloc, MAX_TEXT_BYTES, second)?;
+    searched_from(rt, alloc, options, project, &starts, gate)
+}
+
+/// Runs a search by workers. It reads what that needs, and writes its answer and then its record, if that is asked for,
+/// and nothing else. The workers pass the gate. An input or output that the search doesn't use is handed an empty one.
+/// After a failure a device isn't called again.
+pub fn run_parallel<I: Input, S: Input, O: Output, D: Output, G: Gate, R: Threads + Wait + Sync>(
+    rt: &R,
+    alloc: Global,
+    options: SearchOptions,
+    input: &mut I,
+    second: &mut S,
+    out: &mut O,
+    record_out: &mut D,
+    gate: &G,
+) -> Ended
+    requires job { IsJob (jobs.Solve options) }
+    requires workers { has_workers (jobs.Solve options) ≡ true }
+    requires input { I.failed input.old < u64.MAX }
+    requires second { S.failed second.old < u64.MAX }
+    requires out { O.failed out.old < u64.MAX }
+    requires record_out { D.failed record_out.old < u64.MAX }
+
+    // No fault: the reply was written whole.
+    ensures replied { IfNone result.fault (Replies (jobs.Solve options) (I.left input.old) (S.left second.old)
+        (λ reply. (result.exit ≡ reply.exit) × IsWritten reply
+        (span O.held O.failed out.old out.new) (span D.held D.failed record_out.old record_out.new))) }
+
+    // An output failed: the outputs hold a beginning of the reply.
+    ensures cut_short { result.fault ≡ Some faults.WriteFailed → Replies (jobs.Solve options) (I.left input.old) (S.left second.old)
+        (λ reply. IsCutShort reply
+        (span O.held O.failed out.old out.new) (span D.held D.failed record_out.old record_out.new)) }
+
+    // Any other fault: there is no reply, and nothing was written.
+    ensures refused { IfSome result.fault (IsNoReply (jobs.Solve options) (I.left input.old) (S.left second.old)) }
+    ensures silent { IfSome result.fault (λ fault. fault ≢ faults.WriteFailed
+        → (out.new ≡ out.old) × (record_out.new ≡ record_out.old)) }
+    ensures status { IfSome result.fault (λ fault. result.exit ≡ exit_of fault) }
+
+    // What was read, and the failures of devices.
+    ensures read { HasRead (search_inputs options.start) (result.fault ≡ Some faults.ReadFailed)
+        (span I.left I.failed input.old input.new) (span S.left S.failed second.old second.new) }
+    ensures failed { OneFailedWhere (result.fault ≡ Some faults.WriteFailed)
+        (span O.held O.failed out.old out.new) (span D.held D.failed record_out.old record_out.new) }
+{
+    match searched_reply(rt, alloc, options, input, second, gate) {
+        Ok(reply) => write_reply(out, record_out, &reply),
+        Err(fault) => Ended::with(fault),
+    }
+}

@@ -1,0 +1,98 @@
+//! The outcome that a book shows: what the searches say counts for nothing.
+
+ghost use Rattle.std.specs.Prelude.{◌≡◌, Some, IsTrue, IfOk, IfErr, IfSome, OnOk};
+ghost use Rattle.std.specs.Arc.{arc_value};
+ghost use Rattle.network.specs.Problem.{AreStarts};
+ghost use Rattle.network.specs.Schedule.{IsFeasible};
+ghost use Rattle.branching.specs.Fair.{IsScheduleFor};
+ghost use Rattle.network.specs.Schedule.{makespan as makespan_of};
+ghost use Rattle.answers.specs.Faults.{exit_of, IsNoDeviceFault};
+ghost use Rattle.record_text.specs.FirstWrong.{IsFactOf};
+ghost use Rattle.plain_search.specs.Verdicts.{IsTrueOf};
+ghost use Rattle.lemma_record.specs.Right.{proved_of};
+ghost use Rattle.psprove_run.specs.Story.{claim_of};
+
+use answers::Fault;
+use lemma_record::Shown;
+use network::{MAX_START, Project, Schedule};
+use plain_search::Outcome;
+use record_text::Proved;
+use schedule_check::{AcceptFault, accept};
+use std::alloc::Global;
+use std::sync::Arc;
+
+/// Whether there is a start within the limits for each activity.
+fn are_starts(project: &Project, starts: &[i64]) -> bool
+    ensures { IsTrue result → AreStarts project.now starts.now }
+{
+    starts.len() == project.activity_count()
+        && starts
+            .iter()
+            .all(|start| -MAX_START <= *start && *start <= MAX_START)
+}
+
+/// The schedule of these starts, where they are a feasible one.
+fn schedule_of(alloc: Global, project: &Arc<Project>, starts: &[i64]) -> Result<Schedule, Fault>
+    ensures schedule { IfOk result (λ s. s ≡ record { project = arc_value project.now; starts = starts.now }) }
+    ensures feasible { OnOk result (IsFeasible (arc_value project.now) starts.now) }
+    ensures status { IfErr result (λ fault. exit_of fault ≡ 1) }
+    ensures fault { IfErr result IsNoDeviceFault }
+{
+    if !are_starts(project, starts) {
+        return Err(Fault::Refused);
+    }
+    let starts = Vec::from_slice(alloc, starts)?;
+    match accept(alloc, Arc::try_clone(project)?, starts) {
+        Ok(schedule) => Ok(schedule),
+        Err(AcceptFault::Violated(_)) => Err(Fault::Refused),
+        Err(AcceptFault::Memory) => Err(Fault::Memory),
+    }
+}
+
+/// The best schedule of a stopped search, if it has one.
+fn best_of(
+    alloc: Global,
+    project: &Arc<Project>,
+    best: Option<&[i64]>,
+) -> Result<Option<Schedule>, Fault>
+    ensures found { IfOk result (λ best. IfSome best (IsScheduleFor (arc_value project.now))) }
+    ensures status { IfErr result (λ fault. exit_of fault ≡ 1) }
+    ensures fault { IfErr result IsNoDeviceFault }
+{
+    match best {
+        Some(starts) => Ok(Some(schedule_of(alloc, project, starts)?)),
+        None => Ok(None),
+    }
+}
+
+/// The shortest schedule, where it takes as long as is proved.
+fn shortest_of(best: Option<Schedule>, makespan: i64) -> Result<Schedule, Fault>
+    ensures shortest { IfOk result (λ s. (best ≡ Some s) × (makespan ≡ makespan_of s.starts)) }
+    ensures status { IfErr result (λ fault. exit_of fault ≡ 1) }
+    ensures fault { IfErr result IsNoDeviceFault }
+{
+    match best {
+        Some(best) if best.makespan() == makespan => Ok(best),
+        _ => Err(Fault::Refused),
+    }
+}
+
+/// The outcome that is proved, with the best schedule.
+pub(crate) fn outcome_of(
+    alloc: Global,
+    project: &Arc<Project>,
+    shown: &Shown,
+) -> Result<Outcome, Fault>
+    requires { IsFactOf (arc_value project.now) shown.now.proved }
+    ensures claims { IfOk result (λ outcome. shown.now.proved ≡ proved_of (claim_of outcome)) }
+    ensures true_of { IfOk result (IsTrueOf (arc_value project.now)) }
+    ensures status { IfErr result (λ fault. exit_of fault ≡ 1) }
+    ensures fault { IfErr result IsNoDeviceFault }
+{
+    let best = best_of(alloc, project, shown.best.as_deref())?;
+    match shown.proved {
+        Proved::Optimal { makespan } => Ok(Outcome::Optimal(shortest_of(best, makespan)?)),
+        Proved::NoSchedule => Ok(Outcome::NoSchedule),
+        Proved::Bound { bound } => Ok(Outcome::Stopped { best, bound }),
+    }
+}

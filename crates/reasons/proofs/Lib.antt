@@ -1,5 +1,0 @@
-pub mod Loops
-pub mod Weighing
-pub mod KnownWalks
-pub mod Windows
-pub mod KnownBlocks

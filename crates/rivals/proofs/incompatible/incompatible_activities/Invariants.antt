@@ -1,5 +1,0 @@
-use Rattle.rivals.specs.Incompatible.{AreRowsOf}
-use Rattle.rivals.proofs.incompatible.incompatible_activities.Given as goal
-
-abbrev pub invariant-loop-activity : goal.invariant-loop-activity
-invariant-loop-activity l = AreRowsOf l.project l.rows.items

@@ -1,0 +1,12 @@
+use Rattle.std.proofs.Common.{◌∙◌}
+use Rattle.runs.proofs.Telling.{log_proof_of}
+use Rattle.runs.proofs.log_run.log_proof.Goals as goal
+
+pub returns-clause-said : goal.returns-clause-said
+returns-clause-said g c = (
+  c.of.ensures.status,
+  λ text told.
+      let p = c.args.project.now in
+      log_proof_of c.args.scope.now p text c.of.result.text.items c.in_ok-shown.shown c.requires.project c.claim_law.ensures.so_far
+      (c.in_ok-shown.ensures.shown p text (c.in_ok-checker.ensures.read text told)) (c.of.ensures.text ∙ c.in_ok-text.ensures),
+)

@@ -1,0 +1,3 @@
+pub mod RightTrail
+pub mod Recording
+pub mod SearchLog

@@ -1,3 +1,0 @@
-pub mod RightTrail
-pub mod Recording
-pub mod Trail
